@@ -1,0 +1,5 @@
+// The small texts of a cluster's files, requests and replies.
+#![tactic(auto)]
+
+pub mod memory_error;
+pub mod name;
