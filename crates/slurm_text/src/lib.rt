@@ -1,0 +1,4 @@
+//! Small texts of the cluster's controller, and the plain data that its readers make.
+#![tactic(auto)]
+
+pub mod plain;
