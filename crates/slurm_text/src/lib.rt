@@ -1,5 +1,8 @@
-// The small texts of a cluster's files, requests and replies.
+//! The small texts of a cluster's files, requests and replies, and the plain data that readers make of them.
 #![tactic(auto)]
 
+pub mod items;
 pub mod memory_error;
 pub mod name;
+pub mod plain;
+pub mod ranged;

@@ -1,0 +1,32 @@
+//! Why the controller refuses a request.
+
+ghost use Rattle.std.specs.Prelude.{◌≡◌, IfOk};
+
+use crate::memory_error::Memory;
+
+/// Why a request was refused. The numbers are those that its text shows (own).
+#[derive(Drop)]
+pub enum Refusal {
+    /// 2: the user has no association.
+    InvalidAccount,
+    /// 5: no choice of nodes could ever give the job what it asks for.
+    NodesNotAvailable,
+    /// 19: the last job id was handed out.
+    JobIdsSpent,
+    /// 20: the request's moment is past the last one that the controller counts.
+    MomentTooLarge,
+}
+
+impl Refusal {
+    /// An equal refusal.
+    pub fn copy(&self) -> Result<Refusal, Memory>
+        ensures { IfOk result (λ refusal. refusal ≡ self.now) }
+    {
+        match self {
+            Refusal::InvalidAccount => Ok(Refusal::InvalidAccount),
+            Refusal::NodesNotAvailable => Ok(Refusal::NodesNotAvailable),
+            Refusal::JobIdsSpent => Ok(Refusal::JobIdsSpent),
+            Refusal::MomentTooLarge => Ok(Refusal::MomentTooLarge),
+        }
+    }
+}

@@ -1,0 +1,48 @@
+ghost use Rattle.std.specs.Prelude.{◌≡◌, ◌≤◌};
+
+use std::alloc::AllocError;
+use std::marker::Model;
+
+/// A number from `LEAST` to `MOST`. A contract sees it as the number (own).
+#[derive(Drop)]
+pub struct Ranged<const LEAST: u64, const MOST: u64> {
+    number: u64,
+}
+
+impl<const LEAST: u64, const MOST: u64> Model for Ranged<LEAST, MOST> {
+    ghost use Rattle.std.specs.Prelude.{ℕ, ◌≤◌};
+
+    ghost Value = { ℕ };
+
+    ghost view = { λ r. r.number };
+
+    ghost invariant = { λ r. (LEAST ≤ r.number) × (r.number ≤ MOST) };
+
+    ghost inverse = { λ n. record { number = n } };
+}
+
+impl<const LEAST: u64, const MOST: u64> Clone for Ranged<LEAST, MOST> {
+    fn clone(&self) -> Result<Self, AllocError> {
+        Ok(*self)
+    }
+}
+
+impl<const LEAST: u64, const MOST: u64> Copy for Ranged<LEAST, MOST> {}
+
+impl<const LEAST: u64, const MOST: u64> Ranged<LEAST, MOST> {
+    /// This number.
+    pub fn new(number: u64) -> Self
+        requires { (LEAST ≤ number) × (number ≤ MOST) }
+        ensures { result ≡ number }
+    {
+        Ranged { number }
+    }
+
+    /// The number.
+    pub fn get(&self) -> u64
+        ensures value { result ≡ self.now }
+        ensures range { (LEAST ≤ result) × (result ≤ MOST) }
+    {
+        self.number
+    }
+}
