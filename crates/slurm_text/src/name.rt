@@ -1,5 +1,6 @@
 ghost use Rattle.std.specs.Prelude.{◌≡◌, ◌↔◌, IfOk, OnOk, IsErrOf, IsTrue, IsFalse};
 ghost use Rattle.std.specs.List.{list_all};
+ghost use Rattle.std.specs.Str.{bytes_eq};
 ghost use Rattle.slurm_text.specs.Name.{is_name_byte, is_printable, is_name, is_job_name};
 
 use crate::memory_error::Memory;
@@ -133,7 +134,8 @@ impl Name {
 
     /// Whether the other name has the same bytes.
     pub fn is(&self, other: &Name) -> bool
-        ensures { IsTrue result ↔ (self.now ≡ other.now) }
+        ensures equal { IsTrue result ↔ (self.now ≡ other.now) }
+        ensures test { result ≡ bytes_eq self.now other.now }
     {
         self.text.as_slice() == other.text.as_slice()
     }
@@ -171,7 +173,8 @@ impl JobName {
 
     /// Whether the other name has the same bytes.
     pub fn is(&self, other: &JobName) -> bool
-        ensures { IsTrue result ↔ (self.now ≡ other.now) }
+        ensures equal { IsTrue result ↔ (self.now ≡ other.now) }
+        ensures test { result ≡ bytes_eq self.now other.now }
     {
         self.text.as_slice() == other.text.as_slice()
     }
