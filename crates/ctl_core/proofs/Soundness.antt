@@ -21,8 +21,8 @@ AllPairs-push {X} R xs x pairs below i j d before within =
 
 -- a job that gets the next number
 pub IsSound-submitted : (s t : State) (job : JobRecord) → IsSound s → job.id ≡ s.next_id → s.next_id ≤ 67043328
-    → t.jobs ≡ s.jobs ++ job ∷ [] → t.next_id ≡ s.next_id + 1 → IsSound t
-IsSound-submitted s t job sound numbered room jobs next = record {
+    → t.jobs ≡ s.jobs ++ job ∷ [] → t.next_id ≡ s.next_id + 1 → t.moment ≤ 250000000000 → IsSound t
+IsSound-submitted s t job sound numbered room jobs next in_time = record {
   ids = record {
     rising = subst (AllPairs (λ (a b : JobRecord). a.id < b.id)) (sym jobs)
         (AllPairs-push (λ a b. a.id < b.id) s.jobs job sound.ids.rising (λ k d h. let below = sound.ids.below_next k d h in omega arith));
@@ -30,4 +30,5 @@ IsSound-submitted s t job sound numbered room jobs next = record {
         (All-push (λ a. a.id < t.next_id) s.jobs job (λ k d h. let below = sound.ids.below_next k d h in omega arith) (omega arith));
     next = (omega arith, omega arith);
   };
+  moment = in_time;
 }

@@ -18,6 +18,10 @@ pub record State : Type 0 where
   -- the moment of the last request that was accepted
   pub moment : ℕ
 
+-- the last moment of a request
+abbrev pub last_moment : ℕ
+last_moment = 250000000000
+
 -- the last number that a job can have
 abbrev pub last_job_id : ℕ
 last_job_id = 67043328
@@ -41,3 +45,4 @@ pub record HasRisingIds (s : State) : Type 0 where
 -- what every state keeps
 pub record IsSound (s : State) : Type 0 where
   pub ids : HasRisingIds s
+  pub moment : s.moment ≤ last_moment

@@ -9,11 +9,7 @@ use Rattle.slurm_text.specs.declared.plain.refusal.Refusal.TheVariants.{InvalidA
 use Rattle.ctl_core.specs.declared.reply.Reply.{Reply}
 use Rattle.ctl_core.specs.declared.reply.Reply.TheVariants.{Submitted, Refused}
 use Rattle.ctl_core.specs.declared.record.JobRecord.{JobRecord}
-use Rattle.ctl_core.specs.State.{State, last_job_id}
-
--- the last moment of a request
-abbrev pub last_moment : ℕ
-last_moment = 250000000000
+use Rattle.ctl_core.specs.State.{State, last_job_id, last_moment}
 
 -- the moment of a request: the one handed in, or the last one where that is later
 abbrev pub raised : State → ℕ → ℕ

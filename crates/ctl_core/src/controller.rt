@@ -1,9 +1,9 @@
 //! The controller.
 
-ghost use Rattle.std.specs.Prelude.{◌≡◌, ◌&&◌, IfOk, OnOk, OnErr, if◌then◌else◌, Some, None, map, nat_le};
+ghost use Rattle.std.specs.Prelude.{◌≡◌, ◌≤◌, ◌&&◌, IfOk, OnOk, OnErr, if◌then◌else◌, Some, None, map, nat_le};
 ghost use Rattle.std.specs.List.{list_any};
 ghost use Rattle.std.specs.Str.{bytes_eq};
-ghost use Rattle.ctl_core.specs.State.{opening};
+ghost use Rattle.ctl_core.specs.State.{opening, last_moment, IsSound};
 ghost use Rattle.ctl_core.specs.Step.{reply_of, state_after, is_entered, raised, submit_reply, submit_after};
 
 use crate::record::{AssocRecord, JobRecord, NodeRecord};
@@ -44,7 +44,8 @@ impl Model for Ctl {
 impl Ctl {
     /// The opening state of the cluster that the two files describe. Linear in them.
     pub fn new(alloc: Global, conf: Conf, assocs: AssocFile) -> Result<Ctl, Memory>
-        ensures { IfOk result (λ ctl. ctl ≡ opening conf assocs) }
+        ensures opening { IfOk result (λ ctl. ctl ≡ opening conf assocs) }
+        ensures sound { IfOk result IsSound }
     {
         let nodes = node_records(alloc, conf.nodes.into_vec())?;
         let assocs = assoc_records(alloc, assocs.assocs.into_vec())?;
@@ -65,6 +66,13 @@ impl Ctl {
         ensures moment { IfOk result (λ decided. decided.moment ≡ raised self.old now) }
         ensures after { OnOk result (self.new ≡ state_after self.old now user.now request.now) }
         ensures err { OnErr result (self.new ≡ self.old) }
+
+        // A request is decided at its raised moment as at the one handed in.
+        ensures same_reply { reply_of self.old (raised self.old now) user.now request.now
+            ≡ reply_of self.old now user.now request.now }
+        ensures same_state { state_after self.old (raised self.old now) user.now request.now
+            ≡ state_after self.old now user.now request.now }
+        ensures sound { IsSound self.old × IsSound self.new }
     {
         let moment = self.moment.max(now);
         if now > LAST_MOMENT {
@@ -76,7 +84,8 @@ impl Ctl {
     }
 
     fn submit(&mut self, moment: u64, user: &Name, desc: &JobDesc) -> Result<Decided, Memory>
-        requires { moment ≡ raised self.old moment }
+        requires raised { moment ≡ raised self.old moment }
+        requires in_time { moment ≤ last_moment }
         ensures reply { IfOk result (λ decided. decided.reply ≡ submit_reply self.old user.now desc.now) }
         ensures entered { IfOk result (λ decided.
             decided.entered ≡ (if is_entered decided.reply then Some decided.reply else None)) }
@@ -84,6 +93,7 @@ impl Ctl {
         ensures after { IfOk result (λ decided.
             self.new ≡ (if is_entered decided.reply then submit_after self.old moment user.now desc.now else self.old)) }
         ensures err { OnErr result (self.new ≡ self.old) }
+        ensures sound { IsSound self.new }
     {
         if !knows(&self.assocs, user) {
             return refused(Refusal::InvalidAccount, moment);
