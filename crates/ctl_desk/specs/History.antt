@@ -1,0 +1,48 @@
+-- The history: the accepted requests, in order.
+use Rattle.std.specs.Prelude.{◌≡◌, ℕ, ◌≤◌, true, ◌==◌, List, [], ◌∷◌, take, filter}
+use Rattle.slurm_text.specs.declared.plain.request.Request.{Request}
+use Rattle.ctl_core.specs.State.{State, IsSound}
+use Rattle.ctl_core.specs.Step.{reply_of, state_after, is_entered, raised}
+use Rattle.ctl_desk.specs.declared.entry.Entry.{Entry}
+
+-- the state after the entries, one step for each
+abbrev pub after_all : State → List Entry → State
+after_all s [] = s
+after_all s (e ∷ es) = after_all (state_after s e.moment e.user e.request) es
+
+-- the entry is one that the controller makes in this state
+pub record IsStep (s : State) (e : Entry) : Type 0 where
+  pub moment : s.moment ≤ e.moment
+  pub reply : e.reply ≡ reply_of s e.moment e.user e.request
+  pub accepted : is_entered e.reply ≡ true
+
+-- each entry is one that the controller makes after those before it
+abbrev pub IsLegal : State → List Entry → Type 0
+IsLegal s [] = Unit {0}
+IsLegal s (e ∷ es) = IsStep s e × IsLegal (state_after s e.moment e.user e.request) es
+
+-- after each of the first entries, how many ever, the state is sound
+abbrev pub StaysSound : State → List Entry → Type 0
+StaysSound opening entries = (n : ℕ) → IsSound (after_all opening (take n entries))
+
+-- the entry that a session's request makes in a state
+abbrev pub entry_of : State → ℕ → ℕ → List ℕ → Request → Entry
+entry_of s session now user request = record { session = session; moment = raised s now; user = user; request = request; reply = reply_of s now user request }
+
+-- the entries that bear the number of a session
+abbrev pub of_session : ℕ → List Entry → List Entry
+of_session number entries = filter (λ e. e.session == number) entries
+
+-- a controller's history from its opening on
+pub record History : Type 0 where
+  pub opening : State
+  pub entries : List Entry
+
+-- the state now
+abbrev pub present : History → State
+present h = after_all h.opening h.entries
+
+-- what every history keeps
+pub record IsHistory (h : History) : Type 0 where
+  pub legal : IsLegal h.opening h.entries
+  pub sound : StaysSound h.opening h.entries

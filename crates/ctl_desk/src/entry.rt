@@ -1,0 +1,24 @@
+//! What the history keeps of an accepted request, and what a session is told.
+
+use ctl_core::reply::Reply;
+use slurm_text::name::Name;
+use slurm_text::plain::request::Request;
+
+/// An accepted request.
+#[derive(Drop)]
+pub struct Entry {
+    /// The number of the session that asked it.
+    pub session: u32,
+    /// The moment at which it was decided, never before that of the entry before.
+    pub moment: u64,
+    pub user: Name,
+    pub request: Request,
+    pub reply: Reply,
+}
+
+/// An answer and its place in the history: how many entries were there when it was decided.
+#[derive(Drop)]
+pub struct Answer {
+    pub reply: Reply,
+    pub place: u64,
+}

@@ -1,0 +1,60 @@
+//! The desk of a single thread.
+
+ghost use Rattle.std.specs.Prelude.{◌≡◌, ◌≤◌, [], length};
+ghost use Rattle.ctl_desk.specs.History.{History};
+
+use crate::book::Book;
+use crate::desk::Desk;
+use crate::entry::Answer;
+use slurm_text::memory_error::Memory;
+use slurm_text::name::Name;
+use slurm_text::plain::request::Request;
+use std::marker::Model;
+
+/// A desk that owns the book. Its entries bear the number 0.
+#[derive(Drop)]
+pub struct OwnDesk {
+    book: Book,
+    /// How many entries the book had when the desk was made.
+    before: u64,
+}
+
+impl Model for OwnDesk {
+    ghost use Rattle.std.specs.Prelude.{◌≤◌, length};
+    ghost use Rattle.ctl_desk.specs.Desk.{Seat};
+
+    ghost Value = { Seat };
+
+    ghost view = { λ d. record { history = d.book; before = d.before } };
+
+    ghost invariant = { λ d. d.before ≤ length d.book.entries };
+}
+
+/// A desk at this book.
+pub fn own_desk(book: Book) -> OwnDesk
+    ensures history { result.history ≡ book }
+    ensures before { result.before ≡ length book.entries }
+{
+    let before = book.len();
+    OwnDesk { book, before }
+}
+
+impl Desk for OwnDesk {
+    ghost use Rattle.std.specs.Prelude.{drop};
+
+    ghost opening = { λ d. d.history.opening };
+
+    ghost number = { λ _. 0 };
+
+    ghost seen = { λ d. d.history.entries };
+
+    ghost mine = { λ d. drop d.before d.history.entries };
+
+    fn ask(&mut self, now: u64, user: &Name, request: Request) -> Result<Answer, Memory> {
+        self.book.ask(0, now, user, request)
+    }
+
+    fn seen_len(&self) -> u64 {
+        self.book.len()
+    }
+}
