@@ -1,0 +1,22 @@
+//! Pieces of a line, joined at the end of what is printed.
+
+ghost use Rattle.std.specs.Prelude.{◌≡◌, ◌++◌, OnOk, codes, decimal};
+
+use itoa::Buffer;
+use slurm_text::memory_error::Memory;
+
+/// Writes these bytes at the end.
+pub fn push_text(out: &mut Vec<u8>, text: &[u8]) -> Result<(), Memory>
+    ensures { OnOk result (out.new.items ≡ out.old.items ++ text.now) }
+{
+    out.extend_from_slice(text)?;
+    Ok(())
+}
+
+/// Writes the number's decimal digits at the end.
+pub fn push_number(out: &mut Vec<u8>, number: u64) -> Result<(), Memory>
+    ensures { OnOk result (out.new.items ≡ out.old.items ++ decimal number) }
+{
+    let mut buffer = Buffer::new();
+    push_text(out, buffer.format(number).as_bytes())
+}
