@@ -3,3 +3,4 @@
 
 pub mod memory_error;
 pub mod name;
+pub mod words;
