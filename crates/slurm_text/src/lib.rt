@@ -6,3 +6,4 @@ pub mod memory_error;
 pub mod name;
 pub mod plain;
 pub mod ranged;
+pub mod words;
