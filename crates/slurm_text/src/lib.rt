@@ -1,4 +1,5 @@
 //! Small texts of the cluster's controller, and the plain data that its readers make.
 #![tactic(auto)]
 
+pub mod digits;
 pub mod plain;
