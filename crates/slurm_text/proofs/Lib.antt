@@ -1,1 +1,2 @@
 pub mod DigitsLemmas
+pub mod FieldsLemmas

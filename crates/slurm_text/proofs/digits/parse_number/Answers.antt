@@ -14,8 +14,8 @@ nonempty n e = grind (arith, nat_tests)
 pub returns-then-is_empty-clause-value : goal.returns-then-is_empty-clause-value
 returns-then-is_empty-clause-value c =
     elim c.then-is_empty.branch [
-      then-is_empty-via-then-is_empty w ↦ no_number_empty _ _ _ (grind (arith, nat_tests, w.if-is_empty.ensures))
-    | then-is_empty-via-else-is_empty+then-text-most_digits w ↦ no_number_long _ _ _ (omega arith)
+      | then-is_empty-via-then-is_empty w ↦ no_number_empty _ _ _ (grind (arith, nat_tests, w.if-is_empty.ensures))
+      | then-is_empty-via-else-is_empty+then-text-most_digits w ↦ no_number_long _ _ _ (omega arith)
     ]
 
 pub returns-then-not-is_ascii_digit-clause-value : goal.returns-then-not-is_ascii_digit-clause-value
