@@ -6,8 +6,8 @@ use Rattle.std.proofs.lemmas.Int.Digits.{digits_more, digits_value_more}
 use Rattle.std.proofs.lemmas.Str.Parse.{IsNumeralModel, numerals_by_value, tells_all_ascii_digits, digits_value-take-le}
 use Rattle.std.specs.Char.{is_ascii_digit, digit_value}
 use Rattle.std.specs.Str.{all_ascii_digits}
-use Rattle.std.specs.Str.Parse.{digits_value, AllDigits}
-use Rattle.slurm_text.specs.Digits.{is_number, number_within}
+use Rattle.std.specs.Str.Parse.{digits_value}
+use Rattle.slurm_text.specs.Digits.{number_within}
 
 pub digits_model : IsNumeralModel (λ ds. all_ascii_digits ds ≡ true) (digits_value 10)
 digits_model = numerals_by_value _ tells_all_ascii_digits

@@ -1,13 +1,12 @@
 -- A text cut at its first separator.
-use Rattle.std.proofs.Common.{nat_lt, cond, ◌≤◌, ◌≡◌, ◌==◌, ℕ, ◌+◌, ◌-◌, ◌<◌, Bool, true, false, List, [], ◌∷◌, length, take, drop, Option, Some, None, position, refl, sym, ap, ◌∙◌, arith, take_all}
-use Rattle.std.proofs.lemmas.List.Splits.{slice_split_first, slice_split_none}
+use Rattle.std.proofs.Common.{refl, nat_lt, cond, ◌≤◌, ◌≡◌, ◌==◌, ℕ, ◌+◌, ◌-◌, ◌<◌, List, [], ◌∷◌, length, take, drop, Some, None, position, refl, sym, ap, ◌∙◌, arith, take_all}
+use Rattle.std.proofs.lemmas.List.Splits.{slice_split_first, slice_split_none, length-slice_split}
 use Rattle.std.proofs.lemmas.List.{length-drop}
 use Rattle.std.proofs.lemmas.List.Quantifiers.{position-Some}
 use Rattle.std.proofs.lemmas.Bool.{ltb-true}
 use Rattle.std.proofs.lemmas.Bool.Decides.{nat_tests}
 use Rattle.std.proofs.lemmas.List.Sums.{fails_before_first}
 use Rattle.std.proofs.lemmas.Option.{cond_some}
-use Rattle.std.specs.List.{position_or_len, before_first, after_first, All}
 use Rattle.slurm_text.specs.Fields.{fields}
 
 -- the first separator stands at this place
@@ -29,3 +28,18 @@ pub cut_nowhere : (separator : ℕ) (text : List ℕ) → position (λ b. b == s
 cut_nowhere separator text none =
     slice_split_none (λ b. b == separator) text
     (λ k d inside. fails_before_first (λ b. b == separator) text k d (omega (arith, to_the_end _ _ none)))
+
+-- a text has a field
+has_field : (separator : ℕ) (text : List ℕ) → (field : List ℕ) × (others : List (List ℕ)) × (fields separator text ≡ field ∷ others)
+has_field separator text =
+    shape (fields separator text) (omega (arith, length-slice_split (λ b. b == separator) text))
+  where
+    shape : (parts : List (List ℕ)) → 0 < length parts → (field : List ℕ) × (others : List (List ℕ)) × (parts ≡ field ∷ others)
+    shape [] some = absurd (omega arith)
+    shape (field ∷ others) some = (field, others, refl)
+
+-- behind three separators stands a fourth field
+pub fourth_field : (separator : ℕ) (text rest a b c : List ℕ) → fields separator text ≡ a ∷ b ∷ c ∷ fields separator rest → (a b c d : List ℕ) × (others : List (List ℕ)) × (fields separator text ≡ a ∷ b ∷ c ∷ d ∷ others)
+fourth_field separator text rest a b c cut =
+    let fourth = has_field separator rest in
+    (a, b, c, fourth.0, fourth.1, cut ∙ ap (λ parts. a ∷ b ∷ c ∷ parts) fourth.2)

@@ -3,4 +3,5 @@
 
 pub mod digits;
 pub mod fields;
+pub mod keywords;
 pub mod plain;
