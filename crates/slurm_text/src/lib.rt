@@ -4,4 +4,5 @@
 pub mod digits;
 pub mod fields;
 pub mod keywords;
+pub mod memory;
 pub mod plain;
