@@ -1,2 +1,4 @@
 pub mod Positions
 pub mod WordLemmas
+pub mod DigitsLemmas
+pub mod FieldsLemmas

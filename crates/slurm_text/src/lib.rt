@@ -1,7 +1,11 @@
 //! The small texts of a cluster's files, requests and replies, and the plain data that readers make of them.
 #![tactic(auto)]
 
+pub mod digits;
+pub mod fields;
 pub mod items;
+pub mod keywords;
+pub mod memory;
 pub mod memory_error;
 pub mod name;
 pub mod plain;

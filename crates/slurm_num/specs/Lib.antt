@@ -1,0 +1,3 @@
+pub mod Elapsed
+pub mod Limits
+pub mod Ratios

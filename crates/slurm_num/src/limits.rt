@@ -1,0 +1,90 @@
+//! Time limits: "Acceptable time formats" of sbatch(1).
+
+ghost use Rattle.std.specs.Prelude.{◌≡◌, ◌<◌, ◌≤◌, ◌^◌, IfSome, IfOk};
+ghost use Rattle.std.specs.Result.{result_ok};
+ghost use Rattle.slurm_num.specs.Limits.{seconds_of_clock, seconds_of_day, seconds_of, limit_of, IsLimit};
+ghost use Rattle.slurm_text.specs.Fields.{fields};
+
+use slurm_text::digits::parse_number;
+use slurm_text::fields::{UpToThree, up_to_three};
+use slurm_text::keywords::is_keyword;
+use slurm_text::plain::limit::Limit;
+
+/// The text is no time limit.
+#[derive(Clone, Copy, PartialEq, Eq, Debug)]
+pub struct BadTime;
+
+const GREATEST: u64 = 52_560_000;
+
+/// The limit of a text such as `90`, `1:30:00` or `2-12`, in whole minutes: seconds round up. A text of no
+/// minutes, `UNLIMITED` and `INFINITE` are no limit.
+#[tactic(auto, unfolding(crate::specs::Limits::limit_of, crate::specs::Limits::limit_of_minutes))]
+pub fn parse_limit(text: &[u8]) -> Result<Limit, BadTime>
+    ensures value { result_ok result ≡ limit_of text.now }
+    ensures bound { IfOk result IsLimit }
+{
+    if is_keyword(text, b"UNLIMITED") || is_keyword(text, b"INFINITE") {
+        return Ok(Limit::Unlimited);
+    }
+    let minutes = parse_seconds(text).ok_or(BadTime)?.div_ceil(60);
+    if minutes == 0 {
+        Ok(Limit::Unlimited)
+    } else if minutes <= GREATEST {
+        Ok(Limit::Minutes(minutes as u32))
+    } else {
+        Err(BadTime)
+    }
+}
+
+// The seconds of a time.
+#[tactic(auto, unfolding(crate::specs::Limits::seconds_of, crate::specs::Limits::seconds_of_parts))]
+fn parse_seconds(text: &[u8]) -> Option<u64>
+    ensures value { result ≡ seconds_of text.now }
+    ensures small { IfSome result (λ seconds. seconds < 2 ^ 48) }
+{
+    match up_to_three(text, b'-') {
+        UpToThree::One(time) => parse_clock(time),
+        UpToThree::Two(days, time) => Some(
+            86_400 * parse_number(days, 9, 999_999_999)? + parse_day(time)?,
+        ),
+        _ => None,
+    }
+}
+
+// The seconds of a time without days.
+#[tactic(auto, unfolding(crate::specs::Limits::seconds_of_clock))]
+fn parse_clock(text: &[u8]) -> Option<u64>
+    ensures value { result ≡ seconds_of_clock (fields 58 text.now) }
+    ensures small { IfSome result (λ seconds. seconds < 2 ^ 47) }
+{
+    match up_to_three(text, b':') {
+        UpToThree::One(minutes) => Some(60 * parse_number(minutes, 9, 999_999_999)?),
+        UpToThree::Two(minutes, seconds) => Some(
+            60 * parse_number(minutes, 9, 999_999_999)? + parse_number(seconds, 2, 59)?,
+        ),
+        UpToThree::Three(hours, minutes, seconds) => {
+            let hours = parse_number(hours, 9, 999_999_999)?;
+            Some(3600 * hours + 60 * parse_number(minutes, 2, 59)? + parse_number(seconds, 2, 59)?)
+        }
+        UpToThree::More => None,
+    }
+}
+
+// The seconds of what follows the days.
+#[tactic(auto, unfolding(crate::specs::Limits::seconds_of_day))]
+fn parse_day(text: &[u8]) -> Option<u64>
+    ensures value { result ≡ seconds_of_day (fields 58 text.now) }
+    ensures small { IfSome result (λ seconds. seconds < 86_400) }
+{
+    match up_to_three(text, b':') {
+        UpToThree::One(hours) => Some(3600 * parse_number(hours, 2, 23)?),
+        UpToThree::Two(hours, minutes) => Some(
+            3600 * parse_number(hours, 2, 23)? + 60 * parse_number(minutes, 2, 59)?,
+        ),
+        UpToThree::Three(hours, minutes, seconds) => {
+            let hours = parse_number(hours, 2, 23)?;
+            Some(3600 * hours + 60 * parse_number(minutes, 2, 59)? + parse_number(seconds, 2, 59)?)
+        }
+        UpToThree::More => None,
+    }
+}
