@@ -1,0 +1,4 @@
+//! What the words of a header ask the controller.
+#![tactic(auto)]
+
+pub mod header;
