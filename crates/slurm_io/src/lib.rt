@@ -1,0 +1,12 @@
+//! The outside as the controller sees it: where bytes come from and where they go, each fault counted.
+#![tactic(auto)]
+
+mod link;
+mod pair;
+mod sink;
+mod source;
+
+pub use link::Link;
+pub use pair::Pair;
+pub use sink::{Sink, write_all};
+pub use source::{Failed, Source};
