@@ -1,12 +1,14 @@
-//! The outside as the controller sees it: where bytes come from and where they go, each fault counted.
+//! The outside as the controller sees it: where bytes come from and where they go, with each fault counted.
 #![tactic(auto)]
 
 mod link;
 mod pair;
 mod sink;
 mod source;
+mod system;
 
 pub use link::Link;
 pub use pair::Pair;
 pub use sink::{Sink, write_all};
 pub use source::{Failed, Source};
+pub use system::{ReaderSource, WriterSink};

@@ -24,7 +24,11 @@ impl<S: Source, K: Sink> Source for Pair<S, K> {
 
     ghost read_faults = { λ pair. S.read_faults pair.source };
 
-    ghost beside_reads = { λ pair. (K.taken pair.sink, K.write_faults pair.sink) };
+    ghost kept_by_reads = { λ pair. record {
+      bytes = K.taken pair.sink;
+      faults = K.write_faults pair.sink;
+      places = record { source = (S.kept_by_reads pair.source).places.source; sink = (K.kept_by_writes pair.sink).places.sink };
+    } };
 
     fn read(&mut self, into: &mut [u8]) -> Result<usize, Failed> {
         self.source.read(into)
@@ -36,7 +40,11 @@ impl<S: Source, K: Sink> Sink for Pair<S, K> {
 
     ghost write_faults = { λ pair. K.write_faults pair.sink };
 
-    ghost beside_writes = { λ pair. (S.left pair.source, S.read_faults pair.source) };
+    ghost kept_by_writes = { λ pair. record {
+      bytes = S.left pair.source;
+      faults = S.read_faults pair.source;
+      places = record { source = (S.kept_by_reads pair.source).places.source; sink = (K.kept_by_writes pair.sink).places.sink };
+    } };
 
     fn write(&mut self, piece: &[u8]) -> Result<usize, Failed> {
         self.sink.write(piece)
@@ -44,7 +52,9 @@ impl<S: Source, K: Sink> Sink for Pair<S, K> {
 }
 
 impl<S: Source, K: Sink> Link for Pair<S, K> {
-    ghost reads_apart = { λ pair. refl };
+    ghost places = { λ pair. record { source = (S.kept_by_reads pair.source).places.source; sink = (K.kept_by_writes pair.sink).places.sink } };
 
-    ghost writes_apart = { λ pair. refl };
+    ghost reads_keep = { λ pair. refl };
+
+    ghost writes_keep = { λ pair. refl };
 }

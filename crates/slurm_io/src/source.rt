@@ -1,7 +1,8 @@
 // Where bytes come from.
-ghost use Rattle.std.specs.Prelude.{◌≡◌, ℕ, ◌≤◌, List, length, Option, None, IfOk};
+ghost use Rattle.std.specs.Prelude.{◌≡◌, ℕ, ◌≤◌, List, length, Option, IfOk};
 ghost use Rattle.std.specs.Io.KnownBytes.{ReadConsumes};
 ghost use Rattle.slurm_io.specs.Faults.{CountsFault};
+ghost use Rattle.slurm_io.specs.Kept.{Kept, nothing_beside, at_place};
 
 /// A read or a write that failed. The object that it failed on has counted it.
 #[derive(Clone, Copy, Debug, PartialEq, Eq)]
@@ -15,8 +16,8 @@ pub trait Source {
     /// How many reads failed, up to the greatest `u64`.
     ghost read_faults: { Self → ℕ };
 
-    /// What a read leaves as it was: of a link what it took and how many of its writes failed.
-    ghost beside_reads: { Self → Option (List ℕ) × ℕ } = { λ _. (None, 0) };
+    /// What a read leaves as it was. Of a link that is its other side.
+    ghost kept_by_reads: { Self → Kept } = { λ _. nothing_beside };
 
     /// Reads some bytes to the front of `into` and answers how many. 0 for a buffer that isn't empty is the
     /// end of the input. A read that failed took nothing.
@@ -24,7 +25,7 @@ pub trait Source {
         ensures bound { IfOk result (λ n. n ≤ length into.new) }
         ensures bytes { ReadConsumes (left self.old) (left self.new) result into.new }
         ensures faults { CountsFault (read_faults self.old) (read_faults self.new) result }
-        ensures beside { beside_reads self.new ≡ beside_reads self.old };
+        ensures kept { kept_by_reads self.new ≡ kept_by_reads self.old };
 }
 
 impl<S: Source> Source for &mut S {
@@ -32,7 +33,7 @@ impl<S: Source> Source for &mut S {
 
     ghost read_faults = { λ source. S.read_faults source.now };
 
-    ghost beside_reads = { λ source. S.beside_reads source.now };
+    ghost kept_by_reads = { λ source. at_place source.ghost_name (S.kept_by_reads source.now) };
 
     fn read(&mut self, into: &mut [u8]) -> Result<usize, Failed> {
         Source::read(&mut **self, into)

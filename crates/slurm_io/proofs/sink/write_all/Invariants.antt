@@ -7,7 +7,7 @@ invariant-loop-done g l =
     (l.done ≤ length l.piece)
     × Appends (g.K.Sink.taken l.fn.sink) (g.K.Sink.taken l.sink) (take l.done l.piece)
     × (g.K.Sink.write_faults l.sink ≡ g.K.Sink.write_faults l.fn.sink)
-    × (g.K.Sink.beside_writes l.sink ≡ g.K.Sink.beside_writes l.fn.sink)
+    × (g.K.Sink.kept_by_writes l.sink ≡ g.K.Sink.kept_by_writes l.fn.sink)
 
 abbrev pub decreases-loop-done : goal.decreases-loop-done
 decreases-loop-done g l = length l.piece - l.done
