@@ -12,10 +12,18 @@ pub record Kept : Type 0 where
   pub faults : ℕ
   pub places : Places
 
--- what has no other side and holds no reference
+-- of what holds no reference
+abbrev pub nowhere : Places
+nowhere = record { source = 0; sink = 0 }
+
+-- of what has no other side and holds no reference
 abbrev pub nothing_beside : Kept
-nothing_beside = record { bytes = None; faults = 0; places = record { source = 0; sink = 0 } }
+nothing_beside = record { bytes = None; faults = 0; places = nowhere }
 
 -- the same behind a reference of this name
 abbrev pub at_place : ℕ → Kept → Kept
 at_place name kept = record kept { places = record { source = name; sink = name } }
+
+-- the references of a pair, whose source and sink keep these
+abbrev pub joined : Kept → Kept → Places
+joined source sink = record { source = source.places.source; sink = sink.places.sink }

@@ -40,8 +40,8 @@ impl<K: Sink> Sink for &mut K {
     }
 }
 
-/// Writes all of `piece`, in as many writes as the sink wants. What a failed call had taken by then is the front of
-/// the piece, and not all of a piece that isn't empty. Linear in the piece, besides the writes.
+/// Writes all of `piece`, in as many writes as the sink asks for. A call that failed may have written a front of the
+/// piece, never all of it. An empty piece is written at once.
 pub fn write_all<K: Sink>(sink: &mut K, piece: &[u8]) -> Result<(), Failed>
     ensures written { OnOk result (Appends (K.taken sink.old) (K.taken sink.new) piece.now) }
     ensures cut { OnErr result (AppendsFront (K.taken sink.old) (K.taken sink.new) piece.now) }
