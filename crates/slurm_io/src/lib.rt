@@ -17,3 +17,6 @@ pub use pair::Pair;
 pub use sink::{Sink, write_all};
 pub use source::{Failed, Source};
 pub use system::{ReaderSource, WriterSink};
+
+#[cfg(test)]
+mod tests;
