@@ -1,0 +1,22 @@
+//! The outside as the controller sees it: where bytes come from and where they go, with each fault counted.
+#![tactic(auto)]
+
+mod copy;
+mod link;
+mod mem_link;
+mod mem_sure;
+mod pair;
+mod sink;
+mod source;
+mod system;
+
+pub use link::Link;
+pub use mem_link::MemLink;
+pub use mem_sure::MemSure;
+pub use pair::Pair;
+pub use sink::{Sink, write_all};
+pub use source::{Failed, Source};
+pub use system::{ReaderSource, WriterSink};
+
+#[cfg(test)]
+mod tests;
