@@ -80,6 +80,13 @@ impl MemLink {
         }
     }
 
+    /// What was not read yet.
+    pub fn left(&self) -> &[u8]
+        ensures { result.now ≡ self.now.left }
+    {
+        self.bytes.split_at(self.place).1
+    }
+
     /// What was written.
     pub fn taken(&self) -> &[u8]
         ensures { result.now ≡ self.now.taken }

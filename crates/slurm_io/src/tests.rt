@@ -69,12 +69,13 @@ impl Write for Broken {
     }
 }
 
-/// What a link in memory took of the five bytes `hello` that it gives, and how its copy ended.
+/// How the copy of a link in memory ended that gives the five bytes `hello`, what the link took, what it had left, and
+/// how many of its reads and of its writes failed.
 fn check_link(
     rt: &(impl std::process::Abort + Alloc<A = Global>),
     most: u32,
     failing: (u64, u64),
-    want: (Result<(), Stop>, &[u8], u64, u64),
+    want: (Result<(), Stop>, &[u8], &[u8], u64, u64),
 ) -> Result<(), Fail>
     requires { 0 < most }
 {
@@ -83,8 +84,9 @@ fn check_link(
     let writes = [failing.1].to_vec(alloc)?;
     let mut link = MemLink::new(alloc, b"hello".to_vec(alloc)?, most, reads, writes);
     let ended = echo(&mut link);
+    let (read_faults, write_faults) = (link.read_faults(), link.write_faults());
     assert_eq!(rt;
-        (ended, link.taken(), link.read_faults(), link.write_faults()),
+        (ended, link.taken(), link.left(), read_faults, write_faults),
         want
     );
     Ok(())
@@ -92,11 +94,11 @@ fn check_link(
 
 #[test]
 fn links_fail_where_told(rt: HostRuntime) -> Result<(), Fail> {
-    check_link(&rt, 9, (9, 9), (Ok(()), b"hello", 0, 0))?;
-    check_link(&rt, 1, (9, 9), (Ok(()), b"hello", 0, 0))?;
-    check_link(&rt, 2, (1, 9), (Err(Stop::Read), b"", 1, 0))?;
-    check_link(&rt, 2, (3, 9), (Err(Stop::Read), b"hell", 1, 0))?;
-    check_link(&rt, 2, (9, 3), (Err(Stop::Write), b"hell", 0, 1))
+    check_link(&rt, 9, (9, 9), (Ok(()), b"hello", b"", 0, 0))?;
+    check_link(&rt, 1, (9, 9), (Ok(()), b"hello", b"", 0, 0))?;
+    check_link(&rt, 2, (1, 9), (Err(Stop::Read), b"", b"hello", 1, 0))?;
+    check_link(&rt, 2, (3, 9), (Err(Stop::Read), b"hell", b"o", 1, 0))?;
+    check_link(&rt, 2, (9, 3), (Err(Stop::Write), b"hell", b"", 0, 1))
 }
 
 #[test]
