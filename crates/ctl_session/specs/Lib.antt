@@ -1,0 +1,4 @@
+pub mod Reading
+pub mod Reply
+pub mod Session
+pub mod Turn

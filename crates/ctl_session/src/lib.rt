@@ -1,0 +1,9 @@
+//! Sessions: the blocks of a link, answered one after another at a desk.
+#![tactic(auto)]
+
+mod answer;
+mod outside;
+mod reading;
+mod session;
+
+pub use session::{Ended, How};
