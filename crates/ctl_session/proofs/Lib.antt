@@ -1,3 +1,4 @@
 pub mod KnownBytes
+pub mod Serving
 pub mod Turning
 pub mod Working

@@ -26,9 +26,13 @@ pub answered_turn : (opening : State) (number : ℕ) (old mid new : Wire) (desk 
     → IsTurn opening number old new desk desk' blocks blocks' None
 answered_turn opening number old mid new desk desk' blocks blocks' block found taken writes answers =
     let told = answers.2.0 in
-    let works : WorksBlock opening number desk desk' = record { block = block; is_block = found.2; told = told } in
-    (works, takes old mid new blocks blocks' block found answers.0.0, subst (λ t. Appends t new.taken told.told) taken answers.2.1,
-      answers.0.1 ∙ found.5, answers.1 ∙ writes)
+    let works : WorksBlock opening number desk desk' = record { block = block; is_block = found.2; told = told } in (
+      works,
+      takes old mid new blocks blocks' block found answers.0.0,
+      subst (λ t. Appends t new.taken told.told) taken answers.2.1,
+      answers.0.1 ∙ found.5,
+      answers.1 ∙ writes,
+    )
 
 pub unwritten_turn : (opening : State) (number : ℕ) (old mid new : Wire) (desk desk' : Sight) (blocks blocks' : BlocksState) (block : Block)
     → IsFound old.left mid.left old.reads mid.reads blocks blocks' (found.Whole block) → mid.taken ≡ old.taken → mid.writes ≡ old.writes
@@ -36,9 +40,14 @@ pub unwritten_turn : (opening : State) (number : ℕ) (old mid new : Wire) (desk
     → IsTurn opening number old new desk desk' blocks blocks' (Some how.WriteFault)
 unwritten_turn opening number old mid new desk desk' blocks blocks' block found taken writes answers =
     let told = answers.3.0 in
-    let works : WorksBlock opening number desk desk' = record { block = block; is_block = found.2; told = told } in
-    (works, takes old mid new blocks blocks' block found answers.0.0, subst (λ t. AppendsFront t new.taken told.told) taken answers.3.1,
-      answers.0.1 ∙ found.5, subst (λ n. n ≤ new.writes) writes answers.1, λ below. subst (λ n. n < new.writes) writes (answers.2 below))
+    let works : WorksBlock opening number desk desk' = record { block = block; is_block = found.2; told = told } in (
+      works,
+      takes old mid new blocks blocks' block found answers.0.0,
+      subst (λ t. AppendsFront t new.taken told.told) taken answers.3.1,
+      answers.0.1 ∙ found.5,
+      subst (λ n. n ≤ new.writes) writes answers.1,
+      λ below. subst (λ n. n < new.writes) writes (answers.2 below),
+    )
 
 pub unanswered_turn : (opening : State) (number : ℕ) (old mid new : Wire) (desk desk' : Sight) (blocks blocks' : BlocksState) (block : Block)
     → IsFound old.left mid.left old.reads mid.reads blocks blocks' (found.Whole block) → mid.taken ≡ old.taken → mid.writes ≡ old.writes
@@ -46,9 +55,12 @@ pub unanswered_turn : (opening : State) (number : ℕ) (old mid new : Wire) (des
     → IsTurn opening number old new desk desk' blocks blocks' (Some how.Memory)
 unanswered_turn opening number old mid new desk desk' blocks blocks' block found taken writes answers =
     let same = answers.0 in
-    rw same
-      (taken, found.5, writes,
-        elim answers.1 [
-          inl passed ↦ inl (found.0, found.1, passed)
+    rw same (
+      taken,
+      found.5,
+      writes,
+      elim answers.1 [
+        | inl passed ↦ inl (found.0, found.1, passed)
         | inr told ↦ inr (record { block = block; is_block = found.2; told = told }, takes old mid mid blocks blocks' block found refl)
-        ])
+      ],
+    )

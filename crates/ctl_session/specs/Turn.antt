@@ -1,6 +1,6 @@
 -- One turn of a session: what it reads, works and writes.
 use Rattle.std.specs.Prelude.{◌≡◌, ◌≢◌, ◌⊎◌, ℕ, ◌<◌, ◌≤◌, Option, None, Some, Result, Ok, Err, List, [], ◌∷◌, ◌++◌, length, take}
-use Rattle.std.specs.Io.KnownBytes.{Appends, Consumes, IsAtEnd}
+use Rattle.std.specs.Io.KnownBytes.{Appends, Consumes, Keeps, IsAtEnd}
 use Rattle.slurm_io.specs.Bytes.{AppendsFront}
 use Rattle.slurm_io.specs.Faults.{Rose}
 use Rattle.block_frame.specs.declared.block.Block.{Block}
@@ -92,3 +92,13 @@ IsTurn opening number old new desk desk' blocks blocks' (Some how.Memory) =
     (new.taken ≡ old.taken) × (new.reads ≡ old.reads) × (new.writes ≡ old.writes)
     × (((read : List ℕ) × Consumes old.left new.left read × IsPassedOver number desk desk')
     ⊎ ((works : WorksBlock opening number desk desk') × TakesBlock old new blocks blocks' works.block))
+
+-- After the last block that a session may answer: more bytes, the end of the input, or a read that failed. Nothing is written.
+abbrev pub IsLastLook : Wire → Wire → List ℕ → How → Type 0
+IsLastLook old new pending how.Spent =
+    (read : List ℕ) × Consumes old.left new.left read × (pending ++ read ≢ []) × (new.taken ≡ old.taken) × (new.reads ≡ old.reads) × (new.writes ≡ old.writes)
+IsLastLook old new pending how.Closed =
+    Keeps old.left new.left × IsAtEnd new.left × (pending ≡ []) × (new.taken ≡ old.taken) × (new.reads ≡ old.reads) × (new.writes ≡ old.writes)
+IsLastLook old new pending how.ReadFault =
+    Keeps old.left new.left × (pending ≡ []) × (new.taken ≡ old.taken) × (old.reads ≤ new.reads) × Rose old.reads new.reads × (new.writes ≡ old.writes)
+IsLastLook old new pending _ = ⊥

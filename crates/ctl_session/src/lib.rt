@@ -6,4 +6,4 @@ mod outside;
 mod reading;
 mod session;
 
-pub use session::{Ended, How};
+pub use session::{Ended, How, serve_link};

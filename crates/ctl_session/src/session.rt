@@ -1,17 +1,23 @@
 //! A session over a link.
 
 ghost use Rattle.std.specs.Prelude.{◌≡◌, ◌<◌, length};
-ghost use Rattle.ctl_session.specs.Turn.{IsTurn};
+ghost use Rattle.ctl_desk.specs.History.{IsLegal};
+ghost use Rattle.ctl_session.specs.Session.{Ending, IsServed};
+ghost use Rattle.ctl_session.specs.Turn.{IsTurn, IsLastLook};
 
 use crate::answer::{Fault, answer_block};
+use crate::outside::read_some;
 use crate::reading::{Found, next_whole};
 use block_frame::Blocks;
 use ctl_desk::desk::Desk;
-use slurm_io::Link;
+use slurm_io::{Failed, Link};
 use std::alloc::Global;
 
 /// The most blocks that one session answers (own).
 const MOST_BLOCKS: u64 = 1_048_576;
+
+/// How many bytes one read asks for.
+const BUFFER_LEN: usize = 4096;
 
 /// Why a session ended.
 #[derive(Clone, Copy, Debug, PartialEq, Eq)]
@@ -70,4 +76,57 @@ fn turn<L: Link, D: Desk>(
         Err(Fault::Write) => Some(How::WriteFault),
         Err(Fault::Memory) => Some(How::Memory),
     }
+}
+
+/// Why a session ends that has answered as many blocks as it may.
+fn last_look<L: Link>(link: &mut L, blocks: &Blocks, buffer: &mut [u8]) -> How
+    requires { 0 < length buffer.old }
+    ensures looks { IsLastLook
+        (record { left = L.left link.old; taken = L.taken link.old; reads = L.read_faults link.old; writes = L.write_faults link.old })
+        (record { left = L.left link.new; taken = L.taken link.new; reads = L.read_faults link.new; writes = L.write_faults link.new })
+        blocks.now.pending result }
+    ensures places { L.places link.new ≡ L.places link.old }
+{
+    if !blocks.is_empty() {
+        return How::Spent;
+    }
+    match read_some(link, buffer) {
+        Err(Failed) => How::ReadFault,
+        Ok(0) => How::Closed,
+        Ok(_) => How::Spent,
+    }
+}
+
+/// The end of a session at this desk, whose history is then one that the controller keeps.
+fn finished<D: Desk>(desk: &D, how: How, answered: u64) -> Ended
+    ensures ending { result ≡ record { how = how; answered = answered } }
+    ensures legal { IsLegal (D.opening desk.now) (D.seen desk.now) }
+{
+    let _ = desk.seen_len();
+    Ended { how, answered }
+}
+
+/// Answers the blocks of a link, one after another, until the input ends or one of the other ends comes. The blocks that
+/// it answers are the first ones of what it reads, in whatever pieces that comes.
+pub fn serve_link<L: Link, D: Desk>(alloc: Global, link: &mut L, desk: &mut D) -> Ended
+    ensures opening { D.opening desk.new ≡ D.opening desk.old }
+    ensures number { D.number desk.new ≡ D.number desk.old }
+    ensures places { L.places link.new ≡ L.places link.old }
+    ensures served { (e : Ending) × IsServed (D.number desk.old) (D.opening desk.old)
+        (record { left = L.left link.old; taken = L.taken link.old; reads = L.read_faults link.old; writes = L.write_faults link.old })
+        (record { left = L.left link.new; taken = L.taken link.new; reads = L.read_faults link.new; writes = L.write_faults link.new })
+        (record { seen = D.seen desk.old; mine = D.mine desk.old }) (record { seen = D.seen desk.new; mine = D.mine desk.new })
+        result e }
+{
+    let Ok(mut blocks) = Blocks::new(alloc) else {
+        return finished(desk, How::Memory, 0);
+    };
+    let mut buffer = [0; BUFFER_LEN];
+    for answered in 0..MOST_BLOCKS {
+        if let Some(how) = turn(alloc, link, desk, &mut blocks, &mut buffer) {
+            return finished(desk, how, answered);
+        }
+    }
+    let how = last_look(link, &blocks, &mut buffer);
+    finished(desk, how, MOST_BLOCKS)
 }

@@ -11,8 +11,8 @@ invariant-loop-block g l = record {
   taken : g.L.Sink.taken l.link ≡ g.L.Sink.taken l.initial.link;
   writes : g.L.Sink.write_faults l.link ≡ g.L.Sink.write_faults l.initial.link;
   places : g.L.Link.places l.link ≡ g.L.Link.places l.initial.link;
-  room : length l.buffer ≡ length l.initial.buffer
-  }
+  room : length l.buffer ≡ length l.initial.buffer;
+}
 
 -- less than a whole block is short
 abbrev pub decreases-loop-block : goal.decreases-loop-block
