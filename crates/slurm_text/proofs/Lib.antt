@@ -1,2 +1,3 @@
 pub mod DigitsLemmas
 pub mod FieldsLemmas
+pub mod MomentLemmas

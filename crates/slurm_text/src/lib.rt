@@ -5,4 +5,5 @@ pub mod digits;
 pub mod fields;
 pub mod keywords;
 pub mod memory;
+pub mod moment;
 pub mod plain;
