@@ -1,30 +1,15 @@
 -- Texts of moments, which are seconds since 1970-01-01T00:00:00 in UTC.
-use Rattle.std.specs.Prelude.{ℕ, ◌+◌, ◌*◌, Bool, ◌&&◌, ◌||◌, nat_le, ◌==◌, if◌then◌else◌, List, [], ◌∷◌, length, Option, None, Some, ℤ, pos, negsuc, codes}
+use Rattle.std.specs.Prelude.{ℕ, ◌+◌, ◌*◌, ◌/◌, ◌%◌, ◌||◌, nat_le, ◌==◌, if◌then◌else◌, List, [], ◌∷◌, ◌++◌, length, Option, None, Some, codes}
 use Rattle.std.specs.Str.{bytes_eq}
-use Rattle.jiff.specs.Words.{days_in_month}
-use Rattle.jiff_core.specs.Calendar.{days_from_civil}
-use Rattle.slurm_text.specs.Digits.{number_within, leading_digits, after_digits}
+use Rattle.slurm_text.specs.Civil.{day_number, date_after}
+use Rattle.slurm_text.specs.Digits.{number_within, leading_digits, after_digits, two_digits}
 use Rattle.slurm_text.specs.Fields.{fields}
+use Rattle.slurm_text.specs.declared.civil.CivilDate.{CivilDate}
 use Rattle.slurm_text.specs.Options.{◌>>=◌}
 
 -- the number of a text of just so many digits, up to a greatest
 unfoldable pub number_of_width : ℕ → ℕ → List ℕ → Option ℕ
 number_of_width width greatest text = if length text == width then number_within width greatest text else None
-
--- the calendar has this day
-abbrev pub is_civil_date : ℕ → ℕ → ℕ → Bool
-is_civil_date year month day =
-    nat_le 1 month && nat_le month 12 && nat_le 1 day && nat_le day (days_in_month (pos year) month)
-
--- a number that is not negative
-abbrev pub not_negative : ℤ → Option ℕ
-not_negative (pos n) = Some n
-not_negative (negsuc n) = None
-
--- how many days after 1970-01-01 the date is, which the calendar must have
-unfoldable pub day_number : ℕ → ℕ → ℕ → Option ℕ
-day_number year month day =
-    if is_civil_date year month day then not_negative (days_from_civil (pos year) month day) else None
 
 -- `YYYY-MM-DD`, by its fields
 unfoldable pub day_of_date : List (List ℕ) → Option ℕ
@@ -87,3 +72,17 @@ up_to_last moment = if nat_le moment 250_000_000_000 then Some moment else None
 -- the moment that a text names, read at the moment `now`
 unfoldable pub moment_of : List ℕ → ℕ → Option ℕ
 moment_of text now = moment_of_parts now (fields 43 text) >>= λ moment. up_to_last moment
+
+-- `YYYY-MM-DD`
+abbrev pub date_text : CivilDate → List ℕ
+date_text date =
+    two_digits (date.year / 100) ++ two_digits (date.year % 100) ++ codes "-" ++ two_digits date.month ++ codes "-" ++ two_digits date.day
+
+-- `HH:MM:SS`, of so many seconds of a day
+abbrev pub clock_text : ℕ → List ℕ
+clock_text seconds =
+    two_digits (seconds / 3600) ++ codes ":" ++ two_digits (seconds / 60 % 60) ++ codes ":" ++ two_digits (seconds % 60)
+
+-- a moment as it is printed
+unfoldable pub moment_text : ℕ → List ℕ
+moment_text moment = date_text (date_after (moment / 86_400)) ++ codes "T" ++ clock_text (moment % 86_400)

@@ -1,7 +1,7 @@
 //! Numbers written in decimal digits.
 
-ghost use Rattle.std.specs.Prelude.{◌≡◌, ◌≤◌, length, IfSome};
-ghost use Rattle.slurm_text.specs.Digits.{number_within, leading_digits, after_digits};
+ghost use Rattle.std.specs.Prelude.{◌≡◌, ◌<◌, ◌≤◌, length, IfSome};
+ghost use Rattle.slurm_text.specs.Digits.{number_within, leading_digits, after_digits, two_digits};
 ghost use Rattle.std.specs.Char.{is_ascii_digit};
 ghost use Rattle.std.specs.List.{prefix_len};
 
@@ -35,6 +35,14 @@ pub fn split_digits(text: &[u8]) -> (&[u8], &[u8])
     ensures back { result.1.now ≡ after_digits text.now }
 {
     text.split_at(count_digits(text))
+}
+
+/// The number in two digits.
+pub fn to_two_digits(number: u64) -> [u8; 2]
+    requires { number < 100 }
+    ensures { result ≡ two_digits number }
+{
+    [b'0' + (number / 10) as u8, b'0' + (number % 10) as u8]
 }
 
 // How many digits begin the text.

@@ -1,13 +1,14 @@
 //! Moments: "--begin" of sbatch(1). A moment is a number of seconds since 1970-01-01T00:00:00 in UTC.
 
-ghost use Rattle.std.specs.Prelude.{◌≡◌, ◌+◌, ◌<◌, ◌≤◌, ◌^◌, IfSome, IfOk};
+ghost use Rattle.std.specs.Prelude.{◌≡◌, ◌/◌, ◌<◌, ◌≤◌, IfSome, IfOk};
 ghost use Rattle.std.specs.Result.{result_ok};
 ghost use Rattle.slurm_text.specs.Fields.{fields};
-ghost use Rattle.slurm_text.specs.Moment.{number_of_width, day_number, day_of_date, seconds_of_clock, civil_moment, unit_of, wait_of, up_to_last, moment_of};
+ghost use Rattle.slurm_text.specs.Moment.{number_of_width, day_of_date, seconds_of_clock, civil_moment, unit_of, wait_of, up_to_last, moment_of, moment_text};
+ghost use Rattle.slurm_text.specs.Civil.{date_after, IsDateAfter};
 
-use crate::digits::{parse_number, split_digits};
+use crate::civil::{date_after_epoch, day_after_epoch};
+use crate::digits::{parse_number, split_digits, to_two_digits};
 use crate::fields::{UpToThree, up_to_three};
-use jiff::civil::Date;
 
 /// The text names no moment.
 #[derive(Clone, Copy, PartialEq, Eq, Debug)]
@@ -22,6 +23,29 @@ pub fn parse_moment(text: &[u8], now: u64) -> Result<u64, BadMoment>
     ensures bound { IfOk result (λ moment. moment ≤ 250_000_000_000) }
 {
     parse_parts(text, now).ok_or(BadMoment)
+}
+
+/// Writes the moment as `YYYY-MM-DDTHH:MM:SS`.
+#[tactic(auto, unfolding(crate::specs::Moment::moment_text))]
+pub fn print_moment(moment: u64, out: &mut [u8; 19])
+    requires { moment ≤ 253_402_300_799 }
+    ensures text { out.new ≡ moment_text moment }
+
+    // The date in that text is the one of the calendar that is so many days after 1970-01-01.
+    ensures civil { IsDateAfter (moment / 86_400) (date_after (moment / 86_400)) }
+{
+    let date = date_after_epoch(moment / 86_400);
+    let seconds = moment % 86_400;
+    let [y1, y2] = to_two_digits(date.year / 100);
+    let [y3, y4] = to_two_digits(date.year % 100);
+    let [m1, m2] = to_two_digits(date.month);
+    let [d1, d2] = to_two_digits(date.day);
+    let [h1, h2] = to_two_digits(seconds / 3600);
+    let [i1, i2] = to_two_digits(seconds / 60 % 60);
+    let [s1, s2] = to_two_digits(seconds % 60);
+    *out = [
+        y1, y2, y3, y4, b'-', m1, m2, b'-', d1, d2, b'T', h1, h2, b':', i1, i2, b':', s1, s2,
+    ];
 }
 
 // The same, where a text that names no moment is `None`.
@@ -94,7 +118,7 @@ fn parse_date(text: &[u8]) -> Option<u64>
     ensures bound { IfSome result (λ day. day ≤ 2_932_896) }
 {
     match up_to_three(text, b'-') {
-        UpToThree::Three(year, month, day) => civil_day(
+        UpToThree::Three(year, month, day) => day_after_epoch(
             parse_width(year, 4, 9999)?,
             parse_width(month, 2, 12)?,
             parse_width(day, 2, 31)?,
@@ -132,19 +156,4 @@ fn parse_width(text: &[u8], width: usize, greatest: u64) -> Option<u64>
     } else {
         None
     }
-}
-
-// The number of the day that a calendar has under these numbers.
-#[tactic(auto, unfolding(crate::specs::Moment::day_number))]
-fn civil_day(year: u64, month: u64, day: u64) -> Option<u64>
-    requires year { year ≤ 9999 }
-    requires month { month ≤ 12 }
-    requires day { day ≤ 31 }
-    ensures value { result ≡ day_number year month day }
-    ensures bound { IfSome result (λ n. n ≤ 2_932_896) }
-{
-    let Ok(date) = Date::new(year as i16, month as i8, day as i8) else {
-        return None;
-    };
-    u64::try_from(date.to_plain().to_unix_epoch_day()).ok()
 }

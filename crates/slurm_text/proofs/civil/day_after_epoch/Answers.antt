@@ -1,9 +1,9 @@
-use Rattle.std.proofs.Common.{◌≡◌, arith, FitsSigned, w8, w16, w32, pos, ap, refl, ◌∙◌}
+use Rattle.std.proofs.Common.{arith, FitsSigned, w8, w16, w32, ap, refl, ◌∙◌}
 use Rattle.std.proofs.lemmas.Int.{to_z-of_z, to_z_pos}
 use Rattle.jiff.specs.Words.{epoch_day}
-use Rattle.slurm_text.specs.Moment.{not_negative}
-use Rattle.slurm_text.proofs.MomentLemmas.{converted, day_number-date}
-use Rattle.slurm_text.proofs.moment.civil_day.Goals as goal
+use Rattle.slurm_text.specs.Civil.{not_negative}
+use Rattle.slurm_text.proofs.CivilLemmas.{converted, day_number-date}
+use Rattle.slurm_text.proofs.civil.day_after_epoch.Goals as goal
 
 pub returns-clause-value : goal.returns-clause-value
 returns-clause-value c =
