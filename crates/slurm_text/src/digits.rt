@@ -52,3 +52,6 @@ fn count_digits(text: &[u8]) -> usize
 {
     text.iter().take_while(|b| b.is_ascii_digit()).count()
 }
+
+#[cfg(test)]
+mod tests;

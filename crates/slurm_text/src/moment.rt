@@ -157,3 +157,6 @@ fn parse_width(text: &[u8], width: usize, greatest: u64) -> Option<u64>
         None
     }
 }
+
+#[cfg(test)]
+mod tests;
