@@ -6,6 +6,7 @@ ghost use Rattle.slurm_text.specs.Digits.{two_digits};
 ghost use Rattle.slurm_num.specs.Elapsed.{elapsed_text};
 
 use itoa::Buffer;
+use slurm_text::digits::to_two_digits;
 
 /// Writes the length of time to the front of `out`, as `m:ss`, `h:mm:ss` or `d-hh:mm:ss`, and answers how
 /// many bytes that took. The others stay.
@@ -53,8 +54,9 @@ fn put_part(out: &mut [u8; 32], start: usize, mark: u8, number: u64) -> usize
     ensures len { result ≡ start + 3 }
     ensures rest { drop result out.new ≡ drop result out.old }
 {
+    let [tens, units] = to_two_digits(number);
     out[start] = mark;
-    out[start + 1] = b'0' + (number / 10) as u8;
-    out[start + 2] = b'0' + (number % 10) as u8;
+    out[start + 1] = tens;
+    out[start + 2] = units;
     start + 3
 }

@@ -1,4 +1,5 @@
-pub mod Positions
-pub mod WordLemmas
+pub mod CivilLemmas
 pub mod DigitsLemmas
 pub mod FieldsLemmas
+pub mod Positions
+pub mod WordLemmas

@@ -1,7 +1,7 @@
 //! Numbers written in decimal digits.
 
-ghost use Rattle.std.specs.Prelude.{◌≡◌, ◌≤◌, length, IfSome};
-ghost use Rattle.slurm_text.specs.Digits.{number_within, leading_digits, after_digits};
+ghost use Rattle.std.specs.Prelude.{◌≡◌, ◌<◌, ◌≤◌, length, IfSome};
+ghost use Rattle.slurm_text.specs.Digits.{number_within, leading_digits, after_digits, two_digits};
 ghost use Rattle.std.specs.Char.{is_ascii_digit};
 ghost use Rattle.std.specs.List.{prefix_len};
 
@@ -37,6 +37,14 @@ pub fn split_digits(text: &[u8]) -> (&[u8], &[u8])
     text.split_at(count_digits(text))
 }
 
+/// The number in two digits.
+pub fn to_two_digits(number: u64) -> [u8; 2]
+    requires { number < 100 }
+    ensures { result ≡ two_digits number }
+{
+    [b'0' + (number / 10) as u8, b'0' + (number % 10) as u8]
+}
+
 // How many digits begin the text.
 fn count_digits(text: &[u8]) -> usize
     ensures value { result ≡ prefix_len is_ascii_digit text.now }
@@ -44,3 +52,6 @@ fn count_digits(text: &[u8]) -> usize
 {
     text.iter().take_while(|b| b.is_ascii_digit()).count()
 }
+
+#[cfg(test)]
+mod tests;

@@ -42,3 +42,6 @@ fn in_megabytes(number: u64, unit: &[u8]) -> Option<u64>
         _ => None,
     }
 }
+
+#[cfg(test)]
+mod tests;
