@@ -1,3 +1,6 @@
+pub mod BracketLemmas
+pub mod HostLemmas
+pub mod ItemLemmas
 pub mod Positions
 pub mod Quotes
 pub mod WordLemmas
