@@ -1,5 +1,9 @@
+pub mod BracketLemmas
 pub mod CivilLemmas
 pub mod DigitsLemmas
 pub mod FieldsLemmas
+pub mod HostLemmas
+pub mod ItemLemmas
 pub mod Positions
+pub mod Quotes
 pub mod WordLemmas

@@ -90,11 +90,11 @@ written-good DoubleEscaped b h = by_quote (b == 34 || b == 92) where
   by_quote true = rw h refl
   by_quote false = rw h refl
 
-both-left : (a b : Bool) → (a && b) ≡ true → a ≡ true
+pub both-left : (a b : Bool) → (a && b) ≡ true → a ≡ true
 both-left true b h = refl
 both-left false b h = h
 
-both-right : (a b : Bool) → (a && b) ≡ true → b ≡ true
+pub both-right : (a b : Bool) → (a && b) ≡ true → b ≡ true
 both-right true b h = h
 both-right false b h = cc
 

@@ -119,6 +119,6 @@ unfoldable pub quoted : List ℕ → List ℕ
 quoted word = if is_bare word then word else 34 ∷ flat_map double_quoted word ++ 34 ∷ []
 
 -- how words are written: one blank between two neighbours
-abbrev pub quoted_words : List (List ℕ) → List ℕ
+unfoldable pub quoted_words : List (List ℕ) → List ℕ
 quoted_words [] = []
 quoted_words (word ∷ words) = quoted word ++ flat_map (λ w. 32 ∷ quoted w) words

@@ -3,6 +3,7 @@
 
 pub mod digits;
 pub mod fields;
+pub mod hosts;
 pub mod items;
 pub mod keywords;
 pub mod memory;

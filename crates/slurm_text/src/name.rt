@@ -2,11 +2,21 @@ ghost use Rattle.std.specs.Prelude.{◌≡◌, ◌↔◌, IfOk, OnOk, IsErrOf, I
 ghost use Rattle.std.specs.List.{list_all};
 ghost use Rattle.std.specs.Str.{bytes_eq};
 ghost use Rattle.slurm_text.specs.Name.{is_name_byte, is_printable, is_name, is_job_name};
+ghost use Rattle.std.specs.Prelude.{Some, refl, bytes_eq};
+ghost use Rattle.std.proofs.Common.{rules};
+ghost use Rattle.std.specs.Ordering.{nat_cmp};
+ghost use Rattle.std.specs.Hash as fed;
+ghost use Rattle.std.specs.Cmp.{partial_equiv_from_equiv};
+ghost use Rattle.std.specs.Cmp.Lexicographic.{slice_cmp, nat_list_eq_equiv, nat_list_cmp_total, texts_ties, texts_po};
+ghost use Rattle.std.specs.Cmp.Rules.{hashing};
 
+use crate::memory_error;
 use crate::memory_error::Memory;
 use std::alloc::{AllocError, Global};
+use std::cmp::Ordering;
 use std::error::Error;
 use std::fmt;
+use std::hash::{Hash, Hasher};
 use std::marker::Model;
 
 const LONGEST_NAME: usize = 64;
@@ -28,6 +38,54 @@ impl Model for Name {
     ghost view = { λ n. n.text.items };
 
     ghost invariant = { λ n. IsTrue (is_name n.text.items) };
+}
+
+impl PartialEq for Name {
+    ghost eq = { bytes_eq };
+
+    ghost laws = { partial_equiv_from_equiv nat_list_eq_equiv };
+
+    fn eq(&self, other: &Name) -> bool {
+        self.text.as_slice() == other.text.as_slice()
+    }
+}
+
+impl Eq for Name {
+    ghost laws = { nat_list_eq_equiv };
+}
+
+impl PartialOrd for Name {
+    ghost partial_cmp = { λ a b. Some (slice_cmp nat_cmp a b) };
+
+    ghost laws = { texts_po };
+
+    fn partial_cmp(&self, other: &Name) -> Option<Ordering> {
+        Some(self.cmp(other))
+    }
+}
+
+impl Ord for Name {
+    ghost cmp = { slice_cmp nat_cmp };
+
+    ghost total = { nat_list_cmp_total };
+
+    ghost matches_partial_cmp = { λ a b. refl };
+
+    ghost matches_eq = { texts_ties };
+
+    fn cmp(&self, other: &Name) -> Ordering {
+        self.text.as_slice().cmp(other.text.as_slice())
+    }
+}
+
+impl Hash for Name {
+    ghost hash_input = { λ name. fed.slice fed.u8 name };
+
+    ghost respects_eq = { Prim.search (hashing, rules) };
+
+    fn hash<H: Hasher>(&self, state: &mut H) {
+        self.text.as_slice().hash(state);
+    }
 }
 
 /// A name of a job, which may have blanks (own).
@@ -72,6 +130,17 @@ impl From<AllocError> for NameRefusal {
     ghost from_gives = { λ _ e. e ≡ Memory };
 
     fn from(_error: AllocError) -> NameRefusal {
+        NameRefusal::Memory
+    }
+}
+
+impl From<Memory> for NameRefusal {
+    ghost use Rattle.std.specs.Prelude.{◌≡◌};
+    ghost use Rattle.slurm_text.specs.declared.name.NameRefusal.TheVariants.{Memory};
+
+    ghost from_gives = { λ _ e. e ≡ Memory };
+
+    fn from(_error: memory_error::Memory) -> NameRefusal {
         NameRefusal::Memory
     }
 }

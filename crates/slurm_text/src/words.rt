@@ -373,18 +373,28 @@ fn push_quoted(out: &mut Vec<u8>, word: &[u8]) -> Result<(), AllocError>
     Ok(())
 }
 
-/// Writes words on one line, from which `split_words` reads them again: plain where a word has only letters, digits
-/// and `_-.,=:/+%@[]&|?`, else in double quotes (own).
-pub fn quote_words(alloc: Global, words: &Words) -> Result<Vec<u8>, Memory>
-    ensures { IfOk result (λ line. line.items ≡ quoted_words words.now) }
+#[tactic(auto, unfolding(crate::specs::Words::quoted_words))]
+fn written_line(alloc: Global, words: &[Vec<u8>]) -> Result<Vec<u8>, AllocError>
+    ensures { IfOk result (λ line. line.items ≡ quoted_words (map (λ word. word.items) words.now)) }
 {
     let mut line = Vec::new(alloc);
-    if let Some((first, others)) = words.words.split_first() {
+    if let Some((first, others)) = words.split_first() {
         push_quoted(&mut line, first.as_slice())?;
         for word in others {
             line.push(b' ')?;
             push_quoted(&mut line, word.as_slice())?;
         }
     }
+    Ok(line)
+}
+
+/// Writes words on one line, from which `split_words` reads them again: plain where a word has only letters, digits
+/// and `_-.,=:/+%@[]&|?`, else in double quotes (own).
+#[tactic(auto, using(crate::proofs::Quotes::quoting))]
+pub fn quote_words(alloc: Global, words: &Words) -> Result<Vec<u8>, Memory>
+    ensures value { IfOk result (λ line. line.items ≡ quoted_words words.now) }
+    ensures splits { IfOk result (λ line. (first_bad line.items ≡ None) × (words_in line.items ≡ words.now)) }
+{
+    let line = written_line(alloc, words.words.as_slice())?;
     Ok(line)
 }

@@ -1,6 +1,6 @@
 use Rattle.std.proofs.Common.{◌≡◌, ◌++◌, ◌∷◌, take, map, flat_map}
 use Rattle.slurm_text.specs.Words.{quoted}
-use Rattle.slurm_text.proofs.words.quote_words.Given as goal
+use Rattle.slurm_text.proofs.words.written_line.Given as goal
 
 abbrev pub invariant-loop-word : goal.invariant-loop-word
 invariant-loop-word l =
