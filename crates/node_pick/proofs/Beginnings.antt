@@ -1,14 +1,8 @@
 -- How a beginning of a set grows, and what it says of the sets that fit.
-use Rattle.std.proofs.Common.{◌≡◌, ◌≢◌, ℕ, ◌+◌, ◌-◌, ◌≤◌, ◌<◌, ◌⊎◌, List, [], ◌∷◌, ◌++◌, length, min, All, Contains, inl, inr, refl, sym, ap, subst, arith, ⊎_elim, ltb, eqb, false, true, zero, suc}
-use Rattle.std.proofs.lemmas.Bool.{cases_lt, lt-ltb, le-ltb, eq-eqb, ne_eqb}
-use Rattle.std.proofs.lemmas.List.{append_assoc, length-append, append-nil, length_push, get_or_past}
-use Rattle.std.proofs.lemmas.List.Sums.{sum_by-append, sum_by-cons}
-use Rattle.std.proofs.lemmas.List.Elements.{All-head, All-tail, All-push, All-weaker, All-contains, All-nil, All-cons, All-append, Contains-push, Contains-append_left, Contains-append_right, Contains-append_cases, Contains-push_cases}
-use Rattle.std.specs.Ordering.{nat_cmp}
-use Rattle.std.specs.declared.cmp.Ordering.{Ordering}
-use Rattle.std.specs.declared.cmp.Ordering.TheVariants.{Less, Equal, Greater}
-use Rattle.std.specs.Cmp.Lexicographic.{slice_cmp}
-use Rattle.std.specs.Ordering.{ordering_then}
+use Rattle.std.proofs.Common.{◌≡◌, ◌≢◌, ℕ, ◌+◌, ◌≤◌, ◌<◌, ◌⊎◌, List, [], ◌∷◌, ◌++◌, length, min, All, Contains, inl, inr, refl, sym, ap, subst, arith, ⊎_elim, ltb, eqb, false, true, zero, suc}
+use Rattle.std.proofs.lemmas.Bool.{cases_lt, le-ltb, eq-eqb, ne_eqb}
+use Rattle.std.proofs.lemmas.List.{append_assoc, append-nil, length_push, get_or_past}
+use Rattle.std.proofs.lemmas.List.Elements.{All-head, All-tail, All-push, All-weaker, All-contains, All-nil, All-cons, Contains-push, Contains-append_left, Contains-append_cases}
 use Rattle.node_pick.specs.declared.Need.{Need}
 use Rattle.node_pick.specs.Sets.{capacity, tasks_given, IsRisingFrom, Fits, IsBefore, IsChosen}
 use Rattle.node_pick.specs.Beginnings.{GoesOn, GoesOnOrComesAfter, IsBeginning, IsRequiredBeginning, IsLeastBeginning}

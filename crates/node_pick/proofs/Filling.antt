@@ -1,14 +1,14 @@
 -- The reserve as it is filled with the candidates that can give the most.
-use Rattle.std.proofs.Common.{◌≡◌, ◌≢◌, ℕ, ◌+◌, ◌-◌, ◌*◌, ◌≤◌, ◌<◌, ◌⊎◌, List, [], ◌∷◌, length, sum, sum_by, All, AllPairs, Contains, inl, inr, refl, sym, ◌∙◌, ap, subst, arith, get_or, set, slice_index, slice_index_or, replicate, cond, ltb, length-set, get_or-set_same, get_or-set_other}
-use Rattle.std.specs.List.{AllWithin, HoldsAt}
+use Rattle.std.proofs.Common.{◌≡◌, ◌≢◌, ℕ, ◌+◌, ◌-◌, ◌*◌, ◌≤◌, ◌<◌, List, length, sum, AllPairs, inl, inr, sym, ◌∙◌, ap, subst, arith, set, slice_index, slice_index_or, length-set, get_or-set_same, get_or-set_other}
+use Rattle.std.specs.List.{HoldsAt}
 use Rattle.std.specs.List.Sorted.{IsNonDecreasingBy}
 use Rattle.std.proofs.lemmas.Bool.{cases_lt, cases_eq}
-use Rattle.std.proofs.lemmas.List.{get_or_default, get_or-map, get_or_past, length-map, get_or-replicate, length-replicate}
+use Rattle.std.proofs.lemmas.List.{get_or_default, get_or-map, get_or_past, length-map}
 use Rattle.std.proofs.lemmas.List.Sums.{sum_by-set, sum_by-le}
-use Rattle.std.proofs.lemmas.List.Elements.{All-get_or, All-weaker, All-from_get_or, All-replicate}
+use Rattle.std.proofs.lemmas.List.Elements.{All-get_or, All-weaker, All-from_get_or}
 use Rattle.node_pick.specs.declared.reserve.Candidate.{Candidate}
 use Rattle.node_pick.specs.Sets.{capacity}
-use Rattle.node_pick.specs.Holding.{IsCandidate, IsCandidateFrom, AreCandidates, candidate_places, held_count, IsHeldOrSmall, IsHolding, AreAllHeld, IsFull}
+use Rattle.node_pick.specs.Holding.{IsCandidate, AreCandidates, candidate_places, held_count, IsHeldOrSmall, IsHolding, IsFull}
 use Rattle.node_pick.proofs.Sums.{held_count-set_held}
 
 -- the place is that of a candidate from `low` on and before `high`

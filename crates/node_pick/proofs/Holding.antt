@@ -1,16 +1,15 @@
 -- How the reserve changes when a place is passed or taken, and what it says of the sets to come.
-use Rattle.std.proofs.Common.{◌≡◌, ◌≢◌, ℕ, ◌+◌, ◌-◌, ◌*◌, ◌≤◌, ◌<◌, ◌⊎◌, List, [], ◌∷◌, length, sum, All, inl, inr, refl, sym, ap, subst, arith, ⊎_elim, get_or, set, slice_index, slice_index_or, ◌∙◌, zero, suc, length-set, get_or-set_same, get_or-set_other}
+use Rattle.std.proofs.Common.{◌≡◌, ◌≢◌, ℕ, ◌+◌, ◌-◌, ◌*◌, ◌≤◌, ◌<◌, List, [], ◌∷◌, length, sum, All, inl, inr, refl, sym, ap, subst, arith, set, slice_index, slice_index_or, ◌∙◌, suc, length-set, get_or-set_same, get_or-set_other}
 use Rattle.std.specs.List.{AllWithin, HoldsAt}
-use Rattle.std.specs.List.Sorted.{IsNonDecreasingBy}
 use Rattle.std.proofs.lemmas.Bool.{cases_lt, cases_eq}
 use Rattle.std.proofs.lemmas.List.{get_or_default}
 use Rattle.std.proofs.Math.Nat.{mul-le-mul_right}
-use Rattle.std.proofs.lemmas.List.Elements.{All-get_or, All-tail, All-head, All-from_get_or, All-contains}
+use Rattle.std.proofs.lemmas.List.Elements.{All-get_or}
 use Rattle.node_pick.specs.declared.reserve.Candidate.{Candidate}
 use Rattle.node_pick.specs.Sets.{capacity, tasks_given, IsRisingFrom}
-use Rattle.node_pick.specs.Holding.{IsCandidate, IsCandidateFrom, held_count, IsHeldOrSmall, IsHolding, AreAllHeld, IsFull}
+use Rattle.node_pick.specs.Holding.{IsCandidate, held_count, IsHolding, AreAllHeld, IsFull}
 use Rattle.node_pick.proofs.Beginnings.{IsRisingFrom-at_least}
-use Rattle.node_pick.proofs.Sums.{bound_above, length-held, held_count-zero, held_count-cons_empty}
+use Rattle.node_pick.proofs.Sums.{bound_above, length-held, held_count-cons_empty}
 
 -- what is held is all that the place can give
 pub held-capacity : (caps : List ℕ) (from : ℕ) (candidates : List Candidate) (least : ℕ) (held : List ℕ) → IsHolding caps from candidates least held → (place : ℕ) → 1 ≤ slice_index held place → slice_index held place ≡ capacity caps place

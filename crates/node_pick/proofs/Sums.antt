@@ -1,10 +1,9 @@
 -- What the places of a set can give, against what is held.
-use Rattle.std.proofs.Common.{◌≡◌, ◌≢◌, ℕ, ◌+◌, ◌-◌, ◌*◌, ◌≤◌, ◌<◌, ◌⊎◌, List, [], ◌∷◌, ◌++◌, length, sum, sum_by, count_by, All, inl, inr, refl, sym, ap, subst, arith, ⊎_elim, get_or, drop, take, ltb, cond, true, false, zero, suc, slice_index, set}
+use Rattle.std.proofs.Common.{◌≡◌, ℕ, ◌+◌, ◌-◌, ◌*◌, ◌≤◌, ◌<◌, List, [], ◌∷◌, length, sum, sum_by, All, inl, inr, refl, ap, arith, get_or, drop, ltb, cond, true, false, suc, slice_index, set}
 use Rattle.std.proofs.lemmas.Bool.{cases_lt, lt-ltb, le-ltb}
-use Rattle.std.proofs.lemmas.List.{get_or_past, drop-drop, drop_all}
+use Rattle.std.proofs.lemmas.List.{get_or_past, drop-drop}
 use Rattle.std.proofs.lemmas.List.Sums.{sum_by-cons, sum_by-drop_more, sum_by-take-drop, sum_by-set}
 use Rattle.std.proofs.lemmas.List.Elements.{All-head, All-tail}
-use Rattle.std.proofs.Math.Nat.{mul-le-mul_left, mul-le-mul_right}
 use Rattle.node_pick.specs.Sets.{capacity, IsRisingFrom}
 use Rattle.node_pick.specs.Holding.{held_count}
 

@@ -22,7 +22,7 @@ fn required_places(alloc: Global, caps: &[u32], need: &Need) -> Result<Option<Be
     ensures wanting { IfOk result (λ begun. IfSome begun (λ begun. begun.wanting ≡ need.now.tasks - tasks_given caps.now begun.set.items)) }
     ensures none { IfOk result (λ begun. IfNone begun ((set : List ℕ) → ¬ Fits caps.now need.now set)) }
 {
-    let mut set = Vec::with_capacity(alloc, need.required as usize)?;
+    let mut set = Vec::with_capacity(alloc, caps.len())?;
     let mut wanting = need.tasks;
     for place in 0..need.required {
         let given = caps[place as usize];

@@ -24,10 +24,11 @@ pub(crate) fn deal(
         let later = (set.len() - 1 - i) as u32;
         let given = caps[*place as usize].min(left - later);
         left -= given;
-        let _ = out.push(Dealt {
+        let dealt = Dealt {
             place: *place,
             tasks: given,
-        });
+        };
+        out.push(dealt).unwrap();
     }
     Ok(())
 }

@@ -1,4 +1,6 @@
-//! The choice of nodes: of all sets of places that fit a job's need, the first in dictionary order.
+//! The choice of nodes: of all sets of places that fit a job's need, the first in dictionary order, and how the job's
+//! tasks are dealt to it. A place is an index into the list of what each node can give. Own: Slurm's manual leaves open
+//! which nodes a job gets.
 #![tactic(auto)]
 
 ghost use Rattle.std.specs.Prelude.{◌≡◌, ℕ, List, [], IsTrue, IfOk, OnErr};
@@ -13,7 +15,7 @@ mod choice;
 mod dealing;
 mod reserve;
 
-/// What a job asks of the set of places that it gets.
+/// What a job asks of the set of places that it gets (sbatch(1): `--ntasks`, `--nodes`, `--nodelist`).
 #[derive(Clone, Copy, Debug, PartialEq, Eq)]
 pub struct Need {
     /// The tasks to be placed.
@@ -22,7 +24,7 @@ pub struct Need {
     pub least: u32,
     /// The most places. A number above `tasks` has no effect, since each place takes a task.
     pub most: u32,
-    /// How many places, from the first on, the set must hold.
+    /// How many places, from the first on, the set must hold. More than there are leave no set.
     pub required: u32,
 }
 
@@ -51,8 +53,8 @@ impl From<AllocError> for Memory {
     }
 }
 
-/// The first of the sets that fit, a prefix of a set being before it, with its tasks dealt in `out`: true, or false where
-/// none fits. It sorts the capacities once and then walks along them: O(n log n) for n capacities.
+/// The chosen set with its tasks, in `out`: true, or false where no set fits. What `out` had before goes. It sorts the
+/// capacities once and then walks along them, O(n log n) for n capacities, whatever the number of sets.
 pub fn pick(alloc: Global, caps: &[u32], need: &Need, out: &mut Vec<Dealt>) -> Result<bool, Memory>
     ensures chosen { IfOk result (λ found. OnTrue found (IsChosen caps.now need.now (places out.new.items))) }
     ensures dealt { IfOk result (λ found. OnTrue found (out.new.items ≡ dealt caps.now need.now.tasks (places out.new.items))) }

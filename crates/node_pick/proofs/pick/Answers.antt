@@ -1,4 +1,4 @@
-use Rattle.std.proofs.Common.{◌≡◌, refl}
+use Rattle.std.proofs.Common.{refl}
 use Rattle.node_pick.proofs.Shares.{places-dealt}
 use Rattle.node_pick.proofs.pick.Goals as goal
 

@@ -1,6 +1,5 @@
-use Rattle.std.proofs.Common.{◌≡◌, ℕ, ◌-◌, ◌<◌, inl, inr, arith}
-use Rattle.node_pick.specs.Sets.{capacity}
-use Rattle.node_pick.proofs.Walk.{IsOnTheWay, IsUndone, IsOnTheWay-start, IsOnTheWay-take, IsOnTheWay-pass, IsChosen-done, IsChosen-at_end, undone-some}
+use Rattle.std.proofs.Common.{inl, inr, arith}
+use Rattle.node_pick.proofs.Walk.{IsUndone, IsOnTheWay-start, IsOnTheWay-take, IsOnTheWay-pass, IsChosen-done, IsChosen-at_end, undone-some}
 use Rattle.node_pick.proofs.choice.completed.Goals as goal
 use Rattle.node_pick.proofs.choice.completed.Goals.{else-wanting-eq0-via-then-wanting-eq0+else-len-need, else-wanting-eq0-via-else-wanting-eq0}
 use Rattle.node_pick.proofs.choice.completed.Goals.{then-admits+in_ok-push, else-admits}

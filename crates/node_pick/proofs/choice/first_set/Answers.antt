@@ -1,4 +1,4 @@
-use Rattle.std.proofs.Common.{◌≡◌, ℕ, ◌+◌, ◌≤◌, ◌<◌, ◌⊎◌, min, length, inl, inr, arith}
+use Rattle.std.proofs.Common.{inl, inr, arith}
 use Rattle.node_pick.proofs.Beginnings.{none_from_required}
 use Rattle.node_pick.proofs.Walk.{none_from_short}
 use Rattle.node_pick.proofs.choice.first_set.Goals as goal

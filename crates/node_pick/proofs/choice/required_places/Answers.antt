@@ -1,4 +1,4 @@
-use Rattle.std.proofs.Common.{◌≡◌, ℕ, arith}
+use Rattle.std.proofs.Common.{arith}
 use Rattle.std.proofs.lemmas.List.Sums.{sum_by_push}
 use Rattle.node_pick.specs.Sets.{capacity}
 use Rattle.node_pick.proofs.Beginnings.{IsRequiredBeginning-take, none_from_empty_place}

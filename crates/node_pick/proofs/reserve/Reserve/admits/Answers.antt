@@ -1,4 +1,4 @@
-use Rattle.std.proofs.Common.{rules, ◌≡◌, ℕ, List, ◌+◌, ◌-◌, ◌≤◌, ◌<◌, length, slice_index, slice_index_or, arith, sym, ap}
+use Rattle.std.proofs.Common.{ℕ, ◌+◌, ◌<◌, length, arith, sym, ap}
 use Rattle.std.proofs.lemmas.List.{get_or_read}
 use Rattle.std.proofs.lemmas.List.Sums.{get_or-le-sum_by}
 use Rattle.node_pick.specs.declared.reserve.Candidate.{Candidate}

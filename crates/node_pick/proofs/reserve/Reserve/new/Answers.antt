@@ -1,5 +1,4 @@
-use Rattle.std.proofs.Common.{◌≡◌, ℕ, ◌+◌, ◌*◌, ◌-◌, ◌≤◌, ◌<◌, length, arith, subst}
-use Rattle.node_pick.specs.Sets.{capacity}
+use Rattle.std.proofs.Common.{◌≡◌, ℕ, ◌+◌, ◌-◌, length, arith, subst}
 use Rattle.node_pick.proofs.Filling.{IsFilling, IsFilling-take, IsHolding-filled, IsFull-filled, tasks-le}
 use Rattle.node_pick.proofs.reserve.Reserve.new.Goals as goal
 
