@@ -1,0 +1,4 @@
+pub mod Sets
+pub mod Chosen
+pub mod Beginnings
+pub mod Holding
