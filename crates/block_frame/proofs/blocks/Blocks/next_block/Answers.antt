@@ -1,4 +1,4 @@
-use Rattle.std.proofs.Common.{◌≡◌, ◌⊎◌, ◌+◌, ◌<◌, ◌≤◌, ◌++◌, length, take, drop, ap, sym, ◌∙◌, inl, inr, subst, arith, refl}
+use Rattle.std.proofs.Common.{◌≡◌, ◌+◌, ◌++◌, length, take, drop, ap, sym, ◌∙◌, inl, inr, subst, arith}
 use Rattle.block_frame.specs.Grammar.{IsPartial, IsBad, spelled}
 use Rattle.block_frame.proofs.Lines.{line_len, line_fits}
 use Rattle.block_frame.proofs.Cutting.{open_line, bad_line, line_is_block}
