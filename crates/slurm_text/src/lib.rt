@@ -1,6 +1,7 @@
 //! The small texts of a cluster's files, requests and replies, and the plain data that readers make of them.
 #![tactic(auto)]
 
+mod civil;
 pub mod digits;
 pub mod fields;
 pub mod hosts;
@@ -13,4 +14,3 @@ pub mod name;
 pub mod plain;
 pub mod ranged;
 pub mod words;
-mod civil;
