@@ -19,6 +19,9 @@ pub trait Desk {
     /// The number that the entries of this desk bear.
     ghost number: { Self → ℕ };
 
+    /// How many entries the history had when the desk was made.
+    ghost start: { Self → ℕ };
+
     /// The history as the desk last found it.
     ghost seen: { Self → List Entry };
 
@@ -29,6 +32,7 @@ pub trait Desk {
     fn ask(&mut self, now: u64, user: &Name, request: Request) -> Result<Answer, Memory>
         ensures opening { opening self.new ≡ opening self.old }
         ensures number { number self.new ≡ number self.old }
+        ensures start { start self.new ≡ start self.old }
         ensures goes_on { GoesOn (number self.old) (seen self.old) (seen self.new) (mine self.old) (mine self.new) }
         ensures answered { IfOk result (λ answer. IsAnswered (opening self.old) (number self.old) now user.now request answer
             (seen self.old) (seen self.new) (mine self.old) (mine self.new)) }

@@ -46,6 +46,8 @@ impl Desk for OwnDesk {
 
     ghost number = { λ _. 0 };
 
+    ghost start = { λ d. d.before };
+
     ghost seen = { λ d. d.history.entries };
 
     ghost mine = { λ d. drop d.before d.history.entries };

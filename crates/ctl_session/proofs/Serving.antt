@@ -12,7 +12,7 @@ use Rattle.ctl_core.specs.State.{State}
 use Rattle.ctl_core.specs.Step.{reply_of, is_entered}
 use Rattle.ctl_desk.specs.declared.entry.Entry.{Entry}
 use Rattle.ctl_desk.specs.Desk.{state_at}
-use Rattle.ctl_desk.specs.History.{after_all, entry_of, of_session, IsLegal}
+use Rattle.ctl_desk.specs.History.{after_all, entry_of, of_session, IsHistory}
 use Rattle.slurm_print.specs.Text.{text_of}
 use Rattle.ctl_session.specs.declared.session.How.{How}
 use Rattle.ctl_session.specs.declared.session.How.TheVariants as how
@@ -228,12 +228,12 @@ under_way_after number opening wire mid new desk between after blocks blocks' co
 
 -- the last turn read what is pending, and answered nothing
 quiet_session : (number : ℕ) (opening : State) (wire mid : Wire) (desk between : Sight) (blocks : BlocksState) (count : ℕ)
-    (way : IsUnderWay number opening wire mid desk between blocks count) → IsLegal opening between.seen
+    (way : IsUnderWay number opening wire mid desk between blocks count) → IsHistory (record { opening = opening; entries = between.seen })
     → IsSession number opening desk.seen between.seen way.own (way.served ++ []) (way.written ++ [])
 quiet_session number opening wire mid desk between blocks count way legal = record {
   since = way.since;
   begins = way.begins;
-  legal = legal;
+  history = legal;
   own_is = way.own_is;
   answers = rw (append-nil way.served, append-nil way.written) way.answers;
 }
@@ -242,7 +242,7 @@ quiet_session number opening wire mid desk between blocks count way legal = reco
 pub quiet_end : (number : ℕ) (opening : State) (wire mid new : Wire) (desk between after : Sight) (blocks : BlocksState) (rest : List ℕ) (count : ℕ) (how : How)
     (way : IsUnderWay number opening wire mid desk between blocks count)
     → count ≤ most_blocks
-    → IsLegal opening after.seen
+    → IsHistory (record { opening = opening; entries = after.seen })
     → after ≡ between
     → Consumes wire.left new.left (spelled_all way.served ++ rest)
     → (IsCause wire new (record { blocks = way.served; rest = rest; worked = []; own = way.own; written = way.written; last = [] }) how)
@@ -285,7 +285,7 @@ worked_end : (number : ℕ) (opening : State) (wire mid new : Wire) (desk betwee
     (way : IsUnderWay number opening wire mid desk between blocks count) (works : WorksBlock opening number between after)
     → TakesBlock mid new blocks blocks' works.block
     → count ≤ most_blocks
-    → IsLegal opening after.seen
+    → IsHistory (record { opening = opening; entries = after.seen })
     → ((own : List Entry) → IsCause wire new (record { blocks = way.served; rest = spelled works.block ++ blocks'.pending; worked = works.block ∷ []; own = own; written = way.written; last = works.told.told }) how)
     → (e : Ending) × IsServed number opening wire new desk after (record { how = how; answered = count }) e
 worked_end number opening wire mid new desk between after blocks blocks' count how way works takes few legal cause =
@@ -299,7 +299,7 @@ worked_end number opening wire mid new desk between after blocks blocks' count h
         one_more = inr (works.block, blocks'.pending, refl, works.is_block, refl);
         answered = sym way.count_is;
         bounded = omega (arith, way.count_is);
-        session = record { since = way.since ++ one.more; begins = one.begins; legal = legal; own_is = one.own_is; answers = one.answers };
+        session = record { since = way.since ++ one.more; begins = one.begins; history = legal; own_is = one.own_is; answers = one.answers };
         mine = one.mine;
         cause = cause (way.own ++ one.made);
       },
@@ -317,7 +317,7 @@ passed_end : (number : ℕ) (opening : State) (wire mid new : Wire) (desk betwee
     → Consumes mid.left new.left read
     → IsPassedOver number between after
     → count ≤ most_blocks
-    → IsLegal opening after.seen
+    → IsHistory (record { opening = opening; entries = after.seen })
     → new.taken ≡ mid.taken → new.reads ≡ mid.reads → new.writes ≡ mid.writes
     → (e : Ending) × IsServed number opening wire new desk after (record { how = how.Memory; answered = count }) e
 passed_end number opening wire mid new desk between after blocks count way read consumed passed few legal taken reads writes =
@@ -336,7 +336,7 @@ passed_end number opening wire mid new desk between after blocks count way read 
         session = record {
           since = way.since ++ goes.more;
           begins = grown ∙ ap (λ l. l ++ goes.more) way.begins ∙ append_assoc desk.seen way.since goes.more;
-          legal = legal;
+          history = legal;
           own_is = way.own_is ∙ sym (append-nil (of_session number way.since)) ∙ ap (λ l. of_session number way.since ++ l) (sym nothing) ∙ sym (filter-append (λ e. e.session == number) way.since goes.more);
           answers = rw (append-nil way.served, append-nil way.written)
               (answers-higher opening number after.seen (length desk.seen) way.served way.own way.written (length between.seen) (length after.seen) (omega arith)
@@ -352,7 +352,7 @@ passed_end number opening wire mid new desk between after blocks count way read 
 pub served_after_turn : (number : ℕ) (opening : State) (wire mid new : Wire) (desk between after : Sight) (blocks blocks' : BlocksState) (count : ℕ) (how : How)
     → count < most_blocks
     → IsUnderWay number opening wire mid desk between blocks count
-    → IsLegal opening after.seen
+    → IsHistory (record { opening = opening; entries = after.seen })
     → IsTurn opening number mid new between after blocks blocks' (Some how)
     → (e : Ending) × IsServed number opening wire new desk after (record { how = how; answered = count }) e
 served_after_turn number opening wire mid new desk between after blocks blocks' count how.Closed few way legal (takes, quiet, reads, at_end, none) =
@@ -417,7 +417,7 @@ empty_is_partial = record {
 -- the look behind the last block that a session may answer
 pub served_after_look : (number : ℕ) (opening : State) (wire mid new : Wire) (desk between : Sight) (blocks : BlocksState) (how : How)
     → IsUnderWay number opening wire mid desk between blocks most_blocks
-    → IsLegal opening between.seen
+    → IsHistory (record { opening = opening; entries = between.seen })
     → IsLastLook mid new blocks.pending how
     → (e : Ending) × IsServed number opening wire new desk between (record { how = how; answered = most_blocks }) e
 served_after_look number opening wire mid new desk between blocks how.Spent way legal (read, consumed, more, taken, reads, writes) =
@@ -442,7 +442,7 @@ served_after_look number opening wire mid new desk between blocks how.WriteFault
 served_after_look number opening wire mid new desk between blocks how.Memory way legal look = absurd look
 
 -- a session that had no memory to begin with
-pub served_nothing : (number : ℕ) (opening : State) (wire : Wire) (desk : Sight) → IsLegal opening desk.seen
+pub served_nothing : (number : ℕ) (opening : State) (wire : Wire) (desk : Sight) → IsHistory (record { opening = opening; entries = desk.seen })
     → (e : Ending) × IsServed number opening wire wire desk desk (record { how = how.Memory; answered = 0 }) e
 served_nothing number opening wire desk legal =
     let way = under_way_at_start number opening wire desk in
@@ -452,7 +452,7 @@ served_nothing number opening wire desk legal =
 pub served_after_turn_of_desk : (number number' : ℕ) (opening opening' : State) (wire mid new : Wire) (desk between after : Sight) (blocks blocks' : BlocksState) (count : ℕ) (how : How)
     → number' ≡ number → opening' ≡ opening → count < most_blocks
     → IsUnderWay number opening wire mid desk between blocks count
-    → IsLegal opening after.seen
+    → IsHistory (record { opening = opening; entries = after.seen })
     → IsTurn opening' number' mid new between after blocks blocks' (Some how)
     → (e : Ending) × IsServed number opening wire new desk after (record { how = how; answered = count }) e
 served_after_turn_of_desk number number' opening opening' wire mid new desk between after blocks blocks' count how same_number same_opening few way legal turn =
@@ -463,7 +463,7 @@ served_after_turn_of_desk number number' opening opening' wire mid new desk betw
 pub served_after_look_at : (number : ℕ) (opening : State) (wire mid new : Wire) (desk between : Sight) (blocks : BlocksState) (count : ℕ) (how : How)
     → count ≡ most_blocks
     → IsUnderWay number opening wire mid desk between blocks count
-    → IsLegal opening between.seen
+    → IsHistory (record { opening = opening; entries = between.seen })
     → IsLastLook mid new blocks.pending how
     → (e : Ending) × IsServed number opening wire new desk between (record { how = how; answered = most_blocks }) e
 served_after_look_at number opening wire mid new desk between blocks count how all way legal look =

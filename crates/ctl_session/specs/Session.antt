@@ -7,7 +7,7 @@ use Rattle.block_frame.specs.Grammar.{IsBlock, IsPartial, IsBad, spelled, spelle
 use Rattle.command_words.specs.Header.{asked_by, words_of}
 use Rattle.ctl_core.specs.State.{State}
 use Rattle.ctl_desk.specs.declared.entry.Entry.{Entry}
-use Rattle.ctl_desk.specs.History.{IsLegal, of_session}
+use Rattle.ctl_desk.specs.History.{IsHistory, of_session}
 use Rattle.ctl_session.specs.declared.session.How.{How}
 use Rattle.ctl_session.specs.declared.session.How.TheVariants.{Closed, Truncated, Bad, Spent, ReadFault, WriteFault, Memory}
 use Rattle.ctl_session.specs.declared.session.Ended.{Ended}
@@ -26,12 +26,12 @@ Answers opening number history low (block ∷ blocks) made written high =
     × (written ≡ told ++ more)
 
 -- A session that had seen the history `before` and has seen `after` now: `after` begins with all of `before` and is one
--- that the controller keeps; the blocks are answered from the end of `before` on; and `own`, the entries that they made,
+-- that the controller keeps, so that each of its states is sound; the blocks are answered from the end of `before` on; and `own`, the entries that they made,
 -- are those of the session's number that stand in `after` behind `before`, each once and in order.
 pub record IsSession (number : ℕ) (opening : State) (before after own : List Entry) (blocks : List Block) (written : List ℕ) : Type 0 where
   pub since : List Entry
   pub begins : after ≡ before ++ since
-  pub legal : IsLegal opening after
+  pub history : IsHistory (record { opening = opening; entries = after })
   pub own_is : own ≡ of_session number since
   pub answers : Answers opening number after (length before) blocks own written (length after)
 

@@ -20,6 +20,7 @@ use std::alloc::Global;
 fn ask<D: Desk>(alloc: Global, desk: &mut D, asked: Asked) -> Result<Vec<u8>, Memory>
     ensures opening { D.opening desk.new ≡ D.opening desk.old }
     ensures number { D.number desk.new ≡ D.number desk.old }
+    ensures start { D.start desk.new ≡ D.start desk.old }
     ensures goes_on { GoesOn (D.number desk.old) (D.seen desk.old) (D.seen desk.new) (D.mine desk.old) (D.mine desk.new) }
     ensures worked { IfOk result (λ told. (made : List Entry) × IsWorked (D.opening desk.old) (D.number desk.old)
         (D.seen desk.old) (D.seen desk.new) (D.mine desk.old) (D.mine desk.new) (Some asked) made told.items) }
@@ -39,6 +40,7 @@ fn ask<D: Desk>(alloc: Global, desk: &mut D, asked: Asked) -> Result<Vec<u8>, Me
 pub fn reply_to<D: Desk>(alloc: Global, desk: &mut D, header: &[u8]) -> Result<Vec<u8>, Memory>
     ensures opening { D.opening desk.new ≡ D.opening desk.old }
     ensures number { D.number desk.new ≡ D.number desk.old }
+    ensures start { D.start desk.new ≡ D.start desk.old }
     ensures goes_on { GoesOn (D.number desk.old) (D.seen desk.old) (D.seen desk.new) (D.mine desk.old) (D.mine desk.new) }
     ensures worked { IfOk result (λ told. (made : List Entry) × IsWorked (D.opening desk.old) (D.number desk.old)
         (D.seen desk.old) (D.seen desk.new) (D.mine desk.old) (D.mine desk.new) (asked_by (words_of header.now)) made told.items) }
@@ -71,6 +73,7 @@ pub fn answer_block<L: Link, D: Desk>(
 ) -> Result<(), Fault>
     ensures opening { D.opening desk.new ≡ D.opening desk.old }
     ensures number { D.number desk.new ≡ D.number desk.old }
+    ensures start { D.start desk.new ≡ D.start desk.old }
     ensures places { L.places link.new ≡ L.places link.old }
     ensures answers { AnswersBlock (D.opening desk.old) (D.number desk.old) (asked_by (words_of header.now))
         (record { left = L.left link.old; taken = L.taken link.old; reads = L.read_faults link.old; writes = L.write_faults link.old })

@@ -1,7 +1,7 @@
 //! A session over a link.
 
 ghost use Rattle.std.specs.Prelude.{◌≡◌, ◌<◌, length};
-ghost use Rattle.ctl_desk.specs.History.{IsLegal};
+ghost use Rattle.ctl_desk.specs.History.{IsHistory};
 ghost use Rattle.ctl_session.specs.Session.{Ending, IsServed};
 ghost use Rattle.ctl_session.specs.Turn.{IsTurn, IsLastLook};
 
@@ -54,6 +54,7 @@ fn turn<L: Link, D: Desk>(
     requires { 0 < length buffer.old }
     ensures opening { D.opening desk.new ≡ D.opening desk.old }
     ensures number { D.number desk.new ≡ D.number desk.old }
+    ensures start { D.start desk.new ≡ D.start desk.old }
     ensures places { L.places link.new ≡ L.places link.old }
     ensures turns { IsTurn (D.opening desk.old) (D.number desk.old)
         (record { left = L.left link.old; taken = L.taken link.old; reads = L.read_faults link.old; writes = L.write_faults link.old })
@@ -97,10 +98,10 @@ fn last_look<L: Link>(link: &mut L, blocks: &Blocks, buffer: &mut [u8]) -> How
     }
 }
 
-/// The end of a session at this desk, whose history is then one that the controller keeps.
+/// The end of a session at this desk. The history is then one that the controller keeps, as the desk says with its length.
 fn finished<D: Desk>(desk: &D, how: How, answered: u64) -> Ended
     ensures ending { result ≡ record { how = how; answered = answered } }
-    ensures legal { IsLegal (D.opening desk.now) (D.seen desk.now) }
+    ensures history { IsHistory (record { opening = D.opening desk.now; entries = D.seen desk.now }) }
 {
     let _ = desk.seen_len();
     Ended { how, answered }
@@ -111,6 +112,7 @@ fn finished<D: Desk>(desk: &D, how: How, answered: u64) -> Ended
 pub fn serve_link<L: Link, D: Desk>(alloc: Global, link: &mut L, desk: &mut D) -> Ended
     ensures opening { D.opening desk.new ≡ D.opening desk.old }
     ensures number { D.number desk.new ≡ D.number desk.old }
+    ensures start { D.start desk.new ≡ D.start desk.old }
     ensures places { L.places link.new ≡ L.places link.old }
     ensures served { (e : Ending) × IsServed (D.number desk.old) (D.opening desk.old)
         (record { left = L.left link.old; taken = L.taken link.old; reads = L.read_faults link.old; writes = L.write_faults link.old })
