@@ -99,7 +99,7 @@ pub record IsServed (number : ℕ) (opening : State) (wire wire' : Wire) (desk d
   pub blocks : All IsBlock e.blocks
   pub one_more : (e.worked ≡ []) ⊎ ((block : Block) × (more : List ℕ) × (e.worked ≡ block ∷ []) × IsBlock block × (e.rest ≡ spelled block ++ more))
   pub answered : ended.answered ≡ length e.blocks
-  pub bounded : length e.blocks ≤ most_blocks
+  pub bounded : length (e.blocks ++ e.worked) ≤ most_blocks
   pub session : IsSession number opening desk.seen desk'.seen e.own (e.blocks ++ e.worked) (e.written ++ e.last)
   pub mine : desk'.mine ≡ desk.mine ++ e.own
   pub cause : IsCause wire wire' e ended.how

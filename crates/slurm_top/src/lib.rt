@@ -1,0 +1,4 @@
+//! What the program does with its words.
+#![tactic(auto)]
+
+mod cluster;
