@@ -22,6 +22,10 @@ use Rattle.ctl_session.specs.Session.{Answers, IsSession, IsServed, IsWhole, IsC
 use Rattle.ctl_session.specs.Turn.{IsTurn, IsLastLook, WorksBlock, TakesBlock, TakesNone, IsQuiet, IsToldFrom, IsPassedOver}
 use Rattle.ctl_session.proofs.KnownBytes.{Consumes-trans, Consumes-kept, Appends-trans, Consumes-nil, Appends-nil}
 
+pub most_blocks_is : most_blocks ≡ 1048576
+unfolding most_blocks
+most_blocks_is = refl
+
 -- ---- replies in a history that grows
 
 slice_get-append_left : {X : Type 0} (xs ys : List X) (n : ℕ) (x : X) → slice_get xs n ≡ Some x → slice_get (xs ++ ys) n ≡ Some x
@@ -213,7 +217,7 @@ under_way_after number opening wire mid new desk between after blocks blocks' co
       consumed = one.consumed;
       each = All-push IsBlock way.served works.block way.each works.is_block;
       count_is = length-append way.served (works.block ∷ []) ∙ ap (λ n. n + 1) way.count_is;
-      place = omega arith;
+      place = omega (arith, most_blocks_is);
       short = omega arith;
       begins = one.begins;
       own_is = one.own_is;
@@ -465,6 +469,7 @@ pub served_after_look_at : (number : ℕ) (opening : State) (wire mid new : Wire
     → IsUnderWay number opening wire mid desk between blocks count
     → IsHistory (record { opening = opening; entries = between.seen })
     → IsLastLook mid new blocks.pending how
-    → (e : Ending) × IsServed number opening wire new desk between (record { how = how; answered = most_blocks }) e
+    → (e : Ending) × IsServed number opening wire new desk between (record { how = how; answered = 1048576 }) e
 served_after_look_at number opening wire mid new desk between blocks count how all way legal look =
-    served_after_look number opening wire mid new desk between blocks how (subst (IsUnderWay number opening wire mid desk between blocks) all way) legal look
+    subst (λ n. (e : Ending) × IsServed number opening wire new desk between (record { how = how; answered = n }) e) most_blocks_is
+    (served_after_look number opening wire mid new desk between blocks how (subst (IsUnderWay number opening wire mid desk between blocks) all way) legal look)

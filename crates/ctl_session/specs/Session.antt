@@ -36,7 +36,7 @@ pub record IsSession (number : ℕ) (opening : State) (before after own : List E
   pub answers : Answers opening number after (length before) blocks own written (length after)
 
 -- the most blocks that one session answers
-abbrev pub most_blocks : ℕ
+unfoldable pub most_blocks : ℕ
 most_blocks = 1048576
 
 -- A link at a moment: what is left to read and what was taken, where these are told, and how many reads and writes failed.
