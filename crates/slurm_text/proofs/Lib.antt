@@ -1,3 +1,4 @@
 pub mod CivilLemmas
 pub mod DigitsLemmas
 pub mod FieldsLemmas
+pub mod MomentLemmas
