@@ -4,6 +4,7 @@ pub mod DigitsLemmas
 pub mod FieldsLemmas
 pub mod HostLemmas
 pub mod ItemLemmas
+pub mod MomentLemmas
 pub mod Positions
 pub mod Quotes
 pub mod WordLemmas
