@@ -1,4 +1,5 @@
 pub mod BracketLemmas
+pub mod FoldingLemmas
 pub mod HostLemmas
 pub mod ItemLemmas
 pub mod Positions

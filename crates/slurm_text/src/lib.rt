@@ -1,6 +1,7 @@
 // The small texts of a cluster's files, requests and replies.
 #![tactic(auto)]
 
+pub mod folding;
 pub mod hosts;
 pub mod memory_error;
 pub mod name;
