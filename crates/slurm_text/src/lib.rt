@@ -5,4 +5,6 @@ pub mod folding;
 pub mod hosts;
 pub mod memory_error;
 pub mod name;
+#[cfg(test)]
+mod tests;
 pub mod words;
