@@ -1,5 +1,5 @@
 -- Names of hosts in groups.
-use Rattle.std.proofs.Common.{ℕ, suc, ◌≡◌, ◌+◌, ◌-◌, ◌<◌, ◌≤◌, ◌&&◌, ◌==◌, if◌then◌else◌, Bool, true, false, Some, None, Option, option_map, Ordering, List, [], ◌∷◌, ◌++◌, min, reverse, length, get_or, take, drop, set, map, fold, sym, refl, ap, ◌∙◌, subst, arith, Bor, eqb-true}
+use Rattle.std.proofs.Common.{ℕ, zero, not, suc, ◌≡◌, ◌+◌, ◌-◌, ◌<◌, ◌≤◌, ◌&&◌, ◌==◌, if◌then◌else◌, Bool, true, false, Some, None, Option, option_map, Ordering, List, [], ◌∷◌, ◌++◌, min, reverse, length, get_or, take, drop, set, map, fold, sym, refl, ap, ◌∙◌, subst, arith, Bor, eqb-true}
 use Rattle.std.specs.Str.{bytes_eq}
 use Rattle.std.specs.Char.{is_ascii_digit}
 use Rattle.std.specs.List.{suffix_len, list_all}
@@ -11,6 +11,7 @@ use Rattle.std.proofs.lemmas.List.Sums.{suffix_len-take_yes, suffix_len-take_no,
 use Rattle.std.proofs.lemmas.List.{take_more, length-drop, get_or-drop, get_or-reverse, drop-map, drop_more, drop_all, append-nil, append_assoc, map-set, get_or-map, take-map, map-append}
 use Rattle.slurm_text.proofs.HostLemmas.{bytes_eq-same}
 use Rattle.slurm_text.proofs.WordLemmas.{both-left, both-right}
+use Rattle.std.proofs.lemmas.Bool.Decides.{nat_tests}
 use Rattle.slurm_text.specs.Folding.{with_grouped, is_of_group, prefix_of, digits_len, digits_of, number_of, continued, runs, run_text, runs_text}
 
 -- a key at its place, seen through a function that the order reads
@@ -112,7 +113,7 @@ pub ruleset running = (runs-next, runs-apart, runs-end)
 -- the place of the group of a prefix and a number of digits
 abbrev pub is_of_key : List ℕ → ℕ → List (List ℕ) → Bool
 is_of_key prefix width [] = false
-is_of_key prefix width (first ∷ names) = bytes_eq (prefix_of first) prefix && digits_len first == width
+is_of_key prefix width (first ∷ names) = not (width == 0) && (bytes_eq (prefix_of first) prefix && digits_len first == width)
 
 abbrev pub place_in : List ℕ → ℕ → List (List (List ℕ)) → Option ℕ
 place_in prefix width [] = None
@@ -199,10 +200,52 @@ put_behind-step group groups name more false e h =
       places = λ prefix width. behind-places group groups name prefix width e (bytes_eq (prefix_of name) prefix && digits_len name == width) refl (place_in prefix width (groups ++ (name ∷ []) ∷ [])) (rest.places prefix width);
     }
 
-pub put_behind : (groups : List (List (List ℕ))) (name : List ℕ) → place_in (prefix_of name) (digits_len name) groups ≡ None → PutBehind groups name
-put_behind [] name h = record { puts = refl; places = λ prefix width. refl }
-put_behind (group ∷ groups) name h =
-    put_behind-step group groups name (λ g. put_behind groups name g) (is_of_group group name) refl (ap (λ (t : Bool). if t then Some 0 else option_map suc (place_in (prefix_of name) (digits_len name) groups)) (sym (key-of_group group name)) ∙ h)
+no_and : (t : Bool) → (t && false) ≡ false
+no_and true = refl
+no_and false = refl
+
+one_group : (name prefix : List ℕ) (width : ℕ) → (digits_len name == 0) ≡ false → is_of_key prefix width (name ∷ []) ≡ (bytes_eq (prefix_of name) prefix && digits_len name == width)
+one_group name prefix width h = by_key (bytes_eq (prefix_of name) prefix && digits_len name == width) refl where
+  by_key : (t : Bool) → (bytes_eq (prefix_of name) prefix && digits_len name == width) ≡ t → (not (width == 0) && t) ≡ t
+  by_key true e =
+      let len : digits_len name ≡ width = eqb-true (digits_len name) width (both-right (bytes_eq (prefix_of name) prefix) (digits_len name == width) e) in
+      let some : (width == 0) ≡ false = ap (λ (w : ℕ). w == 0) (sym len) ∙ h in
+      rw some refl
+  by_key false e = no_and (not (width == 0))
+
+pub put_behind : (groups : List (List (List ℕ))) (name : List ℕ) → (digits_len name == 0) ≡ false → place_in (prefix_of name) (digits_len name) groups ≡ None → PutBehind groups name
+put_behind [] name g h = record { puts = refl; places = λ prefix width. rw (one_group name prefix width g) refl }
+put_behind (group ∷ groups) name g h =
+    put_behind-step group groups name (λ k. put_behind groups name g k) (is_of_group group name) refl (ap (λ (t : Bool). if t then Some 0 else option_map suc (place_in (prefix_of name) (digits_len name) groups)) (sym (key-of_group group name)) ∙ h)
+
+-- a name without digits stands alone
+pub record PutAlone (groups : List (List (List ℕ))) (name : List ℕ) : Type 0 where
+  pub puts : with_grouped groups name ≡ groups ++ (name ∷ []) ∷ []
+  pub places : (prefix : List ℕ) (width : ℕ) → place_in prefix width (groups ++ (name ∷ []) ∷ []) ≡ place_in prefix width groups
+
+alone-group : (group : List (List ℕ)) (name : List ℕ) → digits_len name ≡ 0 → is_of_group group name ≡ false
+alone-group [] name h = refl
+alone-group (first ∷ names) name h = rw h refl
+
+alone-key : (name prefix : List ℕ) (width : ℕ) → digits_len name ≡ 0 → is_of_key prefix width (name ∷ []) ≡ false
+alone-key name prefix width h = by_width (width == 0) refl where
+  by_width : (t : Bool) → (width == 0) ≡ t → (not t && (bytes_eq (prefix_of name) prefix && digits_len name == width)) ≡ false
+  by_width true e = refl
+  by_width false e =
+      let apart : (digits_len name == width) ≡ false = rw h (swapped width e) in
+      rw apart (no_and (bytes_eq (prefix_of name) prefix))
+    where
+    swapped : (width : ℕ) → (width == 0) ≡ false → (0 == width) ≡ false
+    swapped width e = grind (arith, nat_tests)
+
+pub put_alone : (groups : List (List (List ℕ))) (name : List ℕ) → digits_len name ≡ 0 → PutAlone groups name
+put_alone [] name h = record { puts = refl; places = λ prefix width. rw (alone-key name prefix width h) refl }
+put_alone (group ∷ groups) name h =
+    let rest : PutAlone groups name = put_alone groups name h in
+    record {
+      puts = rw (alone-group group name h) (ap (λ (u : List (List (List ℕ))). group ∷ u) rest.puts);
+      places = λ prefix width. ap (λ (o : Option ℕ). if is_of_key prefix width group then Some 0 else option_map suc o) (rest.places prefix width);
+    }
 
 -- one name more in its group
 pub grouped-more : {X : Type 0} (f : X → List ℕ) (xs : List X) (i : ℕ) (d : X) → i < length xs → fold with_grouped [] (take (i + 1) (map f xs)) ≡ with_grouped (fold with_grouped [] (take i (map f xs))) (f (get_or xs i d))

@@ -1,5 +1,5 @@
 -- How names of hosts are folded into one text.
-use Rattle.std.specs.Prelude.{ℕ, ◌+◌, ◌-◌, min, Bool, false, ◌&&◌, ◌==◌, if◌then◌else◌, List, [], ◌∷◌, ◌++◌, length, take, drop, map, fold, flat_map, bytes_eq}
+use Rattle.std.specs.Prelude.{ℕ, ◌+◌, ◌-◌, min, Bool, false, not, ◌&&◌, ◌==◌, if◌then◌else◌, List, [], ◌∷◌, ◌++◌, length, take, drop, map, fold, flat_map, bytes_eq}
 use Rattle.std.specs.Ordering.{nat_cmp}
 use Rattle.std.specs.Cmp.Lexicographic.{slice_cmp}
 use Rattle.std.specs.Char.{is_ascii_digit}
@@ -24,9 +24,9 @@ digits_of name = drop (length name - digits_len name) name
 abbrev pub number_of : List ℕ → ℕ
 number_of name = digits_number (digits_of name)
 
--- names of equal prefix and equal number of digits are of one group
+-- names of equal prefix and equal number of digits are of one group, and a name without digits stands alone
 abbrev pub same_group : List ℕ → List ℕ → Bool
-same_group a b = bytes_eq (prefix_of a) (prefix_of b) && digits_len a == digits_len b
+same_group a b = not (digits_len b == 0) && (bytes_eq (prefix_of a) (prefix_of b) && digits_len a == digits_len b)
 
 abbrev pub is_of_group : List (List ℕ) → List ℕ → Bool
 is_of_group [] name = false

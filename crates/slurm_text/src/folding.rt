@@ -139,6 +139,10 @@ fn grouped<'a>(alloc: Global, names: &[&'a [u8]]) -> Result<Vec<Vec<&'a [u8]>>, 
     let mut places = HashMap::new(alloc);
     for name in names {
         let (prefix, digits) = prefix_and_digits(name);
+        if digits.is_empty() {
+            push_group_of(alloc, &mut groups, name)?;
+            continue;
+        }
         let key = (prefix, digits.len());
         match places.get(&key).copied() {
             Some(place) => push_at(&mut groups, place, name)?,
