@@ -2,6 +2,7 @@ pub mod BracketLemmas
 pub mod CivilLemmas
 pub mod DigitsLemmas
 pub mod FieldsLemmas
+pub mod FoldingLemmas
 pub mod HostLemmas
 pub mod ItemLemmas
 pub mod MomentLemmas

@@ -1,9 +1,9 @@
 //! The small texts of a cluster's files, requests and replies, and the plain data that readers make of them.
 #![tactic(auto)]
 
-mod civil;
 pub mod digits;
 pub mod fields;
+pub mod folding;
 pub mod hosts;
 pub mod items;
 pub mod keywords;
@@ -14,3 +14,7 @@ pub mod name;
 pub mod plain;
 pub mod ranged;
 pub mod words;
+mod civil;
+
+#[cfg(test)]
+mod tests;
