@@ -37,3 +37,11 @@ pub least_over-is : (free : ℕ → ℕ) (from until least moment : ℕ) → ((o
 least_over-is free from until least moment lower low high reached =
     let at = least_over-reached free from until (omega arith) in
     omega (arith, reached, least_over-le free from until moment low high, lower at.0 at.1 at.2, at.3)
+
+-- what is free matters, and not how it is said
+pub least_over-same : (free other : ℕ → ℕ) (from until : ℕ) → from < until → ((moment : ℕ) → free moment ≡ other moment) → least_over free from until ≡ least_over other from until
+least_over-same free other from until window same =
+    let at = least_over-reached free from until window in
+    least_over-is other from until (least_over free from until) at.0
+    (λ moment low high. omega (arith, least_over-le free from until moment low high, same moment))
+    at.1 at.2 (omega (arith, at.3, same at.0))

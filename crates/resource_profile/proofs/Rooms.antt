@@ -1,17 +1,17 @@
 -- The holds stay within the rooms, and what is free over a window.
-use Rattle.std.proofs.Common.{◌≡◌, ◌≢◌, ℕ, ◌-◌, ◌≤◌, ◌<◌, cond, List, [], ◌∷◌, ◌++◌, length, sum_by, All, Contains, arith, refl, inl, inr, max}
+use Rattle.std.proofs.Common.{◌≡◌, ◌≢◌, ℕ, ◌-◌, ◌≤◌, ◌<◌, cond, List, [], ◌∷◌, ◌++◌, length, sum_by, All, Contains, arith, refl, true, inl, inr, max}
 use Rattle.std.specs.List.{AllWithin}
 use Rattle.std.specs.List.Sorted.{IsPermutation}
 use Rattle.std.proofs.lemmas.Bool.{cases_lt, cases_Bool}
-use Rattle.std.proofs.lemmas.List.Sums.{sum_by-cons}
-use Rattle.std.proofs.lemmas.List.Elements.{All-tail, All-push, All-weaker}
+use Rattle.std.proofs.lemmas.List.Sums.{sum_by-cons, sum_by-append}
+use Rattle.std.proofs.lemmas.List.Elements.{All-tail, All-push, All-weaker, All-contains, Contains-append_right}
 use Rattle.std.proofs.lemmas.List.Sorted.{sum_by-IsPermutation, All-permutation}
 use Rattle.resource_profile.specs.declared.NodeRoom.{NodeRoom}
 use Rattle.resource_profile.specs.declared.Hold.{Hold}
-use Rattle.resource_profile.specs.Free.{room_at, covers, least_over, IsMostOver}
+use Rattle.resource_profile.specs.Free.{room_at, covers, free_cpus, free_mem, least_over, IsMostOver}
 use Rattle.resource_profile.specs.Profiles.{AreWithin, HasFree}
-use Rattle.resource_profile.proofs.Least.{least_over-le, least_over-is}
-use Rattle.resource_profile.proofs.Held.{covers-true, last_start, held-at_start, held-push}
+use Rattle.resource_profile.proofs.Least.{least_over-le, least_over-is, least_over-reached, least_over-same}
+use Rattle.resource_profile.proofs.Held.{covers-true, covers-from, last_start, held-at_start, held-push}
 
 -- so much is free over the window that the hold's amount is free wherever it covers the moment
 fits_more : (amount : Hold → ℕ) (room node moment : ℕ) (holds : List Hold) (hold : Hold) → sum_by (λ (one : Hold). cond (covers node moment one) (amount one) 0) holds ≤ room → (hold.node ≡ node → amount hold ≤ least_over (λ m. room - sum_by (λ (one : Hold). cond (covers node m one) (amount one) 0) holds) hold.from hold.until) → sum_by (λ (one : Hold). cond (covers node moment one) (amount one) 0) (holds ++ hold ∷ []) ≤ room
@@ -102,3 +102,42 @@ still_inside holds hold place (index, inside, is) passed = elim (cases_lt index 
   | inl before ↦ absurd (passed index hold (omega arith) before is)
   | inr after ↦ omega arith
 ]
+
+free_beside : (amount : Hold → ℕ) (room : ℕ) (holds : List Hold) (hold : Hold) (others : List Hold) → hold.from < hold.until → ((moment : ℕ) → sum_by (λ (one : Hold). cond (covers hold.node moment one) (amount one) 0) (holds ++ hold ∷ others) ≤ room) → amount hold ≤ least_over (λ moment. room - sum_by (λ (one : Hold). cond (covers hold.node moment one) (amount one) 0) holds) hold.from hold.until
+free_beside amount room holds hold others window within =
+    let at = least_over-reached (λ moment. room - sum_by (λ (one : Hold). cond (covers hold.node moment one) (amount one) 0) holds) hold.from hold.until window in
+    let covered : covers hold.node at.0 hold ≡ true = covers-from hold.node at.0 hold refl at.1 at.2 in
+    let here : cond (covers hold.node at.0 hold) (amount hold) 0 ≡ amount hold = rw covered refl in
+    let more = sum_by-cons (λ (one : Hold). cond (covers hold.node at.0 one) (amount one) 0) hold others in
+    omega (arith, at.3, within at.0, here, more, sum_by-append (λ (one : Hold). cond (covers hold.node at.0 one) (amount one) 0) holds (hold ∷ others))
+
+-- where the holds with one more and others are within the rooms, so much is free beside the first ones
+pub HasFree-from_within : (rooms : List NodeRoom) (holds : List Hold) (hold : Hold) (others : List Hold) → AreWithin rooms (holds ++ hold ∷ others) → HasFree rooms holds hold
+HasFree-from_within rooms holds hold others within =
+    let has : Contains (holds ++ hold ∷ others) hold = Contains-append_right holds (hold ∷ others) hold (0, omega arith, refl) in
+    let window = All-contains (λ (one : Hold). one.from < one.until) (holds ++ hold ∷ others) hold within.windows has in
+    record {
+      node = All-contains (λ (one : Hold). one.node < length rooms) (holds ++ hold ∷ others) hold within.nodes has;
+      window = window;
+      cpus = free_beside (λ (one : Hold). one.cpus) (room_at rooms hold.node).cpus holds hold others window (within.cpus hold.node);
+      mem = free_beside (λ (one : Hold). one.mem) (room_at rooms hold.node).mem holds hold others window (within.mem hold.node);
+    }
+
+-- the order of the holds doesn't matter
+pub HasFree-IsPermutation : (rooms : List NodeRoom) (holds others : List Hold) (hold : Hold) → IsPermutation holds others → HasFree rooms holds hold → HasFree rooms others hold
+HasFree-IsPermutation rooms holds others hold moved free = record {
+  node = free.node;
+  window = free.window;
+  cpus = omega (
+    arith,
+    free.cpus,
+    least_over-same (λ moment. free_cpus rooms holds hold.node moment) (λ moment. free_cpus rooms others hold.node moment) hold.from hold.until free.window
+        (λ moment. omega (arith, sum_by-IsPermutation (λ (one : Hold). cond (covers hold.node moment one) one.cpus 0) holds others moved)),
+  );
+  mem = omega (
+    arith,
+    free.mem,
+    least_over-same (λ moment. free_mem rooms holds hold.node moment) (λ moment. free_mem rooms others hold.node moment) hold.from hold.until free.window
+        (λ moment. omega (arith, sum_by-IsPermutation (λ (one : Hold). cond (covers hold.node moment one) one.mem 0) holds others moved)),
+  );
+}
