@@ -1,6 +1,7 @@
 //! The small texts of a cluster's files, requests and replies, and the plain data that readers make of them.
 #![tactic(auto)]
 
+mod civil;
 pub mod digits;
 pub mod fields;
 pub mod folding;
@@ -13,8 +14,6 @@ pub mod moment;
 pub mod name;
 pub mod plain;
 pub mod ranged;
-pub mod words;
-mod civil;
-
 #[cfg(test)]
 mod tests;
+pub mod words;
