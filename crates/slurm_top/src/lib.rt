@@ -2,4 +2,7 @@
 #![tactic(auto)]
 
 mod cluster;
+mod program;
 mod script;
+
+pub use program::run;
