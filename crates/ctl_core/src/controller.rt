@@ -169,3 +169,6 @@ fn assoc_records(alloc: Global, confs: Vec<AssocConf>) -> Result<Vec<AssocRecord
             .collect(alloc)?,
     )
 }
+
+#[cfg(test)]
+mod tests;

@@ -6,3 +6,6 @@ mod program;
 mod script;
 
 pub use program::run;
+
+#[cfg(test)]
+mod tests;
