@@ -1,5 +1,5 @@
 -- Names of hosts in groups.
-use Rattle.std.proofs.Common.{ℕ, zero, not, suc, ◌≡◌, ◌+◌, ◌-◌, ◌<◌, ◌≤◌, ◌&&◌, ◌==◌, if◌then◌else◌, Bool, true, false, Some, None, Option, option_map, Ordering, List, [], ◌∷◌, ◌++◌, min, reverse, length, get_or, take, drop, set, map, fold, sym, refl, ap, ◌∙◌, subst, arith, Bor, eqb-true}
+use Rattle.std.proofs.Common.{ℕ, not, suc, ◌≡◌, ◌+◌, ◌-◌, ◌<◌, ◌≤◌, ◌&&◌, ◌==◌, if◌then◌else◌, Bool, true, false, Some, None, Option, option_map, Ordering, List, [], ◌∷◌, ◌++◌, min, reverse, length, get_or, take, drop, set, map, fold, sym, refl, ap, ◌∙◌, subst, arith, Bor, eqb-true}
 use Rattle.std.specs.Str.{bytes_eq}
 use Rattle.std.specs.Char.{is_ascii_digit}
 use Rattle.std.specs.List.{suffix_len, list_all}
@@ -235,8 +235,8 @@ alone-key name prefix width h = by_width (width == 0) refl where
       let apart : (digits_len name == width) ≡ false = rw h (swapped width e) in
       rw apart (no_and (bytes_eq (prefix_of name) prefix))
     where
-    swapped : (width : ℕ) → (width == 0) ≡ false → (0 == width) ≡ false
-    swapped width e = grind (arith, nat_tests)
+      swapped : (width : ℕ) → (width == 0) ≡ false → (0 == width) ≡ false
+      swapped width e = grind (arith, nat_tests)
 
 pub put_alone : (groups : List (List (List ℕ))) (name : List ℕ) → digits_len name ≡ 0 → PutAlone groups name
 put_alone [] name h = record { puts = refl; places = λ prefix width. rw (alone-key name prefix width h) refl }

@@ -28,7 +28,7 @@ loop-name-preserved c =
       | in-None+in_ok-insert-in-None+in_ok-push_group_of-in-None w ↦
           let found : place_in (prefix_of name) (digits_len name) groups ≡ None = rw (← c.prefix_and_digits.ensures.prefix, ← c.prefix_and_digits.ensures.len) (sym (c.loop-name.invariant.1 (c.prefix_and_digits.result.0, length c.prefix_and_digits.result.1.now)) ∙ (sym c.get.ensures.value ∙ sym w.in-None.ensures)) in
           let digits : (digits_len name == 0) ≡ false = rw (← c.prefix_and_digits.ensures.len) (sym c.is_empty.ensures ∙ c.if-is_empty.false) in
-            let put = put_behind groups name digits found in
+          let put = put_behind groups name digits found in
           let now_is : map (λ group. map (λ n. n.now) group.items) c.match-copied.groups.items ≡ with_grouped groups name = rw w.groups-is (w.in_ok-push_group_of-in-None.ensures ∙ sym put.puts) in
           let size : w.len.result ≡ length groups = rw length-map (omega (arith, w.len.ensures, c.loop-name.groups.ok.0)) in (
             now_is ∙ (ap (λ (u : List (List (List ℕ))). with_grouped u name) c.loop-name.invariant.0 ∙ sym (grouped-more (λ n. n.now) c.args.names.now c.loop-name.name-index _ (omega arith))),
@@ -38,10 +38,11 @@ loop-name-preserved c =
 
 pub loop-name-preserved-then-is_empty : goal.loop-name-preserved-then-is_empty
 loop-name-preserved-then-is_empty c =
-    let name = (get_or c.args.names.now c.loop-name.name-index (record {ref_ptr = (0, 0); now = []})).now in
+    let name = (get_or c.args.names.now c.loop-name.name-index (record { ref_ptr = (0, 0); now = [] })).now in
     let groups = map (λ group. map (λ n. n.now) group.items) c.loop-name.groups.items in
     let digits : digits_len name ≡ 0 = eqb-true (digits_len name) 0 (rw (← c.prefix_and_digits.ensures.len) (sym c.is_empty.ensures ∙ c.if-is_empty.true)) in
     let put = put_alone groups name digits in
-    let now_is : map (λ group. map (λ n. n.now) group.items) c.push_group_of.new.groups.items ≡ with_grouped groups name = c.in_ok-push_group_of.ensures ∙ sym put.puts in
-    (now_is ∙ (ap (λ (u : List (List (List ℕ))). with_grouped u name) c.loop-name.invariant.0 ∙ sym (grouped-more (λ n. n.now) c.args.names.now c.loop-name.name-index _ (omega arith))),
-        λ q. rw (now_is, put.puts, put.places q.0.now q.1) (c.loop-name.invariant.1 q))
+    let now_is : map (λ group. map (λ n. n.now) group.items) c.push_group_of.new.groups.items ≡ with_grouped groups name = c.in_ok-push_group_of.ensures ∙ sym put.puts in (
+      now_is ∙ (ap (λ (u : List (List (List ℕ))). with_grouped u name) c.loop-name.invariant.0 ∙ sym (grouped-more (λ n. n.now) c.args.names.now c.loop-name.name-index _ (omega arith))),
+      λ q. rw (now_is, put.puts, put.places q.0.now q.1) (c.loop-name.invariant.1 q),
+    )
