@@ -6,6 +6,7 @@ use Rattle.slurm_text.specs.Name.{is_name}
 use Rattle.slurm_text.specs.Hosts.{has, distinct, items_from, host_items, bad_from, first_bad_item, all_names, hosts_in}
 use Rattle.slurm_text.specs.Folding.{in_byte_order, grouped, group_text, with_commas, folded}
 use Rattle.slurm_text.proofs.NameSets.{has-append, has-distinct, has_in_byte_order, list_all-in_byte_order, length-in_byte_order, some-in_byte_order}
+use Rattle.slurm_text.proofs.ByteOrder.{folded-same}
 use Rattle.slurm_text.proofs.Groups.{flat, has_flat_grouped, length-flat-grouped, AreGroups, AreGroups-grouped}
 use Rattle.slurm_text.proofs.FoldedItems.{AllPasses, items_with_commas}
 use Rattle.slurm_text.proofs.FoldedNames.{item_names-group, Passes-group}
@@ -62,4 +63,4 @@ has-hosts_in-folded q names h k n =
     (has-distinct q (all_names (map group_text (grouped (in_byte_order names))))
     ∙ (has-all_names q (grouped (in_byte_order names)) f.groups f.few ∙ (has_flat_grouped q (in_byte_order names) ∙ has_in_byte_order q names)))
 
-pub ruleset expanding = (first_bad_item-folded, has-hosts_in-folded)
+pub ruleset expanding = (first_bad_item-folded, has-hosts_in-folded, folded-same)

@@ -1,4 +1,5 @@
 pub mod BracketLemmas
+pub mod ByteOrder
 pub mod Decimals
 pub mod FoldedItems
 pub mod FoldedNames

@@ -189,6 +189,10 @@ fn folded_text(alloc: Global, names: &[Name]) -> Result<Vec<u8>, AllocError>
 pub fn fold_hosts(alloc: Global, names: &[Name]) -> Result<Vec<u8>, Memory>
     ensures value { IfOk result (λ text. text.items ≡ folded names.now) }
 
+    // Lists of the same names have one text.
+    ensures set { (others : List (List ℕ)) → ((name : List ℕ) → has name others ≡ has name names.now)
+        → IfOk result (λ text. text.items ≡ folded others) }
+
     // Expanding the text of 1 to 1,024 names gives the same set.
     ensures good { 1 ≤ length names.now → length names.now ≤ 1024
         → IfOk result (λ text. first_bad_item text.items ≡ None) }
