@@ -3,6 +3,8 @@
 
 mod cluster;
 mod program;
+#[cfg(test)]
+mod rows;
 mod script;
 
 pub use program::run;
