@@ -112,7 +112,11 @@ fn value_behind<'a>(flag: &[u8], words: &'a [&'a [u8]]) -> Option<(&'a [u8], &'a
 {
     let (word, words) = words.split_first()?;
     let (value, words) = words.split_first()?;
-    if *word == flag { Some((*value, words)) } else { None }
+    if *word == flag {
+        Some((*value, words))
+    } else {
+        None
+    }
 }
 
 fn parse_count(word: &[u8], most_digits: usize) -> Option<u64>
