@@ -116,64 +116,41 @@ fn other_headers_are_not_built(rt: HostRuntime) -> Result<(), Fail> {
     answers(&rt, b"x\n", not_built)
 }
 
-#[test]
-fn ends_are_told(rt: HostRuntime) -> Result<(), Fail> {
-    let script = b"100 alice sbatch -n 4 -t 10\n".as_slice();
-    let row = |script, failing_read, failing_write, status, output, errors| Row {
-        script,
+/// The row of the 28 bytes of one submission, at which this read or this write fails.
+fn failing_row(failing_read: u64, failing_write: u64, status: u8) -> Row<'static> {
+    Row {
+        script: b"100 alice sbatch -n 4 -t 10\n",
         failing_read,
         failing_write,
         status,
-        output,
-        errors,
-    };
-    check(
-        &rt,
-        4096,
-        &row(script, 1, 0, 5, b"", b"slurm: error: read\n"),
-    )?;
-    check(
-        &rt,
-        1,
-        &row(
-            script,
-            29,
-            0,
-            5,
-            b"Submitted batch job 1\n",
-            b"slurm: error: read\n",
-        ),
-    )?;
-    check(
-        &rt,
-        5,
-        &row(script, 0, 2, 6, b"Submi", b"slurm: error: write\n"),
-    )?;
-    check(
-        &rt,
-        1,
-        &row(
-            script.split_at(27).0,
-            0,
-            0,
-            7,
-            b"",
-            b"slurm: error: block at byte 0\n",
-        ),
-    )?;
-    let then_empty = b"100 alice sbatch -n 4 -t 10\n\n".as_slice();
-    check(
-        &rt,
-        3,
-        &row(
-            then_empty,
-            0,
-            0,
-            7,
-            b"Submitted batch job 1\n",
-            b"slurm: error: block at byte 28\n",
-        ),
-    )
+        output: b"",
+        errors: b"slurm: error: read\n",
+    }
+}
+
+#[test]
+fn faults_are_told(rt: HostRuntime) -> Result<(), Fail> {
+    check(&rt, 4096, &failing_row(1, 0, 5))?;
+    let mut late = failing_row(29, 0, 5);
+    late.output = b"Submitted batch job 1\n";
+    check(&rt, 1, &late)?;
+    let mut unwritten = failing_row(0, 2, 6);
+    unwritten.output = b"Submi";
+    unwritten.errors = b"slurm: error: write\n";
+    check(&rt, 5, &unwritten)
+}
+
+#[test]
+fn bad_blocks_are_told(rt: HostRuntime) -> Result<(), Fail> {
+    let mut cut = failing_row(0, 0, 7);
+    cut.script = b"100 alice sbatch -n 4 -t 10";
+    cut.errors = b"slurm: error: block at byte 0\n";
+    check(&rt, 1, &cut)?;
+    let mut then_empty = failing_row(0, 0, 7);
+    then_empty.script = b"100 alice sbatch -n 4 -t 10\n\n";
+    then_empty.output = b"Submitted batch job 1\n";
+    then_empty.errors = b"slurm: error: block at byte 28\n";
+    check(&rt, 3, &then_empty)
 }
 
 #[test]
