@@ -1,1 +1,4 @@
-mod Beginnings
+pub mod Beginnings
+pub mod Takes
+pub mod Dealing
+pub mod Seconds

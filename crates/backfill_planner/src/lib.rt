@@ -10,9 +10,11 @@ use std::fmt;
 mod base;
 mod job;
 pub mod laws;
+mod place;
 
 pub use base::Base;
 pub use job::{MemAsk, NodeList, PlanJob};
+pub use place::place;
 
 /// A job's part on one node.
 #[derive(Clone, Copy, Debug, PartialEq, Eq)]

@@ -1,0 +1,62 @@
+-- The least second at which some set fits.
+use Rattle.std.proofs.Common.{◌≡◌, ℕ, ◌+◌, ◌-◌, ◌≤◌, ◌<◌, zero, suc, Bool, true, false, cond, List, [], ◌∷◌, arith, refl, ap, sym, ◌∙◌, inl, inr, Some, None, is_some, Option}
+use Rattle.std.specs.Prelude.{find, option_and_then}
+use Rattle.std.proofs.lemmas.Bool.{cases_lt}
+use Rattle.resource_profile.specs.declared.NodeRoom.{NodeRoom}
+use Rattle.resource_profile.specs.declared.Hold.{Hold}
+use Rattle.node_pick.specs.Choosing.{numbers_from}
+use Rattle.backfill_planner.specs.declared.Placed.{Placed}
+use Rattle.backfill_planner.specs.declared.job.PlanJob.{PlanJob}
+use Rattle.backfill_planner.specs.Plans.{placement_at, first_second, placed_of}
+
+-- at no second from `lo` on and before `end` some set fits
+abbrev pub NonePlaced : List NodeRoom → List Hold → PlanJob → ℕ → ℕ → Type 0
+NonePlaced rooms holds job lo end = (start : ℕ) → lo ≤ start → start < end → placement_at rooms holds job start ≡ None
+
+find-none : (test : ℕ → Bool) (lo count : ℕ) → ((n : ℕ) → lo ≤ n → n < lo + count → test n ≡ false) → find test (numbers_from lo count) ≡ None
+unfolding numbers_from
+find-none test lo zero each = refl
+find-none test lo (suc count) each =
+    rw (each lo (omega arith) (omega arith)) (find-none test (lo + 1) count (λ n from below. each n (omega (arith, from)) (omega (arith, below))))
+
+find-first : (test : ℕ → Bool) (lo count n : ℕ) → lo ≤ n → n < lo + count → test n ≡ true → ((m : ℕ) → lo ≤ m → m < n → test m ≡ false) → find test (numbers_from lo count) ≡ Some n
+unfolding numbers_from
+find-first test lo zero n from below passes before = absurd (omega arith)
+find-first test lo (suc count) n from below passes before = elim (cases_lt lo n) [
+  | inl later ↦ rw (before lo (omega arith) (omega (arith, later)))
+      (find-first test (lo + 1) count n (omega (arith, later)) (omega (arith, below)) passes (λ m low high. before m (omega (arith, low)) high))
+  | inr at ↦
+      let same : n ≡ lo = omega (arith, at, from) in
+      let here : test lo ≡ true = rw same at passes in
+      rw (here, same) refl
+]
+
+not_there : (rooms : List NodeRoom) (holds : List Hold) (job : PlanJob) (lo end : ℕ) → NonePlaced rooms holds job lo end → (n : ℕ) → lo ≤ n → n < end → is_some (placement_at rooms holds job n) ≡ false
+not_there rooms holds job lo end none n low high = ap (λ o. is_some o) (none n low high)
+
+pub placed-none : (rooms : List NodeRoom) (holds : List Hold) (job : PlanJob) (lo hi end : ℕ) → hi < end → NonePlaced rooms holds job lo end → None ≡ placed_of rooms holds job lo hi
+unfolding placed_of first_second
+placed-none rooms holds job lo hi end past none =
+    let nothing : find (λ start. is_some (placement_at rooms holds job start)) (numbers_from lo (hi + 1 - lo)) ≡ None =
+    find-none (λ start. is_some (placement_at rooms holds job start)) lo (hi + 1 - lo) (λ n low high. not_there rooms holds job lo end none n low (omega (arith, low, high, past))) in
+    rw nothing refl
+
+pub placed-some : (rooms : List NodeRoom) (holds : List Hold) (job : PlanJob) (lo hi start : ℕ) (placed : Option Placed) → lo ≤ start → start ≤ hi → NonePlaced rooms holds job lo start → placed ≡ placement_at rooms holds job start → is_some placed ≡ true → placed ≡ placed_of rooms holds job lo hi
+unfolding placed_of first_second
+placed-some rooms holds job lo hi start placed low high none is there =
+    let passes : is_some (placement_at rooms holds job start) ≡ true = rw is at there in
+    let found : find (λ s. is_some (placement_at rooms holds job s)) (numbers_from lo (hi + 1 - lo)) ≡ Some start =
+    find-first (λ s. is_some (placement_at rooms holds job s)) lo (hi + 1 - lo) start low (omega (arith, low, high)) passes (not_there rooms holds job lo start none) in
+    rw found is
+
+-- one more second at which none fits
+pub NonePlaced-more : (rooms : List NodeRoom) (holds : List Hold) (job : PlanJob) (lo start : ℕ) (placed : Option Placed) → NonePlaced rooms holds job lo start → placed ≡ placement_at rooms holds job start → is_some placed ≡ false → NonePlaced rooms holds job lo (start + 1)
+NonePlaced-more rooms holds job lo start placed none is nothing n low high = elim (cases_lt n start) [
+  | inl before ↦ none n low before
+  | inr at ↦
+      let same : n ≡ start = omega (arith, at, high) in
+      rw same (sym is ∙ nothing_there placed nothing)
+] where
+  nothing_there : (placed : Option Placed) → is_some placed ≡ false → placed ≡ None
+  nothing_there None nothing = refl
+  nothing_there (Some one) nothing = cc

@@ -1,0 +1,18 @@
+use Rattle.std.proofs.Common.{◌≡◌, ◌≤◌, ◌<◌, true, is_some, arith, Option}
+use Rattle.backfill_planner.specs.Plans.{placement_at}
+use Rattle.backfill_planner.proofs.Seconds.{placed-none, placed-some}
+use Rattle.backfill_planner.proofs.place.place.Goals as goal
+
+pub returns-then-is_some-clause-placed : goal.returns-then-is_some-clause-placed
+returns-then-is_some-clause-placed g c =
+    let rooms_are : c.as_slice-rooms.result.now ≡ c.args.base.now.rooms = cc in
+    let there : is_some c.in_ok-placed.placed ≡ true = cc in
+    let is : c.in_ok-placed.placed ≡ placement_at c.args.base.now.rooms c.args.profile.now.holds c.args.job.now c.loop-start.start =
+    rw rooms_are at c.in_ok-placed.ensures.placement in
+    placed-some c.args.base.now.rooms c.args.profile.now.holds c.args.job.now c.args.lo c.args.hi c.loop-start.start c.in_ok-placed.placed
+    c.loop-start.invariant.from c.loop-start-test.true c.loop-start.invariant.none_placed is there
+
+pub returns-clause-placed : goal.returns-clause-placed
+returns-clause-placed g c =
+    placed-none c.args.base.now.rooms c.args.profile.now.holds c.args.job.now c.args.lo c.args.hi c.loop-start.start
+    c.loop-start-test.false c.loop-start.invariant.none_placed
