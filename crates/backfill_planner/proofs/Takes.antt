@@ -1,8 +1,8 @@
 -- What a job takes of a node for its tasks is free there.
-use Rattle.std.proofs.Common.{◌≡◌, ℕ, ◌+◌, ◌*◌, ◌/◌, ◌≤◌, ◌<◌, min, Bool, true, false, ◌&&◌, ◌||◌, not, cond, eqb, leb, arith, refl, ap, sym, ◌∙◌, inl, inr}
+use Rattle.std.proofs.Common.{◌≡◌, ℕ, ◌*◌, ◌/◌, ◌≤◌, ◌<◌, min, true, ◌&&◌, ◌||◌, not, eqb, leb, arith, ap, sym, ◌∙◌, inl, inr}
 use Rattle.std.proofs.Math.Nat.{div-mul-le_self, mul_comm, mul_assoc}
 use Rattle.std.proofs.lemmas.Nat.{mul-le}
-use Rattle.std.proofs.lemmas.Bool.{cases_Bool, and_parts, or_parts, eqb-true, leb-true}
+use Rattle.std.proofs.lemmas.Bool.{cases_Bool, and_parts, eqb-true, leb-true}
 use Rattle.resource_profile.specs.declared.NodeRoom.{NodeRoom}
 use Rattle.backfill_planner.specs.declared.job.MemAsk.{MemAsk}
 use Rattle.backfill_planner.specs.declared.job.MemAsk.TheVariants.{All, PerNode, PerCpu}

@@ -10,11 +10,11 @@ use std::fmt;
 mod base;
 mod job;
 pub mod laws;
-mod place;
+mod placing;
 
 pub use base::Base;
 pub use job::{MemAsk, NodeList, PlanJob};
-pub use place::place;
+pub use placing::place;
 
 /// A job's part on one node.
 #[derive(Clone, Copy, Debug, PartialEq, Eq)]

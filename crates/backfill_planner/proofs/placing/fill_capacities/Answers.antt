@@ -1,8 +1,8 @@
 use Rattle.std.proofs.Common.{◌≡◌, ◌*◌, ◌<◌, ◌^◌, ◌++◌, ◌∷◌, [], arith}
 use Rattle.std.proofs.lemmas.Grind.{common_steps}
 use Rattle.std.proofs.lemmas.List.Elements.{All-push}
-use Rattle.backfill_planner.proofs.Takes.{tasks_fit, takes_what_is_free}
-use Rattle.backfill_planner.proofs.place.fill_capacities.Goals as goal
+use Rattle.backfill_planner.proofs.Takes.{tasks_fit}
+use Rattle.backfill_planner.proofs.placing.fill_capacities.Goals as goal
 
 pub loop-node-preserved : goal.loop-node-preserved
 loop-node-preserved c =

@@ -1,6 +1,6 @@
 use Rattle.std.proofs.Common.{◌+◌, ◌-◌, ◌≤◌}
 use Rattle.backfill_planner.proofs.Seconds.{NonePlaced}
-use Rattle.backfill_planner.proofs.place.place.Given as goal
+use Rattle.backfill_planner.proofs.placing.place.Given as goal
 
 -- at none of the seconds before `start` some set fits
 abbrev pub invariant-loop-start : goal.invariant-loop-start

@@ -1,10 +1,9 @@
-use Rattle.std.proofs.Common.{◌≡◌, ◌≤◌, ◌*◌, ◌<◌, ◌^◌, length, All, map, true, false, sym, ap, ◌∙◌, Some, None}
+use Rattle.std.proofs.Common.{◌≡◌, ◌*◌, ◌<◌, ◌^◌, length, All, map, ap, ◌∙◌, Some, None}
 use Rattle.node_pick.specs.Sets.{dealt, places, IsChosen}
 use Rattle.node_pick.specs.Choosing.{chosen}
-use Rattle.backfill_planner.specs.Giving.{capacities}
 use Rattle.backfill_planner.specs.Plans.{share_of}
 use Rattle.backfill_planner.proofs.Dealing.{IsGiven, dealt-given, places_in_range, tasks_in_range, placement-none, placement-some, length-capacities}
-use Rattle.backfill_planner.proofs.place.placement_at.Goals as goal
+use Rattle.backfill_planner.proofs.placing.placement_at.Goals as goal
 
 pub returns-then-not-branch-clause-placement : goal.returns-then-not-branch-clause-placement
 returns-then-not-branch-clause-placement c =

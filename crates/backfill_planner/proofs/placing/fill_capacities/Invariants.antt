@@ -1,6 +1,6 @@
 use Rattle.std.proofs.Common.{◌≡◌, ◌≤◌, ◌<◌, ◌*◌, ◌^◌, length, map, take, All, vec_len, vec_capacity}
 use Rattle.backfill_planner.specs.Giving.{give}
-use Rattle.backfill_planner.proofs.place.fill_capacities.Given as goal
+use Rattle.backfill_planner.proofs.placing.fill_capacities.Given as goal
 
 -- what the nodes so far can give, and room for the others
 abbrev pub invariant-loop-node : goal.invariant-loop-node

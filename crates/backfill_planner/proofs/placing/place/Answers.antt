@@ -1,7 +1,7 @@
-use Rattle.std.proofs.Common.{◌≡◌, ◌≤◌, ◌<◌, true, is_some, arith, Option}
+use Rattle.std.proofs.Common.{◌≡◌, true, is_some}
 use Rattle.backfill_planner.specs.Plans.{placement_at}
 use Rattle.backfill_planner.proofs.Seconds.{placed-none, placed-some}
-use Rattle.backfill_planner.proofs.place.place.Goals as goal
+use Rattle.backfill_planner.proofs.placing.place.Goals as goal
 
 pub returns-then-is_some-clause-placed : goal.returns-then-is_some-clause-placed
 returns-then-is_some-clause-placed g c =

@@ -1,6 +1,6 @@
 use Rattle.std.proofs.Common.{◌≡◌, ◌≤◌, length, map, take, vec_len, vec_capacity}
 use Rattle.backfill_planner.specs.Plans.{share_of}
-use Rattle.backfill_planner.proofs.place.shares.Given as goal
+use Rattle.backfill_planner.proofs.placing.shares.Given as goal
 
 -- the parts so far, and room for the others
 abbrev pub invariant-loop-part : goal.invariant-loop-part
