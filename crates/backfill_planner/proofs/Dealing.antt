@@ -64,3 +64,7 @@ placement-some rooms holds job start caps parts shares are choice dealing sharin
 pub length-capacities : (rooms : List NodeRoom) (holds : List Hold) (job : PlanJob) (start : ℕ) → length (capacities rooms holds job start) ≡ length job.nodes
 unfolding capacities
 length-capacities rooms holds job start = simp length-map
+
+-- the places of a set that gives are in range
+pub set_in_range : (caps : List ℕ) (count : ℕ) (set : List ℕ) → length caps ≡ count → All (λ place. 1 ≤ capacity caps place) set → All (λ place. place < count) set
+set_in_range caps count set long giving = All-weaker (λ place. 1 ≤ capacity caps place) (λ place. place < count) (λ place some. omega (arith, in_range caps place some, long)) set giving

@@ -59,3 +59,9 @@ plan_beside base now holds (job ∷ later) =
 -- the plan of a ranked list of jobs at a moment
 unfoldable pub plan_of : BaseView → List PlanJob → ℕ → List Placed
 plan_of base ranked now = plan_beside base now base.holds ranked
+
+-- what a plan is made of
+pub record PlannedView : Type 0 where
+  pub base : BaseView
+  pub ranked : List PlanJob
+  pub moment : ℕ

@@ -11,10 +11,12 @@ mod base;
 mod job;
 pub mod laws;
 mod placing;
+mod planned;
 
 pub use base::Base;
 pub use job::{MemAsk, NodeList, PlanJob};
 pub use placing::place;
+pub use planned::{Planned, plan};
 
 /// A job's part on one node.
 #[derive(Clone, Copy, Debug, PartialEq, Eq)]

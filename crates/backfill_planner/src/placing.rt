@@ -1,5 +1,7 @@
-ghost use Rattle.std.specs.Prelude.{◌≡◌, ◌+◌, ◌*◌, ◌^◌, ◌≤◌, ◌<◌, length, map, IfOk, OnOk, All};
+ghost use Rattle.std.specs.Prelude.{◌≡◌, ◌≢◌, AllPairs, ◌+◌, ◌*◌, ◌^◌, ◌≤◌, ◌<◌, length, map, IfOk, OnOk, IfSome, All};
 ghost use Rattle.resource_profile.specs.Counts.{ticked};
+ghost use Rattle.resource_profile.specs.Profiles.{HasFree};
+ghost use Rattle.resource_profile.specs.declared.Hold.{Hold};
 ghost use Rattle.node_pick.specs.declared.Dealt.{Dealt};
 ghost use Rattle.backfill_planner.specs.Giving;
 ghost use Rattle.backfill_planner.specs.Plans;
@@ -57,6 +59,7 @@ fn fill_capacities(
     requires nodes { All (λ node. node < length rooms.now) job.now.nodes }
     requires start { start ≤ 250002592000 }
     ensures window { start < Giving.window_end job.now start }
+    ensures once { AllPairs (λ one other. one ≢ other) job.now.nodes }
     ensures within { OnOk result (All (λ tasks. tasks * job.now.cpus_per_task < 2 ^ 32) out.new.items) }
     ensures capacities { OnOk result (out.new.items ≡ Giving.capacities rooms.now profile.now.holds job.now start) }
 {
@@ -137,6 +140,9 @@ fn placement_at(
     requires nodes { All (λ node. node < length rooms.now) job.now.nodes }
     requires start { start ≤ 250002592000 }
     ensures window { start < Giving.window_end job.now start }
+    ensures start { IfOk result (λ placed. IfSome placed (λ placed. placed.start ≡ start)) }
+    ensures free { IfOk result (λ placed. All (HasFree rooms.now profile.now.holds) (Plans.holds_of job.now placed)) }
+    ensures apart { IfOk result (λ placed. AllPairs (λ (one other : Hold). one.node ≢ other.node) (Plans.holds_of job.now placed)) }
     ensures placement { IfOk result (λ placed. placed ≡ Plans.placement_at rooms.now profile.now.holds job.now start) }
 {
     fill_capacities(profile, rooms, job, start, caps)?;
@@ -165,6 +171,9 @@ pub fn place<L>(
     requires rooms { profile.now.rooms ≡ base.now.rooms }
     requires nodes { All (λ node. node < length base.now.rooms) job.now.nodes }
     requires last { hi ≤ 250002592000 }
+    ensures start { IfOk result (λ placed. IfSome placed (λ placed. (lo ≤ placed.start) × (placed.start ≤ hi))) }
+    ensures free { IfOk result (λ placed. All (HasFree base.now.rooms profile.now.holds) (Plans.holds_of job.now placed)) }
+    ensures apart { IfOk result (λ placed. AllPairs (λ (one other : Hold). one.node ≢ other.node) (Plans.holds_of job.now placed)) }
     ensures placed { IfOk result (λ placed. placed ≡ Plans.placed_of base.now.rooms profile.now.holds job.now lo hi) }
     ensures steps { steps.new ≡ ticked steps.old 1 }
 {

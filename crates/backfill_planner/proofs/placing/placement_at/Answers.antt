@@ -3,6 +3,7 @@ use Rattle.node_pick.specs.Sets.{dealt, places, IsChosen}
 use Rattle.node_pick.specs.Choosing.{chosen}
 use Rattle.backfill_planner.specs.Plans.{share_of}
 use Rattle.backfill_planner.proofs.Dealing.{IsGiven, dealt-given, places_in_range, tasks_in_range, placement-none, placement-some, length-capacities}
+use Rattle.backfill_planner.proofs.Holding.{placement-holds}
 use Rattle.backfill_planner.proofs.placing.placement_at.Goals as goal
 
 pub returns-then-not-branch-clause-placement : goal.returns-then-not-branch-clause-placement
@@ -38,3 +39,23 @@ returns-clause-placement c =
     let are : parts ≡ dealt caps c.args.job.now.need.tasks (places parts) = rw c.if-not-branch.false at c.in_ok-pick.ensures.dealt in
     let sharing = c.from_vec.ensures ∙ c.in_ok-parts.ensures ∙ ap (λ p. map (λ part. share_of c.args.rooms.now c.args.job.now part) p) c.deref-2.ensures.value in
     placement-some c.args.rooms.now c.args.profile.now.holds c.args.job.now c.args.start caps parts c.from_vec.result (c.deref.ensures.value ∙ c.in_ok-fill_capacities.ensures.capacities) choice are sharing
+
+pub returns-clause-free : goal.returns-clause-free
+returns-clause-free c =
+    let caps = c.deref.result.now in
+    let parts = c.pick.new.out.items in
+    let is : IsChosen caps c.args.job.now.need (places parts) = rw c.if-not-branch.false at c.in_ok-pick.ensures.chosen in
+    let are : parts ≡ dealt caps c.args.job.now.need.tasks (places parts) = rw c.if-not-branch.false at c.in_ok-pick.ensures.dealt in
+    let sharing = c.from_vec.ensures ∙ c.in_ok-parts.ensures ∙ ap (λ p. map (λ part. share_of c.args.rooms.now c.args.job.now part) p) c.deref-2.ensures.value in
+    (placement-holds c.args.rooms.now c.args.profile.now.holds c.args.job.now c.args.job.now.id c.args.start caps parts c.from_vec.result (c.deref.ensures.value ∙ c.in_ok-fill_capacities.ensures.capacities) is are sharing
+    c.requires.nodes c.fill_capacities.ensures.once c.fill_capacities.ensures.window).free
+
+pub returns-clause-apart : goal.returns-clause-apart
+returns-clause-apart c =
+    let caps = c.deref.result.now in
+    let parts = c.pick.new.out.items in
+    let is : IsChosen caps c.args.job.now.need (places parts) = rw c.if-not-branch.false at c.in_ok-pick.ensures.chosen in
+    let are : parts ≡ dealt caps c.args.job.now.need.tasks (places parts) = rw c.if-not-branch.false at c.in_ok-pick.ensures.dealt in
+    let sharing = c.from_vec.ensures ∙ c.in_ok-parts.ensures ∙ ap (λ p. map (λ part. share_of c.args.rooms.now c.args.job.now part) p) c.deref-2.ensures.value in
+    (placement-holds c.args.rooms.now c.args.profile.now.holds c.args.job.now c.args.job.now.id c.args.start caps parts c.from_vec.result (c.deref.ensures.value ∙ c.in_ok-fill_capacities.ensures.capacities) is are sharing
+    c.requires.nodes c.fill_capacities.ensures.once c.fill_capacities.ensures.window).apart
