@@ -6,3 +6,4 @@ pub mod Holding
 pub mod Beside
 pub mod Adding
 pub mod Stepping
+pub mod Rises

@@ -2,8 +2,10 @@
 //! earliest, beside what the running jobs and the jobs ranked above it hold.
 #![tactic(auto)]
 
+ghost use Rattle.std.specs.Prelude.{◌≡◌, IfOk};
+
 use slurm_text::items::Items;
-use std::alloc::AllocError;
+use std::alloc::{AllocError, Global};
 use std::error::Error;
 use std::fmt;
 
@@ -37,6 +39,19 @@ pub struct Placed {
     pub start: u64,
     /// In the order of the job's nodes.
     pub parts: Items<Share>,
+}
+
+impl Placed {
+    /// An equal placement.
+    pub fn copy(&self, alloc: Global) -> Result<Placed, Memory>
+        ensures { IfOk result (λ placed. placed ≡ self.now) }
+    {
+        Ok(Placed {
+            id: self.id,
+            start: self.start,
+            parts: Items::from_vec(Vec::from_slice(alloc, self.parts.as_slice())?),
+        })
+    }
 }
 
 /// There wasn't memory enough.

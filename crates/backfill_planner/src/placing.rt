@@ -158,7 +158,8 @@ fn placement_at(
 }
 
 /// Where and when the job begins at the earliest, from the second `lo` to `hi`, beside the profile's holds. It counts one
-/// step. None exactly where no set fits at any of these seconds.
+/// step. None exactly where no set fits at any of these seconds. It tries `lo` and the ends of holds after it, since
+/// nothing comes to fit between these.
 pub fn place<L>(
     alloc: Global,
     profile: &Profile,
@@ -187,7 +188,10 @@ pub fn place<L>(
         if placed.is_some() {
             return Ok(placed);
         }
-        start += 1;
+        let Some(rise) = profile.next_rise(start) else {
+            return Ok(None);
+        };
+        start = rise;
     }
     Ok(None)
 }

@@ -42,6 +42,13 @@ impl Planned {
         self.placements.as_slice()
     }
 
+    /// The placements by themselves, in the order of the list. It takes no memory.
+    pub fn into_placements(self) -> Vec<Placed>
+        ensures { result.items ≡ plan_of self.base self.ranked self.moment }
+    {
+        self.placements
+    }
+
     /// What it began with.
     pub fn base(&self) -> &Base
         ensures { result.now ≡ self.now.base }

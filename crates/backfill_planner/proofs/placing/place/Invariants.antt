@@ -5,7 +5,7 @@ use Rattle.backfill_planner.proofs.placing.place.Given as goal
 -- at none of the seconds before `start` some set fits
 abbrev pub invariant-loop-start : goal.invariant-loop-start
 invariant-loop-start g l = record {
-  none_placed : NonePlaced l.base.rooms l.profile.holds l.job l.lo l.start;
+  none_placed : NonePlaced l.base.rooms l.profile.holds l.job l.lo l.hi l.start;
   from : l.lo ≤ l.start;
 }
 
