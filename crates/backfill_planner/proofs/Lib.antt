@@ -7,3 +7,4 @@ pub mod Beside
 pub mod Adding
 pub mod Stepping
 pub mod Rises
+pub mod LeastSecond

@@ -83,3 +83,6 @@ impl From<resource_profile::Memory> for Memory {
         Memory
     }
 }
+
+#[cfg(test)]
+mod tests;
