@@ -5,3 +5,4 @@ pub mod Ranking
 pub mod Filling
 pub mod Shares
 pub mod Walk
+pub mod Choosing

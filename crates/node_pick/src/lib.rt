@@ -3,9 +3,10 @@
 //! which nodes a job gets.
 #![tactic(auto)]
 
-ghost use Rattle.std.specs.Prelude.{◌≡◌, ℕ, List, [], IsTrue, IfOk, OnErr};
+ghost use Rattle.std.specs.Prelude.{◌≡◌, ℕ, List, [], Some, None, IsTrue, IfOk, OnErr};
 ghost use Rattle.std.specs.Bool.{OnTrue, OnFalse};
 ghost use Rattle.node_pick.specs.Sets.{Fits, IsChosen, dealt, places};
+ghost use Rattle.node_pick.specs.Choosing.{chosen};
 
 use std::alloc::{AllocError, Global};
 use std::error::Error;
@@ -13,6 +14,7 @@ use std::fmt;
 
 mod choice;
 mod dealing;
+pub mod laws;
 mod reserve;
 
 /// What a job asks of the set of places that it gets (sbatch(1): `--ntasks`, `--nodes`, `--nodelist`).
@@ -58,7 +60,9 @@ impl From<AllocError> for Memory {
 pub fn pick(alloc: Global, caps: &[u32], need: &Need, out: &mut Vec<Dealt>) -> Result<bool, Memory>
     ensures chosen { IfOk result (λ found. OnTrue found (IsChosen caps.now need.now (places out.new.items))) }
     ensures dealt { IfOk result (λ found. OnTrue found (out.new.items ≡ dealt caps.now need.now.tasks (places out.new.items))) }
+    ensures choice { IfOk result (λ found. OnTrue found (chosen caps.now need.now ≡ Some (places out.new.items))) }
     ensures none_fits { IfOk result (λ found. OnFalse found ((set : List ℕ) → ¬ Fits caps.now need.now set)) }
+    ensures no_choice { IfOk result (λ found. OnFalse found (chosen caps.now need.now ≡ None)) }
     ensures none { IfOk result (λ found. OnFalse found (out.new.items ≡ [])) }
     ensures err { OnErr result (out.new.items ≡ []) }
 {

@@ -1,7 +1,7 @@
 ghost use Rattle.std.specs.Prelude.{◌≡◌, ℕ, ◌+◌, ◌-◌, ◌^◌, ◌≤◌, ◌<◌, [], ◌∷◌, length, IfOk, OnOk, OnErr, IfSome, IfNone, All, Contains};
 ghost use Rattle.std.specs.List.Sorted.{IsPermutation};
 ghost use Rattle.resource_profile.specs.Free.{held_cpus, held_mem, free_cpus, free_mem, least_over, IsMostOver};
-ghost use Rattle.resource_profile.specs.Profiles.{HasFree, IsNextEnd};
+ghost use Rattle.resource_profile.specs.Profiles.{AreWithin, HasFree, IsNextEnd};
 
 use crate::{Hold, Memory, NodeRoom};
 use std::alloc::Global;
@@ -71,6 +71,18 @@ impl Profile {
         Ok(Profile {
             rooms: Vec::from_slice(alloc, rooms)?,
             holds: Vec::new(alloc),
+        })
+    }
+
+    /// These rooms with these holds, which must be within them.
+    pub fn with_holds(alloc: Global, rooms: &[NodeRoom], holds: &[Hold]) -> Result<Self, Memory>
+        requires { AreWithin rooms.now holds.now }
+        ensures rooms { IfOk result (λ profile. profile.rooms ≡ rooms.now) }
+        ensures holds { IfOk result (λ profile. profile.holds ≡ holds.now) }
+    {
+        Ok(Profile {
+            rooms: Vec::from_slice(alloc, rooms)?,
+            holds: Vec::from_slice(alloc, holds)?,
         })
     }
 

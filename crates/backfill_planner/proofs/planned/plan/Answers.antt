@@ -1,0 +1,64 @@
+use Rattle.std.proofs.Common.{◌≡◌, ◌≤◌, ◌<◌, ◌+◌, ◌++◌, ◌∷◌, [], length, drop, get_or, arith, refl, sym, ap, ◌∙◌, Some, None}
+use Rattle.resource_profile.specs.Counts.{ticked}
+use Rattle.backfill_planner.specs.Bases.{BaseView}
+use Rattle.std.proofs.lemmas.Grind.{common_steps}
+use Rattle.backfill_planner.specs.Plans.{placed_of, plan_beside, plan_of}
+use Rattle.backfill_planner.proofs.Stepping.{step-some, step-none, ticked-more, start-whole, end-whole, next-job}
+use Rattle.backfill_planner.proofs.planned.plan.Goals as goal
+use Rattle.backfill_planner.proofs.planned.plan.Goals.{in-Some+in_ok-hold, in_default}
+
+pub loop-job-init : goal.loop-job-init
+loop-job-init g c =
+    let rooms_are : c.in_ok-profile.profile.rooms ≡ c.args.base.rooms = c.in_ok-profile.ensures.rooms ∙ c.as_slice.ensures ∙ ap (λ (b : BaseView). b.rooms) c.base.view_is in
+    let holds_are : c.in_ok-profile.profile.holds ≡ c.args.base.holds = c.in_ok-profile.ensures.holds ∙ c.as_slice-2.ensures ∙ ap (λ (b : BaseView). b.holds) c.base.view_is in
+    record {
+      rooms = rooms_are;
+      so_far = start-whole c.args.base c.args.now c.args.ranked.items c.in_ok-profile.profile.holds c.in_ok-placements.placements.items c.in_ok-placements.ensures.items holds_are;
+      count = grind (arith, common_steps);
+      room = grind (arith, common_steps);
+      steps = refl;
+    }
+
+pub loop-job-preserved : goal.loop-job-preserved
+loop-job-preserved g c =
+    let i = c.loop-job.job-index in
+    let ranked = c.args.ranked.items in
+    let job = c.job-item.result in
+    let later = drop (i + 1) ranked in
+    let done = c.loop-job.placements.items in
+    let all = plan_of c.args.base ranked c.args.now in
+    let below : i < length ranked = rw c.deref-job-items.ensures.value at c.loop-job-test.true in
+    let job_is : job ≡ get_or ranked i job = rw c.deref-job-items.ensures.value at c.job-item.is in
+    let next = next-job ranked i job below job_is in
+    let whole : done ++ plan_beside c.args.base c.args.now c.loop-job.profile.holds (job ∷ later) ≡ all = rw next at c.loop-job.invariant.so_far in
+    let horizon_is : c.base.inside.horizon ≡ c.args.base.horizon = ap (λ (b : BaseView). b.horizon) c.base.view_is in
+    let placed_is : c.in_ok-placed.field-0 ≡ placed_of c.args.base.rooms c.loop-job.profile.holds job c.args.now c.args.base.horizon = rw horizon_is at c.in_ok-placed.ensures.placed in
+    let ticks : c.place.new.steps ≡ ticked c.args.steps.now (i + 1) = (rw c.loop-job.invariant.steps at c.place.ensures.steps) ∙ ticked-more c.args.steps.now i in
+    elim c.match-branch-4.branch [
+      | in-Some+in_ok-hold w ↦
+          let is : Some w.in-Some.placed ≡ placed_of c.args.base.rooms c.loop-job.profile.holds job c.args.now c.args.base.horizon = sym w.in-Some.is ∙ placed_is in
+          let pushed : w.push.new.self.items ≡ done ++ w.in-Some.placed ∷ [] = rw w.unwrap.ensures at w.push.ensures.items in
+          let longer = rw w.unwrap.ensures at w.push.ensures.len in
+          record {
+            rooms = rw w.profile-is (w.hold.ensures.rooms ∙ c.loop-job.invariant.rooms);
+            so_far = rw (w.placements-is, w.profile-is, pushed)
+                (step-some c.args.base c.args.now c.loop-job.profile.holds w.hold.new.profile.holds job later w.in-Some.placed done all is w.in_ok-hold.ensures.holds whole);
+            count = rw w.placements-is (omega (arith, longer, c.loop-job.invariant.count));
+            room = rw w.placements-is (omega (arith, w.push.ensures.capacity, c.loop-job.invariant.room));
+            steps = ticks;
+          }
+      | in_default w ↦
+          let is : None ≡ placed_of c.args.base.rooms c.loop-job.profile.holds job c.args.now c.args.base.horizon = sym w.in_default.is ∙ placed_is in
+          record {
+            rooms = rw w.profile-is c.loop-job.invariant.rooms;
+            so_far = rw (w.placements-is, w.profile-is) (step-none c.args.base c.args.now c.loop-job.profile.holds job later done all is whole);
+            count = rw w.placements-is (omega (arith, c.loop-job.invariant.count));
+            room = rw w.placements-is c.loop-job.invariant.room;
+            steps = ticks;
+          }
+    ]
+
+pub invariant_of-result : goal.invariant_of-result
+invariant_of-result g c =
+    let past : length c.args.ranked.items ≤ c.loop-job.job-index = rw c.deref-job-items.ensures.value at c.loop-job-test.false in
+    end-whole c.args.base c.args.now c.args.ranked.items c.loop-job.profile.holds c.loop-job.job-index c.loop-job.placements.items (plan_of c.args.base c.args.ranked.items c.args.now) past c.loop-job.invariant.so_far

@@ -1,0 +1,4 @@
+pub mod Bases
+pub mod Giving
+pub mod Plans
+pub mod Placements

@@ -1,0 +1,67 @@
+-- The plan of a ranked list of jobs.
+use Rattle.std.specs.Prelude.{ℕ, ◌+◌, ◌-◌, List, [], ◌∷◌, ◌++◌, map, find, slice_index, is_some, Option, Some, None, option_map, option_and_then, option_to_list}
+use Rattle.resource_profile.specs.declared.NodeRoom.{NodeRoom}
+use Rattle.resource_profile.specs.declared.Hold.{Hold}
+use Rattle.resource_profile.specs.Free.{room_at}
+use Rattle.node_pick.specs.declared.Dealt.{Dealt}
+use Rattle.node_pick.specs.Sets.{dealt}
+use Rattle.node_pick.specs.Choosing.{numbers_from, chosen}
+use Rattle.backfill_planner.specs.declared.Share.{Share}
+use Rattle.backfill_planner.specs.declared.Placed.{Placed}
+use Rattle.backfill_planner.specs.declared.job.PlanJob.{PlanJob}
+use Rattle.backfill_planner.specs.Bases.{BaseView}
+use Rattle.backfill_planner.specs.Giving.{window_end, capacities, taken_cpus, taken_mem}
+
+-- the job's part on the node at a place of its list, for so many tasks
+abbrev pub share_of : List NodeRoom → PlanJob → Dealt → Share
+share_of rooms job part =
+    let node = slice_index job.nodes part.place in
+    let room = room_at rooms node in
+    record { node = node; tasks = part.tasks; cpus = taken_cpus job room part.tasks; mem = taken_mem job room part.tasks }
+
+-- the job's parts on the nodes at the places of a set, with the tasks dealt to them
+abbrev pub shares_of : List NodeRoom → List Hold → PlanJob → ℕ → List ℕ → List Share
+shares_of rooms holds job start set =
+    map (λ part. share_of rooms job part) (dealt (capacities rooms holds job start) job.need.tasks set)
+
+-- the placement of the job at this second: on the chosen set, or none where no set fits
+unfoldable pub placement_at : List NodeRoom → List Hold → PlanJob → ℕ → Option Placed
+placement_at rooms holds job start =
+    option_map
+    (λ set. record { id = job.id; start = start; parts = shares_of rooms holds job start set })
+    (chosen (capacities rooms holds job start) job.need)
+
+-- every second from `lo` to `hi`
+abbrev pub seconds : ℕ → ℕ → List ℕ
+seconds lo hi = numbers_from lo (hi + 1 - lo)
+
+-- the least second from `lo` to `hi` at which some set fits, or none
+unfoldable pub first_second : List NodeRoom → List Hold → PlanJob → ℕ → ℕ → Option ℕ
+first_second rooms holds job lo hi = find (λ start. is_some (placement_at rooms holds job start)) (seconds lo hi)
+
+-- the placement at that second
+unfoldable pub placed_of : List NodeRoom → List Hold → PlanJob → ℕ → ℕ → Option Placed
+placed_of rooms holds job lo hi = option_and_then (λ start. placement_at rooms holds job start) (first_second rooms holds job lo hi)
+
+-- what the job holds of the nodes for its window, if it is placed
+abbrev pub holds_of : PlanJob → Option Placed → List Hold
+holds_of job None = []
+holds_of job (Some placed) =
+    map (λ (share : Share). record { node = share.node; from = placed.start; until = window_end job placed.start; cpus = share.cpus; mem = share.mem }) placed.parts
+
+-- the placements of the jobs in order, each beside what those before it hold
+unfoldable pub plan_beside : BaseView → ℕ → List Hold → List PlanJob → List Placed
+plan_beside base now holds [] = []
+plan_beside base now holds (job ∷ later) =
+    let placed = placed_of base.rooms holds job now base.horizon in
+    option_to_list placed ++ plan_beside base now (holds ++ holds_of job placed) later
+
+-- the plan of a ranked list of jobs at a moment
+unfoldable pub plan_of : BaseView → List PlanJob → ℕ → List Placed
+plan_of base ranked now = plan_beside base now base.holds ranked
+
+-- what a plan is made of
+pub record PlannedView : Type 0 where
+  pub base : BaseView
+  pub ranked : List PlanJob
+  pub moment : ℕ

@@ -1,0 +1,25 @@
+use resource_profile::{Hold, NodeRoom};
+use slurm_text::items::Items;
+use std::marker::Model;
+
+/// What a plan begins with: the nodes' rooms, what the running jobs hold of them, and the last second at which a start
+/// is tried. Its holds are on nodes that there are, begin before they end, and are at no second more than the room.
+#[derive(Drop)]
+pub struct Base {
+    pub rooms: Items<NodeRoom>,
+    pub holds: Items<Hold>,
+    /// In seconds since 1970, at most 250,002,592,000.
+    pub horizon: u64,
+}
+
+impl Model for Base {
+    ghost use Rattle.std.specs.Prelude.{◌≤◌};
+    ghost use Rattle.resource_profile.specs.Profiles.{AreWithin};
+    ghost use Rattle.backfill_planner.specs.Bases.{BaseView};
+
+    ghost Value = { BaseView };
+
+    ghost view = { λ base. record { rooms = base.rooms; holds = base.holds; horizon = base.horizon } };
+
+    ghost invariant = { λ base. AreWithin base.rooms base.holds × (base.horizon ≤ 250002592000) };
+}

@@ -1,0 +1,88 @@
+//! The plan: when, on which nodes and with which processors and megabytes each job of a ranked list can begin at the
+//! earliest, beside what the running jobs and the jobs ranked above it hold.
+#![tactic(auto)]
+
+ghost use Rattle.std.specs.Prelude.{◌≡◌, IfOk};
+
+use slurm_text::items::Items;
+use std::alloc::{AllocError, Global};
+use std::error::Error;
+use std::fmt;
+
+mod base;
+mod job;
+pub mod laws;
+mod placing;
+mod planned;
+
+pub use base::Base;
+pub use job::{MemAsk, NodeList, PlanJob};
+pub use placing::place;
+pub use planned::{Planned, plan};
+
+/// A job's part on one node.
+#[derive(Clone, Copy, Debug, PartialEq, Eq)]
+pub struct Share {
+    /// The node's place among the rooms.
+    pub node: u32,
+    pub tasks: u32,
+    pub cpus: u32,
+    /// In megabytes.
+    pub mem: u64,
+}
+
+/// When and where a job is to begin.
+#[derive(Drop)]
+pub struct Placed {
+    pub id: u32,
+    /// In seconds since 1970.
+    pub start: u64,
+    /// In the order of the job's nodes.
+    pub parts: Items<Share>,
+}
+
+impl Placed {
+    /// An equal placement.
+    pub fn copy(&self, alloc: Global) -> Result<Placed, Memory>
+        ensures { IfOk result (λ placed. placed ≡ self.now) }
+    {
+        Ok(Placed {
+            id: self.id,
+            start: self.start,
+            parts: Items::from_vec(Vec::from_slice(alloc, self.parts.as_slice())?),
+        })
+    }
+}
+
+/// There wasn't memory enough.
+#[derive(Clone, Copy, Debug, PartialEq, Eq)]
+pub struct Memory;
+
+impl fmt::Display for Memory {
+    fn fmt<W: fmt::Write>(&self, f: &mut fmt::Formatter<W>) -> fmt::Result {
+        f.write_str("out of memory")
+    }
+}
+
+impl Error for Memory {}
+
+impl From<AllocError> for Memory {
+    fn from(_: AllocError) -> Self {
+        Memory
+    }
+}
+
+impl From<node_pick::Memory> for Memory {
+    fn from(_: node_pick::Memory) -> Self {
+        Memory
+    }
+}
+
+impl From<resource_profile::Memory> for Memory {
+    fn from(_: resource_profile::Memory) -> Self {
+        Memory
+    }
+}
+
+#[cfg(test)]
+mod tests;

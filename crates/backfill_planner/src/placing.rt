@@ -1,0 +1,197 @@
+ghost use Rattle.std.specs.Prelude.{◌≡◌, ◌≢◌, AllPairs, ◌+◌, ◌*◌, ◌^◌, ◌≤◌, ◌<◌, length, map, IfOk, OnOk, IfSome, All};
+ghost use Rattle.resource_profile.specs.Counts.{ticked};
+ghost use Rattle.resource_profile.specs.Profiles.{HasFree};
+ghost use Rattle.resource_profile.specs.declared.Hold.{Hold};
+ghost use Rattle.node_pick.specs.declared.Dealt.{Dealt};
+ghost use Rattle.backfill_planner.specs.Giving;
+ghost use Rattle.backfill_planner.specs.Plans;
+
+use crate::base::Base;
+use crate::job::{MemAsk, PlanJob};
+use crate::{Memory, Placed, Share};
+use node_pick::{Dealt, pick};
+use resource_profile::{NodeRoom, Profile, Steps};
+use slurm_text::items::Items;
+use std::alloc::Global;
+
+// Where a window without a limit ends, after all moments.
+const FOREVER: u64 = 1000000000000;
+
+// Where the job's window ends that begins at `start`.
+pub(crate) fn window_end(job: &PlanJob, start: u64) -> u64
+    requires { start ≤ 250002592000 }
+    ensures end { result ≡ Giving.window_end job.now start }
+    ensures later { start < result }
+{
+    match job.seconds {
+        Some(seconds) => start + seconds.get(),
+        None => FOREVER,
+    }
+}
+
+// How many tasks of the job a node with this room can give where so much of it is free.
+fn tasks_given(job: &PlanJob, room: &NodeRoom, cpus: u32, mem: u64) -> u32
+    ensures { result ≡ Giving.tasks_given job.now room.now cpus mem }
+{
+    if !room.usable || job.exclusive && (cpus != room.cpus || mem != room.mem) {
+        return 0;
+    }
+    let per_task = job.cpus_per_task.get();
+    let most = u64::from(job.per_node).min(u64::from(cpus) / per_task);
+    let tasks = match job.mem_ask {
+        MemAsk::All => { if mem == room.mem { most } else { 0 } }
+        MemAsk::PerNode(asked) => { if asked.get() <= mem { most } else { 0 } }
+        MemAsk::PerCpu(asked) => most.min(mem / (asked.get() * per_task)),
+    };
+    tasks as u32
+}
+
+// What each of the job's nodes can give over its window that begins at `start`.
+#[tactic(auto, unfolding(crate::specs::Giving::capacities))]
+fn fill_capacities(
+    profile: &Profile,
+    rooms: &[NodeRoom],
+    job: &PlanJob,
+    start: u64,
+    out: &mut Vec<u32>,
+) -> Result<(), Memory>
+    requires rooms { profile.now.rooms ≡ rooms.now }
+    requires nodes { All (λ node. node < length rooms.now) job.now.nodes }
+    requires start { start ≤ 250002592000 }
+    ensures window { start < Giving.window_end job.now start }
+    ensures once { AllPairs (λ one other. one ≢ other) job.now.nodes }
+    ensures within { OnOk result (All (λ tasks. tasks * job.now.cpus_per_task < 2 ^ 32) out.new.items) }
+    ensures capacities { OnOk result (out.new.items ≡ Giving.capacities rooms.now profile.now.holds job.now start) }
+{
+    let end = window_end(job, start);
+    let nodes = job.nodes.as_slice();
+    out.clear();
+    out.reserve(nodes.len())?;
+    for node in nodes {
+        let (cpus, mem) = profile.free_min(*node, start, end);
+        let tasks = tasks_given(job, &rooms[*node as usize], cpus, mem);
+        out.push(tasks).unwrap();
+    }
+    Ok(())
+}
+
+// The job's part on the node at a place of its list.
+fn share(rooms: &[NodeRoom], job: &PlanJob, part: &Dealt) -> Share
+    requires place { part.now.place < length job.now.nodes }
+    requires nodes { All (λ node. node < length rooms.now) job.now.nodes }
+    requires cpus { part.now.tasks * job.now.cpus_per_task < 2 ^ 32 }
+    ensures { result ≡ Plans.share_of rooms.now job.now part.now }
+{
+    let node = job.nodes.as_slice()[part.place as usize];
+    let room = &rooms[node as usize];
+    let cpus = u64::from(part.tasks) * job.cpus_per_task.get();
+    let mem = match job.mem_ask {
+        MemAsk::All => room.mem,
+        MemAsk::PerNode(asked) => asked.get(),
+        MemAsk::PerCpu(asked) => asked.get() * cpus,
+    };
+    if job.exclusive {
+        Share {
+            node,
+            tasks: part.tasks,
+            cpus: room.cpus,
+            mem: room.mem,
+        }
+    } else {
+        Share {
+            node,
+            tasks: part.tasks,
+            cpus: cpus as u32,
+            mem,
+        }
+    }
+}
+
+// The job's parts where its tasks are dealt so.
+fn shares(
+    alloc: Global,
+    rooms: &[NodeRoom],
+    job: &PlanJob,
+    dealt: &[Dealt],
+) -> Result<Vec<Share>, Memory>
+    requires nodes { All (λ node. node < length rooms.now) job.now.nodes }
+    requires places { All (λ (part : Dealt). part.place < length job.now.nodes) dealt.now }
+    requires cpus { All (λ (part : Dealt). part.tasks * job.now.cpus_per_task < 2 ^ 32) dealt.now }
+    ensures { IfOk result (λ shares. shares.items ≡ map (λ part. Plans.share_of rooms.now job.now part) dealt.now) }
+{
+    let mut shares = Vec::with_capacity(alloc, dealt.len())?;
+    for part in dealt {
+        shares.push(share(rooms, job, part)).unwrap();
+    }
+    Ok(shares)
+}
+
+// The placement of the job at this second, or none where no set fits. What `caps` and `dealt` had before goes.
+fn placement_at(
+    alloc: Global,
+    profile: &Profile,
+    rooms: &[NodeRoom],
+    job: &PlanJob,
+    start: u64,
+    caps: &mut Vec<u32>,
+    dealt: &mut Vec<Dealt>,
+) -> Result<Option<Placed>, Memory>
+    requires rooms { profile.now.rooms ≡ rooms.now }
+    requires nodes { All (λ node. node < length rooms.now) job.now.nodes }
+    requires start { start ≤ 250002592000 }
+    ensures window { start < Giving.window_end job.now start }
+    ensures start { IfOk result (λ placed. IfSome placed (λ placed. placed.start ≡ start)) }
+    ensures free { IfOk result (λ placed. All (HasFree rooms.now profile.now.holds) (Plans.holds_of job.now placed)) }
+    ensures apart { IfOk result (λ placed. AllPairs (λ (one other : Hold). one.node ≢ other.node) (Plans.holds_of job.now placed)) }
+    ensures placement { IfOk result (λ placed. placed ≡ Plans.placement_at rooms.now profile.now.holds job.now start) }
+{
+    fill_capacities(profile, rooms, job, start, caps)?;
+    if !pick(alloc, caps, &job.need, dealt)? {
+        return Ok(None);
+    }
+    let parts = shares(alloc, rooms, job, dealt)?;
+    Ok(Some(Placed {
+        id: job.id,
+        start,
+        parts: Items::from_vec(parts),
+    }))
+}
+
+/// Where and when the job begins at the earliest, from the second `lo` to `hi`, beside the profile's holds. It counts one
+/// step. None exactly where no set fits at any of these seconds. It tries `lo` and the ends of holds after it, since
+/// nothing comes to fit between these.
+pub fn place<L>(
+    alloc: Global,
+    profile: &Profile,
+    base: &Base,
+    job: &PlanJob,
+    lo: u64,
+    hi: u64,
+    steps: &mut Steps<L>,
+) -> Result<Option<Placed>, Memory>
+    requires rooms { profile.now.rooms ≡ base.now.rooms }
+    requires nodes { All (λ node. node < length base.now.rooms) job.now.nodes }
+    requires last { hi ≤ 250002592000 }
+    ensures start { IfOk result (λ placed. IfSome placed (λ placed. (lo ≤ placed.start) × (placed.start ≤ hi))) }
+    ensures free { IfOk result (λ placed. All (HasFree base.now.rooms profile.now.holds) (Plans.holds_of job.now placed)) }
+    ensures apart { IfOk result (λ placed. AllPairs (λ (one other : Hold). one.node ≢ other.node) (Plans.holds_of job.now placed)) }
+    ensures placed { IfOk result (λ placed. placed ≡ Plans.placed_of base.now.rooms profile.now.holds job.now lo hi) }
+    ensures steps { steps.new ≡ ticked steps.old 1 }
+{
+    steps.tick();
+    let rooms = base.rooms.as_slice();
+    let mut caps = Vec::new(alloc);
+    let mut dealt = Vec::new(alloc);
+    let mut start = lo;
+    while start <= hi {
+        let placed = placement_at(alloc, profile, rooms, job, start, &mut caps, &mut dealt)?;
+        if placed.is_some() {
+            return Ok(placed);
+        }
+        let Some(rise) = profile.next_rise(start) else {
+            return Ok(None);
+        };
+        start = rise;
+    }
+    Ok(None)
+}

@@ -1,0 +1,125 @@
+ghost use Rattle.std.specs.Prelude.{◌≡◌, ◌≢◌, ◌≤◌, ◌<◌, ◌++◌, length, Some, IfOk, OnOk, All, AllPairs};
+ghost use Rattle.std.specs.List.Sorted.{IsPermutation};
+ghost use Rattle.resource_profile.specs.Counts.{ticked};
+ghost use Rattle.resource_profile.specs.Profiles.{HasFree};
+ghost use Rattle.resource_profile.specs.declared.Hold.{Hold};
+ghost use Rattle.backfill_planner.specs.declared.job.PlanJob.{PlanJob};
+ghost use Rattle.backfill_planner.specs.Plans.{holds_of, plan_of};
+
+use crate::base::Base;
+use crate::job::PlanJob;
+use crate::placing::{place, window_end};
+use crate::{Memory, Placed};
+use resource_profile::{Hold, Profile, Steps};
+use std::alloc::Global;
+use std::marker::Model;
+
+/// A plan, with the base, the ranked list of jobs and the moment that it was made of.
+#[derive(Drop)]
+pub struct Planned {
+    base: Base,
+    ranked: Vec<PlanJob>,
+    moment: u64,
+    placements: Vec<Placed>,
+}
+
+impl Model for Planned {
+    ghost use Rattle.std.specs.Prelude.{◌≡◌};
+    ghost use Rattle.backfill_planner.specs.Plans.{PlannedView, plan_of};
+
+    ghost Value = { PlannedView };
+
+    ghost view = { λ planned. record { base = planned.base; ranked = planned.ranked.items; moment = planned.moment } };
+
+    ghost invariant = { λ planned. planned.placements.items ≡ plan_of planned.base planned.ranked.items planned.moment };
+}
+
+impl Planned {
+    /// The placements, in the order of the list.
+    pub fn placements(&self) -> &[Placed]
+        ensures { result.now ≡ plan_of self.now.base self.now.ranked self.now.moment }
+    {
+        self.placements.as_slice()
+    }
+
+    /// The placements by themselves, in the order of the list. It takes no memory.
+    pub fn into_placements(self) -> Vec<Placed>
+        ensures { result.items ≡ plan_of self.base self.ranked self.moment }
+    {
+        self.placements
+    }
+
+    /// What it began with.
+    pub fn base(&self) -> &Base
+        ensures { result.now ≡ self.now.base }
+    {
+        &self.base
+    }
+
+    /// The jobs, the highest first.
+    pub fn ranked(&self) -> &[PlanJob]
+        ensures { result.now ≡ self.now.ranked }
+    {
+        self.ranked.as_slice()
+    }
+
+    /// The moment that it was made at.
+    pub fn now(&self) -> u64
+        ensures { result ≡ self.now.moment }
+    {
+        self.moment
+    }
+}
+
+// Adds to the profile what the placed job holds.
+fn hold(profile: &mut Profile, job: &PlanJob, placed: &Placed) -> Result<(), Memory>
+    requires start { placed.now.start ≤ 250002592000 }
+    requires free { All (HasFree profile.old.rooms profile.old.holds) (holds_of job.now (Some placed.now)) }
+    requires apart { AllPairs (λ (one other : Hold). one.node ≢ other.node) (holds_of job.now (Some placed.now)) }
+    ensures rooms { profile.new.rooms ≡ profile.old.rooms }
+    ensures holds { OnOk result (IsPermutation (profile.old.holds ++ holds_of job.now (Some placed.now)) profile.new.holds) }
+{
+    let until = window_end(job, placed.start);
+    for share in placed.parts.as_slice() {
+        profile.reserve(1)?;
+        profile.add_hold(&Hold {
+            node: share.node,
+            from: placed.start,
+            until,
+            cpus: share.cpus,
+            mem: share.mem,
+        });
+    }
+    Ok(())
+}
+
+/// The plan of the ranked jobs at this moment: each, the highest first, begins at the least second from `now` to the
+/// horizon at which some set of its nodes fits, beside the base's holds and what the jobs above it hold. It counts a step
+/// for each job.
+pub fn plan<L>(
+    alloc: Global,
+    base: Base,
+    ranked: Vec<PlanJob>,
+    now: u64,
+    steps: &mut Steps<L>,
+) -> Result<Planned, Memory>
+    requires nodes { All (λ (job : PlanJob). All (λ node. node < length base.rooms) job.nodes) ranked.items }
+    ensures parts { IfOk result (λ planned. planned ≡ record { base = base; ranked = ranked.items; moment = now }) }
+    ensures steps { OnOk result (steps.new ≡ ticked steps.old (length ranked.items)) }
+{
+    let mut profile = Profile::with_holds(alloc, base.rooms.as_slice(), base.holds.as_slice())?;
+    let mut placements = Vec::with_capacity(alloc, ranked.len())?;
+    let horizon = base.horizon;
+    for job in &ranked {
+        if let Some(placed) = place(alloc, &profile, &base, job, now, horizon, steps)? {
+            hold(&mut profile, job, &placed)?;
+            placements.push(placed).unwrap();
+        }
+    }
+    Ok(Planned {
+        base,
+        ranked,
+        moment: now,
+        placements,
+    })
+}
