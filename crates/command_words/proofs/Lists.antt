@@ -1,5 +1,5 @@
 -- Tests of words, and lists whose members are all good.
-use Rattle.std.proofs.Common.{ℕ, ◌≡◌, ◌+◌, ◌<◌, ◌||◌, ◌&&◌, Bool, true, false, map, List, [], ◌∷◌, ◌++◌, length, get_or, drop, Option, Some, None, refl, ap, sym, ◌∙◌, append_assoc}
+use Rattle.std.proofs.Common.{ℕ, ◌≡◌, ◌+◌, ◌<◌, ◌||◌, ◌&&◌, Bool, map, List, [], ◌∷◌, ◌++◌, length, get_or, drop, Option, Some, None, refl, ap, append_assoc}
 use Rattle.std.specs.List.{list_all, list_any}
 use Rattle.std.specs.Option.{option_map, option_and_then}
 use Rattle.std.proofs.lemmas.List.{drop-map, drop_more}
