@@ -33,6 +33,11 @@ pub fn kinds_are_apart()
     ensures bad { (text : List ℕ) → IsBad text → (¬ BeginsWithBlock text) × (¬ IsPartial text) }
 {}
 
+/// Nothing at all is a proper prefix of a block.
+pub fn nothing_is_partial()
+    ensures { IsPartial [] }
+{}
+
 /// What is bad stays bad, whatever follows.
 pub fn bad_texts_stay()
     ensures { (text more : List ℕ) → IsBad text → IsBad (text ++ more) }

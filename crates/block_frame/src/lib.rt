@@ -9,7 +9,8 @@ mod line;
 pub use block::{Block, Next};
 pub use blocks::Blocks;
 pub use laws::{
-    bad_texts_stay, blocks_are_cut_once, blocks_go_first, kinds_are_apart, texts_are_cut,
+    bad_texts_stay, blocks_are_cut_once, blocks_go_first, kinds_are_apart, nothing_is_partial,
+    texts_are_cut,
 };
 pub use line::Line;
 

@@ -2,5 +2,6 @@
 #![tactic(auto)]
 
 pub mod controller;
+pub mod laws;
 pub mod record;
 pub mod reply;

@@ -22,6 +22,10 @@ use Rattle.ctl_session.specs.Session.{Answers, IsSession, IsServed, IsWhole, IsC
 use Rattle.ctl_session.specs.Turn.{IsTurn, IsLastLook, WorksBlock, TakesBlock, TakesNone, IsQuiet, IsToldFrom, IsPassedOver}
 use Rattle.ctl_session.proofs.KnownBytes.{Consumes-trans, Consumes-kept, Appends-trans, Consumes-nil, Appends-nil}
 
+pub most_blocks_is : most_blocks ≡ 1048576
+unfolding most_blocks
+most_blocks_is = refl
+
 -- ---- replies in a history that grows
 
 slice_get-append_left : {X : Type 0} (xs ys : List X) (n : ℕ) (x : X) → slice_get xs n ≡ Some x → slice_get (xs ++ ys) n ≡ Some x
@@ -213,7 +217,7 @@ under_way_after number opening wire mid new desk between after blocks blocks' co
       consumed = one.consumed;
       each = All-push IsBlock way.served works.block way.each works.is_block;
       count_is = length-append way.served (works.block ∷ []) ∙ ap (λ n. n + 1) way.count_is;
-      place = omega arith;
+      place = omega (arith, most_blocks_is);
       short = omega arith;
       begins = one.begins;
       own_is = one.own_is;
@@ -254,7 +258,7 @@ quiet_end number opening wire mid new desk between after blocks rest count how w
     blocks = way.each;
     one_more = inl refl;
     answered = sym way.count_is;
-    bounded = omega (arith, way.count_is);
+    bounded = rw (append-nil way.served) (omega (arith, way.count_is));
     session = rw same (quiet_session number opening wire mid desk between blocks count way (rw same at legal));
     mine = rw same way.mine;
     cause = cause;
@@ -284,7 +288,7 @@ rest_consumed number opening wire mid new desk between blocks blocks' count way 
 worked_end : (number : ℕ) (opening : State) (wire mid new : Wire) (desk between after : Sight) (blocks blocks' : BlocksState) (count : ℕ) (how : How)
     (way : IsUnderWay number opening wire mid desk between blocks count) (works : WorksBlock opening number between after)
     → TakesBlock mid new blocks blocks' works.block
-    → count ≤ most_blocks
+    → count < most_blocks
     → IsHistory (record { opening = opening; entries = after.seen })
     → ((own : List Entry) → IsCause wire new (record { blocks = way.served; rest = spelled works.block ++ blocks'.pending; worked = works.block ∷ []; own = own; written = way.written; last = works.told.told }) how)
     → (e : Ending) × IsServed number opening wire new desk after (record { how = how; answered = count }) e
@@ -298,7 +302,7 @@ worked_end number opening wire mid new desk between after blocks blocks' count h
         blocks = way.each;
         one_more = inr (works.block, blocks'.pending, refl, works.is_block, refl);
         answered = sym way.count_is;
-        bounded = omega (arith, way.count_is);
+        bounded = omega (arith, way.count_is, length-append way.served (works.block ∷ []));
         session = record { since = way.since ++ one.more; begins = one.begins; history = legal; own_is = one.own_is; answers = one.answers };
         mine = one.mine;
         cause = cause (way.own ++ one.made);
@@ -332,7 +336,7 @@ passed_end number opening wire mid new desk between after blocks count way read 
         blocks = way.each;
         one_more = inl refl;
         answered = sym way.count_is;
-        bounded = omega (arith, way.count_is);
+        bounded = rw (append-nil way.served) (omega (arith, way.count_is));
         session = record {
           since = way.since ++ goes.more;
           begins = grown ∙ ap (λ l. l ++ goes.more) way.begins ∙ append_assoc desk.seen way.since goes.more;
@@ -389,7 +393,7 @@ served_after_turn number opening wire mid new desk between after blocks blocks' 
       partial,
     )
 served_after_turn number opening wire mid new desk between after blocks blocks' count how.WriteFault few way legal (works, takes, front, reads, below, rose) =
-    worked_end number opening wire mid new desk between after blocks blocks' count how.WriteFault way works takes (omega arith) legal
+    worked_end number opening wire mid new desk between after blocks blocks' count how.WriteFault way works takes few legal
     (λ own. (
       reads ∙ way.reads,
       subst (λ n. n ≤ new.writes) way.writes below,
@@ -400,7 +404,7 @@ served_after_turn number opening wire mid new desk between after blocks blocks' 
     elim made [
       | inl passed ↦ passed_end number opening wire mid new desk between after blocks count way passed.0 passed.1 passed.2 (omega arith) legal taken reads writes
       | inr worked ↦
-          worked_end number opening wire mid new desk between after blocks blocks' count how.Memory way worked.0 worked.1 (omega arith) legal
+          worked_end number opening wire mid new desk between after blocks blocks' count how.Memory way worked.0 worked.1 few legal
           (λ own. (reads ∙ way.reads, writes ∙ way.writes, rw taken way.sent))
     ]
 
@@ -465,6 +469,7 @@ pub served_after_look_at : (number : ℕ) (opening : State) (wire mid new : Wire
     → IsUnderWay number opening wire mid desk between blocks count
     → IsHistory (record { opening = opening; entries = between.seen })
     → IsLastLook mid new blocks.pending how
-    → (e : Ending) × IsServed number opening wire new desk between (record { how = how; answered = most_blocks }) e
+    → (e : Ending) × IsServed number opening wire new desk between (record { how = how; answered = 1048576 }) e
 served_after_look_at number opening wire mid new desk between blocks count how all way legal look =
-    served_after_look number opening wire mid new desk between blocks how (subst (IsUnderWay number opening wire mid desk between blocks) all way) legal look
+    subst (λ n. (e : Ending) × IsServed number opening wire new desk between (record { how = how; answered = n }) e) most_blocks_is
+    (served_after_look number opening wire mid new desk between blocks how (subst (IsUnderWay number opening wire mid desk between blocks) all way) legal look)

@@ -36,7 +36,7 @@ pub record IsSession (number : ℕ) (opening : State) (before after own : List E
   pub answers : Answers opening number after (length before) blocks own written (length after)
 
 -- the most blocks that one session answers
-abbrev pub most_blocks : ℕ
+unfoldable pub most_blocks : ℕ
 most_blocks = 1048576
 
 -- A link at a moment: what is left to read and what was taken, where these are told, and how many reads and writes failed.
@@ -99,7 +99,7 @@ pub record IsServed (number : ℕ) (opening : State) (wire wire' : Wire) (desk d
   pub blocks : All IsBlock e.blocks
   pub one_more : (e.worked ≡ []) ⊎ ((block : Block) × (more : List ℕ) × (e.worked ≡ block ∷ []) × IsBlock block × (e.rest ≡ spelled block ++ more))
   pub answered : ended.answered ≡ length e.blocks
-  pub bounded : length e.blocks ≤ most_blocks
+  pub bounded : length (e.blocks ++ e.worked) ≤ most_blocks
   pub session : IsSession number opening desk.seen desk'.seen e.own (e.blocks ++ e.worked) (e.written ++ e.last)
   pub mine : desk'.mine ≡ desk.mine ++ e.own
   pub cause : IsCause wire wire' e ended.how

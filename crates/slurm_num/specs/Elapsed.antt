@@ -3,9 +3,22 @@ use Rattle.std.specs.Prelude.{ℕ, ◌/◌, ◌%◌, nat_lt, if◌then◌else◌
 use Rattle.std.specs.Fmt.{decimal}
 use Rattle.slurm_text.specs.Digits.{two_digits}
 
--- `m:ss` below an hour, `h:mm:ss` below a day, else `d-hh:mm:ss`
+-- `m:ss`
+abbrev pub minutes_text : ℕ → List ℕ
+minutes_text seconds = decimal (seconds / 60) ++ codes ":" ++ two_digits (seconds % 60)
+
+-- `h:mm:ss`
+abbrev pub hours_text : ℕ → List ℕ
+hours_text seconds =
+    decimal (seconds / 3600) ++ codes ":" ++ two_digits (seconds / 60 % 60) ++ codes ":" ++ two_digits (seconds % 60)
+
+-- `d-hh:mm:ss`
+abbrev pub days_text : ℕ → List ℕ
+days_text seconds =
+    decimal (seconds / 86_400) ++ codes "-" ++ two_digits (seconds / 3600 % 24) ++ codes ":" ++ two_digits (seconds / 60 % 60) ++ codes ":" ++ two_digits (seconds % 60)
+
+-- minutes and seconds below an hour, hours before them below a day, else days too
 unfoldable pub elapsed_text : ℕ → List ℕ
 elapsed_text seconds =
-    if nat_lt seconds 3600 then decimal (seconds / 60) ++ codes ":" ++ two_digits (seconds % 60)
-    else (if nat_lt seconds 86_400 then decimal (seconds / 3600) ++ codes ":" ++ two_digits (seconds / 60 % 60) ++ codes ":" ++ two_digits (seconds % 60)
-    else decimal (seconds / 86_400) ++ codes "-" ++ two_digits (seconds / 3600 % 24) ++ codes ":" ++ two_digits (seconds / 60 % 60) ++ codes ":" ++ two_digits (seconds % 60))
+    if nat_lt seconds 3600 then minutes_text seconds
+    else (if nat_lt seconds 86_400 then hours_text seconds else days_text seconds)

@@ -8,7 +8,7 @@ use Rattle.jiff.proofs.SpanFacts.{signed_arith}
 use Rattle.std.specs.Result.{OkIff, result_ok}
 use Rattle.jiff.specs.Types.{Date}
 use Rattle.jiff.specs.Words.{epoch_day, IsDate, IsYmd}
-use Rattle.jiff_core.proofs.CalendarLemmas.{day_count-epoch, day_count-lt_year, day_count-next_year, day_count-year_is, day_count-day_of_year, day_of_year_bound, days_from_civil-day_count, days_of_months_mono, days_of_months-zero}
+use Rattle.jiff_core.proofs.CalendarLemmas.{day_count-epoch, day_count-lt_year, day_count-next_year, day_count-year_is, day_count-day_of_year, day_of_year_bound, days_from_civil-day_count, days_of_months_mono, days_of_months-zero, days_in_month_bounds}
 use Rattle.jiff_core.specs.Calendar.{days_from_civil, days_of_months, days_in_month, day_count, days_in_year, IsCivilDate}
 use Rattle.slurm_text.specs.declared.civil.CivilDate.{CivilDate}
 use Rattle.slurm_text.specs.Civil.{is_civil_date, not_negative, day_number, date_from_month, date_from_year, date_after, IsDateAfter}
@@ -147,3 +147,17 @@ date_after_is (pos n) y m d days date same year =
     )
 date_after_is (negsuc n) y m d days date same year =
     absurd (omega (arith, signed_arith, year_since (negsuc n) m d days date same))
+
+-- and its number is that again
+pub day_number-date_after : (days : ℕ) (date : CivilDate) → IsDateAfter days date → day_number date.year date.month date.day ≡ Some days
+unfolding day_number
+day_number-date_after days date found =
+    let there : is_civil_date date.year date.month date.day ≡ true =
+    and_from _ _ (and_from _ _ (and_from _ _ (le-leb 1 date.month found.0.1.0) (le-leb date.month 12 found.0.1.1)) (le-leb 1 date.day found.0.2.0)) (le-leb date.day _ found.0.2.1) in
+    cond-true (is_civil_date date.year date.month date.day) _ _ there ∙ ap not_negative found.1
+
+-- the numbers of a date in two digits, and in four
+pub date_bounds : (days : ℕ) (date : CivilDate) → IsDateAfter days date → (date.year ≤ 9999) × (date.month ≤ 12) × (date.day ≤ 31)
+date_bounds days date found =
+    let short = days_in_month_bounds (pos date.year) date.month in
+    (omega (arith, signed_arith, found.0.0.1), found.0.1.1, omega (arith, found.0.2.1))

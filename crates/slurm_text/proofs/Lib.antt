@@ -2,8 +2,10 @@ pub mod BracketLemmas
 pub mod CivilLemmas
 pub mod DigitsLemmas
 pub mod FieldsLemmas
+pub mod FoldingLemmas
 pub mod HostLemmas
 pub mod ItemLemmas
+pub mod MomentLemmas
 pub mod Positions
 pub mod Quotes
 pub mod WordLemmas

@@ -64,7 +64,7 @@ struct HostRange {
     width: usize,
 }
 
-fn digits_number(digits: &[u8]) -> u32
+pub(crate) fn digits_number(digits: &[u8]) -> u32
     requires few { length digits.now ≤ 9 }
     requires digits { IsTrue (list_all is_ascii_digit digits.now) }
     ensures value { result ≡ digits_number digits.now }

@@ -4,6 +4,7 @@
 mod civil;
 pub mod digits;
 pub mod fields;
+pub mod folding;
 pub mod hosts;
 pub mod items;
 pub mod keywords;
@@ -13,4 +14,6 @@ pub mod moment;
 pub mod name;
 pub mod plain;
 pub mod ranged;
+#[cfg(test)]
+mod tests;
 pub mod words;

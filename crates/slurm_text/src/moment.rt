@@ -1,6 +1,6 @@
 //! Moments: "--begin" of sbatch(1). A moment is a number of seconds since 1970-01-01T00:00:00 in UTC.
 
-ghost use Rattle.std.specs.Prelude.{◌≡◌, ◌/◌, ◌<◌, ◌≤◌, IfSome, IfOk};
+ghost use Rattle.std.specs.Prelude.{◌≡◌, ℕ, ◌/◌, ◌<◌, ◌≤◌, Some, IfSome, IfOk};
 ghost use Rattle.std.specs.Result.{result_ok};
 ghost use Rattle.slurm_text.specs.Fields.{fields};
 ghost use Rattle.slurm_text.specs.Moment.{number_of_width, day_of_date, seconds_of_clock, civil_moment, unit_of, wait_of, up_to_last, moment_of, moment_text};
@@ -26,12 +26,24 @@ pub fn parse_moment(text: &[u8], now: u64) -> Result<u64, BadMoment>
 }
 
 /// Writes the moment as `YYYY-MM-DDTHH:MM:SS`.
-#[tactic(auto, unfolding(crate::specs::Moment::moment_text))]
 pub fn print_moment(moment: u64, out: &mut [u8; 19])
     requires { moment ≤ 253_402_300_799 }
     ensures text { out.new ≡ moment_text moment }
 
     // The date in that text is the one of the calendar that is so many days after 1970-01-01.
+    ensures civil { IsDateAfter (moment / 86_400) (date_after (moment / 86_400)) }
+
+    // The text is read as the moment, whenever it is read.
+    ensures read { moment ≤ 250_000_000_000 → (now : ℕ) → moment_of out.new now ≡ Some moment }
+{
+    *out = moment_text(moment);
+}
+
+// The text of a moment.
+#[tactic(auto, unfolding(crate::specs::Moment::moment_text))]
+fn moment_text(moment: u64) -> [u8; 19]
+    requires { moment ≤ 253_402_300_799 }
+    ensures text { result ≡ moment_text moment }
     ensures civil { IsDateAfter (moment / 86_400) (date_after (moment / 86_400)) }
 {
     let date = date_after_epoch(moment / 86_400);
@@ -43,9 +55,9 @@ pub fn print_moment(moment: u64, out: &mut [u8; 19])
     let [h1, h2] = to_two_digits(seconds / 3600);
     let [i1, i2] = to_two_digits(seconds / 60 % 60);
     let [s1, s2] = to_two_digits(seconds % 60);
-    *out = [
+    [
         y1, y2, y3, y4, b'-', m1, m2, b'-', d1, d2, b'T', h1, h2, b':', i1, i2, b':', s1, s2,
-    ];
+    ]
 }
 
 // The same, where a text that names no moment is `None`.

@@ -1,0 +1,52 @@
+//! What the nodes have free over time: the rooms of the nodes and the holds on them, and a count of the planner's steps.
+#![tactic(auto)]
+
+use std::alloc::AllocError;
+use std::error::Error;
+use std::fmt;
+
+mod profile;
+mod steps;
+
+pub use profile::Profile;
+pub use steps::{Plain, Steps, start};
+
+/// What a node has in all: whole processors, megabytes, and whether jobs may be placed on it.
+#[derive(Clone, Copy, Debug, PartialEq, Eq)]
+pub struct NodeRoom {
+    pub cpus: u32,
+    pub mem: u64,
+    pub usable: bool,
+}
+
+/// Processors and megabytes of a node that are taken from the second `from` on and before the second `until`.
+#[derive(Clone, Copy, Debug, PartialEq, Eq)]
+pub struct Hold {
+    /// The node's place among the rooms.
+    pub node: u32,
+    pub from: u64,
+    pub until: u64,
+    pub cpus: u32,
+    pub mem: u64,
+}
+
+/// There wasn't memory enough.
+#[derive(Clone, Copy, Debug, PartialEq, Eq)]
+pub struct Memory;
+
+impl fmt::Display for Memory {
+    fn fmt<W: fmt::Write>(&self, f: &mut fmt::Formatter<W>) -> fmt::Result {
+        f.write_str("out of memory")
+    }
+}
+
+impl Error for Memory {}
+
+impl From<AllocError> for Memory {
+    fn from(_: AllocError) -> Self {
+        Memory
+    }
+}
+
+#[cfg(test)]
+mod tests;

@@ -1,0 +1,9 @@
+use Rattle.std.proofs.Common.{◌≡◌, [], take, map, fold}
+use Rattle.std.specs.Ordering.{nat_cmp}
+use Rattle.std.specs.Cmp.Lexicographic.{slice_cmp}
+use Rattle.std.specs.BTreeSet.{insert_key, keys}
+use Rattle.slurm_text.proofs.folding.in_byte_order.Given as goal
+
+abbrev pub invariant-loop-name : goal.invariant-loop-name
+invariant-loop-name l =
+    map (λ name. name.now) (keys l.sorted) ≡ fold (insert_key (slice_cmp nat_cmp)) [] (take l.name-index l.names)

@@ -1,0 +1,5 @@
+//! What the program does with its words.
+#![tactic(auto)]
+
+mod cluster;
+mod script;
