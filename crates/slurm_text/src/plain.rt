@@ -42,3 +42,6 @@ impl Plain for Done {
         Ok(*self)
     }
 }
+
+#[cfg(test)]
+mod tests;
