@@ -13,9 +13,12 @@ use slurm_text::ranged::Ranged;
 use std::alloc::Global;
 use std::test::Fail;
 
-fn pending(alloc: Global, id: u32, start: u64, reason: Reason) -> Result<Row, Fail>
-    requires { start ≤ 253_402_300_799 }
-{
+fn pending(
+    alloc: Global,
+    id: u32,
+    start: Ranged<0, 253402300799>,
+    reason: Reason,
+) -> Result<Row, Fail> {
     Ok(Row::Job(JobRow {
         id,
         name: JobName::read(alloc, b"sbatch")?,
@@ -26,7 +29,7 @@ fn pending(alloc: Global, id: u32, start: u64, reason: Reason) -> Result<Row, Fa
         nodes: 1,
         node_names: Items::from_vec(Vec::new(alloc)),
         reason: Some(reason),
-        start: Some(Ranged::new(start)),
+        start: Some(start),
     }))
 }
 
@@ -38,7 +41,7 @@ fn running(alloc: Global, state: JobState, nodes: Vec<Name>) -> Result<Row, Fail
         partition: Name::read(alloc, b"main")?,
         state,
         elapsed: Ranged::new(90_061),
-        nodes: nodes.len() as u32,
+        nodes: 2,
         node_names: Items::from_vec(nodes),
         reason: None,
         start: None,
@@ -53,8 +56,8 @@ const fn squeue(titles: bool, starts: bool) -> Request {
 fn expected_starts_are_shown(rt: HostRuntime) -> Result<(), Fail> {
     let alloc = rt.alloc();
     let rows = vec![in alloc;
-        pending(alloc, 2, 600, Reason::Resources)?,
-        pending(alloc, 4, 1200, Reason::Priority)?,
+        pending(alloc, 2, Ranged::new(600), Reason::Resources)?,
+        pending(alloc, 4, Ranged::new(1200), Reason::Priority)?,
     ]?;
     let view = Reply::Shown(View {
         rows: Items::from_vec(rows),
