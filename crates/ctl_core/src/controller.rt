@@ -66,12 +66,6 @@ impl Ctl {
         ensures moment { IfOk result (λ decided. decided.moment ≡ raised self.old now) }
         ensures after { OnOk result (self.new ≡ state_after self.old now user.now request.now) }
         ensures err { OnErr result (self.new ≡ self.old) }
-
-        // A request is decided at its raised moment as at the one handed in.
-        ensures same_reply { reply_of self.old (raised self.old now) user.now request.now
-            ≡ reply_of self.old now user.now request.now }
-        ensures same_state { state_after self.old (raised self.old now) user.now request.now
-            ≡ state_after self.old now user.now request.now }
         ensures sound { IsSound self.old × IsSound self.new }
     {
         let moment = self.moment.max(now);
@@ -169,3 +163,6 @@ fn assoc_records(alloc: Global, confs: Vec<AssocConf>) -> Result<Vec<AssocRecord
             .collect(alloc)?,
     )
 }
+
+#[cfg(test)]
+mod tests;

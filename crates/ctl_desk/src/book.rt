@@ -7,6 +7,7 @@ ghost use Rattle.ctl_desk.specs.History.{entry_of, present, IsHistory};
 
 use crate::entry::{Answer, Entry};
 use ctl_core::controller::Ctl;
+use ctl_core::laws::raised_moments_decide_alike;
 use slurm_text::memory_error::Memory;
 use slurm_text::name::Name;
 use slurm_text::plain::request::Request;
@@ -72,6 +73,7 @@ impl Book {
         ensures opening { self.new.opening ≡ self.old.opening }
         ensures err { OnErr result (self.new ≡ self.old) }
     {
+        raised_moments_decide_alike();
         let place = self.entries.len() as u64;
         self.entries.reserve(1)?;
         let name = user.copy()?;

@@ -1,4 +1,3 @@
-pub mod KnownBytes
 pub mod Serving
 pub mod Turning
 pub mod Working

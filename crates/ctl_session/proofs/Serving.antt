@@ -20,7 +20,7 @@ use Rattle.ctl_session.specs.declared.session.Ended.{Ended}
 use Rattle.ctl_session.specs.Reply.{IsReply, IsReplyAt, IsWorked}
 use Rattle.ctl_session.specs.Session.{Answers, IsSession, IsServed, IsWhole, IsCause, Wire, Sight, Ending, most_blocks}
 use Rattle.ctl_session.specs.Turn.{IsTurn, IsLastLook, WorksBlock, TakesBlock, TakesNone, IsQuiet, IsToldFrom, IsPassedOver}
-use Rattle.ctl_session.proofs.KnownBytes.{Consumes-trans, Consumes-kept, Appends-trans, Consumes-nil, Appends-nil}
+use Rattle.std.proofs.KnownBytes.{Consumes-trans, Consumes-kept, Appends-trans, Consumes-nil, Appends-nil}
 
 pub most_blocks_is : most_blocks ≡ 1048576
 unfolding most_blocks

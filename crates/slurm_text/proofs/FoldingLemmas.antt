@@ -1,5 +1,5 @@
 -- Names of hosts in groups.
-use Rattle.std.proofs.Common.{ℕ, zero, not, suc, ◌≡◌, ◌+◌, ◌-◌, ◌<◌, ◌≤◌, ◌&&◌, ◌==◌, if◌then◌else◌, Bool, true, false, Some, None, Option, option_map, Ordering, List, [], ◌∷◌, ◌++◌, min, reverse, length, get_or, take, drop, set, map, fold, sym, refl, ap, ◌∙◌, subst, arith, Bor, eqb-true}
+use Rattle.std.proofs.Common.{ℕ, not, suc, ◌≡◌, ◌+◌, ◌-◌, ◌<◌, ◌≤◌, ◌&&◌, ◌==◌, if◌then◌else◌, Bool, true, false, Some, None, Option, option_map, Ordering, List, [], ◌∷◌, ◌++◌, min, reverse, length, get_or, take, drop, set, map, fold, sym, refl, ap, ◌∙◌, subst, arith, Bor, eqb-true}
 use Rattle.std.specs.Str.{bytes_eq}
 use Rattle.std.specs.Char.{is_ascii_digit}
 use Rattle.std.specs.List.{suffix_len, list_all}

@@ -1,6 +1,8 @@
-ghost use Rattle.std.specs.Prelude.{ℕ, ◌≡◌, ◌<◌, ◌≤◌, ◌^◌, ◌+◌, ◌∷◌, [], ◌++◌, length, map, vec_len, slice_set, slice_index_or, IfOk, OnOk, IsTrue};
+ghost use Rattle.std.specs.Prelude.{ℕ, ◌≡◌, ◌<◌, ◌≤◌, ◌^◌, ◌+◌, ◌∷◌, [], ◌++◌, length, map, vec_len, slice_set, slice_index_or, IfOk, OnOk, IsTrue, List, None};
 ghost use Rattle.std.specs.Char.{is_ascii_digit};
 ghost use Rattle.std.specs.List.{list_all};
+ghost use Rattle.slurm_text.specs.Name.{is_name};
+ghost use Rattle.slurm_text.specs.Hosts.{has, hosts_in, first_bad_item};
 ghost use Rattle.slurm_text.specs.Folding.{in_byte_order, digits_len, prefix_of, digits_of, number_of, grouped, runs, runs_text, run_text, group_text, with_commas, folded};
 
 use crate::hosts::digits_number;
@@ -11,7 +13,8 @@ use std::collections::{BTreeSet, HashMap};
 
 #[tactic(auto, unfolding(crate::specs::Folding::in_byte_order))]
 fn in_byte_order<'a>(alloc: Global, names: &'a [Name]) -> Result<Vec<&'a [u8]>, AllocError>
-    ensures { IfOk result (λ sorted. map (λ name. name.now) sorted.items ≡ in_byte_order names.now) }
+    ensures value { IfOk result (λ sorted. map (λ name. name.now) sorted.items ≡ in_byte_order names.now) }
+    ensures named { OnOk result (IsTrue (list_all is_name names.now)) }
 {
     let mut sorted = BTreeSet::new(alloc);
     for name in names {
@@ -170,14 +173,32 @@ fn written_groups(alloc: Global, groups: &[Vec<&[u8]>]) -> Result<Vec<u8>, Alloc
     Ok(text)
 }
 
-/// The host expression of a set of names, in one form: names of equal prefix and equal number of trailing digits, of
-/// which at most nine count, stand in one bracket, as in `n[01-03,07]`. It depends on the set alone, not on order or
-/// repeats, and has no bytes for no names (own).
-pub fn fold_hosts(alloc: Global, names: &[Name]) -> Result<Vec<u8>, Memory>
-    ensures { IfOk result (λ text. text.items ≡ folded names.now) }
+fn folded_text(alloc: Global, names: &[Name]) -> Result<Vec<u8>, AllocError>
+    ensures value { IfOk result (λ text. text.items ≡ folded names.now) }
+    ensures named { OnOk result (IsTrue (list_all is_name names.now)) }
 {
     let sorted = in_byte_order(alloc, names)?;
     let groups = grouped(alloc, sorted.as_slice())?;
-    let text = written_groups(alloc, groups.as_slice())?;
+    written_groups(alloc, groups.as_slice())
+}
+
+/// The host expression of a set of names, in one form: names of equal prefix and equal number of trailing digits, of
+/// which at most nine count, stand in one bracket, as in `n[01-03,07]`. It depends on the set alone, not on order or
+/// repeats, and has no bytes for no names (own).
+#[tactic(auto, using(crate::proofs::FoldingLaw::expanding))]
+pub fn fold_hosts(alloc: Global, names: &[Name]) -> Result<Vec<u8>, Memory>
+    ensures value { IfOk result (λ text. text.items ≡ folded names.now) }
+
+    // Lists of the same names have one text.
+    ensures set { (others : List (List ℕ)) → ((name : List ℕ) → has name others ≡ has name names.now)
+        → IfOk result (λ text. text.items ≡ folded others) }
+
+    // Expanding the text of 1 to 1,024 names gives the same set.
+    ensures good { 1 ≤ length names.now → length names.now ≤ 1024
+        → IfOk result (λ text. first_bad_item text.items ≡ None) }
+    ensures same { 1 ≤ length names.now → length names.now ≤ 1024
+        → IfOk result (λ text. (name : List ℕ) → has name (hosts_in text.items) ≡ has name names.now) }
+{
+    let text = folded_text(alloc, names)?;
     Ok(text)
 }

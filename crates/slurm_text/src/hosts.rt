@@ -1,14 +1,14 @@
-ghost use Rattle.std.specs.Prelude.{ℕ, ◌≡◌, ◌↔◌, ◌<◌, ◌≤◌, ◌^◌, ◌+◌, ◌==◌, ◌∷◌, [], ◌++◌, if◌then◌else◌, length, map, position, is_ok, IfOk, IfSome, OnOk, IsErrOf, IsTrue, IsFalse, replicate, fold, Some, None};
+ghost use Rattle.std.specs.Prelude.{ℕ, ◌≡◌, ◌<◌, ◌≤◌, ◌^◌, ◌+◌, ◌==◌, ◌∷◌, [], ◌++◌, length, map, position, IfOk, IfSome, OnOk, IsErrOf, IsTrue, IsFalse, replicate, fold, Some, None};
 ghost use Rattle.std.specs.Char.{is_ascii_digit};
 ghost use Rattle.std.specs.List.{list_all, slice_split};
 ghost use Rattle.slurm_text.specs.Name.{is_name};
-ghost use Rattle.slurm_text.specs.Hosts.{digits_number, number_in, range_of, range_in, padded, range_names, few_with, with_part, names_of_parts, bracket_names, has, with_name, distinct, ranges_in, item_names, ends_item, open_behind, host_items, first_bad_item, bad_from, items_size, all_names, hosts_in};
+ghost use Rattle.slurm_text.specs.Hosts.{digits_number, number_in, range_of, range_in, padded, range_names, few_with, with_part, names_of_parts, bracket_names, has, with_name, distinct, item_names, ends_item, open_behind, host_items, first_bad_item, bad_from, items_size, all_names, hosts_in};
 
 use crate::memory_error;
 use crate::memory_error::Memory;
 use crate::name::{Name, NameRefusal};
 use itoa::Buffer;
-use std::alloc::{AllocError, AllocFailed, Global};
+use std::alloc::{AllocError, Global};
 use std::collections::HashSet;
 use std::error::Error;
 use std::fmt;

@@ -1,10 +1,10 @@
-ghost use Rattle.std.specs.Prelude.{ℕ, ◌≡◌, ◌↔◌, ◌<◌, ◌^◌, ◌∷◌, [], ◌++◌, if◌then◌else◌, length, map, position, not, is_ok, IfOk, IfSome, OnOk, OnErr, IsErrOf, IsTrue, Some, None, slice_get, option_copied, string_bytes};
-ghost use Rattle.std.specs.List.{list_all, list_any};
-ghost use Rattle.slurm_text.specs.Words.{mode_after, mode_outside, written, written_outside, ends_word, opens, may_end, open_place, words_in, first_bad, first_bad_word, quoted, quoted_words, is_word_byte, is_blank, is_bare, is_bare_byte, double_quoted, are_words};
+ghost use Rattle.std.specs.Prelude.{ℕ, ◌≡◌, ◌↔◌, ◌<◌, ◌^◌, ◌∷◌, [], ◌++◌, if◌then◌else◌, length, map, position, not, is_ok, IfOk, IfSome, OnOk, IsErrOf, IsTrue, Some, None, slice_get, option_copied, string_bytes};
+ghost use Rattle.std.specs.List.{list_all};
+ghost use Rattle.slurm_text.specs.Words.{mode_after, mode_outside, written, ends_word, opens, may_end, open_place, words_in, first_bad, first_bad_word, quoted, quoted_words, is_word_byte, is_bare, is_bare_byte, double_quoted, are_words};
 
 use crate::memory_error;
 use crate::memory_error::Memory;
-use std::alloc::{AllocError, AllocFailed, Global};
+use std::alloc::{AllocError, Global};
 use std::error::Error;
 use std::marker::Model;
 use std::{fmt, mem};

@@ -2,4 +2,12 @@
 #![tactic(auto)]
 
 mod cluster;
+mod program;
+#[cfg(test)]
+mod rows;
 mod script;
+
+pub use program::run;
+
+#[cfg(test)]
+mod tests;

@@ -1,0 +1,38 @@
+-- Each row computes.
+use Rattle.std.proofs.Common.{refl}
+use Rattle.std.specs.Fmt.{digits}
+use Rattle.block_frame.specs.Grammar.{first_block, blocks_within, blocks_of}
+use Rattle.slurm_text.specs.Name.{is_name}
+use Rattle.slurm_text.specs.Digits.{number_within}
+use Rattle.ctl_session.specs.Session.{most_blocks}
+use Rattle.slurm_top.specs.Cluster.{built_in_conf, built_in_assocs, built_in_opening}
+use Rattle.slurm_top.specs.Script.{script_of}
+use Rattle.slurm_top.proofs.rows.submissions.Goals as goal
+
+pub returns-clause-empty : goal.returns-clause-empty
+unfolding script_of most_blocks built_in_opening built_in_conf built_in_assocs first_block blocks_within blocks_of is_name number_within digits
+returns-clause-empty c = refl
+
+pub returns-clause-one : goal.returns-clause-one
+unfolding script_of most_blocks built_in_opening built_in_conf built_in_assocs first_block blocks_within blocks_of is_name number_within digits
+returns-clause-one c = refl
+
+pub returns-clause-numbered : goal.returns-clause-numbered
+unfolding script_of most_blocks built_in_opening built_in_conf built_in_assocs first_block blocks_within blocks_of is_name number_within digits
+returns-clause-numbered c = refl
+
+pub returns-clause-wide : goal.returns-clause-wide
+unfolding script_of most_blocks built_in_opening built_in_conf built_in_assocs first_block blocks_within blocks_of is_name number_within digits
+returns-clause-wide c = refl
+
+pub returns-clause-refused_first : goal.returns-clause-refused_first
+unfolding script_of most_blocks built_in_opening built_in_conf built_in_assocs first_block blocks_within blocks_of is_name number_within digits
+returns-clause-refused_first c = refl
+
+pub returns-clause-cut : goal.returns-clause-cut
+unfolding script_of most_blocks built_in_opening built_in_conf built_in_assocs first_block blocks_within blocks_of is_name number_within digits
+returns-clause-cut c = refl
+
+pub returns-clause-empty_line : goal.returns-clause-empty_line
+unfolding script_of most_blocks built_in_opening built_in_conf built_in_assocs first_block blocks_within blocks_of is_name number_within digits
+returns-clause-empty_line c = refl
