@@ -18,7 +18,7 @@ use Rattle.ctl_session.specs.declared.session.How.{How}
 use Rattle.ctl_session.specs.declared.session.How.TheVariants as how
 use Rattle.ctl_session.specs.declared.session.Ended.{Ended}
 use Rattle.ctl_session.specs.Reply.{IsReply, IsReplyAt, IsWorked}
-use Rattle.ctl_session.specs.Session.{Answers, IsSession, IsServed, IsWhole, IsCause, Wire, Sight, Ending, most_blocks}
+use Rattle.ctl_session.specs.Session.{Answers, IsSession, IsServed, IsToldApart, IsWhole, IsCause, Wire, Sight, Ending, most_blocks}
 use Rattle.ctl_session.specs.Turn.{IsTurn, IsLastLook, WorksBlock, TakesBlock, TakesNone, IsQuiet, IsToldFrom, IsPassedOver}
 use Rattle.std.proofs.KnownBytes.{Consumes-trans, Consumes-kept, Appends-trans, Consumes-nil, Appends-nil}
 
@@ -166,6 +166,9 @@ pub record IsOneMore (number : ℕ) (opening : State) (wire wire' : Wire) (desk 
   pub own_is : own ++ made ≡ of_session number (since ++ more)
   pub mine : desk'.mine ≡ desk.mine ++ (own ++ made)
   pub answers : Answers opening number desk'.seen (length desk.seen) (served ++ block ∷ []) (own ++ made) (written ++ told) (length desk'.seen)
+  pub before : ℕ
+  pub answered : Answers opening number desk'.seen (length desk.seen) served own written before
+  pub behind : Answers opening number desk'.seen before (block ∷ []) made told (length desk'.seen)
 
 one_more : (number : ℕ) (opening : State) (wire mid new : Wire) (desk between after : Sight) (blocks blocks' : BlocksState) (count : ℕ)
     (way : IsUnderWay number opening wire mid desk between blocks count) (works : WorksBlock opening number between after)
@@ -174,6 +177,9 @@ one_more : (number : ℕ) (opening : State) (wire mid new : Wire) (desk between 
 one_more number opening wire mid new desk between after blocks blocks' count way works takes =
     let worked = works.told.worked in
     let grown = worked.seen_grows in
+    let kept : Answers opening number after.seen (length desk.seen) way.served way.own way.written (length between.seen) =
+    subst (λ h. Answers opening number h (length desk.seen) way.served way.own way.written (length between.seen)) (sym grown)
+    (answers-append opening number between.seen worked.more (length desk.seen) way.served way.own way.written (length between.seen) way.answers) in
     record {
       made = works.told.made;
       more = worked.more;
@@ -190,9 +196,20 @@ one_more number opening wire mid new desk between after blocks blocks' count way
       mine = worked.mine_grows ∙ ap (λ l. l ++ works.told.made) way.mine ∙ append_assoc desk.mine way.own works.told.made;
       answers =
           answers-push opening number after.seen (length desk.seen) way.served way.own way.written (length between.seen) works.block works.told.made works.told.told (length after.seen)
-          (subst (λ h. Answers opening number h (length desk.seen) way.served way.own way.written (length between.seen)) (sym grown)
-          (answers-append opening number between.seen worked.more (length desk.seen) way.served way.own way.written (length between.seen) way.answers))
-          worked.reply;
+          kept worked.reply;
+      before = length between.seen;
+      answered = kept;
+      behind = (
+        works.told.made,
+        works.told.told,
+        length after.seen,
+        [],
+        [],
+        worked.reply,
+        (omega arith, refl, refl),
+        sym (append-nil works.told.made),
+        sym (append-nil works.told.told),
+      );
     }
 
 -- a turn that answers a block
@@ -260,6 +277,14 @@ quiet_end number opening wire mid new desk between after blocks rest count how w
     answered = sym way.count_is;
     bounded = rw (append-nil way.served) (omega (arith, way.count_is));
     session = rw same (quiet_session number opening wire mid desk between blocks count way (rw same at legal));
+    told = rw same (record {
+      mid = length between.seen;
+      made = way.own;
+      more = [];
+      answered = way.answers;
+      behind = (omega arith, refl, refl);
+      own_is = sym (append-nil way.own);
+    });
     mine = rw same way.mine;
     cause = cause;
   },
@@ -304,6 +329,7 @@ worked_end number opening wire mid new desk between after blocks blocks' count h
         answered = sym way.count_is;
         bounded = omega (arith, way.count_is, length-append way.served (works.block ∷ []));
         session = record { since = way.since ++ one.more; begins = one.begins; history = legal; own_is = one.own_is; answers = one.answers };
+        told = record { mid = one.before; made = way.own; more = one.made; answered = one.answered; behind = one.behind; own_is = refl };
         mine = one.mine;
         cause = cause (way.own ++ one.made);
       },
@@ -329,7 +355,10 @@ passed_end number opening wire mid new desk between after blocks count way read 
     let nothing : of_session number goes.more ≡ [] =
     append_cancel_left between.mine (of_session number goes.more) [] (sym goes.mine_grows ∙ passed.mine ∙ sym (append-nil between.mine)) in
     let grown : after.seen ≡ between.seen ++ goes.more = goes.seen_grows in
-    let long : length after.seen ≡ length between.seen + length goes.more = ap length grown ∙ length-append between.seen goes.more in (
+    let long : length after.seen ≡ length between.seen + length goes.more = ap length grown ∙ length-append between.seen goes.more in
+    let kept : Answers opening number after.seen (length desk.seen) way.served way.own way.written (length between.seen) =
+    subst (λ h. Answers opening number h (length desk.seen) way.served way.own way.written (length between.seen)) (sym grown)
+    (answers-append opening number between.seen goes.more (length desk.seen) way.served way.own way.written (length between.seen) way.answers) in (
       record { blocks = way.served; rest = blocks.pending ++ read; worked = []; own = way.own; written = way.written; last = [] },
       record {
         consumed = rw (← append_assoc) (Consumes-trans wire.left mid.left new.left _ read way.consumed consumed);
@@ -344,9 +373,9 @@ passed_end number opening wire mid new desk between after blocks count way read 
           own_is = way.own_is ∙ sym (append-nil (of_session number way.since)) ∙ ap (λ l. of_session number way.since ++ l) (sym nothing) ∙ sym (filter-append (λ e. e.session == number) way.since goes.more);
           answers = rw (append-nil way.served, append-nil way.written)
               (answers-higher opening number after.seen (length desk.seen) way.served way.own way.written (length between.seen) (length after.seen) (omega arith)
-              (subst (λ h. Answers opening number h (length desk.seen) way.served way.own way.written (length between.seen)) (sym grown)
-              (answers-append opening number between.seen goes.more (length desk.seen) way.served way.own way.written (length between.seen) way.answers)));
+              kept);
         };
+        told = record { mid = length between.seen; made = way.own; more = []; answered = kept; behind = (omega arith, refl, refl); own_is = sym (append-nil way.own) };
         mine = passed.mine ∙ way.mine;
         cause = (reads ∙ way.reads, writes ∙ way.writes, rw taken way.sent);
       },

@@ -93,6 +93,15 @@ IsCause old new e WriteFault =
 -- memory was wanting, before a last answer was begun
 IsCause old new e Memory = (new.reads ≡ old.reads) × (new.writes ≡ old.writes) × Appends old.taken new.taken e.written
 
+-- The blocks that were answered are told just `written`, and the block that was worked last is told just `last`.
+pub record IsToldApart (opening : State) (number : ℕ) (history : List Entry) (low : ℕ) (e : Ending) : Type 0 where
+  pub mid : ℕ
+  pub made : List Entry
+  pub more : List Entry
+  pub answered : Answers opening number history low e.blocks made e.written mid
+  pub behind : Answers opening number history mid e.worked more e.last (length history)
+  pub own_is : e.own ≡ made ++ more
+
 -- A session was served, and ended so.
 pub record IsServed (number : ℕ) (opening : State) (wire wire' : Wire) (desk desk' : Sight) (ended : Ended) (e : Ending) : Type 0 where
   pub consumed : Consumes wire.left wire'.left (spelled_all e.blocks ++ e.rest)
@@ -101,5 +110,6 @@ pub record IsServed (number : ℕ) (opening : State) (wire wire' : Wire) (desk d
   pub answered : ended.answered ≡ length e.blocks
   pub bounded : length (e.blocks ++ e.worked) ≤ most_blocks
   pub session : IsSession number opening desk.seen desk'.seen e.own (e.blocks ++ e.worked) (e.written ++ e.last)
+  pub told : IsToldApart opening number desk'.seen (length desk.seen) e
   pub mine : desk'.mine ≡ desk.mine ++ e.own
   pub cause : IsCause wire wire' e ended.how
