@@ -68,3 +68,13 @@ length-capacities rooms holds job start = simp length-map
 -- the places of a set that gives are in range
 pub set_in_range : (caps : List ℕ) (count : ℕ) (set : List ℕ) → length caps ≡ count → All (λ place. 1 ≤ capacity caps place) set → All (λ place. place < count) set
 set_in_range caps count set long giving = All-weaker (λ place. 1 ≤ capacity caps place) (λ place. place < count) (λ place some. omega (arith, in_range caps place some, long)) set giving
+
+-- each place of the set gets a task
+pub dealt-some : (caps : List ℕ) (tasks : ℕ) (set : List ℕ) → All (λ place. 1 ≤ capacity caps place) set → length set ≤ tasks → All (λ (part : Dealt). 1 ≤ part.tasks) (dealt caps tasks set)
+dealt-some caps tasks [] giving few = All-nil (λ (part : Dealt). 1 ≤ part.tasks)
+dealt-some caps tasks (place ∷ later) giving few =
+    let some : 1 ≤ capacity caps place = All-head (λ place. 1 ≤ capacity caps place) place later giving in
+    let given = min (capacity caps place) (tasks - length later) in
+    All-cons (λ (part : Dealt). 1 ≤ part.tasks) (record { place = place; tasks = given }) (dealt caps (tasks - given) later)
+    (omega (arith, some, few))
+    (dealt-some caps (tasks - given) later (All-tail (λ place. 1 ≤ capacity caps place) place later giving) (omega (arith, few)))

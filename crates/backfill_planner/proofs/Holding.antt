@@ -23,7 +23,7 @@ hold_of rooms job start part =
     record { node = share.node; from = start; until = window_end job start; cpus = share.cpus; mem = share.mem }
 
 -- what a node gives is the capacity of its place
-capacity-give : (rooms : List NodeRoom) (holds : List Hold) (job : PlanJob) (start place : ℕ) → place < length job.nodes → capacity (capacities rooms holds job start) place ≡ give rooms holds job start (slice_index job.nodes place)
+pub capacity-give : (rooms : List NodeRoom) (holds : List Hold) (job : PlanJob) (start place : ℕ) → place < length job.nodes → capacity (capacities rooms holds job start) place ≡ give rooms holds job start (slice_index job.nodes place)
 unfolding capacities
 capacity-give rooms holds job start place below = at_place job.nodes place below
   where

@@ -1,10 +1,9 @@
 -- What the search over the seconds says, by the sets that fit.
-use Rattle.std.proofs.Common.{◌≡◌, ℕ, ◌+◌, ◌-◌, ◌≤◌, ◌<◌, zero, suc, Bool, true, false, cond, List, arith, refl, ap, sym, ◌∙◌, inl, inr, Some, None, is_some, Option}
+use Rattle.std.proofs.Common.{◌≡◌, ℕ, ◌+◌, ◌-◌, ◌≤◌, ◌<◌, zero, suc, Bool, true, false, cond, List, arith, refl, inl, inr, Some, None, is_some, Option}
 use Rattle.std.specs.Prelude.{find, option_map, option_and_then, MatchOption}
-use Rattle.std.proofs.lemmas.Bool.{cases_lt, cases_Bool}
+use Rattle.std.proofs.lemmas.Bool.{cases_lt}
 use Rattle.resource_profile.specs.declared.NodeRoom.{NodeRoom}
 use Rattle.resource_profile.specs.declared.Hold.{Hold}
-use Rattle.node_pick.specs.Sets.{Fits, IsChosen}
 use Rattle.node_pick.specs.Choosing.{numbers_from, chosen}
 use Rattle.node_pick.proofs.Choosing.{chosen-some, chosen-none}
 use Rattle.backfill_planner.specs.declared.Placed.{Placed}

@@ -8,3 +8,6 @@ pub mod Adding
 pub mod Stepping
 pub mod Rises
 pub mod LeastSecond
+pub mod Parts
+pub mod Within
+pub mod Starts

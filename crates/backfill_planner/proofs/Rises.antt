@@ -16,8 +16,8 @@ use Rattle.node_pick.specs.Sets.{capacity, Fits}
 use Rattle.node_pick.specs.Choosing.{chosen}
 use Rattle.node_pick.proofs.Choosing.{chosen-none, chosen-none_fits}
 use Rattle.backfill_planner.specs.declared.Placed.{Placed}
-use Rattle.backfill_planner.specs.declared.job.MemAsk.{MemAsk}
-use Rattle.backfill_planner.specs.declared.job.MemAsk.TheVariants.{All as AllMem, PerNode, PerCpu}
+use Rattle.slurm_text.specs.declared.plain.mem_ask.MemAsk.{MemAsk}
+use Rattle.slurm_text.specs.declared.plain.mem_ask.MemAsk.TheVariants.{All as AllMem, PerNode, PerCpu}
 use Rattle.backfill_planner.specs.declared.job.PlanJob.{PlanJob}
 use Rattle.backfill_planner.specs.Giving.{window_end, tasks_by_mem, may_have, tasks_given, give, capacities}
 use Rattle.backfill_planner.specs.Plans.{shares_of, placement_at}

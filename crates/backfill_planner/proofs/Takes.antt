@@ -4,8 +4,8 @@ use Rattle.std.proofs.Math.Nat.{div-mul-le_self, mul_comm, mul_assoc}
 use Rattle.std.proofs.lemmas.Nat.{mul-le}
 use Rattle.std.proofs.lemmas.Bool.{cases_Bool, and_parts, eqb-true, leb-true}
 use Rattle.resource_profile.specs.declared.NodeRoom.{NodeRoom}
-use Rattle.backfill_planner.specs.declared.job.MemAsk.{MemAsk}
-use Rattle.backfill_planner.specs.declared.job.MemAsk.TheVariants.{All, PerNode, PerCpu}
+use Rattle.slurm_text.specs.declared.plain.mem_ask.MemAsk.{MemAsk}
+use Rattle.slurm_text.specs.declared.plain.mem_ask.MemAsk.TheVariants.{All, PerNode, PerCpu}
 use Rattle.backfill_planner.specs.declared.job.PlanJob.{PlanJob}
 use Rattle.backfill_planner.specs.Giving.{tasks_by_mem, may_have, tasks_given, taken_cpus, asked_mem, taken_mem}
 
@@ -72,3 +72,17 @@ tasks_within job room cpus mem = elim (cases_Bool (may_have job room cpus mem)) 
 
 pub tasks_fit : (job : PlanJob) (room : NodeRoom) (cpus mem bound : ℕ) → cpus < bound → tasks_given job room cpus mem * job.cpus_per_task < bound
 tasks_fit job room cpus mem bound small = omega (arith, tasks_within job room cpus mem, small)
+
+-- a task takes a processor at least, also where the job takes the whole node
+pub takes_some : (job : PlanJob) (room : NodeRoom) (cpus mem tasks : ℕ) → 1 ≤ job.cpus_per_task → 1 ≤ tasks → 1 ≤ tasks_given job room cpus mem → 1 ≤ taken_cpus job room tasks
+takes_some job room cpus mem tasks each one some = elim (cases_Bool job.exclusive) [
+  | inr shares ↦ rw shares (omega (arith, mul-le 1 1 tasks job.cpus_per_task one each))
+  | inl alone ↦ elim (cases_Bool (may_have job room cpus mem)) [
+    | inr may_not ↦ let none = rw may_not at some in absurd (omega (arith, none))
+    | inl may ↦
+        let whole = and_parts room.usable (not job.exclusive || (eqb cpus room.cpus && eqb mem room.mem)) may in
+        let both : (eqb cpus room.cpus && eqb mem room.mem) ≡ true = rw alone at whole.1 in
+        let parts = and_parts (eqb cpus room.cpus) (eqb mem room.mem) both in
+        rw alone (omega (arith, eqb-true cpus room.cpus parts.0, mul-le 1 1 (tasks_given job room cpus mem) job.cpus_per_task some each, tasks_within job room cpus mem))
+  ]
+]

@@ -3,8 +3,8 @@ use Rattle.std.specs.Prelude.{ℕ, ◌+◌, ◌*◌, ◌/◌, min, Bool, ◌&&�
 use Rattle.resource_profile.specs.declared.NodeRoom.{NodeRoom}
 use Rattle.resource_profile.specs.declared.Hold.{Hold}
 use Rattle.resource_profile.specs.Free.{room_at, free_cpus, free_mem, least_over}
-use Rattle.backfill_planner.specs.declared.job.MemAsk.{MemAsk}
-use Rattle.backfill_planner.specs.declared.job.MemAsk.TheVariants.{All, PerNode, PerCpu}
+use Rattle.slurm_text.specs.declared.plain.mem_ask.MemAsk.{MemAsk}
+use Rattle.slurm_text.specs.declared.plain.mem_ask.MemAsk.TheVariants.{All, PerNode, PerCpu}
 use Rattle.backfill_planner.specs.declared.job.PlanJob.{PlanJob}
 
 -- where the job's window ends that begins at `start`; without a limit it ends after all moments

@@ -1,5 +1,5 @@
 -- The plan of a ranked list of jobs.
-use Rattle.std.specs.Prelude.{ℕ, ◌+◌, ◌-◌, List, [], ◌∷◌, ◌++◌, map, find, slice_index, is_some, Option, Some, None, option_map, option_and_then, option_to_list}
+use Rattle.std.specs.Prelude.{ℕ, ◌+◌, ◌-◌, nat_eq, if◌then◌else◌, List, [], ◌∷◌, ◌++◌, map, find, filter, sum_by, slice_index, is_some, Option, Some, None, option_map, option_and_then, option_to_list}
 use Rattle.resource_profile.specs.declared.NodeRoom.{NodeRoom}
 use Rattle.resource_profile.specs.declared.Hold.{Hold}
 use Rattle.resource_profile.specs.Free.{room_at}
@@ -59,6 +59,28 @@ plan_beside base now holds (job ∷ later) =
 -- the plan of a ranked list of jobs at a moment
 unfoldable pub plan_of : BaseView → List PlanJob → ℕ → List Placed
 plan_of base ranked now = plan_beside base now base.holds ranked
+
+-- what the jobs hold that are placed, each beside what those before it hold
+unfoldable pub plan_holds_beside : BaseView → ℕ → List Hold → List PlanJob → List Hold
+plan_holds_beside base now holds [] = []
+plan_holds_beside base now holds (job ∷ later) =
+    let placed = placed_of base.rooms holds job now base.horizon in
+    holds_of job placed ++ plan_holds_beside base now (holds ++ holds_of job placed) later
+
+-- what the placed jobs of the plan hold
+unfoldable pub plan_holds_of : BaseView → List PlanJob → ℕ → List Hold
+plan_holds_of base ranked now = plan_holds_beside base now base.holds ranked
+
+-- the placements that begin at the moment
+abbrev pub starts_at : ℕ → List Placed → List Placed
+starts_at now placements = filter (λ (placed : Placed). nat_eq placed.start now) placements
+
+-- the processors, and the megabytes, of the node that the placement takes
+abbrev pub cpus_on : ℕ → Placed → ℕ
+cpus_on node placed = sum_by (λ (share : Share). if nat_eq share.node node then share.cpus else 0) placed.parts
+
+abbrev pub mem_on : ℕ → Placed → ℕ
+mem_on node placed = sum_by (λ (share : Share). if nat_eq share.node node then share.mem else 0) placed.parts
 
 -- what a plan is made of
 pub record PlannedView : Type 0 where

@@ -1,17 +1,10 @@
 ghost use Rattle.std.specs.Prelude.{◌≡◌, ◌≢◌, AllPairs};
+ghost use Rattle.backfill_planner.specs.Placements.{IsPlannable};
 
 use node_pick::Need;
+use slurm_text::plain::mem_ask::MemAsk;
 use slurm_text::ranged::Ranged;
 use std::marker::Model;
-
-/// The memory that a job asks for on each node (sbatch(1): `--mem`, `--mem-per-cpu`), in megabytes.
-#[derive(Clone, Copy)]
-pub enum MemAsk {
-    /// All that the node has.
-    All,
-    PerNode(Ranged<1, 16777216>),
-    PerCpu(Ranged<1, 16777216>),
-}
 
 /// Places of nodes among the rooms, each once.
 #[derive(Drop)]
@@ -63,4 +56,17 @@ pub struct PlanJob {
     pub nodes: NodeList,
     /// Its limit; None where it has none.
     pub seconds: Option<Ranged<1, 3153600000>>,
+}
+
+impl PlanJob {
+    /// It does nothing: its contract tells what the type keeps of every job, which the laws of plans ask for.
+    pub fn recall(&self)
+        ensures { IsPlannable self.now }
+    {
+        let _ = self.nodes.as_slice();
+        let _ = self.cpus_per_task.get();
+        if let Some(seconds) = self.seconds {
+            let _ = seconds.get();
+        }
+    }
 }

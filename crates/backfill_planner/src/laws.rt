@@ -1,12 +1,13 @@
 // What holds of every plan. Each law is the contract of a function that does nothing.
-ghost use Rattle.std.specs.Prelude.{◌≡◌, ℕ, ◌≤◌, List, length, take, Some, None};
+ghost use Rattle.std.specs.Prelude.{◌≡◌, ℕ, ◌≤◌, ◌<◌, List, ◌++◌, length, take, map, Some, None, All, AllPairs, Contains};
 ghost use Rattle.resource_profile.specs.declared.NodeRoom.{NodeRoom};
 ghost use Rattle.resource_profile.specs.declared.Hold.{Hold};
+ghost use Rattle.resource_profile.specs.Profiles.{AreWithin};
 ghost use Rattle.backfill_planner.specs.declared.Placed.{Placed};
-ghost use Rattle.backfill_planner.specs.Placements.{FitsAt, IsPlacement};
+ghost use Rattle.backfill_planner.specs.Placements.{FitsAt, IsPlacement, IsPlannable, IsOnRooms, AreParts, StartsFit};
 ghost use Rattle.backfill_planner.specs.declared.job.PlanJob.{PlanJob};
 ghost use Rattle.backfill_planner.specs.Bases.{BaseView};
-ghost use Rattle.backfill_planner.specs.Plans.{placed_of, plan_of};
+ghost use Rattle.backfill_planner.specs.Plans.{placed_of, plan_of, plan_holds_of};
 
 /// A job is placed at the least second at which some set of its nodes fits, on the chosen set there; it isn't placed
 /// exactly where no set fits at any second.
@@ -23,4 +24,44 @@ pub fn lower_jobs_change_nothing()
     ensures { (base : BaseView) (ranked : List PlanJob) (now first : ℕ)
         → plan_of base (take first ranked) now
         ≡ take (length (plan_of base (take first ranked) now)) (plan_of base ranked now) }
+{}
+
+/// Each placement is of a ranked job, and begins from now to the horizon; where the ranked ids rise, so do those of the
+/// placements.
+pub fn placements_are_of_ranked_jobs()
+    ensures ids { (base : BaseView) (ranked : List PlanJob) (now : ℕ)
+        → All (λ (placed : Placed). Contains (map (λ (job : PlanJob). job.id) ranked) placed.id) (plan_of base ranked now) }
+    ensures rising { (base : BaseView) (ranked : List PlanJob) (now : ℕ)
+        → AllPairs (λ (one other : PlanJob). one.id < other.id) ranked
+        → AllPairs (λ (one other : Placed). one.id < other.id) (plan_of base ranked now) }
+    ensures starts { (base : BaseView) (ranked : List PlanJob) (now : ℕ)
+        → All (λ (placed : Placed). (now ≤ placed.start) × (placed.start ≤ base.horizon)) (plan_of base ranked now) }
+{}
+
+/// Each placement has its parts on nodes that there are and that differ, with a task and a processor at least on each.
+/// Where each job has a task, each placement has a part.
+pub fn parts_are_apart()
+    ensures some { (base : BaseView) (ranked : List PlanJob) (now : ℕ)
+        → All (λ (job : PlanJob). 1 ≤ job.need.tasks) ranked
+        → All (λ (placed : Placed). 1 ≤ length placed.parts) (plan_of base ranked now) }
+    ensures parts { (base : BaseView) (ranked : List PlanJob) (now : ℕ)
+        → base.horizon ≤ 250002592000 → All (IsOnRooms base.rooms) ranked → All IsPlannable ranked
+        → All (λ (placed : Placed). AreParts base.rooms placed.parts) (plan_of base ranked now) }
+{}
+
+/// At no second do what the base holds and what the placed jobs hold pass the room of a node.
+pub fn plans_stay_within()
+    ensures { (base : BaseView) (ranked : List PlanJob) (now : ℕ)
+        → AreWithin base.rooms base.holds → base.horizon ≤ 250002592000
+        → All (IsOnRooms base.rooms) ranked → All IsPlannable ranked
+        → AreWithin base.rooms (base.holds ++ plan_holds_of base ranked now) }
+{}
+
+/// So on each node, what the base holds at the plan's moment and what those placements take that begin at it fit into the
+/// room.
+pub fn starts_fit()
+    ensures { (base : BaseView) (ranked : List PlanJob) (now : ℕ)
+        → AreWithin base.rooms base.holds → base.horizon ≤ 250002592000
+        → All (IsOnRooms base.rooms) ranked → All IsPlannable ranked
+        → StartsFit base (plan_of base ranked now) now }
 {}

@@ -16,9 +16,10 @@ mod placing;
 mod planned;
 
 pub use base::Base;
-pub use job::{MemAsk, NodeList, PlanJob};
+pub use job::{NodeList, PlanJob};
 pub use placing::place;
 pub use planned::{Planned, plan};
+pub use slurm_text::plain::mem_ask::MemAsk;
 
 /// A job's part on one node.
 #[derive(Clone, Copy, Debug, PartialEq, Eq)]

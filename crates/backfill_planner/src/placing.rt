@@ -7,11 +7,12 @@ ghost use Rattle.backfill_planner.specs.Giving;
 ghost use Rattle.backfill_planner.specs.Plans;
 
 use crate::base::Base;
-use crate::job::{MemAsk, PlanJob};
+use crate::job::PlanJob;
 use crate::{Memory, Placed, Share};
 use node_pick::{Dealt, pick};
 use resource_profile::{NodeRoom, Profile, Steps};
 use slurm_text::items::Items;
+use slurm_text::plain::mem_ask::MemAsk;
 use std::alloc::Global;
 
 // Where a window without a limit ends, after all moments.

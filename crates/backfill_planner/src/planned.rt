@@ -1,10 +1,12 @@
 ghost use Rattle.std.specs.Prelude.{◌≡◌, ◌≢◌, ◌≤◌, ◌<◌, ◌++◌, length, Some, IfOk, OnOk, All, AllPairs};
 ghost use Rattle.std.specs.List.Sorted.{IsPermutation};
 ghost use Rattle.resource_profile.specs.Counts.{ticked};
-ghost use Rattle.resource_profile.specs.Profiles.{HasFree};
+ghost use Rattle.resource_profile.specs.Profiles.{AreWithin, HasFree};
 ghost use Rattle.resource_profile.specs.declared.Hold.{Hold};
+ghost use Rattle.backfill_planner.specs.declared.Placed.{Placed};
 ghost use Rattle.backfill_planner.specs.declared.job.PlanJob.{PlanJob};
-ghost use Rattle.backfill_planner.specs.Plans.{holds_of, plan_of};
+ghost use Rattle.backfill_planner.specs.Placements.{IsPlannable, AreParts, StartsFit};
+ghost use Rattle.backfill_planner.specs.Plans.{holds_of, plan_of, plan_holds_of};
 
 use crate::base::Base;
 use crate::job::PlanJob;
@@ -94,8 +96,8 @@ fn hold(profile: &mut Profile, job: &PlanJob, placed: &Placed) -> Result<(), Mem
 }
 
 /// The plan of the ranked jobs at this moment: each, the highest first, begins at the least second from `now` to the
-/// horizon at which some set of its nodes fits, beside the base's holds and what the jobs above it hold. It counts a step
-/// for each job.
+/// horizon at which some set of its nodes fits, beside the base's holds and what the jobs above it hold. So at no second
+/// is more held than there is, and what begins now fits beside what the base holds. It counts a step for each job.
 pub fn plan<L>(
     alloc: Global,
     base: Base,
@@ -105,12 +107,17 @@ pub fn plan<L>(
 ) -> Result<Planned, Memory>
     requires nodes { All (λ (job : PlanJob). All (λ node. node < length base.rooms) job.nodes) ranked.items }
     ensures parts { IfOk result (λ planned. planned ≡ record { base = base; ranked = ranked.items; moment = now }) }
+    ensures jobs { OnOk result (All IsPlannable ranked.items) }
+    ensures within { OnOk result (AreWithin base.rooms (base.holds ++ plan_holds_of base ranked.items now)) }
+    ensures starts_fit { OnOk result (StartsFit base (plan_of base ranked.items now) now) }
+    ensures apart { OnOk result (All (λ (placed : Placed). AreParts base.rooms placed.parts) (plan_of base ranked.items now)) }
     ensures steps { OnOk result (steps.new ≡ ticked steps.old (length ranked.items)) }
 {
     let mut profile = Profile::with_holds(alloc, base.rooms.as_slice(), base.holds.as_slice())?;
     let mut placements = Vec::with_capacity(alloc, ranked.len())?;
     let horizon = base.horizon;
     for job in &ranked {
+        job.recall();
         if let Some(placed) = place(alloc, &profile, &base, job, now, horizon, steps)? {
             hold(&mut profile, job, &placed)?;
             placements.push(placed).unwrap();

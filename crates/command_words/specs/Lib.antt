@@ -1,1 +1,5 @@
+pub mod Cut
 pub mod Header
+pub mod Report
+pub mod Sbatch
+pub mod Squeue

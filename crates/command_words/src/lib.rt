@@ -1,4 +1,10 @@
 //! What the words of a header ask the controller.
 #![tactic(auto)]
 
+mod cut;
 pub mod header;
+mod report;
+mod sbatch;
+mod squeue;
+#[cfg(test)]
+mod tests;

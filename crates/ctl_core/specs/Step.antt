@@ -1,60 +1,64 @@
 -- One step of the controller: the reply to a request, and the state after it.
-use Rattle.std.specs.Prelude.{ℕ, ◌+◌, Bool, true, false, ◌&&◌, not, if◌then◌else◌, nat_lt, nat_le, max, List, [], ◌∷◌, ◌++◌}
-use Rattle.std.specs.List.{list_any}
+use Rattle.std.specs.Prelude.{ℕ, Bool, true, false, ◌||◌, if◌then◌else◌, nat_lt, max, unwrap_or, List, position, codes}
 use Rattle.std.specs.Str.{bytes_eq}
-use Rattle.slurm_text.specs.declared.plain.job.JobDesc.{JobDesc}
 use Rattle.slurm_text.specs.declared.plain.request.Request.{Request}
-use Rattle.slurm_text.specs.declared.plain.request.Request.TheVariants.{Submit}
-use Rattle.slurm_text.specs.declared.plain.refusal.Refusal.TheVariants.{InvalidAccount, NodesNotAvailable, JobIdsSpent, MomentTooLarge}
-use Rattle.ctl_core.specs.declared.reply.Reply.{Reply}
-use Rattle.ctl_core.specs.declared.reply.Reply.TheVariants.{Submitted, Refused}
-use Rattle.ctl_core.specs.declared.record.JobRecord.{JobRecord}
-use Rattle.ctl_core.specs.State.{State, last_job_id, last_moment}
+use Rattle.slurm_text.specs.declared.plain.request.Request.TheVariants.{Submit, Report, Pass, Show}
+use Rattle.slurm_text.specs.declared.plain.refusal.Refusal.TheVariants.{AccessDenied, MomentTooLarge}
+use Rattle.slurm_text.specs.declared.plain.reply.Reply.{Reply}
+use Rattle.slurm_text.specs.declared.plain.reply.Reply.TheVariants.{Submitted, Passed, Orders, Idle, Shown, Refused, NotBuilt}
+use Rattle.ctl_core.specs.Submission.{submit_reply, submit_after}
+use Rattle.ctl_core.specs.Passing.{pass_reply, pass_after}
+use Rattle.ctl_core.specs.Reporting.{is_named, report_after}
+use Rattle.ctl_core.specs.ReportReply.{is_restarted, report_reply}
+use Rattle.ctl_core.specs.Showing.{view_of}
+use Rattle.ctl_core.specs.State.{State, last_moment}
 
 -- the moment of a request: the one handed in, or the last one where that is later
 abbrev pub raised : State → ℕ → ℕ
 raised s now = max s.moment now
 
--- the user has an association
-abbrev pub is_known : State → List ℕ → Bool
-is_known s user = list_any (λ assoc. assoc.conf.user && bytes_eq assoc.conf.name user) s.assocs
+-- root and the user of slurm.conf's SlurmUser may do everything
+abbrev pub is_privileged : State → List ℕ → Bool
+is_privileged s user = bytes_eq user (codes "root") || bytes_eq user s.settings.slurm_user
 
--- some node could run all tasks if it were empty
-abbrev pub is_placeable : State → JobDesc → Bool
-is_placeable s desc = list_any (λ node. nat_le desc.tasks node.conf.cpus) s.nodes
+-- what the controller can't do yet: to work the report of a restarted daemon
+abbrev pub is_unbuilt : State → Request → Bool
+is_unbuilt s (Submit desc) = false
+is_unbuilt s (Report report) = is_restarted s report
+is_unbuilt s Pass = false
+is_unbuilt s (Show query) = false
 
--- The reply to a submission: the first refusal that stands, or the job's number.
-abbrev pub submit_reply : State → List ℕ → JobDesc → Reply
-submit_reply s user desc =
-    if not (is_known s user) then Refused InvalidAccount else
-    if not (is_placeable s desc) then Refused NodesNotAvailable else
-    if nat_lt last_job_id s.next_id then Refused JobIdsSpent else
-    Submitted s.next_id
-
--- the job that a submission makes
-abbrev pub new_job : State → ℕ → List ℕ → JobDesc → JobRecord
-new_job s now user desc = record { id = s.next_id; user = user; desc = desc; submit = raised s now }
-
--- the state with that job
-abbrev pub submit_after : State → ℕ → List ℕ → JobDesc → State
-submit_after s now user desc = record s { jobs = s.jobs ++ new_job s now user desc ∷ []; next_id = s.next_id + 1; moment = raised s now }
+-- the reply to a user's request at a moment that is none too large
+abbrev pub decision : State → ℕ → List ℕ → Request → Reply
+decision s moment user (Submit desc) = submit_reply s user desc
+decision s moment user (Report report) = if is_privileged s user then report_reply s moment report else Refused AccessDenied
+decision s moment user Pass = if is_privileged s user then pass_reply s moment else Refused AccessDenied
+decision s moment user (Show query) = Shown (view_of s moment query)
 
 -- The reply to a user's request at a moment.
-abbrev pub decision : State → List ℕ → Request → Reply
-decision s user (Submit desc) = submit_reply s user desc
-
 abbrev pub reply_of : State → ℕ → List ℕ → Request → Reply
-reply_of s now user request = if nat_lt last_moment now then Refused MomentTooLarge else decision s user request
+reply_of s now user request =
+    if is_unbuilt s request then NotBuilt else
+    if nat_lt last_moment now then Refused MomentTooLarge else
+    decision s (raised s now) user request
 
 -- whether a reply is entered in the history
 abbrev pub is_entered : Reply → Bool
 is_entered (Submitted id) = true
+is_entered (Passed ended started planned) = true
+is_entered (Orders orders) = true
+is_entered Idle = false
+is_entered (Shown view) = false
 is_entered (Refused refusal) = false
+is_entered NotBuilt = false
 
 -- the state that an accepted request leaves
 abbrev pub effect : State → ℕ → List ℕ → Request → State
-effect s now user (Submit desc) = submit_after s now user desc
+effect s moment user (Submit desc) = submit_after s moment user desc
+effect s moment user (Report report) = report_after s moment (unwrap_or (position (is_named report.node) s.nodes) 0) report
+effect s moment user Pass = pass_after s moment
+effect s moment user (Show query) = s
 
 -- the state after a request: as it was where nothing is entered
 abbrev pub state_after : State → ℕ → List ℕ → Request → State
-state_after s now user request = if is_entered (reply_of s now user request) then effect s now user request else s
+state_after s now user request = if is_entered (reply_of s now user request) then effect s (raised s now) user request else s

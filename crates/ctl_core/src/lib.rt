@@ -2,6 +2,9 @@
 #![tactic(auto)]
 
 pub mod controller;
+mod free_ids;
+mod jobs;
 pub mod laws;
+mod planning;
 pub mod record;
 pub mod reply;

@@ -1,30 +1,6 @@
-//! What the controller answers.
+//! What the controller decides.
 
-ghost use Rattle.std.specs.Prelude.{◌≡◌, IfOk};
-
-use slurm_text::memory_error::Memory;
-use slurm_text::plain::refusal::Refusal;
-
-/// The answer to a request.
-#[derive(Drop)]
-pub enum Reply {
-    /// A job was taken, and has this number.
-    Submitted { id: u32 },
-    /// The request was refused, and changed nothing.
-    Refused(Refusal),
-}
-
-impl Reply {
-    /// An equal reply.
-    pub fn copy(&self) -> Result<Reply, Memory>
-        ensures { IfOk result (λ reply. reply ≡ self.now) }
-    {
-        match self {
-            Reply::Submitted { id } => Ok(Reply::Submitted { id: *id }),
-            Reply::Refused(refusal) => Ok(Reply::Refused(refusal.copy()?)),
-        }
-    }
-}
+use slurm_text::plain::reply::Reply;
 
 /// What was decided on a request.
 #[derive(Drop)]

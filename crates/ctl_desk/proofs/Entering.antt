@@ -1,10 +1,12 @@
 -- What one more entry does to a history.
-use Rattle.std.proofs.Common.{◌≡◌, ℕ, List, [], ◌∷◌, ◌++◌, length, refl, sym, ◌∙◌, subst, arith, length-append, inl, inr, true}
-use Rattle.std.proofs.lemmas.Bool.{cases_lt}
+use Rattle.std.proofs.Common.{◌≡◌, ℕ, List, [], ◌∷◌, ◌++◌, length, refl, sym, ap, ◌∙◌, subst, arith, length-append, inl, inr, Bool, true, false, if◌then◌else◌}
+use Rattle.std.proofs.lemmas.Bool.{cases_lt, cases_Bool, true≢false, false≢true}
 use Rattle.std.proofs.lemmas.List.{take-append-le, take_all}
 use Rattle.slurm_text.specs.declared.plain.request.Request.{Request}
-use Rattle.ctl_core.specs.State.{State, IsSound}
-use Rattle.ctl_core.specs.Step.{state_after, reply_of, raised, is_entered}
+use Rattle.ctl_core.specs.State.{State}
+use Rattle.ctl_core.specs.Soundness.{IsSound}
+use Rattle.ctl_core.specs.Step.{state_after, effect, reply_of, raised, is_entered}
+use Rattle.ctl_core.specs.declared.reply.Decided.{Decided}
 use Rattle.ctl_desk.specs.declared.entry.Entry.{Entry}
 use Rattle.ctl_desk.specs.History.{after_all, IsStep, IsLegal, StaysSound, History, IsHistory, entry_of}
 
@@ -43,3 +45,47 @@ IsHistory-entered h session now user request t history accepted same_reply same_
       },
       reached,
     )
+
+pub where_true : {X : Type 0} (b : Bool) (one other x : X) → x ≡ (if b then one else other) → b ≡ true → x ≡ one
+where_true true one other x chosen is = chosen
+where_true false one other x chosen is = absurd (false≢true is)
+
+pub where_false : {X : Type 0} (b : Bool) (one other x : X) → x ≡ (if b then one else other) → b ≡ false → x ≡ other
+where_false true one other x chosen is = absurd (true≢false is)
+where_false false one other x chosen is = chosen
+
+-- a request is decided at its raised moment as at the one handed in
+pub record DecidesAlike : Type 0 where
+  pub reply : (s : State) (now : ℕ) (user : List ℕ) (request : Request) → IsSound s → reply_of s (raised s now) user request ≡ reply_of s now user request
+  pub state : (s : State) (now : ℕ) (user : List ℕ) (request : Request) → IsSound s → state_after s (raised s now) user request ≡ state_after s now user request
+
+-- what was decided in the state `s`, which is `t` then
+pub record IsDecided (s t : State) (now : ℕ) (user : List ℕ) (request : Request) (decided : Decided) : Type 0 where
+  pub reply : decided.reply ≡ reply_of s now user request
+  pub moment : decided.moment ≡ raised s now
+  pub after : t ≡ state_after s now user request
+  pub sound : IsSound s × IsSound t
+
+-- What a decision makes of a history: one entry more where it is accepted, and else nothing.
+pub IsHistory-decided : (h : History) (session now : ℕ) (user : List ℕ) (request : Request) (decided : Decided) (s t : State) (entries : List Entry)
+    → DecidesAlike → IsHistory h → s ≡ after_all h.opening h.entries → IsDecided s t now user request decided
+    → entries ≡ (if is_entered decided.reply then h.entries ++ record { session = session; moment = decided.moment; user = user; request = request; reply = decided.reply } ∷ [] else h.entries)
+    → IsHistory (record { opening = h.opening; entries = entries }) × (t ≡ after_all h.opening entries)
+IsHistory-decided h session now user request decided s t entries alike history present made entered =
+    let entry : Entry = record { session = session; moment = decided.moment; user = user; request = request; reply = decided.reply } in
+    let more = λ (at : State). h.entries ++ entry_of at session now user request ∷ [] in
+    let keeps = λ (es : List Entry). IsHistory (record { opening = h.opening; entries = es }) × (t ≡ after_all h.opening es) in
+    elim (cases_Bool (is_entered decided.reply)) [
+      | inl accepts ↦
+          let entry_is : entry ≡ entry_of s session now user request = cc (made.reply, made.moment) in
+          let all : entries ≡ more s = where_true (is_entered decided.reply) (h.entries ++ entry ∷ []) h.entries entries entered accepts ∙ ap (λ (e : Entry). h.entries ++ e ∷ []) entry_is in
+          subst keeps (sym (all ∙ ap more present))
+          (IsHistory-entered h session now user request t history
+          (subst (λ (at : State). is_entered (reply_of at now user request) ≡ true) present (sym (ap is_entered made.reply) ∙ accepts))
+          (subst (λ (at : State). reply_of at (raised at now) user request ≡ reply_of at now user request) present (alike.reply s now user request made.sound.0))
+          (subst (λ (at : State). state_after at (raised at now) user request ≡ t) present (alike.state s now user request made.sound.0 ∙ sym made.after))
+          made.sound.1)
+      | inr refuses ↦
+          subst keeps (sym (where_false (is_entered decided.reply) (h.entries ++ entry ∷ []) h.entries entries entered refuses))
+          (history, where_false (is_entered (reply_of s now user request)) (effect s (raised s now) user request) s t made.after (sym (ap is_entered made.reply) ∙ refuses) ∙ present)
+    ]

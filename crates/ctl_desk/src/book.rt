@@ -1,13 +1,17 @@
 //! The book: the controller with its history.
 
-ghost use Rattle.std.specs.Prelude.{◌≡◌, ◌++◌, ◌∷◌, [], IfOk, OnErr, if◌then◌else◌, length};
-ghost use Rattle.ctl_core.specs.State.{IsSound};
+ghost use Rattle.std.specs.Prelude.{◌≡◌, ◌<◌, ◌++◌, ◌∷◌, [], IfOk, OnErr, if◌then◌else◌, length, Some, None, vec_len, vec_capacity};
+ghost use Rattle.slurm_text.specs.declared.plain.request.Request.TheVariants.{Pass};
+ghost use Rattle.ctl_core.specs.Soundness.{IsSound};
 ghost use Rattle.ctl_core.specs.Step.{reply_of, is_entered};
 ghost use Rattle.ctl_desk.specs.History.{entry_of, present, IsHistory};
 
 use crate::entry::{Answer, Entry};
+use backfill_planner::Planned;
 use ctl_core::controller::Ctl;
 use ctl_core::laws::raised_moments_decide_alike;
+use ctl_core::reply::Decided;
+use resource_profile::Steps;
 use slurm_text::memory_error::Memory;
 use slurm_text::name::Name;
 use slurm_text::plain::request::Request;
@@ -74,23 +78,69 @@ impl Book {
         ensures err { OnErr result (self.new ≡ self.old) }
     {
         raised_moments_decide_alike();
-        let place = self.entries.len() as u64;
         self.entries.reserve(1)?;
         let name = user.copy()?;
         let decided = self.ctl.ask(now, user, &request)?;
-        if let Some(reply) = decided.entered {
-            let entry = Entry {
-                session,
-                moment: decided.moment,
-                user: name,
-                request,
-                reply,
-            };
-            self.entries.push(entry).unwrap();
-        }
-        Ok(Answer {
-            reply: decided.reply,
-            place,
-        })
+        Ok(enter(&mut self.entries, session, name, request, decided))
     }
+
+    /// Makes a pass for a session, whatever plan is at hand, and enters it where it is accepted. The cost is the
+    /// controller's.
+    pub fn pass<L>(
+        &mut self,
+        session: u32,
+        now: u64,
+        user: &Name,
+        hint: Option<Planned>,
+        steps: &mut Steps<L>,
+    ) -> Result<Answer, Memory>
+        ensures reply { IfOk result (λ answer. answer.reply ≡ reply_of (present self.old) now user.now Pass) }
+        ensures place { IfOk result (λ answer. answer.place ≡ length self.old.entries) }
+        ensures entries { IfOk result (λ answer. self.new.entries ≡ (if is_entered answer.reply
+            then self.old.entries ++ entry_of (present self.old) session now user.now Pass ∷ []
+            else self.old.entries)) }
+        ensures opening { self.new.opening ≡ self.old.opening }
+        ensures err { OnErr result (self.new ≡ self.old) }
+    {
+        raised_moments_decide_alike();
+        self.entries.reserve(1)?;
+        let name = user.copy()?;
+        let decided = self.ctl.pass(now, user, hint, steps)?;
+        Ok(enter(&mut self.entries, session, name, Request::Pass, decided))
+    }
+}
+
+// Enters what was decided, where it was accepted, and makes the answer of it.
+fn enter(
+    entries: &mut Vec<Entry>,
+    session: u32,
+    user: Name,
+    request: Request,
+    decided: Decided,
+) -> Answer
+    requires spare { vec_len entries.old < vec_capacity entries.old }
+    requires once { decided.entered ≡ (if is_entered decided.reply then Some decided.reply else None) }
+    ensures reply { result.reply ≡ decided.reply }
+    ensures place { result.place ≡ length entries.old.items }
+    ensures entries { entries.new.items ≡ (if is_entered decided.reply
+        then entries.old.items ++ record { session = session; moment = decided.moment; user = user; request = request; reply = decided.reply } ∷ []
+        else entries.old.items) }
+{
+    let place = entries.len() as u64;
+    let Decided {
+        reply,
+        entered,
+        moment,
+    } = decided;
+    if let Some(reply) = entered {
+        let entry = Entry {
+            session,
+            moment,
+            user,
+            request,
+            reply,
+        };
+        entries.push(entry).unwrap();
+    }
+    Answer { reply, place }
 }

@@ -1,7 +1,7 @@
 //! What the history keeps of an accepted request, and what a session is told.
 
-use ctl_core::reply::Reply;
 use slurm_text::name::Name;
+use slurm_text::plain::reply::Reply;
 use slurm_text::plain::request::Request;
 
 /// An accepted request.

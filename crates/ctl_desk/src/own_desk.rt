@@ -6,6 +6,8 @@ ghost use Rattle.ctl_desk.specs.History.{History};
 use crate::book::Book;
 use crate::desk::Desk;
 use crate::entry::Answer;
+use backfill_planner::Planned;
+use resource_profile::{Plain, Steps};
 use slurm_text::memory_error::Memory;
 use slurm_text::name::Name;
 use slurm_text::plain::request::Request;
@@ -54,6 +56,16 @@ impl Desk for OwnDesk {
 
     fn ask(&mut self, now: u64, user: &Name, request: Request) -> Result<Answer, Memory> {
         self.book.ask(0, now, user, request)
+    }
+
+    fn pass(
+        &mut self,
+        now: u64,
+        user: &Name,
+        hint: Option<Planned>,
+        steps: &mut Steps<Plain>,
+    ) -> Result<Answer, Memory> {
+        self.book.pass(0, now, user, hint, steps)
     }
 
     fn seen_len(&self) -> u64 {

@@ -1,25 +1,22 @@
 -- A session under way, and what its last turn makes of it.
-use Rattle.std.proofs.Common.{◌≡◌, ◌≢◌, ◌==◌, ◌⊎◌, ℕ, zero, suc, ◌+◌, ◌*◌, ◌-◌, ◌^◌, ◌<◌, ◌≤◌, min, List, [], ◌∷◌, ◌++◌, Option, None, Some, length, take, slice_get, inl, inr, refl, sym, ap, ◌∙◌, subst, arith, length-append, append_assoc, All, true, false}
+use Rattle.std.proofs.Common.{◌≡◌, ◌≢◌, ◌==◌, ℕ, zero, suc, ◌+◌, ◌*◌, ◌<◌, ◌≤◌, List, [], ◌∷◌, ◌++◌, Option, None, Some, length, take, slice_get, inl, inr, refl, sym, ap, ◌∙◌, subst, arith, length-append, append_assoc, All}
 use Rattle.std.proofs.lemmas.List.{append-nil, append_cancel_left, take-append-le}
 use Rattle.std.proofs.lemmas.List.Elements.{All-push, All-cons, filter-append, All-nil}
-use Rattle.std.specs.Io.KnownBytes.{Consumes, Appends, Keeps, IsAtEnd}
+use Rattle.std.specs.Io.KnownBytes.{Consumes, Appends}
 use Rattle.block_frame.specs.declared.block.Block.{Block}
 use Rattle.block_frame.specs.Grammar.{IsBlock, IsPartial, spelled, spelled_all}
 use Rattle.block_frame.specs.State.{BlocksState}
 use Rattle.command_words.specs.declared.header.Asked.{Asked}
 use Rattle.command_words.specs.Header.{asked_by, words_of}
 use Rattle.ctl_core.specs.State.{State}
-use Rattle.ctl_core.specs.Step.{reply_of, is_entered}
 use Rattle.ctl_desk.specs.declared.entry.Entry.{Entry}
 use Rattle.ctl_desk.specs.Desk.{state_at}
-use Rattle.ctl_desk.specs.History.{after_all, entry_of, of_session, IsHistory}
-use Rattle.slurm_print.specs.Text.{text_of}
+use Rattle.ctl_desk.specs.History.{after_all, of_session, IsHistory}
 use Rattle.ctl_session.specs.declared.session.How.{How}
 use Rattle.ctl_session.specs.declared.session.How.TheVariants as how
-use Rattle.ctl_session.specs.declared.session.Ended.{Ended}
-use Rattle.ctl_session.specs.Reply.{IsReply, IsReplyAt, IsWorked}
-use Rattle.ctl_session.specs.Session.{Answers, IsSession, IsServed, IsToldApart, IsWhole, IsCause, Wire, Sight, Ending, most_blocks}
-use Rattle.ctl_session.specs.Turn.{IsTurn, IsLastLook, WorksBlock, TakesBlock, TakesNone, IsQuiet, IsToldFrom, IsPassedOver}
+use Rattle.ctl_session.specs.Reply.{IsReply, IsReplyAt}
+use Rattle.ctl_session.specs.Session.{Answers, IsSession, IsServed, IsWhole, IsCause, Wire, Sight, Ending, most_blocks}
+use Rattle.ctl_session.specs.Turn.{IsTurn, IsLastLook, WorksBlock, TakesBlock, TakesNone, IsPassedOver}
 use Rattle.std.proofs.KnownBytes.{Consumes-trans, Consumes-kept, Appends-trans, Consumes-nil, Appends-nil}
 
 pub most_blocks_is : most_blocks ≡ 1048576

@@ -1,5 +1,5 @@
 -- Reading a block and answering it make a turn.
-use Rattle.std.proofs.Common.{◌≡◌, ◌⊎◌, ℕ, ◌<◌, ◌≤◌, ◌^◌, ◌-◌, ◌++◌, List, Option, None, Some, Ok, Err, inl, inr, refl, sym, ◌∙◌, subst, take, length, arith}
+use Rattle.std.proofs.Common.{◌≡◌, ℕ, ◌<◌, ◌≤◌, None, Some, Ok, Err, inl, inr, refl, sym, ◌∙◌, subst}
 use Rattle.std.specs.Io.KnownBytes.{Consumes, Appends}
 use Rattle.slurm_io.specs.Bytes.{AppendsFront}
 use Rattle.block_frame.specs.declared.block.Block.{Block}
@@ -11,7 +11,7 @@ use Rattle.ctl_session.specs.declared.reading.Found.TheVariants as found
 use Rattle.ctl_session.specs.declared.session.How.TheVariants as how
 use Rattle.ctl_session.specs.Reading.{IsFound}
 use Rattle.ctl_session.specs.Session.{Wire, Sight}
-use Rattle.ctl_session.specs.Turn.{AnswersBlock, IsTurn, IsToldFrom, WorksBlock, TakesBlock}
+use Rattle.ctl_session.specs.Turn.{AnswersBlock, IsTurn, WorksBlock, TakesBlock}
 
 -- a block that was read, and what became of it
 takes : (old mid new : Wire) (blocks blocks' : BlocksState) (block : Block)

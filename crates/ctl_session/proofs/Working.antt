@@ -1,15 +1,15 @@
 -- What a desk's answer makes of a block.
-use Rattle.std.proofs.Common.{◌≡◌, ℕ, ◌+◌, ◌≤◌, List, [], ◌∷◌, ◌++◌, length, take, slice_get, Some, true, false, refl, sym, ap, ◌∙◌, arith, length-append, append_assoc}
+use Rattle.std.proofs.Common.{◌≡◌, ℕ, ◌+◌, List, [], ◌∷◌, ◌++◌, length, take, slice_get, Some, refl, sym, ap, ◌∙◌, arith, length-append}
 use Rattle.std.proofs.lemmas.List.{append_cancel_left, append-nil, length-take-le}
 use Rattle.command_words.specs.declared.header.Asked.{Asked}
 use Rattle.ctl_core.specs.State.{State}
-use Rattle.ctl_core.specs.Step.{reply_of, is_entered}
+use Rattle.ctl_core.specs.Step.{is_entered}
 use Rattle.ctl_desk.specs.declared.entry.Entry.{Entry}
 use Rattle.ctl_desk.specs.declared.entry.Answer.{Answer}
 use Rattle.ctl_desk.specs.Desk.{GoesOn, IsAnswered, state_at}
 use Rattle.ctl_desk.specs.History.{entry_of, of_session}
 use Rattle.slurm_print.specs.Text.{text_of}
-use Rattle.ctl_session.specs.Reply.{IsReplyAt, IsWorked}
+use Rattle.ctl_session.specs.Reply.{IsWorked}
 
 slice_get_seam : {X : Type 0} (xs : List X) (x : X) → slice_get (xs ++ x ∷ []) (length xs) ≡ Some x
 slice_get_seam [] x = refl

@@ -1,5 +1,5 @@
 -- What reading brings to the blocks of a link.
-use Rattle.std.specs.Prelude.{◌≡◌, ℕ, ◌<◌, ◌≤◌, Option, List, [], ◌++◌, length}
+use Rattle.std.specs.Prelude.{◌≡◌, ℕ, ◌<◌, ◌≤◌, Option, List, ◌++◌, length}
 use Rattle.std.specs.Io.KnownBytes.{Consumes, Keeps, IsAtEnd}
 use Rattle.slurm_io.specs.Faults.{Rose}
 use Rattle.block_frame.specs.Grammar.{IsBlock, IsPartial, IsBad, spelled}

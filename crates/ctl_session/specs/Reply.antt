@@ -1,17 +1,12 @@
 -- The reply to one block of a session.
-use Rattle.std.specs.Prelude.{◌≡◌, ℕ, ◌+◌, ◌≤◌, Bool, true, false, Option, Some, None, List, [], ◌∷◌, ◌++◌, length, slice_get, codes}
+use Rattle.std.specs.Prelude.{◌≡◌, ℕ, ◌+◌, ◌≤◌, true, false, Option, Some, None, List, [], ◌∷◌, ◌++◌, length, slice_get}
 use Rattle.command_words.specs.declared.header.Asked.{Asked}
 use Rattle.ctl_core.specs.State.{State}
-use Rattle.ctl_core.specs.declared.reply.Reply.{Reply}
 use Rattle.ctl_core.specs.Step.{reply_of, is_entered}
 use Rattle.ctl_desk.specs.declared.entry.Entry.{Entry}
 use Rattle.ctl_desk.specs.Desk.{state_at}
 use Rattle.ctl_desk.specs.History.{entry_of, of_session}
-use Rattle.slurm_print.specs.Text.{text_of}
-
--- what a header of no form that is built yet is answered by
-abbrev pub not_built : List ℕ
-not_built = codes "slurm: error: NotBuilt\n"
+use Rattle.slurm_print.specs.Text.{text_of, not_built_text}
 
 -- A request is answered at a place of the history, from `low` on, as the controller answers it there. An accepted one
 -- stands in the history at that place, and is all that was made. What comes later stands from `high` on.
@@ -25,9 +20,9 @@ pub record IsReplyAt (opening : State) (number : ℕ) (history : List Entry) (lo
   pub other : is_entered (reply_of (state_at opening history place) asked.moment asked.user asked.request) ≡ false
       → (made ≡ []) × (place ≤ high)
 
--- The reply to a header, and the entries that it made: none where nothing was asked.
+-- The reply to a header, and the entries that it made: none where nothing was asked, which is answered as not built yet.
 abbrev pub IsReply : State → ℕ → List Entry → ℕ → Option Asked → List Entry → List ℕ → ℕ → Type 0
-IsReply opening number history low None made told high = (low ≤ high) × (made ≡ []) × (told ≡ not_built)
+IsReply opening number history low None made told high = (low ≤ high) × (made ≡ []) × (told ≡ not_built_text)
 IsReply opening number history low (Some asked) made told high =
     (place : ℕ) × IsReplyAt opening number history low asked made told high place
 

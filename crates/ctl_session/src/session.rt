@@ -10,6 +10,7 @@ use crate::outside::read_some;
 use crate::reading::{Found, next_whole};
 use block_frame::Blocks;
 use ctl_desk::desk::Desk;
+use resource_profile::{Plain, Steps};
 use slurm_io::{Failed, Link};
 use std::alloc::Global;
 
@@ -48,6 +49,7 @@ fn turn<L: Link, D: Desk>(
     alloc: Global,
     link: &mut L,
     desk: &mut D,
+    steps: &mut Steps<Plain>,
     blocks: &mut Blocks,
     buffer: &mut [u8],
 ) -> Option<How>
@@ -72,7 +74,7 @@ fn turn<L: Link, D: Desk>(
         Found::ReadFault => return Some(How::ReadFault),
         Found::Memory => return Some(How::Memory),
     };
-    match answer_block(alloc, link, desk, block.header.as_bytes()) {
+    match answer_block(alloc, link, desk, steps, block.header.as_bytes()) {
         Ok(()) => None,
         Err(Fault::Write) => Some(How::WriteFault),
         Err(Fault::Memory) => Some(How::Memory),
@@ -109,7 +111,12 @@ fn finished<D: Desk>(desk: &D, how: How, answered: u64) -> Ended
 
 /// Answers the blocks of a link, one after another, until the input ends or one of the other ends comes. The blocks that
 /// it answers are the first ones of what it reads, in whatever pieces that comes.
-pub fn serve_link<L: Link, D: Desk>(alloc: Global, link: &mut L, desk: &mut D) -> Ended
+pub fn serve_link<L: Link, D: Desk>(
+    alloc: Global,
+    link: &mut L,
+    desk: &mut D,
+    steps: &mut Steps<Plain>,
+) -> Ended
     ensures opening { D.opening desk.new ≡ D.opening desk.old }
     ensures number { D.number desk.new ≡ D.number desk.old }
     ensures start { D.start desk.new ≡ D.start desk.old }
@@ -125,7 +132,7 @@ pub fn serve_link<L: Link, D: Desk>(alloc: Global, link: &mut L, desk: &mut D) -
     };
     let mut buffer = [0; BUFFER_LEN];
     for answered in 0..MOST_BLOCKS {
-        if let Some(how) = turn(alloc, link, desk, &mut blocks, &mut buffer) {
+        if let Some(how) = turn(alloc, link, desk, steps, &mut blocks, &mut buffer) {
             return finished(desk, how, answered);
         }
     }

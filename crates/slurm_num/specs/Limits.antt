@@ -1,5 +1,5 @@
 -- The texts of time limits, and what they mean.
-use Rattle.std.specs.Prelude.{ℕ, ◌+◌, ◌*◌, ◌/◌, ◌≤◌, ◌||◌, nat_le, ◌==◌, if◌then◌else◌, List, [], ◌∷◌, Option, None, Some, codes}
+use Rattle.std.specs.Prelude.{ℕ, ◌+◌, ◌*◌, ◌/◌, ◌||◌, nat_le, ◌==◌, if◌then◌else◌, List, [], ◌∷◌, Option, None, Some, codes}
 use Rattle.std.specs.Str.{str_eq_ignore_ascii_case}
 use Rattle.slurm_text.specs.Digits.{number_within}
 use Rattle.slurm_text.specs.Fields.{fields}
@@ -70,8 +70,3 @@ unfoldable pub limit_of : List ℕ → Option Limit
 limit_of text =
     if str_eq_ignore_ascii_case text (codes "UNLIMITED") || str_eq_ignore_ascii_case text (codes "INFINITE") then Some Unlimited
     else (seconds_of text >>= λ seconds. limit_of_minutes ((seconds + 59) / 60))
-
--- what a text can mean: from 1 to 52,560,000 minutes, or no limit
-abbrev pub IsLimit : Limit → Type 0
-IsLimit (Minutes minutes) = (1 ≤ minutes) × (minutes ≤ 52_560_000)
-IsLimit Unlimited = Unit {0}

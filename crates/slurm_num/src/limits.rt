@@ -1,14 +1,15 @@
 //! Time limits: "Acceptable time formats" of sbatch(1).
 
-ghost use Rattle.std.specs.Prelude.{◌≡◌, ◌<◌, ◌≤◌, ◌^◌, IfSome, IfOk};
+ghost use Rattle.std.specs.Prelude.{◌≡◌, ◌<◌, ◌^◌, IfSome};
 ghost use Rattle.std.specs.Result.{result_ok};
-ghost use Rattle.slurm_num.specs.Limits.{seconds_of_clock, seconds_of_day, seconds_of, limit_of, IsLimit};
+ghost use Rattle.slurm_num.specs.Limits.{seconds_of_clock, seconds_of_day, seconds_of, limit_of};
 ghost use Rattle.slurm_text.specs.Fields.{fields};
 
 use slurm_text::digits::parse_number;
 use slurm_text::fields::{UpToThree, up_to_three};
 use slurm_text::keywords::is_keyword;
 use slurm_text::plain::limit::Limit;
+use slurm_text::ranged::Ranged;
 
 /// The text is no time limit.
 #[derive(Clone, Copy, PartialEq, Eq, Debug)]
@@ -20,8 +21,7 @@ const GREATEST: u64 = 52_560_000;
 /// minutes, `UNLIMITED` and `INFINITE` are no limit.
 #[tactic(auto, unfolding(crate::specs::Limits::limit_of, crate::specs::Limits::limit_of_minutes))]
 pub fn parse_limit(text: &[u8]) -> Result<Limit, BadTime>
-    ensures value { result_ok result ≡ limit_of text.now }
-    ensures bound { IfOk result IsLimit }
+    ensures { result_ok result ≡ limit_of text.now }
 {
     if is_keyword(text, b"UNLIMITED") || is_keyword(text, b"INFINITE") {
         return Ok(Limit::Unlimited);
@@ -30,7 +30,7 @@ pub fn parse_limit(text: &[u8]) -> Result<Limit, BadTime>
     if minutes == 0 {
         Ok(Limit::Unlimited)
     } else if minutes <= GREATEST {
-        Ok(Limit::Minutes(minutes as u32))
+        Ok(Limit::Minutes(Ranged::new(minutes)))
     } else {
         Err(BadTime)
     }

@@ -1,5 +1,6 @@
 use crate::plain::Limit;
 use crate::{BadTime, Ratio, compare, parse_limit, print_elapsed, scaled};
+use slurm_text::ranged::Ranged;
 use std::cmp::Ordering;
 
 #[test]
@@ -17,9 +18,10 @@ fn limits_are_read(rt: HostRuntime) {
         (b"36500-0".as_slice(), 52_560_000),
         (b"52559999:01".as_slice(), 52_560_000),
     ] {
+        assert!(rt; minutes >= 1 && minutes <= 52_560_000);
         assert_eq!(rt;
             parse_limit(text),
-            Ok(Limit::Minutes(minutes)),
+            Ok(Limit::Minutes(Ranged::new(minutes))),
             "for {minutes} minutes"
         );
     }

@@ -1,31 +1,48 @@
 -- The text of a reply, as a function of the request and the reply.
-use Rattle.std.specs.Prelude.{ℕ, List, ◌++◌, codes, decimal}
+use Rattle.std.specs.Prelude.{ℕ, List, [], ◌++◌, codes, decimal}
+use Rattle.slurm_text.specs.declared.plain.query.Query.TheVariants.{Squeue}
+use Rattle.slurm_text.specs.declared.plain.reply.Reply.{Reply}
+use Rattle.slurm_text.specs.declared.plain.reply.Reply.TheVariants.{Submitted, Passed, Orders, Idle, Shown, Refused, NotBuilt}
 use Rattle.slurm_text.specs.declared.plain.request.Request.{Request}
-use Rattle.slurm_text.specs.declared.plain.request.Request.TheVariants.{Submit}
-use Rattle.slurm_text.specs.declared.plain.refusal.Refusal.{Refusal}
-use Rattle.slurm_text.specs.declared.plain.refusal.Refusal.TheVariants.{InvalidAccount, NodesNotAvailable, JobIdsSpent, MomentTooLarge}
-use Rattle.ctl_core.specs.declared.reply.Reply.{Reply}
-use Rattle.ctl_core.specs.declared.reply.Reply.TheVariants.{Submitted, Refused}
+use Rattle.slurm_text.specs.declared.plain.request.Request.TheVariants.{Submit, Report, Pass, Show}
+use Rattle.slurm_text.specs.declared.plain.view.View.{View}
+use Rattle.slurm_print.specs.Orders.{orders_text}
+use Rattle.slurm_print.specs.Refusal.{refusal_line}
+use Rattle.slurm_print.specs.Squeue.{squeue_text}
 
 -- the command that makes the request
 abbrev pub command_of : Request → List ℕ
 command_of (Submit desc) = codes "sbatch"
+command_of (Report report) = codes "report"
+command_of Pass = codes "pass"
+command_of (Show (Squeue titles starts)) = codes "squeue"
 
-abbrev pub refusal_name : Refusal → List ℕ
-refusal_name InvalidAccount = codes "InvalidAccount"
-refusal_name NodesNotAvailable = codes "NodesNotAvailable"
-refusal_name JobIdsSpent = codes "JobIdsSpent"
-refusal_name MomentTooLarge = codes "MomentTooLarge"
+abbrev pub submitted_line : ℕ → List ℕ
+submitted_line id = codes "Submitted batch job " ++ decimal id ++ codes "\n"
 
-abbrev pub refusal_number : Refusal → ℕ
-refusal_number InvalidAccount = 2
-refusal_number NodesNotAvailable = 5
-refusal_number JobIdsSpent = 19
-refusal_number MomentTooLarge = 20
+abbrev pub passed_line : ℕ → ℕ → ℕ → List ℕ
+passed_line ended started planned =
+    codes "pass: ended " ++ decimal ended ++ codes " started " ++ decimal started ++ codes " planned " ++ decimal planned ++ codes "\n"
 
-abbrev pub refusal_line : List ℕ → Refusal → List ℕ
-refusal_line command refusal = command ++ codes ": error: " ++ refusal_name refusal ++ codes " (" ++ decimal (refusal_number refusal) ++ codes ")\n"
+-- only a pass says that it was idle
+abbrev pub idle_text : Request → List ℕ
+idle_text Pass = codes "pass: idle\n"
+idle_text request = []
+
+-- only a query shows anything
+abbrev pub shown_text : Request → View → List ℕ
+shown_text (Show (Squeue titles starts)) view = squeue_text titles starts view
+shown_text request view = []
+
+-- what the controller can't do yet
+abbrev pub not_built_text : List ℕ
+not_built_text = codes "slurm: error: NotBuilt\n"
 
 abbrev pub text_of : Request → Reply → List ℕ
-text_of request (Submitted id) = codes "Submitted batch job " ++ decimal id ++ codes "\n"
+text_of request (Submitted id) = submitted_line id
+text_of request (Passed ended started planned) = passed_line ended started planned
+text_of request (Orders orders) = orders_text orders
+text_of request Idle = idle_text request
+text_of request (Shown view) = shown_text request view
 text_of request (Refused refusal) = refusal_line (command_of request) refusal
+text_of request NotBuilt = not_built_text

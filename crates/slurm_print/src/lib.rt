@@ -1,5 +1,12 @@
 //! The texts that the controller's replies are printed as.
 #![tactic(auto)]
 
-pub mod line;
+mod field;
+mod line;
+mod orders;
+mod ranges;
+mod refusal;
+mod squeue;
+#[cfg(test)]
+mod tests;
 pub mod text;

@@ -20,3 +20,11 @@ pub fn push_number(out: &mut Vec<u8>, number: u64) -> Result<(), Memory>
     let mut buffer = Buffer::new();
     push_text(out, buffer.format(number).as_bytes())
 }
+
+/// Writes these bytes and then the number at the end.
+pub fn push_labelled(out: &mut Vec<u8>, label: &[u8], number: u64) -> Result<(), Memory>
+    ensures { OnOk result (out.new.items ≡ out.old.items ++ label.now ++ decimal number) }
+{
+    push_text(out, label)?;
+    push_number(out, number)
+}

@@ -1,40 +1,88 @@
 //! The text of a reply.
 
 ghost use Rattle.std.specs.Prelude.{◌≡◌, ◌++◌, IfOk, OnOk};
-ghost use Rattle.slurm_print.specs.Text.{text_of, refusal_line, refusal_name, refusal_number, command_of};
+ghost use Rattle.slurm_print.specs.Text.{text_of, not_built_text, command_of, submitted_line, passed_line, idle_text, shown_text};
 
-use crate::line::{push_number, push_text};
-use ctl_core::reply::Reply;
+use crate::line::{push_labelled, push_text};
+use crate::orders::push_orders;
+use crate::refusal::push_refusal;
+use crate::squeue::push_view;
 use slurm_text::memory_error::Memory;
-use slurm_text::plain::refusal::Refusal;
+use slurm_text::plain::query::Query;
+use slurm_text::plain::reply::Reply;
 use slurm_text::plain::request::Request;
+use slurm_text::plain::view::View;
 use std::alloc::Global;
 
-/// The text that answers a request.
+/// The text that answers a request. Linear in the text, but for a job's nodes, which are sorted.
 pub fn text(alloc: Global, request: &Request, reply: &Reply) -> Result<Vec<u8>, Memory>
     ensures { IfOk result (λ text. text.items ≡ text_of request.now reply.now) }
 {
     let mut out = Vec::new(alloc);
     match reply {
-        Reply::Submitted { id } => {
-            push_text(&mut out, b"Submitted batch job ")?;
-            push_number(&mut out, u64::from(*id))?;
-            push_text(&mut out, b"\n")?;
-        }
-        Reply::Refused(refusal) => push_refusal(&mut out, request, refusal)?,
+        Reply::Submitted { id } => push_submitted(&mut out, *id)?,
+        Reply::Passed {
+            ended,
+            started,
+            planned,
+        } => push_passed(&mut out, *ended, *started, *planned)?,
+        Reply::Orders(orders) => push_orders(&mut out, orders)?,
+        Reply::Idle => push_idle(&mut out, request)?,
+        Reply::Shown(view) => push_shown(alloc, &mut out, request, view)?,
+        Reply::Refused(refusal) => push_refusal(&mut out, command(request), refusal)?,
+        Reply::NotBuilt => push_text(&mut out, not_built())?,
     }
     Ok(out)
 }
 
-fn push_refusal(out: &mut Vec<u8>, request: &Request, refusal: &Refusal) -> Result<(), Memory>
-    ensures { OnOk result (out.new.items ≡ out.old.items ++ refusal_line (command_of request.now) refusal.now) }
+/// The text that answers what the controller can't do yet, a request or a header (own).
+pub fn not_built() -> &'static [u8]
+    ensures { result.now ≡ not_built_text }
 {
-    push_text(out, command(request))?;
-    push_text(out, b": error: ")?;
-    push_text(out, name(refusal))?;
-    push_text(out, b" (")?;
-    push_number(out, number(refusal))?;
-    push_text(out, b")\n")
+    b"slurm: error: NotBuilt\n"
+}
+
+fn push_submitted(out: &mut Vec<u8>, id: u32) -> Result<(), Memory>
+    ensures { OnOk result (out.new.items ≡ out.old.items ++ submitted_line id) }
+{
+    push_labelled(out, b"Submitted batch job ", u64::from(id))?;
+    push_text(out, b"\n")
+}
+
+fn push_passed(out: &mut Vec<u8>, ended: u32, started: u32, planned: u32) -> Result<(), Memory>
+    ensures { OnOk result (out.new.items ≡ out.old.items ++ passed_line ended started planned) }
+{
+    push_labelled(out, b"pass: ended ", u64::from(ended))?;
+    push_labelled(out, b" started ", u64::from(started))?;
+    push_labelled(out, b" planned ", u64::from(planned))?;
+    push_text(out, b"\n")?;
+    Ok(())
+}
+
+fn push_idle(out: &mut Vec<u8>, request: &Request) -> Result<(), Memory>
+    ensures { OnOk result (out.new.items ≡ out.old.items ++ idle_text request.now) }
+{
+    match request {
+        Request::Pass => push_text(out, b"pass: idle\n"),
+        _ => Ok(()),
+    }
+}
+
+// Only a query is answered by a view.
+fn push_shown(
+    alloc: Global,
+    out: &mut Vec<u8>,
+    request: &Request,
+    view: &View,
+) -> Result<(), Memory>
+    ensures { OnOk result (out.new.items ≡ out.old.items ++ shown_text request.now view.now) }
+{
+    match request {
+        Request::Show(Query::Squeue { titles, starts }) => push_view(
+            alloc, out, *titles, *starts, view,
+        ),
+        _ => Ok(()),
+    }
 }
 
 fn command(request: &Request) -> &'static [u8]
@@ -42,27 +90,8 @@ fn command(request: &Request) -> &'static [u8]
 {
     match request {
         Request::Submit(_) => b"sbatch",
-    }
-}
-
-fn name(refusal: &Refusal) -> &'static [u8]
-    ensures { result.now ≡ refusal_name refusal.now }
-{
-    match refusal {
-        Refusal::InvalidAccount => b"InvalidAccount",
-        Refusal::NodesNotAvailable => b"NodesNotAvailable",
-        Refusal::JobIdsSpent => b"JobIdsSpent",
-        Refusal::MomentTooLarge => b"MomentTooLarge",
-    }
-}
-
-fn number(refusal: &Refusal) -> u64
-    ensures { result ≡ refusal_number refusal.now }
-{
-    match refusal {
-        Refusal::InvalidAccount => 2,
-        Refusal::NodesNotAvailable => 5,
-        Refusal::JobIdsSpent => 19,
-        Refusal::MomentTooLarge => 20,
+        Request::Report(_) => b"report",
+        Request::Pass => b"pass",
+        Request::Show(Query::Squeue { .. }) => b"squeue",
     }
 }

@@ -1,5 +1,7 @@
-ghost use Rattle.std.specs.Prelude.{◌≡◌};
+ghost use Rattle.std.specs.Prelude.{◌≡◌, IfOk};
 
+use crate::memory_error::Memory;
+use crate::plain::Plain;
 use std::marker::Model;
 
 /// A list of plain data. A contract sees it as the list of its members, in order (own).
@@ -36,5 +38,18 @@ impl<T> Items<T> {
         ensures { result.now ≡ self.now }
     {
         self.items.as_slice()
+    }
+}
+
+impl<T: Plain> Items<T> {
+    /// An equal list.
+    pub fn copy(&self) -> Result<Items<T>, Memory>
+        ensures { IfOk result (λ copies. copies ≡ self.now) }
+    {
+        let mut copies = Vec::with_capacity(*self.items.allocator(), self.items.len())?;
+        for item in self.items.as_slice() {
+            copies.push(item.copy()?)?;
+        }
+        Ok(Items { items: copies })
     }
 }

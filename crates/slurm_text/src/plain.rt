@@ -1,7 +1,48 @@
 //! The plain data that readers make and that the controller's crates take.
 
+ghost use Rattle.std.specs.Prelude.{◌≡◌, IfOk};
+
+use crate::memory_error::Memory;
+use crate::name::Name;
+use crate::plain::report::{Done, Start};
+
 pub mod conf;
 pub mod job;
 pub mod limit;
+pub mod mem_ask;
+pub mod orders;
+pub mod query;
 pub mod refusal;
+pub mod reply;
+pub mod report;
 pub mod request;
+pub mod state;
+pub mod view;
+
+/// A value of which an equal one can be made, where there is memory.
+pub trait Plain: Drop {
+    /// An equal value.
+    fn copy(&self) -> Result<Self, Memory>
+        ensures { IfOk result (λ other. other ≡ self.now) };
+}
+
+impl Plain for Name {
+    fn copy(&self) -> Result<Name, Memory> {
+        self.copy()
+    }
+}
+
+impl Plain for Start {
+    fn copy(&self) -> Result<Start, Memory> {
+        Ok(*self)
+    }
+}
+
+impl Plain for Done {
+    fn copy(&self) -> Result<Done, Memory> {
+        Ok(*self)
+    }
+}
+
+#[cfg(test)]
+mod tests;

@@ -4,7 +4,7 @@ use std::alloc::AllocError;
 use std::marker::Model;
 
 /// A number from `LEAST` to `MOST`. A contract sees it as the number (own).
-#[derive(Drop)]
+#[derive(Drop, PartialEq, Eq, Debug)]
 pub struct Ranged<const LEAST: u64, const MOST: u64> {
     number: u64,
 }

@@ -1,16 +1,15 @@
 -- An input of whole blocks is answered to its end.
-use Rattle.std.proofs.Common.{◌≡◌, ◌≢◌, ◌⊎◌, ℕ, ◌+◌, ◌-◌, ◌^◌, ◌<◌, ◌≤◌, List, [], ◌∷◌, ◌++◌, Option, None, Some, length, take, inl, inr, refl, sym, ap, ◌∙◌, subst, arith, length-append, append_assoc, All}
-use Rattle.std.proofs.lemmas.List.{append-nil, length-take-le, append_cancel_left}
+use Rattle.std.proofs.Common.{◌≡◌, ◌≢◌, ◌⊎◌, ℕ, ◌≤◌, List, [], ◌∷◌, ◌++◌, Option, None, Some, length, take, inl, inr, refl, sym, ap, ◌∙◌, subst, arith, length-append, append_assoc, All}
+use Rattle.std.proofs.lemmas.List.{append-nil, length-take-le}
 use Rattle.std.proofs.lemmas.List.Elements.{All-take}
 use Rattle.std.specs.Io.KnownBytes.{Consumes, IsAtEnd}
-use Rattle.block_frame.specs.declared.block.Block.{Block}
 use Rattle.block_frame.specs.Grammar.{IsBlock, IsPartial, IsBad, BeginsWithBlock, spelled_all, blocks_of, rest_of}
 use Rattle.ctl_core.specs.State.{State}
 use Rattle.ctl_session.specs.declared.session.How.{How}
 use Rattle.ctl_session.specs.declared.session.How.TheVariants as how
 use Rattle.ctl_session.specs.Session.{Wire, most_blocks}
 use Rattle.slurm_top.specs.Run.{CountsNone}
-use Rattle.slurm_top.specs.Script.{IsScript, IsEndOf}
+use Rattle.slurm_top.specs.Script.{IsScript}
 use Rattle.slurm_top.proofs.Scripts.{GoFirst, CutOnce}
 
 -- the laws of blocks that completeness rests on

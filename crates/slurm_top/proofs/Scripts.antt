@@ -1,5 +1,5 @@
 -- A session that no other session interrupts is a script.
-use Rattle.std.proofs.Common.{◌≡◌, ◌≢◌, ◌⊎◌, ℕ, zero, suc, ◌+◌, ◌-◌, ◌<◌, ◌≤◌, Bool, true, false, List, [], ◌∷◌, ◌++◌, Option, None, Some, length, take, drop, slice_get, inl, inr, refl, sym, ap, ◌∙◌, subst, arith, add-zero, length-append, append_assoc, All}
+use Rattle.std.proofs.Common.{◌≡◌, ◌⊎◌, ℕ, zero, suc, ◌+◌, ◌≤◌, Bool, true, false, List, [], ◌∷◌, ◌++◌, Option, None, Some, length, take, drop, slice_get, inl, inr, refl, sym, ap, ◌∙◌, subst, arith, length-append, append_assoc, All}
 use Rattle.std.proofs.lemmas.List.{append-nil, take-append-le, take_all}
 use Rattle.std.proofs.lemmas.List.Elements.{All-push}
 use Rattle.block_frame.specs.declared.block.Block.{Block}
@@ -7,7 +7,8 @@ use Rattle.block_frame.specs.Grammar.{IsBlock, IsPartial, IsBad, spelled, spelle
 use Rattle.command_words.specs.declared.header.Asked.{Asked}
 use Rattle.command_words.specs.Header.{asked_by, words_of}
 use Rattle.slurm_text.specs.declared.plain.request.Request.{Request}
-use Rattle.ctl_core.specs.State.{State, IsSound}
+use Rattle.ctl_core.specs.State.{State}
+use Rattle.ctl_core.specs.Soundness.{IsSound}
 use Rattle.ctl_core.specs.Step.{reply_of, state_after, is_entered, raised}
 use Rattle.ctl_desk.specs.declared.entry.Entry.{Entry}
 use Rattle.ctl_desk.specs.Desk.{state_at, Seat}
@@ -17,7 +18,7 @@ use Rattle.ctl_session.specs.Reply.{IsReply, IsReplyAt}
 use Rattle.ctl_session.specs.declared.session.Ended.{Ended}
 use Rattle.ctl_session.specs.declared.session.How.{How}
 use Rattle.ctl_session.specs.declared.session.How.TheVariants as how
-use Rattle.ctl_session.specs.Session.{Answers, IsServed, IsCause, IsWhole, Ending, Wire, Sight, most_blocks}
+use Rattle.ctl_session.specs.Session.{Answers, IsServed, IsCause, IsWhole, Ending, Wire, most_blocks}
 use Rattle.slurm_top.specs.Script.{told, left_by, answers_of, script_of, IsAnswered, IsEndOf, IsScript}
 
 -- a request leaves the same state at its raised moment as at the one handed in

@@ -8,15 +8,14 @@ use Rattle.command_words.specs.declared.header.Asked.{Asked}
 use Rattle.command_words.specs.Header.{asked_by, words_of}
 use Rattle.ctl_core.specs.State.{State}
 use Rattle.ctl_core.specs.Step.{reply_of, state_after}
-use Rattle.slurm_print.specs.Text.{text_of}
+use Rattle.slurm_print.specs.Text.{text_of, not_built_text}
 use Rattle.ctl_session.specs.declared.session.How.{How}
 use Rattle.ctl_session.specs.declared.session.How.TheVariants.{Closed, Truncated, Bad, Spent, ReadFault, WriteFault, Memory}
-use Rattle.ctl_session.specs.Reply.{not_built}
 use Rattle.ctl_session.specs.Session.{Wire, most_blocks}
 
 -- the text that answers what a header asks, in a state
 abbrev pub told : State → Option Asked → List ℕ
-told s None = not_built
+told s None = not_built_text
 told s (Some asked) = text_of asked.request (reply_of s asked.moment asked.user asked.request)
 
 -- the state that it leaves

@@ -1,8 +1,8 @@
 //! The built-in cluster.
 
 ghost use Rattle.std.specs.Prelude.{◌≡◌, [], IfOk};
-ghost use Rattle.ctl_core.specs.State.{IsSound};
-ghost use Rattle.slurm_top.specs.Cluster.{built_in_conf, built_in_assocs, built_in_opening};
+ghost use Rattle.ctl_core.specs.Soundness.{IsSound};
+ghost use Rattle.slurm_top.specs.Cluster.{built_in_settings, built_in_conf, built_in_assocs, built_in_opening};
 
 use ctl_core::controller::Ctl;
 use ctl_desk::book::Book;
@@ -10,21 +10,41 @@ use ctl_desk::own_desk::{OwnDesk, own_desk};
 use slurm_text::items::Items;
 use slurm_text::memory_error::Memory;
 use slurm_text::name::{Name, NameRefusal};
-use slurm_text::plain::conf::{AssocConf, AssocFile, Conf, NodeConf};
+use slurm_text::plain::conf::{AssocConf, AssocFile, Conf, NodeConf, PartConf, Settings};
+use slurm_text::plain::mem_ask::MemAsk;
 use slurm_text::ranged::Ranged;
 use std::alloc::Global;
 
-/// One node, n1, of four processors.
+#[tactic(auto, unfolding(crate::specs::Cluster::built_in_settings))]
+fn built_in_settings(alloc: Global) -> Result<Settings, Memory>
+    ensures { IfOk result (λ settings. settings ≡ built_in_settings) }
+{
+    Ok(Settings {
+        min_job_age: Ranged::new(300),
+        slurm_user: name(alloc, b"root")?,
+        bf_window: Ranged::new(1440),
+        mem_default: Some(MemAsk::PerCpu(Ranged::new(1000))),
+    })
+}
+
+/// One node, n1, of four processors and 4,000 megabytes, in the partition main.
 #[tactic(auto, unfolding(crate::specs::Cluster::built_in_conf))]
 fn built_in_conf(alloc: Global) -> Result<Conf, Memory>
     ensures { IfOk result (λ conf. conf ≡ built_in_conf) }
 {
+    let settings = built_in_settings(alloc)?;
     let node = NodeConf {
         name: name(alloc, b"n1")?,
         cpus: Ranged::new(4),
+        mem: Ranged::new(4000),
+    };
+    let partition = PartConf {
+        name: name(alloc, b"main")?,
     };
     Ok(Conf {
+        settings,
         nodes: Items::from_vec(vec![in alloc; node]?),
+        partition,
     })
 }
 

@@ -8,6 +8,7 @@ use crate::cluster::built_in_desk;
 use block_frame::{blocks_are_cut_once, blocks_go_first, nothing_is_partial};
 use ctl_core::laws::raised_moments_decide_alike;
 use ctl_session::{How, serve_link};
+use resource_profile::start;
 use slurm_io::{Link, Pair, Sink, Source};
 use std::alloc::Global;
 
@@ -25,7 +26,7 @@ fn serve_alone<L: Link>(alloc: Global, link: &mut L) -> How
     let Ok(mut desk) = built_in_desk(alloc) else {
         return How::Memory;
     };
-    let ended = serve_link(alloc, link, &mut desk);
+    let ended = serve_link(alloc, link, &mut desk, &mut start());
     ended.how
 }
 

@@ -81,39 +81,165 @@ fn answers(
     check(rt, 4096, &row)
 }
 
+/// A script of these headers is answered so, each header by the text beside it.
+fn tells(rt: &(impl Abort + Alloc<A = Global>), turns: &[(&str, &str)]) -> Result<(), Fail> {
+    let alloc = rt.alloc();
+    let mut script = Vec::new(alloc);
+    let mut output = Vec::new(alloc);
+    for turn in turns {
+        script.extend_from_slice(turn.0.as_bytes())?;
+        script.push(b'\n')?;
+        output.extend_from_slice(turn.1.as_bytes())?;
+    }
+    answers(rt, script.as_slice(), output.as_slice())
+}
+
 #[test]
 fn submissions_are_answered(rt: HostRuntime) -> Result<(), Fail> {
     answers(&rt, b"", b"")?;
-    answers(
+    tells(
         &rt,
-        b"100 alice sbatch -n 4 -t 10\n",
-        b"Submitted batch job 1\n",
-    )?;
-    answers(
-        &rt,
-        b"100 alice sbatch -n 5 -t 10\n7 bob sbatch -n 1 -t 99999\n0 alice sbatch -n 4 -t 1\n",
-        b"sbatch: error: NodesNotAvailable (5)\nSubmitted batch job 1\nSubmitted batch job 2\n",
-    )?;
-    answers(
-        &rt,
-        b"250000000000 bob sbatch -n 9999 -t 1\n",
-        b"sbatch: error: NodesNotAvailable (5)\n",
+        &[
+            (
+                "100 alice sbatch -n 5 -t 10",
+                "sbatch: error: NodesNotAvailable (5)\n",
+            ),
+            ("7 bob sbatch -n 1 -t 99999", "Submitted batch job 1\n"),
+            ("0 alice sbatch -t 1 -n 4", "Submitted batch job 2\n"),
+            ("0250000000000 bob sbatch -t 0", "Submitted batch job 3\n"),
+            (
+                "250000000001 bob sbatch",
+                "sbatch: error: MomentTooLarge (20)\n",
+            ),
+            ("100 carol sbatch", "sbatch: error: InvalidAccount (2)\n"),
+            (
+                "100 bob sbatch -n 1048576",
+                "sbatch: error: NodesNotAvailable (5)\n",
+            ),
+            ("100 bob sbatch", "Submitted batch job 4\n"),
+        ],
     )
 }
 
 #[test]
 fn other_headers_are_not_built(rt: HostRuntime) -> Result<(), Fail> {
-    let not_built = b"slurm: error: NotBuilt\n".as_slice();
-    answers(&rt, b"0250000000000 bob sbatch -n 1 -t 1\n", not_built)?;
-    answers(&rt, b"250000000001 bob sbatch -n 1 -t 1\n", not_built)?;
-    answers(&rt, b"100 carol sbatch -n 1 -t 1\n", not_built)?;
-    answers(&rt, b"100 alice sbatch -n 0 -t 1\n", not_built)?;
-    answers(&rt, b"100 alice sbatch -n 10000 -t 1\n", not_built)?;
-    answers(&rt, b"100 alice sbatch -n 1 -t 100000\n", not_built)?;
-    answers(&rt, b"100 alice sbatch -n 1  -t 1\n", not_built)?;
-    answers(&rt, b"100 alice sbatch -t 1 -n 1\n", not_built)?;
-    answers(&rt, b"100 alice sbatch -n 1 -t 1 x\n", not_built)?;
-    answers(&rt, b"x\n", not_built)
+    let not_built = "slurm: error: NotBuilt\n";
+    tells(
+        &rt,
+        &[
+            ("000000000000000000001 bob sbatch", not_built),
+            ("18446744073709551616 bob sbatch", not_built),
+            ("100 alice sbatch -n 0", not_built),
+            ("100 alice sbatch -n 1048577", not_built),
+            ("100 alice sbatch -t 52560001", not_built),
+            ("100 alice sbatch -n 1  -t 1", not_built),
+            ("100 alice sbatch -n 1 -n 1", not_built),
+            ("100 alice sbatch -n 1 -t 1 x", not_built),
+            ("100 root pass x", not_built),
+            ("100 root report n1 1", not_built),
+            ("100 root report n1 1 1 run=1", not_built),
+            ("100 alice squeue -l", not_built),
+            ("x", not_built),
+        ],
+    )
+}
+
+#[test]
+fn jobs_are_planned(rt: HostRuntime) -> Result<(), Fail> {
+    tells(
+        &rt,
+        &[
+            ("0 alice sbatch -n 2 -t 10", "Submitted batch job 1\n"),
+            ("0 root pass", "pass: ended 0 started 1 planned 0\n"),
+            ("0 alice sbatch -n 4 -t 10", "Submitted batch job 2\n"),
+            ("0 alice sbatch -n 2 -t 10", "Submitted batch job 3\n"),
+            ("0 alice sbatch -n 2 -t 11", "Submitted batch job 4\n"),
+            ("0 root pass", "pass: ended 0 started 1 planned 2\n"),
+            (
+                "0 alice squeue --start",
+                "             JOBID PARTITION     NAME     USER ST          START_TIME  NODES NODELIST(REASON)
+                 2      main   sbatch    alice PD 1970-01-01T00:10:00      1 (Resources)
+                 4      main   sbatch    alice PD 1970-01-01T00:20:00      1 (Priority)
+",
+            ),
+            (
+                "60 root report n1 1 1 run=3.1 done=1.1.0",
+                "orders n1 1 1\nforget 1.1\n",
+            ),
+            ("60 root pass", "pass: idle\n"),
+        ],
+    )
+}
+
+#[test]
+fn queries_are_answered_at_the_raised_moment(rt: HostRuntime) -> Result<(), Fail> {
+    tells(
+        &rt,
+        &[
+            ("100 alice sbatch -n 1", "Submitted batch job 1\n"),
+            ("100 root pass", "pass: ended 0 started 1 planned 0\n"),
+            (
+                "50 alice squeue -h",
+                "                 1      main   sbatch    alice  R       0:00      1 n1\n",
+            ),
+            (
+                "250000000001 alice squeue",
+                "squeue: error: MomentTooLarge (20)\n",
+            ),
+        ],
+    )
+}
+
+#[test]
+fn reports_are_answered(rt: HostRuntime) -> Result<(), Fail> {
+    tells(
+        &rt,
+        &[
+            ("0 alice pass", "pass: error: AccessDenied (11)\n"),
+            ("0 alice sbatch -n 4 -t 60", "Submitted batch job 1\n"),
+            ("0 root pass", "pass: ended 0 started 1 planned 0\n"),
+            (
+                "5 root report n1 1 1",
+                "orders n1 1 1\nlaunch 1.1 cpus=0-3 mem=4000 run=60 exit=0\n",
+            ),
+            (
+                "5 root report n1 1 1",
+                "report: error: StaleReport (17) 1 1\n",
+            ),
+            ("6 root report n1 2 1", "slurm: error: NotBuilt\n"),
+            (
+                "6 alice report n1 1 2",
+                "report: error: AccessDenied (11)\n",
+            ),
+            ("6 root report n2 1 1", "report: error: UnknownNode (16)\n"),
+        ],
+    )
+}
+
+#[test]
+fn jobs_over_their_limit_end(rt: HostRuntime) -> Result<(), Fail> {
+    tells(
+        &rt,
+        &[
+            ("0 alice sbatch -n 4 -t 60", "Submitted batch job 1\n"),
+            ("0 root pass", "pass: ended 0 started 1 planned 0\n"),
+            (
+                "5 root report n1 1 1",
+                "orders n1 1 1\nlaunch 1.1 cpus=0-3 mem=4000 run=60 exit=0\n",
+            ),
+            ("3599 root pass", "pass: idle\n"),
+            ("3600 root pass", "pass: ended 1 started 0 planned 0\n"),
+            (
+                "3601 root report n1 1 3 run=1.1",
+                "orders n1 1 3\nkill 1.1\n",
+            ),
+            ("3602 root report n1 1 4", "orders n1 1 4\n"),
+            ("3602 alice squeue -h", ""),
+            ("3901 root pass", "pass: idle\n"),
+            ("3902 root pass", "pass: ended 0 started 0 planned 0\n"),
+            ("3902 root pass", "pass: idle\n"),
+        ],
+    )
 }
 
 /// The row of the 28 bytes of one submission, at which this read or this write fails.

@@ -3,16 +3,22 @@
 ghost use Rattle.std.specs.Prelude.{◌≡◌, IfOk};
 
 use crate::memory_error::Memory;
+use crate::name::JobName;
 use crate::plain::limit::Limit;
 use crate::ranged::Ranged;
 
 /// What a submission asks for. sbatch(1).
 #[derive(Drop)]
 pub struct JobDesc {
+    pub name: JobName,
     /// The tasks, each on one processor.
     pub tasks: Ranged<1, 1048576>,
     /// How long it may run; None asks for the partition's own limit.
     pub limit: Option<Limit>,
+    /// How many seconds its script takes, where nothing ends it before (own).
+    pub run: Ranged<1, 2000000000>,
+    /// The exit code of its script (own).
+    pub exit: Ranged<0, 255>,
 }
 
 impl JobDesc {
@@ -21,8 +27,11 @@ impl JobDesc {
         ensures { IfOk result (λ desc. desc ≡ self.now) }
     {
         Ok(JobDesc {
+            name: self.name.copy()?,
             tasks: self.tasks,
             limit: self.limit,
+            run: self.run,
+            exit: self.exit,
         })
     }
 }

@@ -4,12 +4,20 @@ ghost use Rattle.std.specs.Prelude.{◌≡◌, IfOk};
 
 use crate::memory_error::Memory;
 use crate::plain::job::JobDesc;
+use crate::plain::query::Query;
+use crate::plain::report::Report;
 
 /// A request to the controller.
 #[derive(Drop)]
 pub enum Request {
     /// Hands in a job. sbatch(1).
     Submit(JobDesc),
+    /// Tells what runs on a node and what is over there (own).
+    Report(Report),
+    /// Ends what is over its limit, starts jobs and plans the others (own).
+    Pass,
+    /// Asks for records. squeue(1).
+    Show(Query),
 }
 
 impl Request {
@@ -19,6 +27,9 @@ impl Request {
     {
         match self {
             Request::Submit(desc) => Ok(Request::Submit(desc.copy()?)),
+            Request::Report(report) => Ok(Request::Report(report.copy()?)),
+            Request::Pass => Ok(Request::Pass),
+            Request::Show(query) => Ok(Request::Show(query.copy()?)),
         }
     }
 }

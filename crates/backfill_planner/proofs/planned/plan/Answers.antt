@@ -1,9 +1,16 @@
-use Rattle.std.proofs.Common.{◌≡◌, ◌≤◌, ◌<◌, ◌+◌, ◌++◌, ◌∷◌, [], length, drop, get_or, arith, refl, sym, ap, ◌∙◌, Some, None}
+use Rattle.std.proofs.Common.{rules, subst, ◌≡◌, ◌≤◌, ◌<◌, ◌+◌, ◌++◌, ◌∷◌, [], length, take, drop, All, get_or, arith, refl, sym, ap, ◌∙◌, Some, None}
 use Rattle.resource_profile.specs.Counts.{ticked}
 use Rattle.backfill_planner.specs.Bases.{BaseView}
 use Rattle.std.proofs.lemmas.Grind.{common_steps}
+use Rattle.std.proofs.lemmas.List.{take_all}
+use Rattle.std.proofs.lemmas.List.Elements.{All-nil, All-more}
+use Rattle.resource_profile.specs.Profiles.{AreWithin}
+use Rattle.backfill_planner.specs.Placements.{IsPlannable}
 use Rattle.backfill_planner.specs.Plans.{placed_of, plan_beside, plan_of}
 use Rattle.backfill_planner.proofs.Stepping.{step-some, step-none, ticked-more, start-whole, end-whole, next-job}
+use Rattle.backfill_planner.proofs.Parts.{plan-parts}
+use Rattle.backfill_planner.proofs.Within.{plan-within}
+use Rattle.backfill_planner.proofs.Starts.{starts-fit}
 use Rattle.backfill_planner.proofs.planned.plan.Goals as goal
 use Rattle.backfill_planner.proofs.planned.plan.Goals.{in-Some+in_ok-hold, in_default}
 
@@ -14,6 +21,7 @@ loop-job-init g c =
     record {
       rooms = rooms_are;
       so_far = start-whole c.args.base c.args.now c.args.ranked.items c.in_ok-profile.profile.holds c.in_ok-placements.placements.items c.in_ok-placements.ensures.items holds_are;
+      jobs = All-nil IsPlannable;
       count = grind (arith, common_steps);
       room = grind (arith, common_steps);
       steps = refl;
@@ -30,6 +38,7 @@ loop-job-preserved g c =
     let below : i < length ranked = rw c.deref-job-items.ensures.value at c.loop-job-test.true in
     let job_is : job ≡ get_or ranked i job = rw c.deref-job-items.ensures.value at c.job-item.is in
     let next = next-job ranked i job below job_is in
+    let jobs : All IsPlannable (take (i + 1) ranked) = All-more IsPlannable ranked i job below c.loop-job.invariant.jobs (rw (← job_is) c.recall.ensures) in
     let whole : done ++ plan_beside c.args.base c.args.now c.loop-job.profile.holds (job ∷ later) ≡ all = rw next at c.loop-job.invariant.so_far in
     let horizon_is : c.base.inside.horizon ≡ c.args.base.horizon = ap (λ (b : BaseView). b.horizon) c.base.view_is in
     let placed_is : c.in_ok-placed.field-0 ≡ placed_of c.args.base.rooms c.loop-job.profile.holds job c.args.now c.args.base.horizon = rw horizon_is at c.in_ok-placed.ensures.placed in
@@ -43,6 +52,7 @@ loop-job-preserved g c =
             rooms = rw w.profile-is (w.hold.ensures.rooms ∙ c.loop-job.invariant.rooms);
             so_far = rw (w.placements-is, w.profile-is, pushed)
                 (step-some c.args.base c.args.now c.loop-job.profile.holds w.hold.new.profile.holds job later w.in-Some.placed done all is w.in_ok-hold.ensures.holds whole);
+            jobs = jobs;
             count = rw w.placements-is (omega (arith, longer, c.loop-job.invariant.count));
             room = rw w.placements-is (omega (arith, w.push.ensures.capacity, c.loop-job.invariant.room));
             steps = ticks;
@@ -52,6 +62,7 @@ loop-job-preserved g c =
           record {
             rooms = rw w.profile-is c.loop-job.invariant.rooms;
             so_far = rw (w.placements-is, w.profile-is) (step-none c.args.base c.args.now c.loop-job.profile.holds job later done all is whole);
+            jobs = jobs;
             count = rw w.placements-is (omega (arith, c.loop-job.invariant.count));
             room = rw w.placements-is c.loop-job.invariant.room;
             steps = ticks;
@@ -62,3 +73,21 @@ pub invariant_of-result : goal.invariant_of-result
 invariant_of-result g c =
     let past : length c.args.ranked.items ≤ c.loop-job.job-index = rw c.deref-job-items.ensures.value at c.loop-job-test.false in
     end-whole c.args.base c.args.now c.args.ranked.items c.loop-job.profile.holds c.loop-job.job-index c.loop-job.placements.items (plan_of c.args.base c.args.ranked.items c.args.now) past c.loop-job.invariant.so_far
+
+pub returns : goal.returns
+returns g c =
+    let base = c.args.base in
+    let ranked = c.args.ranked.items in
+    let Fits : BaseView → Type 0 = λ b. AreWithin b.rooms b.holds × (b.horizon ≤ 250002592000) in
+    let fits : Fits base = subst Fits c.base.view_is c.base.invariant in
+    let past : length ranked ≤ c.loop-job.job-index = rw c.deref-job-items.ensures.value at c.loop-job-test.false in
+    let jobs : All IsPlannable ranked = rw (take_all c.loop-job.job-index ranked past) at c.loop-job.invariant.jobs in
+    let within = plan-within base ranked c.args.now fits.0 fits.1 c.requires.nodes jobs in
+    record {
+      parts = search rules;
+      jobs = jobs;
+      within = within;
+      starts_fit = starts-fit base ranked c.args.now within;
+      apart = plan-parts base ranked c.args.now fits.1 c.requires.nodes jobs;
+      steps = search rules;
+    }

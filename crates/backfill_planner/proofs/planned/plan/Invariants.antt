@@ -1,5 +1,6 @@
-use Rattle.std.proofs.Common.{◌≡◌, ◌++◌, ◌≤◌, length, drop, vec_len, vec_capacity}
+use Rattle.std.proofs.Common.{◌≡◌, ◌++◌, ◌≤◌, length, take, drop, All, vec_len, vec_capacity}
 use Rattle.resource_profile.specs.Counts.{ticked}
+use Rattle.backfill_planner.specs.Placements.{IsPlannable}
 use Rattle.backfill_planner.specs.Plans.{plan_beside, plan_of}
 use Rattle.backfill_planner.proofs.planned.plan.Given as goal
 
@@ -8,6 +9,7 @@ abbrev pub invariant-loop-job : goal.invariant-loop-job
 invariant-loop-job g l = record {
   rooms : l.profile.rooms ≡ l.fn.base.rooms;
   so_far : l.placements.items ++ plan_beside l.fn.base l.fn.now l.profile.holds (drop l.job-index l.fn.ranked.items) ≡ plan_of l.fn.base l.fn.ranked.items l.fn.now;
+  jobs : All IsPlannable (take l.job-index l.fn.ranked.items);
   count : vec_len l.placements ≤ l.job-index;
   room : length l.fn.ranked.items ≤ vec_capacity l.placements;
   steps : l.steps ≡ ticked l.fn.steps l.job-index;

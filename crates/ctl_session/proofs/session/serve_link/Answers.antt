@@ -1,4 +1,4 @@
-use Rattle.std.proofs.Common.{refl, arith, sym, ◌∙◌}
+use Rattle.std.proofs.Common.{refl, arith, ◌∙◌}
 use Rattle.ctl_session.proofs.Serving.{most_blocks_is, served_nothing, under_way_at_start, under_way_after, served_after_turn_of_desk, served_after_look_at}
 use Rattle.ctl_session.proofs.session.serve_link.Goals as goal
 

@@ -1,5 +1,4 @@
 use Rattle.std.proofs.Common.{◌≡◌}
-use Rattle.ctl_session.specs.Session.{Wire, Sight}
 use Rattle.ctl_session.proofs.Serving.{IsUnderWay}
 use Rattle.ctl_session.proofs.session.serve_link.Given as goal
 

@@ -1,0 +1,8 @@
+use Rattle.backfill_planner.proofs.Parts.{plan-some, plan-parts}
+use Rattle.backfill_planner.proofs.laws.parts_are_apart.Goals as goal
+
+pub returns-clause-some : goal.returns-clause-some
+returns-clause-some c = plan-some
+
+pub returns-clause-parts : goal.returns-clause-parts
+returns-clause-parts c = plan-parts

@@ -1,0 +1,177 @@
+//! What a daemon reports.
+
+ghost use Rattle.std.specs.Prelude.{◌≡◌, IfOk};
+ghost use Rattle.command_words.specs.Cut.{texts_of};
+ghost use Rattle.command_words.specs.Report.{report_by, pair_by, named, nothing_named, with_listed, listed_by, start_by, done_by, starts_by, dones_by, u32_by};
+
+use crate::cut::cut_at;
+use crate::header::read_name;
+use slurm_text::digits::parse_number;
+use slurm_text::fields::{UpToThree, up_to_three};
+use slurm_text::items::Items;
+use slurm_text::memory_error::Memory;
+use slurm_text::plain::report::{Done, Report, Start};
+use std::alloc::Global;
+
+// The starts that a report's words name.
+#[derive(Drop)]
+pub(crate) struct Named {
+    pub(crate) running: Items<Start>,
+    pub(crate) done: Items<Done>,
+}
+
+// What one word names.
+#[derive(Drop)]
+pub(crate) enum Listed {
+    Running(Items<Start>),
+    Done(Items<Done>),
+}
+
+impl Named {
+    // The list takes the place of an earlier one of its kind.
+    fn put(&mut self, listed: Listed)
+        ensures { self.new ≡ with_listed self.old listed }
+    {
+        match listed {
+            Listed::Running(starts) => self.running = starts,
+            Listed::Done(starts) => self.done = starts,
+        }
+    }
+}
+
+/// The report that the words behind `report` make.
+#[tactic(auto, unfolding(crate::specs::Report::report_by))]
+pub(crate) fn read_report(alloc: Global, words: &[&[u8]]) -> Result<Option<Report>, Memory>
+    ensures { IfOk result (λ report. report ≡ report_by (texts_of words.now)) }
+{
+    let [node, boot, number, lists @ ..] = words else {
+        return Ok(None);
+    };
+    let Some((boot, number)) = read_pair(boot, number) else {
+        return Ok(None);
+    };
+    let Some(node) = read_name(alloc, node)? else {
+        return Ok(None);
+    };
+    let Some(Named { running, done }) = read_lists(alloc, lists)? else {
+        return Ok(None);
+    };
+    Ok(Some(Report {
+        node,
+        boot,
+        number,
+        running,
+        done,
+    }))
+}
+
+fn read_pair(boot: &[u8], number: &[u8]) -> Option<(u64, u64)>
+    ensures { result ≡ pair_by boot.now number.now }
+{
+    Some((
+        parse_number(boot, 20, u64::MAX)?,
+        parse_number(number, 20, u64::MAX)?,
+    ))
+}
+
+fn read_lists(alloc: Global, words: &[&[u8]]) -> Result<Option<Named>, Memory>
+    ensures { IfOk result (λ lists. lists ≡ named nothing_named (texts_of words.now)) }
+{
+    let mut named = Named {
+        running: Items::from_vec(Vec::new(alloc)),
+        done: Items::from_vec(Vec::new(alloc)),
+    };
+    for word in words {
+        let Some(listed) = read_list(alloc, word)? else {
+            return Ok(None);
+        };
+        named.put(listed);
+    }
+    Ok(Some(named))
+}
+
+#[tactic(auto, unfolding(crate::specs::Report::listed_of, crate::specs::Report::listed_by))]
+fn read_list(alloc: Global, word: &[u8]) -> Result<Option<Listed>, Memory>
+    ensures { IfOk result (λ list. list ≡ listed_by word.now) }
+{
+    match up_to_three(word, b'=') {
+        UpToThree::Two(b"run", list) => {
+            let texts = cut_at(alloc, list, b',')?;
+            let Some(starts) = read_starts(alloc, texts.as_slice())? else {
+                return Ok(None);
+            };
+            Ok(Some(Listed::Running(starts)))
+        }
+        UpToThree::Two(b"done", list) => {
+            let texts = cut_at(alloc, list, b',')?;
+            let Some(starts) = read_dones(alloc, texts.as_slice())? else {
+                return Ok(None);
+            };
+            Ok(Some(Listed::Done(starts)))
+        }
+        _ => Ok(None),
+    }
+}
+
+#[tactic(auto, using(crate::proofs::Lists::listing))]
+fn read_starts(alloc: Global, texts: &[&[u8]]) -> Result<Option<Items<Start>>, Memory>
+    ensures { IfOk result (λ starts. starts ≡ starts_by (texts_of texts.now)) }
+{
+    let mut starts = Vec::with_capacity(alloc, texts.len())?;
+    for text in texts {
+        let Some(start) = read_start(text) else {
+            return Ok(None);
+        };
+        starts.push(start)?;
+    }
+    Ok(Some(Items::from_vec(starts)))
+}
+
+#[tactic(auto, using(crate::proofs::Lists::listing))]
+fn read_dones(alloc: Global, texts: &[&[u8]]) -> Result<Option<Items<Done>>, Memory>
+    ensures { IfOk result (λ dones. dones ≡ dones_by (texts_of texts.now)) }
+{
+    let mut dones = Vec::with_capacity(alloc, texts.len())?;
+    for text in texts {
+        let Some(done) = read_done(text) else {
+            return Ok(None);
+        };
+        dones.push(done)?;
+    }
+    Ok(Some(Items::from_vec(dones)))
+}
+
+#[tactic(auto, unfolding(crate::specs::Report::start_of))]
+fn read_start(text: &[u8]) -> Option<Start>
+    ensures { result ≡ start_by text.now }
+{
+    match up_to_three(text, b'.') {
+        UpToThree::Two(id, number) => Some(Start {
+            id: read_u32(id)?,
+            number: read_u32(number)?,
+        }),
+        _ => None,
+    }
+}
+
+#[tactic(auto, unfolding(crate::specs::Report::start_of, crate::specs::Report::done_of))]
+fn read_done(text: &[u8]) -> Option<Done>
+    ensures { result ≡ done_by text.now }
+{
+    match up_to_three(text, b'.') {
+        UpToThree::Three(id, number, exit) => Some(Done {
+            start: Start {
+                id: read_u32(id)?,
+                number: read_u32(number)?,
+            },
+            exit: read_u32(exit)?,
+        }),
+        _ => None,
+    }
+}
+
+fn read_u32(text: &[u8]) -> Option<u32>
+    ensures { result ≡ u32_by text.now }
+{
+    Some(parse_number(text, 10, 4_294_967_295)? as u32)
+}

@@ -1,0 +1,16 @@
+-- Fields of a fixed width.
+use Rattle.std.specs.Prelude.{ℕ, ◌-◌, Bool, true, if◌then◌else◌, List, ◌++◌, length, take, replicate, codes}
+
+-- the blanks (32) that a text lacks
+abbrev pub padding : ℕ → List ℕ → List ℕ
+padding width text = replicate (width - length text) 32
+
+-- a text cut to its first `width` bytes and padded, on the left with the dot, else on the right
+unfoldable pub field : ℕ → Bool → List ℕ → List ℕ
+field width dot text =
+    if dot then padding width (take width text) ++ take width text
+    else take width text ++ padding width (take width text)
+
+-- a field with the padding on the left, and the blank behind it
+unfoldable pub cell : ℕ → List ℕ → List ℕ
+cell width text = field width true text ++ codes " "

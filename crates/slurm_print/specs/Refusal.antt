@@ -1,0 +1,32 @@
+-- The text of a refusal.
+use Rattle.std.specs.Prelude.{ℕ, List, [], ◌++◌, codes, decimal}
+use Rattle.slurm_text.specs.declared.plain.refusal.Refusal.{Refusal}
+use Rattle.slurm_text.specs.declared.plain.refusal.Refusal.TheVariants.{InvalidAccount, NodesNotAvailable, AccessDenied, UnknownNode, StaleReport, JobIdsSpent, MomentTooLarge}
+
+abbrev pub refusal_name : Refusal → List ℕ
+refusal_name InvalidAccount = codes "InvalidAccount"
+refusal_name NodesNotAvailable = codes "NodesNotAvailable"
+refusal_name AccessDenied = codes "AccessDenied"
+refusal_name UnknownNode = codes "UnknownNode"
+refusal_name (StaleReport boot number) = codes "StaleReport"
+refusal_name JobIdsSpent = codes "JobIdsSpent"
+refusal_name MomentTooLarge = codes "MomentTooLarge"
+
+abbrev pub refusal_number : Refusal → ℕ
+refusal_number InvalidAccount = 2
+refusal_number NodesNotAvailable = 5
+refusal_number AccessDenied = 11
+refusal_number UnknownNode = 16
+refusal_number (StaleReport boot number) = 17
+refusal_number JobIdsSpent = 19
+refusal_number MomentTooLarge = 20
+
+-- what stands behind the number: the last accepted report of the node, where this one isn't after it
+abbrev pub refusal_details : Refusal → List ℕ
+refusal_details (StaleReport boot number) = codes " " ++ decimal boot ++ codes " " ++ decimal number
+refusal_details refusal = []
+
+abbrev pub refusal_line : List ℕ → Refusal → List ℕ
+refusal_line command refusal =
+    command ++ codes ": error: " ++ refusal_name refusal ++ codes " (" ++ decimal (refusal_number refusal) ++ codes ")"
+    ++ refusal_details refusal ++ codes "\n"

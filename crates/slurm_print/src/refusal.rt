@@ -1,0 +1,64 @@
+//! The text of a refusal.
+
+ghost use Rattle.std.specs.Prelude.{◌≡◌, ◌++◌, OnOk};
+ghost use Rattle.slurm_print.specs.Refusal.{refusal_line, refusal_name, refusal_number, refusal_details};
+
+use crate::line::{push_labelled, push_text};
+use slurm_text::memory_error::Memory;
+use slurm_text::plain::refusal::Refusal;
+
+/// Writes the line of a refusal, which begins with the command.
+pub(crate) fn push_refusal(
+    out: &mut Vec<u8>,
+    command: &[u8],
+    refusal: &Refusal,
+) -> Result<(), Memory>
+    ensures { OnOk result (out.new.items ≡ out.old.items ++ refusal_line command.now refusal.now) }
+{
+    push_text(out, command)?;
+    push_text(out, b": error: ")?;
+    push_text(out, name(refusal))?;
+    push_labelled(out, b" (", number(refusal))?;
+    push_text(out, b")")?;
+    push_details(out, refusal)?;
+    push_text(out, b"\n")?;
+    Ok(())
+}
+
+fn name(refusal: &Refusal) -> &'static [u8]
+    ensures { result.now ≡ refusal_name refusal.now }
+{
+    match refusal {
+        Refusal::InvalidAccount => b"InvalidAccount",
+        Refusal::NodesNotAvailable => b"NodesNotAvailable",
+        Refusal::AccessDenied => b"AccessDenied",
+        Refusal::UnknownNode => b"UnknownNode",
+        Refusal::StaleReport { .. } => b"StaleReport",
+        Refusal::JobIdsSpent => b"JobIdsSpent",
+        Refusal::MomentTooLarge => b"MomentTooLarge",
+    }
+}
+
+fn number(refusal: &Refusal) -> u64
+    ensures { result ≡ refusal_number refusal.now }
+{
+    match refusal {
+        Refusal::InvalidAccount => 2,
+        Refusal::NodesNotAvailable => 5,
+        Refusal::AccessDenied => 11,
+        Refusal::UnknownNode => 16,
+        Refusal::StaleReport { .. } => 17,
+        Refusal::JobIdsSpent => 19,
+        Refusal::MomentTooLarge => 20,
+    }
+}
+
+fn push_details(out: &mut Vec<u8>, refusal: &Refusal) -> Result<(), Memory>
+    ensures { OnOk result (out.new.items ≡ out.old.items ++ refusal_details refusal.now) }
+{
+    if let Refusal::StaleReport { boot, number } = refusal {
+        push_labelled(out, b" ", *boot)?;
+        push_labelled(out, b" ", *number)?;
+    }
+    Ok(())
+}
