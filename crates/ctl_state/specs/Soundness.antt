@@ -1,0 +1,92 @@
+-- What every state keeps.
+use Rattle.std.specs.Prelude.{◌≡◌, ◌≢◌, ℕ, ◌+◌, ◌<◌, ◌≤◌, true, ◌||◌, is_some, unwrap_or, List, length, map, filter, All, AllPairs, Contains}
+use Rattle.slurm_text.specs.declared.plain.limit.Limit.{Limit}
+use Rattle.slurm_text.specs.declared.plain.limit.Limit.TheVariants.{Minutes, Unlimited}
+use Rattle.slurm_text.specs.declared.plain.conf.Settings.{Settings}
+use Rattle.slurm_text.specs.declared.plain.job.JobDesc.{JobDesc}
+use Rattle.slurm_text.specs.declared.plain.state.JobState.TheVariants.{Ended}
+use Rattle.slurm_text.specs.declared.plain.state.Final.TheVariants.{Requeue}
+use Rattle.backfill_planner.specs.declared.Placed.{Placed}
+use Rattle.ctl_state.specs.declared.record.Part.{Part}
+use Rattle.ctl_state.specs.declared.record.NodeRecord.{NodeRecord}
+use Rattle.ctl_state.specs.declared.record.JobRecord.{JobRecord}
+use Rattle.ctl_state.specs.State.{State, last_job_id, last_moment}
+use Rattle.ctl_state.specs.JobStates.{is_pending, is_completing, is_ended, is_holding}
+use Rattle.ctl_state.specs.Holding.{IsHeldOnce, OnNodesApart, has_members, parts_of}
+use Rattle.ctl_state.specs.Planning.{room_of}
+
+-- a limit is a minute at least, and at most a hundred years; or none
+abbrev pub IsLimit : Limit → Type 0
+IsLimit (Minutes minutes) = (1 ≤ minutes) × (minutes ≤ 52560000)
+IsLimit Unlimited = Unit {0}
+
+-- the settings are in their ranges
+pub record HasRanges (settings : Settings) : Type 0 where
+  pub window : (1 ≤ settings.bf_window) × (settings.bf_window ≤ 43200)
+  pub age : settings.min_job_age ≤ 65533
+
+-- the node is in its ranges
+pub record IsNode (node : NodeRecord) : Type 0 where
+  pub cpus : (1 ≤ node.conf.cpus) × (node.conf.cpus ≤ 1024)
+  pub mem : (1 ≤ node.conf.mem) × (node.conf.mem ≤ 16777216)
+
+-- what a job asks for is in its ranges
+pub record IsAsked (desc : JobDesc) : Type 0 where
+  pub tasks : (1 ≤ desc.tasks) × (desc.tasks ≤ 1048576)
+  pub run : (1 ≤ desc.run) × (desc.run ≤ 2000000000)
+  pub exit : desc.exit ≤ 255
+
+-- The job's times fit its state: what runs or completes has a start, what has left Running has an end, none comes before the
+-- other or lies ahead.
+pub record IsWellRun (moment : ℕ) (job : JobRecord) : Type 0 where
+  pub submitted : job.submit ≤ moment
+  pub started : is_holding job.state ≡ true → is_some job.started ≡ true
+  pub ended : (is_completing job.state || is_ended job.state) ≡ true → is_some job.ended ≡ true
+  pub start_passed : unwrap_or job.started 0 ≤ moment
+  pub end_passed : unwrap_or job.ended 0 ≤ moment
+  pub in_order : is_some job.ended ≡ true → unwrap_or job.started 0 ≤ unwrap_or job.ended 0
+  pub final : job.state ≢ Ended Requeue
+
+-- only running and completing jobs have parts, and these have one at least; a job has at most one part on a node
+pub record HasItsParts (job : JobRecord) : Type 0 where
+  pub some : has_members job.parts ≡ is_holding job.state
+  pub apart : OnNodesApart job.parts
+
+-- what is kept of each job by itself
+pub record IsKept (moment : ℕ) (job : JobRecord) : Type 0 where
+  pub asked : IsAsked job.desc
+  pub limit : IsLimit job.limit
+  pub run : IsWellRun moment job
+  pub parts : HasItsParts job
+
+-- the numbers rise
+abbrev pub HaveRisingIds : List JobRecord → Type 0
+HaveRisingIds jobs = AllPairs (λ (one other : JobRecord). one.id < other.id) jobs
+
+-- the numbers of the pending jobs
+abbrev pub pending_ids : List JobRecord → List ℕ
+pending_ids jobs = map (λ (job : JobRecord). job.id) (filter (λ (job : JobRecord). is_pending job.state) jobs)
+
+-- the plan names pending jobs alone, each at most once, and no second after the last one at which a start is tried
+pub record PlansPending (jobs : List JobRecord) (plan : List Placed) : Type 0 where
+  pub pending : All (λ (placed : Placed). Contains (pending_ids jobs) placed.id) plan
+  pub once : AllPairs (λ (one other : Placed). one.id ≢ other.id) plan
+  pub last : All (λ (placed : Placed). placed.start ≤ 250002592000) plan
+
+-- there are at most 1,024 nodes, each in its ranges and named once
+pub record AreNodes (nodes : List NodeRecord) : Type 0 where
+  pub few : length nodes ≤ 1024
+  pub each : All IsNode nodes
+  pub once : AllPairs (λ (one other : NodeRecord). one.conf.name ≢ other.conf.name) nodes
+
+pub record IsSound (s : State) : Type 0 where
+  pub settings : HasRanges s.settings
+  pub nodes : AreNodes s.nodes
+  -- the numbers of the jobs rise, and are below the next one
+  pub rising : HaveRisingIds s.jobs
+  pub below_next : All (λ (job : JobRecord). job.id < s.next_id) s.jobs
+  pub next : (1 ≤ s.next_id) × (s.next_id ≤ last_job_id + 1)
+  pub moment : s.moment ≤ last_moment
+  pub jobs : All (IsKept s.moment) s.jobs
+  pub held : IsHeldOnce (map room_of s.nodes) (parts_of s.jobs)
+  pub plan : PlansPending s.jobs s.plan

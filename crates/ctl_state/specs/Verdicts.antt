@@ -1,0 +1,35 @@
+-- What comes of a request.
+use Rattle.std.specs.Prelude.{ℕ}
+use Rattle.slurm_text.specs.declared.plain.refusal.Refusal.{Refusal}
+use Rattle.slurm_text.specs.declared.plain.view.View.{View}
+use Rattle.slurm_text.specs.declared.plain.reply.Reply.{Reply}
+use Rattle.slurm_text.specs.declared.plain.reply.Reply.TheVariants.{Idle, Shown, Refused, NotBuilt}
+use Rattle.ctl_state.specs.State.{State}
+
+-- It is refused, tells something, would change nothing but the moment, can't be worked yet, or makes a reply and a state.
+pub data Verdict : Type 0 where
+  Refuses : (refusal : Refusal) → Verdict
+  Tells : (view : View) → Verdict
+  Stays : Verdict
+  Unbuilt : Verdict
+  Makes : (reply : Reply) (after : State) → Verdict
+
+-- the reply to it
+abbrev pub reply_by : Verdict → Reply
+reply_by (Refuses refusal) = Refused refusal
+reply_by (Tells view) = Shown view
+reply_by Stays = Idle
+reply_by Unbuilt = NotBuilt
+reply_by (Makes reply after) = reply
+
+-- a state that an entry of this moment has made
+abbrev pub stamped : ℕ → State → State
+stamped now s = record s { moment = now }
+
+-- the state after it: as it was where nothing is made
+abbrev pub state_by : State → ℕ → Verdict → State
+state_by s now (Refuses refusal) = s
+state_by s now (Tells view) = s
+state_by s now Stays = s
+state_by s now Unbuilt = s
+state_by s now (Makes reply after) = stamped now after

@@ -1,0 +1,24 @@
+//! What the controller keeps, as plain data.
+
+use crate::record::{AssocRecord, JobRecord, NodeRecord};
+use backfill_planner::Placed;
+use slurm_text::plain::conf::{PartConf, Settings};
+
+/// The cluster as the controller knows it (own). The controller's type keeps what is true of it; here it is plain data.
+#[derive(Drop)]
+pub struct Cluster {
+    pub settings: Settings,
+    pub partition: PartConf,
+    /// In the order of slurm.conf.
+    pub nodes: Vec<NodeRecord>,
+    /// In the order of the association file.
+    pub assocs: Vec<AssocRecord>,
+    /// In the order of their numbers.
+    pub jobs: Vec<JobRecord>,
+    /// The placements of the last pass that didn't start.
+    pub plan: Vec<Placed>,
+    /// The number that the next job gets.
+    pub next_id: u32,
+    /// The moment of the last accepted request.
+    pub moment: u64,
+}

@@ -1,0 +1,10 @@
+//! The state of the cluster: what it keeps of nodes and jobs, what may happen to these, and what stays true whatever
+//! happens.
+#![tactic(auto)]
+
+pub mod change;
+pub mod cluster;
+pub mod jobs;
+pub mod laws;
+pub mod planning;
+pub mod record;
