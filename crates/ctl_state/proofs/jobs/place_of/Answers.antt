@@ -1,7 +1,7 @@
 use Rattle.std.proofs.Common.{Ok, Err, rules}
 use Rattle.std.proofs.lemmas.List.Sorted.{answers_always}
 use Rattle.ctl_state.specs.declared.record.JobRecord.{JobRecord}
-use Rattle.ctl_state.proofs.PassLists.{searched}
+use Rattle.ctl_state.proofs.Searches.{searched}
 use Rattle.ctl_state.proofs.jobs.place_of.Goals as goal
 
 pub returns-in-Ok-clause-found : goal.returns-in-Ok-clause-found
