@@ -34,8 +34,8 @@ kept-later before now job later kept = record {
   parts = kept.parts;
 }
 
-pub kept-let_go : (now : ℕ) (job after : JobRecord) → IsKept now job → LetsGo now job after → IsKept now after
-kept-let_go now job after kept lets = record {
+pub kept-let_go : (before now : ℕ) (job after : JobRecord) → IsKept before job → LetsGo now job after → IsKept now after
+kept-let_go before now job after kept lets = record {
   asked = lets.asked;
   limit = lets.limit;
   run = lets.run;

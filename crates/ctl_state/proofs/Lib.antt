@@ -1,3 +1,5 @@
 pub mod Lists
 pub mod Counts
 pub mod Kept
+pub mod Held
+pub mod LetGo
