@@ -13,14 +13,15 @@ count-cons p x xs = sum_by-cons (λ y. cond (p y) 1 0) x xs
 
 count-none : {X : Type 0} (p : X → Bool) (xs : List X) → All (λ x. p x ≡ false) xs → count_by p xs ≡ 0
 count-none p [] none = refl
-count-none p (x ∷ xs) none = rw (count-cons p x xs, All-head (λ y. p y ≡ false) x xs none) (count-none p xs (All-tail (λ y. p y ≡ false) x xs none))
+count-none p (x ∷ xs) none =
+    rw (count-cons p x xs, All-head (λ y. p y ≡ false) x xs none) (omega (arith, count-none p xs (All-tail (λ y. p y ≡ false) x xs none)))
 
 -- where a test counts, it holds of an element
 pub Any-counted : {X : Type 0} (p : X → Bool) (xs : List X) → 1 ≤ count_by p xs → Any (λ x. p x ≡ true) xs
 Any-counted p [] some = absurd (omega (arith, some))
 Any-counted p (x ∷ xs) some = elim (cases_Bool (p x)) [
   | inl passes ↦ (0, x, omega arith, refl, passes)
-  | inr fails ↦ later (Any-counted p xs (rw (count-cons p x xs, fails) at some))
+  | inr fails ↦ later (Any-counted p xs (omega (arith, rw (count-cons p x xs, fails) at some)))
 ]
   where
     later : Any (λ y. p y ≡ true) xs → Any (λ y. p y ≡ true) (x ∷ xs)
@@ -29,15 +30,15 @@ Any-counted p (x ∷ xs) some = elim (cases_Bool (p x)) [
 -- a test that holds of one of each two at most counts once at most, and the other way round
 pub count-once : {X : Type 0} (p : X → Bool) (xs : List X) → AllPairs (λ one other. p one ≡ true → p other ≡ false) xs → count_by p xs ≤ 1
 count-once p [] pairs = omega arith
-count-once p (x ∷ xs) pairs =
+count-once {X} p (x ∷ xs) pairs =
     let apart : X → X → Type 0 = λ one other. p one ≡ true → p other ≡ false in
     elim (cases_Bool (p x)) [
       | inl passes ↦ rw (count-cons p x xs, passes) (omega (arith, count-none p xs (λ k d below. pairs-head apart x xs pairs k d below passes)))
-      | inr fails ↦ rw (count-cons p x xs, fails) (count-once p xs (pairs-tail apart x xs pairs))
+      | inr fails ↦ rw (count-cons p x xs, fails) (omega (arith, count-once p xs (pairs-tail apart x xs pairs)))
     ]
 
 pub pairs-counted : {X : Type 0} (p : X → Bool) (xs : List X) → count_by p xs ≤ 1 → AllPairs (λ one other. p one ≡ true → p other ≡ false) xs
-pairs-counted p [] once i j d before below = absurd (omega (arith, below))
+pairs-counted p [] once = λ i j d before below. absurd (omega (arith, below))
 pairs-counted p (x ∷ xs) once =
     AllPairs-cons (λ one other. p one ≡ true → p other ≡ false) x xs others (pairs-counted p xs (omega (arith, once, count-cons p x xs)))
   where
@@ -53,7 +54,7 @@ pairs-counted p (x ∷ xs) once =
 pub sum-grown : {X : Type 0} (f : X → ℕ) (p : X → Bool) (change : X → X) (amount : X → ℕ) (number extra : ℕ) (xs : List X)
     → AllPairs (λ one other. f one < f other) xs → Contains (map f (filter p xs)) number → All (λ x. p x ≡ true → amount (change x) ≡ amount x + extra) xs
     → sum_by amount (map (λ x. cond (eqb (f x) number) (change x) x) xs) ≡ sum_by amount xs + extra
-sum-grown f p change amount number extra [] rising has each = absurd (omega (arith, has.1.0))
+sum-grown f p change amount number extra [] rising has each = absurd (omega (arith, has.1))
 sum-grown {X} f p change amount number extra (x ∷ xs) rising has each =
     let below : X → X → Type 0 = λ one other. f one < f other in
     let set : X → X = λ y. cond (eqb (f y) number) (change y) y in
