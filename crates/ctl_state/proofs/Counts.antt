@@ -1,11 +1,11 @@
 -- How often a test holds in a list, and how a sum grows where one element changes.
-use Rattle.std.proofs.Common.{◌≡◌, ℕ, zero, suc, ◌+◌, ◌<◌, ◌≤◌, Bool, true, false, cond, eqb, List, [], ◌∷◌, length, map, filter, get_or, sum_by, All, AllPairs, Any, Contains, arith, refl, ap, inl, inr}
+use Rattle.std.proofs.Common.{◌≡◌, ℕ, zero, suc, ◌+◌, ◌<◌, ◌≤◌, Bool, true, false, cond, eqb, List, [], ◌∷◌, length, map, filter, flat_map, get_or, sum_by, All, AllPairs, Any, Contains, arith, refl, ap, inl, inr}
 use Rattle.std.specs.Prelude.{count_by}
 use Rattle.std.proofs.lemmas.Bool.{cases_Bool, eq-eqb, ne_eqb}
 use Rattle.std.proofs.lemmas.List.Elements.{All-head, All-tail, All-map, All-filter, All-contains}
 use Rattle.std.proofs.lemmas.List.Folds.{map_fixed}
 use Rattle.std.proofs.lemmas.List.Kept.{AllPairs-cons}
-use Rattle.std.proofs.lemmas.List.Sums.{sum_by-cons, get_or-le-sum_by}
+use Rattle.std.proofs.lemmas.List.Sums.{sum_by-append, sum_by-cons, get_or-le-sum_by}
 use Rattle.ctl_state.proofs.Lists.{pairs-head, pairs-tail, contains-cases}
 
 count-cons : {X : Type 0} (p : X → Bool) (x : X) (xs : List X) → count_by p (x ∷ xs) ≡ cond (p x) 1 0 + count_by p xs
@@ -72,3 +72,8 @@ sum-grown {X} f p change amount number extra (x ∷ xs) rising has each =
           let is : amount (set x) ≡ amount x = rw (ne_eqb (f x) number (λ same. omega (arith, same, less))) refl in
           omega (arith, before, after, is, sum-grown f p change amount number extra xs (pairs-tail below x xs rising) later (All-tail grows x xs each))
     ]
+
+-- the sum over a joined list, by the lists that it is joined of
+pub sum_by-flat_map : {X Y : Type 0} (f : Y → ℕ) (h : X → List Y) (xs : List X) → sum_by f (flat_map h xs) ≡ sum_by (λ x. sum_by f (h x)) xs
+sum_by-flat_map f h [] = refl
+sum_by-flat_map f h (x ∷ xs) = omega (arith, sum_by-append f (h x) (flat_map h xs), sum_by-cons (λ y. sum_by f (h y)) x xs, sum_by-flat_map f h xs)

@@ -11,7 +11,7 @@ use Rattle.ctl_state.specs.declared.record.Part.{Part}
 use Rattle.ctl_state.specs.declared.record.JobRecord.{JobRecord}
 use Rattle.ctl_state.specs.declared.change.Change.{Change}
 use Rattle.ctl_state.specs.declared.change.Change.TheVariants.{Start, Leave, DropPart}
-use Rattle.ctl_state.specs.JobStates.{is_running, is_completing, is_ended, is_holding, left}
+use Rattle.ctl_state.specs.JobStates.{is_pending, is_running, is_completing, is_ended, is_holding, left}
 use Rattle.ctl_state.specs.Changes.{changed, is_start, moment_of, off_node, with_left, end_of}
 use Rattle.ctl_state.specs.Holding.{has_members, is_on, parts_off}
 use Rattle.ctl_state.specs.Soundness.{IsKept, IsWellRun}
@@ -169,3 +169,17 @@ changed-lets_go now (Leave final moment exit) job other at kept = elim (cases_Bo
   | inr idle ↦ rw idle (lets_go-same now job kept)
 ]
 changed-lets_go now (DropPart node moment) job other at kept = rw at (off_node-lets_go now node job.state job kept refl)
+
+-- a waiting job holds nothing
+pub pending-nothing : (now : ℕ) (job : JobRecord) → IsKept now job → is_pending job.state ≡ true → job.parts ≡ []
+pending-nothing now job kept pending = empty job.parts (kept.parts.some ∙ idle job.state pending)
+  where
+    idle : (state : JobState) → is_pending state ≡ true → is_holding state ≡ false
+    idle Pending waits = refl
+    idle Running never = absurd (both_ways false refl never)
+    idle (Completing final) never = absurd (both_ways false refl never)
+    idle (Ended final) waits = refl
+
+    empty : (parts : List Part) → has_members parts ≡ false → parts ≡ []
+    empty [] none = refl
+    empty (part ∷ parts) none = absurd (both_ways true none refl)

@@ -11,11 +11,11 @@ use Rattle.ctl_state.specs.declared.record.Part.{Part}
 use Rattle.ctl_state.specs.declared.record.JobRecord.{JobRecord}
 use Rattle.ctl_state.specs.State.{State, last_moment}
 use Rattle.ctl_state.specs.JobStates.{is_holding}
-use Rattle.ctl_state.specs.Holding.{IsHeldOnce, IsPartOf, mem_in, parts_of}
+use Rattle.ctl_state.specs.Holding.{IsHeldOnce, IsPartOf, mem_held, mem_in, parts_of, times_held}
 use Rattle.ctl_state.specs.Planning.{room_of}
 use Rattle.ctl_state.specs.Events.{LetsGo, those_left}
 use Rattle.ctl_state.specs.Soundness.{IsKept, IsSound, PlansPending}
-use Rattle.ctl_state.proofs.Held.{cpu_in, mem_held-is, times_held-is}
+use Rattle.ctl_state.proofs.Held.{cpu_in}
 use Rattle.ctl_state.proofs.Kept.{kept-let_go}
 use Rattle.ctl_state.proofs.Lists.{All-flat_map, All-from_flat_map, rising-kept}
 
@@ -42,6 +42,7 @@ left-less amount now change goes (job ∷ jobs) lets =
 
 held-left : (rooms : List NodeRoom) (now : ℕ) (change : JobRecord → JobRecord) (goes : JobRecord → Bool) (jobs : List JobRecord) → All (λ job. LetsGo now job (change job)) jobs
     → IsHeldOnce rooms (parts_of jobs) → IsHeldOnce rooms (parts_of (those_left change goes jobs))
+unfolding times_held mem_held
 held-left rooms now change goes jobs lets held =
     let has : JobRecord → Type 0 = λ job. All (IsPartOf rooms) job.parts in
     let parts : JobRecord → List Part = λ job. job.parts in
@@ -50,8 +51,8 @@ held-left rooms now change goes jobs lets held =
         rw one.parts (All-filter one.keep (IsPartOf rooms) (get_or jobs k d).parts (All-from_flat_map (IsPartOf rooms) parts jobs held.each k d below)) in
     record {
       each = All-flat_map (IsPartOf rooms) parts (those_left change goes jobs) (All-filter (λ job. not (goes job)) has (map change jobs) (All-map has change jobs kept));
-      once = λ node cpu. omega (arith, times_held-is (parts_of jobs) node cpu, times_held-is (parts_of (those_left change goes jobs)) node cpu, left-less (cpu_in node cpu) now change goes jobs lets, held.once node cpu);
-      mem = λ node. omega (arith, mem_held-is (parts_of jobs) node, mem_held-is (parts_of (those_left change goes jobs)) node, left-less (mem_in node) now change goes jobs lets, held.mem node);
+      once = λ node cpu. omega (arith, left-less (cpu_in node cpu) now change goes jobs lets, held.once node cpu);
+      mem = λ node. omega (arith, left-less (mem_in node) now change goes jobs lets, held.mem node);
     }
 
 pub sound-left : (s : State) (now : ℕ) (change : JobRecord → JobRecord) (goes : JobRecord → Bool) (plan : List Placed)

@@ -3,3 +3,4 @@ pub mod Counts
 pub mod Kept
 pub mod Held
 pub mod LetGo
+pub mod Taken

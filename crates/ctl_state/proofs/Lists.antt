@@ -7,17 +7,9 @@ use Rattle.std.proofs.lemmas.List.Elements.{All-nil, All-head, All-tail, All-app
 use Rattle.std.proofs.lemmas.List.Folds.{length-flat_map-take}
 use Rattle.std.proofs.lemmas.List.Kept.{AllPairs-cons}
 
--- what holds of each element of a mapped list, or of each two
-pub All-from_map : {X Y : Type 0} (P : Y → Type 0) (f : X → Y) (xs : List X) → All P (map f xs) → All (λ x. P (f x)) xs
-All-from_map P f xs all k d below =
-    let inside : k < length (map f xs) = omega (arith, below, length-map xs f) in
-    rw (get_or-map f xs k d (f d) below) at (all k (f d) inside)
-
-pub pairs-from_map : {X Y : Type 0} (R : Y → Y → Type 0) (f : X → Y) (xs : List X) → AllPairs R (map f xs) → AllPairs (λ one other. R (f one) (f other)) xs
-pairs-from_map R f xs pairs i j d before below =
-    let inside : j < length (map f xs) = omega (arith, below, length-map xs f) in
-    let earlier : i < length xs = omega (arith, before, below) in
-    rw (get_or-map f xs i d (f d) earlier, get_or-map f xs j d (f d) below) at (pairs i j (f d) before inside)
+pub map-map : {X Y Z : Type 0} (f : Y → Z) (g : X → Y) (xs : List X) → map f (map g xs) ≡ map (λ x. f (g x)) xs
+map-map f g [] = refl
+map-map f g (x ∷ xs) = ap (λ rest. f (g x) ∷ rest) (map-map f g xs)
 
 -- what holds of each element of a joined list, by the lists that it is joined of
 pub All-flat_map : {X Y : Type 0} (P : Y → Type 0) (h : X → List Y) (xs : List X) → All (λ x. All P (h x)) xs → All P (flat_map h xs)
