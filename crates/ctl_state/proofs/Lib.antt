@@ -4,3 +4,4 @@ pub mod Kept
 pub mod Held
 pub mod LetGo
 pub mod Taken
+pub mod Added
