@@ -1,0 +1,5 @@
+pub mod Tallies
+pub mod Soundly
+pub mod Fitting
+pub mod Idle
+pub mod Origins
