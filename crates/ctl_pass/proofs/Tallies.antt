@@ -28,14 +28,16 @@ pairs-map R f (x ∷ xs) pairs i j d before below =
 -- what stands among the numbers of the elements that pass is the number of one that passes
 pub Any-kept : {X : Type 0} (f : X → ℕ) (p : X → Bool) (y : ℕ) (xs : List X) → Contains (map f (filter p xs)) y → Any (λ x. (f x ≡ y) × (p x ≡ true)) xs
 Any-kept f p y [] has = absurd (omega (arith, has.1))
-Any-kept {X} f p y (x ∷ xs) has = elim (cases_Bool (p x)) [ inl passes ↦ first passes (rw passes at has) | inr fails ↦ later (Any-kept f p y xs (rw fails at has)) ]
+Any-kept f p y (x ∷ xs) has =
+    let rest = λ (kept : Contains (map f (filter p xs)) y). later (Any-kept f p y xs kept) in
+    elim (cases_Bool (p x)) [ inl passes ↦ first rest passes (rw passes at has) | inr fails ↦ rest (rw fails at has) ]
   where
-    later : Any (λ x. (f x ≡ y) × (p x ≡ true)) xs → Any (λ x. (f x ≡ y) × (p x ≡ true)) (x ∷ xs)
+    later : Any (λ z. (f z ≡ y) × (p z ≡ true)) xs → Any (λ z. (f z ≡ y) × (p z ≡ true)) (x ∷ xs)
     later (k, z, inside, is, both) = (suc k, z, omega (arith, inside), is, both)
 
-    first : p x ≡ true → Contains (map f (x ∷ filter p xs)) y → Any (λ x. (f x ≡ y) × (p x ≡ true)) (x ∷ xs)
-    first passes (zero, inside, is) = (0, x, omega arith, refl, (is, passes))
-    first passes (suc k, inside, is) = later (Any-kept f p y xs (k, omega (arith, inside), is))
+    first : (Contains (map f (filter p xs)) y → Any (λ z. (f z ≡ y) × (p z ≡ true)) (x ∷ xs)) → p x ≡ true → Contains (map f (x ∷ filter p xs)) y → Any (λ z. (f z ≡ y) × (p z ≡ true)) (x ∷ xs)
+    first rest passes (zero, inside, is) = (0, x, omega arith, refl, (is, passes))
+    first rest passes (suc k, inside, is) = rest (k, omega (arith, inside), is)
 
 -- larger terms have larger sums, and one more at one place a larger one
 pub sum_by-larger : {X : Type 0} (f g : X → ℕ) (xs : List X) → All (λ x. f x ≤ g x) xs → sum_by f xs ≤ sum_by g xs
