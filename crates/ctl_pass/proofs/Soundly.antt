@@ -109,10 +109,10 @@ pub record CanStart (s : State) (plan : List Placed) : Type 0 where
   pub mem : (node : ℕ) → mem_held (parts_of s.jobs) node + sum_by (mem_on node) (starts_at s.moment plan) ≤ mem_of (map room_of s.nodes) node
 
 -- the parts that a placement gets, and the state once it has started
-abbrev parts_for : State → Placed → List Part
+abbrev pub parts_for : State → Placed → List Part
 parts_for s placed = map (part_of (map room_of s.nodes) s.jobs) placed.parts
 
-abbrev after_start : State → Placed → State
+abbrev pub after_start : State → Placed → State
 after_start s placed = record s { jobs = begun s.moment s.jobs (start_of (map room_of s.nodes) s.jobs placed); plan = [] }
 
 -- they take no more than was planned
@@ -164,7 +164,7 @@ may-take s placed ready fits =
 
 module _ (laws : StateLaws) where
   -- where the first placement isn't due, the others can start
-  can-later : (s : State) (placed : Placed) (later : List Placed) → CanStart s (placed ∷ later) → eqb placed.start s.moment ≡ false → CanStart s later
+  pub can-later : (s : State) (placed : Placed) (later : List Placed) → CanStart s (placed ∷ later) → eqb placed.start s.moment ≡ false → CanStart s later
   can-later s placed later can other = record {
     sound = can.sound;
     each = All-tail (IsReady s) placed later can.each;
@@ -174,7 +174,7 @@ module _ (laws : StateLaws) where
   }
 
   -- where it is, they can start after it
-  can-begun : (s : State) (placed : Placed) (later : List Placed) → CanStart s (placed ∷ later) → eqb placed.start s.moment ≡ true → CanStart (after_start s placed) later
+  pub can-begun : (s : State) (placed : Placed) (later : List Placed) → CanStart s (placed ∷ later) → eqb placed.start s.moment ≡ true → CanStart (after_start s placed) later
   unfolding cpus_held
   can-begun s placed later can due =
       let rooms = map room_of s.nodes in
