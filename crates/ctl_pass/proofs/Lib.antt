@@ -4,3 +4,8 @@ pub mod HeldBits
 pub mod ReadyJobs
 pub mod Beginning
 pub mod Plans
+pub mod Soundly
+pub mod Given
+pub mod Fitting
+pub mod Idle
+pub mod Origins

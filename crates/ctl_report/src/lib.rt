@@ -4,7 +4,7 @@
 mod jobs;
 pub mod laws;
 mod nodes;
-mod orders;
+mod ordering;
 mod report;
 mod starts;
 

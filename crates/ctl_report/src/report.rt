@@ -4,13 +4,13 @@ ghost use Rattle.std.specs.Prelude.{◌≡◌, ◌<◌, ℕ, IfOk, IfSome, lengt
 ghost use Rattle.ctl_state.specs.State.{state_of};
 ghost use Rattle.ctl_state.specs.Soundness.{IsSound};
 ghost use Rattle.ctl_state.specs.Refusals.{first_refusal};
-ghost use Rattle.ctl_report.specs.Reporting.{report_after};
+ghost use Rattle.ctl_report.specs.Reporting.{heard_of, report_after};
 ghost use Rattle.ctl_report.specs.Ordering.{orders_of};
 ghost use Rattle.ctl_report.specs.Answering;
 
 use crate::jobs::report_jobs;
 use crate::nodes::{hear, heard_of, is_after, place_of};
-use crate::orders::{forgets, kills, launches};
+use crate::ordering::{forgets, kills, launches};
 use ctl_state::cluster::Cluster;
 use slurm_text::memory_error::Memory;
 use slurm_text::name::Name;
@@ -39,7 +39,7 @@ pub fn node_of(cluster: &Cluster, report: &Report) -> Option<usize>
 
 // Why the report comes too late, if it does.
 fn staleness(cluster: &Cluster, report: &Report) -> Option<Refusal>
-    ensures { result ≡ Answering.staleness report.now (Rattle.ctl_report.specs.Reporting.heard_of cluster.now.nodes.items report.now.node) }
+    ensures { result ≡ Answering.staleness report.now (heard_of cluster.now.nodes.items report.now.node) }
 {
     match heard_of(&cluster.nodes, &report.node) {
         Some(heard) if !is_after(&heard, report) => Some(Refusal::StaleReport {

@@ -1,2 +1,7 @@
-pub mod Searches
-pub mod Places
+pub mod Lists
+pub mod Counts
+pub mod Kept
+pub mod Held
+pub mod LetGo
+pub mod Taken
+pub mod Added

@@ -1,8 +1,8 @@
+-- What is retained is what isn't on the node.
 use Rattle.std.proofs.Common.{◌∙◌, ◌≡◌, ap, rules, tests, not}
 use Rattle.std.proofs.lemmas.Fn.{filter_same}
 use Rattle.ctl_state.specs.declared.record.Part.{Part}
-use Rattle.ctl_state.specs.Holding.{is_on}
-use Rattle.ctl_state.specs.Holding.{parts_off}
+use Rattle.ctl_state.specs.Holding.{is_on, parts_off}
 use Rattle.ctl_state.proofs.change.drop_parts.Goals as goal
 
 pub returns : goal.returns

@@ -1,3 +1,4 @@
+-- The places so far.
 use Rattle.std.proofs.Common.{◌≡◌}
 use Rattle.std.specs.List.{range_with_len}
 use Rattle.ctl_state.proofs.planning.all_places.Given as goal

@@ -1,0 +1,76 @@
+-- Lists whose elements change, go or are added: what holds of each element and of each two, and what they contain.
+use Rattle.std.proofs.Common.{◌≡◌, ℕ, zero, suc, ◌+◌, ◌<◌, Bool, true, false, cond, List, [], ◌∷◌, ◌++◌, length, map, filter, flat_map, get_or, take, All, AllPairs, Contains, ◌⊎◌, arith, refl, ap, ◌&&◌, inl, inr}
+use Rattle.std.proofs.lemmas.Bool.{cases_Bool}
+use Rattle.std.proofs.lemmas.List.{length-map, get_or-map}
+use Rattle.std.proofs.lemmas.List.Concat.{get_or-flat_map}
+use Rattle.std.proofs.lemmas.List.Elements.{All-nil, All-head, All-tail, All-append}
+use Rattle.std.proofs.lemmas.List.Folds.{length-flat_map-take}
+use Rattle.std.proofs.lemmas.List.Kept.{AllPairs-cons}
+
+pub map-map : {X Y Z : Type 0} (f : Y → Z) (g : X → Y) (xs : List X) → map f (map g xs) ≡ map (λ x. f (g x)) xs
+map-map f g [] = refl
+map-map f g (x ∷ xs) = ap (λ rest. f (g x) ∷ rest) (map-map f g xs)
+
+-- what holds of each element of a joined list, by the lists that it is joined of
+pub All-flat_map : {X Y : Type 0} (P : Y → Type 0) (h : X → List Y) (xs : List X) → All (λ x. All P (h x)) xs → All P (flat_map h xs)
+All-flat_map P h [] each = All-nil P
+All-flat_map P h (x ∷ xs) each = All-append P (h x) (flat_map h xs) (All-head (λ y. All P (h y)) x xs each) (All-flat_map P h xs (All-tail (λ y. All P (h y)) x xs each))
+
+pub All-from_flat_map : {X Y : Type 0} (P : Y → Type 0) (h : X → List Y) (xs : List X) → All P (flat_map h xs) → All (λ x. All P (h x)) xs
+All-from_flat_map P h xs all k d below j e inside =
+    rw (get_or-flat_map h xs k j d e below inside) at (all (length (flat_map h (take k xs)) + j) e (omega (arith, inside, length-flat_map-take h xs k d below)))
+
+-- nothing is joined of empty lists
+pub flat_map-nothing : {X Y : Type 0} (h : X → List Y) (xs : List X) → All (λ x. h x ≡ []) xs → flat_map h xs ≡ []
+flat_map-nothing h [] none = refl
+flat_map-nothing h (x ∷ xs) none = rw (All-head (λ y. h y ≡ []) x xs none) (flat_map-nothing h xs (All-tail (λ y. h y ≡ []) x xs none))
+
+-- what holds of each two of a list's head and tail, and of two lists put together
+pub pairs-head : {X : Type 0} (R : X → X → Type 0) (x : X) (xs : List X) → AllPairs R (x ∷ xs) → All (R x) xs
+pairs-head R x xs pairs k d below = pairs 0 (suc k) d (omega arith) (omega (arith, below))
+
+pub pairs-tail : {X : Type 0} (R : X → X → Type 0) (x : X) (xs : List X) → AllPairs R (x ∷ xs) → AllPairs R xs
+pairs-tail R x xs pairs i j d before below = pairs (suc i) (suc j) d (omega (arith, before)) (omega (arith, below))
+
+pub pairs-append : {X : Type 0} (R : X → X → Type 0) (xs ys : List X) → AllPairs R xs → AllPairs R ys → All (λ x. All (R x) ys) xs → AllPairs R (xs ++ ys)
+pairs-append R [] ys one two across = two
+pairs-append R (x ∷ xs) ys one two across =
+    AllPairs-cons R x (xs ++ ys) (All-append (R x) xs ys (pairs-head R x xs one) (All-head (λ y. All (R y) ys) x xs across))
+    (pairs-append R xs ys (pairs-tail R x xs one) two (All-tail (λ y. All (R y) ys) x xs across))
+
+-- numbers that stay rise as they did
+pub rising-kept : {X : Type 0} (f : X → ℕ) (change : X → X) (xs : List X) → All (λ x. f (change x) ≡ f x) xs → AllPairs (λ one other. f one < f other) xs → AllPairs (λ one other. f one < f other) (map change xs)
+rising-kept f change xs same rising i j d before below =
+    let inside : j < length xs = rw (length-map xs change) at below in
+    let earlier : i < length xs = omega (arith, before, inside) in
+    rw (get_or-map change xs i d d earlier, get_or-map change xs j d d inside, same i d earlier, same j d inside) (rising i j d before inside)
+
+-- what a list with an element kept or left out contains
+pub contains-cases : {X : Type 0} (f : X → ℕ) (b : Bool) (x : X) (xs : List X) (y : ℕ) → Contains (map f (cond b (x ∷ xs) xs)) y → ((b ≡ true) × (f x ≡ y)) ⊎ Contains (map f xs) y
+contains-cases f true x xs y (zero, within, is) = inl (refl, is)
+contains-cases f true x xs y (suc k, within, is) = inr (k, omega (arith, within), is)
+contains-cases f false x xs y has = inr has
+
+pub contains-later : {X : Type 0} (f : X → ℕ) (b : Bool) (x : X) (xs : List X) (y : ℕ) → Contains (map f xs) y → Contains (map f (cond b (x ∷ xs) xs)) y
+contains-later f true x xs y (k, within, is) = (suc k, omega (arith, within), is)
+contains-later f false x xs y has = has
+
+-- a number that was contained is contained after a change of elements with other numbers
+pub contains-still : {X : Type 0} (f : X → ℕ) (p : X → Bool) (change : X → X) (y : ℕ) (xs : List X) → ((x : X) → f x ≡ y → change x ≡ x) → Contains (map f (filter p xs)) y → Contains (map f (filter p (map change xs))) y
+contains-still f p change y [] stays has = has
+contains-still f p change y (x ∷ xs) stays has = elim (contains-cases f (p x) x (filter p xs) y has) [
+  | inl here ↦ rw (stays x here.1, here.0) (0, omega arith, here.1)
+  | inr later ↦ contains-later f (p (change x)) (change x) (filter p (map change xs)) y (contains-still f p change y xs stays later)
+]
+
+-- a filter that keeps all, and one after another
+pub filter-all : {X : Type 0} (xs : List X) → filter (λ x. true) xs ≡ xs
+filter-all [] = refl
+filter-all (x ∷ xs) = ap (λ rest. x ∷ rest) (filter-all xs)
+
+pub filter-filter : {X : Type 0} (p q : X → Bool) (xs : List X) → filter q (filter p xs) ≡ filter (λ x. p x && q x) xs
+filter-filter p q [] = refl
+filter-filter p q (x ∷ xs) = elim (cases_Bool (p x)) [
+  | inl passes ↦ rw (passes, filter-filter p q xs) refl
+  | inr fails ↦ rw (fails, filter-filter p q xs) refl
+]

@@ -1,0 +1,131 @@
+-- A waiting job that takes free parts keeps all sound, and adds just these to what is held.
+use Rattle.std.proofs.Common.{◌≡◌, ◌≢◌, ℕ, ◌+◌, ◌<◌, ◌≤◌, Bool, true, false, cond, eqb, List, [], ◌∷◌, map, sum_by, All, AllPairs, Any, Contains, get_or, Some, None, refl, ap, ◌∙◌, sym, arith, inl, inr}
+use Rattle.std.specs.List.{list_any}
+use Rattle.std.proofs.lemmas.Bool.{both_ways, cases_eq, cond_both, and_parts, eqb-true, eq-eqb, ne_eqb}
+use Rattle.std.proofs.lemmas.List.Elements.{All-map, All-weaker}
+use Rattle.std.proofs.lemmas.List.Folds.{Any-from_list_any}
+use Rattle.slurm_text.specs.declared.plain.state.JobState.{JobState}
+use Rattle.slurm_text.specs.declared.plain.state.JobState.TheVariants.{Pending, Running, Completing, Ended}
+use Rattle.resource_profile.specs.declared.NodeRoom.{NodeRoom}
+use Rattle.backfill_planner.specs.declared.Placed.{Placed}
+use Rattle.ctl_state.specs.declared.record.Part.{Part}
+use Rattle.ctl_state.specs.declared.record.JobRecord.{JobRecord}
+use Rattle.ctl_state.specs.declared.change.Change.TheVariants.{Start}
+use Rattle.ctl_state.specs.State.{State}
+use Rattle.ctl_state.specs.JobStates.{is_pending, is_holding}
+use Rattle.ctl_state.specs.Changes.{changed}
+use Rattle.ctl_state.specs.Holding.{IsHeldOnce, IsPartOf, OnNodesApart, has_cpu, has_members, is_on, mem_held, mem_in, parts_of, times_held}
+use Rattle.ctl_state.specs.Planning.{room_of}
+use Rattle.ctl_state.specs.Events.{MayTake, started_as}
+use Rattle.ctl_state.specs.Soundness.{HaveRisingIds, IsKept, IsSound, PlansPending, pending_ids}
+use Rattle.ctl_state.proofs.Counts.{count-once, sum-grown, sum_by-flat_map}
+use Rattle.ctl_state.proofs.Held.{cpu_in, was-held}
+use Rattle.ctl_state.proofs.Kept.{pending-nothing}
+use Rattle.ctl_state.proofs.Lists.{All-flat_map, All-from_flat_map, contains-still, rising-kept}
+
+-- a job with another number stays as it is
+other-same : (now id : ℕ) (parts : List Part) (job : JobRecord) → job.id ≢ id → started_as now id parts job ≡ job
+other-same now id parts job other = rw (ne_eqb job.id id other) refl
+
+same-id : (now id : ℕ) (parts : List Part) (job : JobRecord) → (started_as now id parts job).id ≡ job.id
+same-id now id parts job = cond_both (eqb job.id id) (changed (Start now parts) job) job (λ (after : JobRecord). after.id ≡ job.id) (λ here. refl) (λ other. refl)
+
+pub others-wait : (jobs : List JobRecord) (now id other : ℕ) (parts : List Part) → HaveRisingIds jobs → Contains (pending_ids jobs) other → (other ≡ id → ⊥)
+    → Contains (pending_ids (map (started_as now id parts) jobs)) other
+others-wait jobs now id other parts rising waits differ =
+    contains-still (λ (job : JobRecord). job.id) (λ (job : JobRecord). is_pending job.state) (started_as now id parts) other jobs
+    (λ (job : JobRecord) is. other-same now id parts job (λ same. differ (sym is ∙ same))) waits
+
+-- what is held grows by just the parts
+sum-taken : (amount : Part → ℕ) (moment now id : ℕ) (parts : List Part) (jobs : List JobRecord) → HaveRisingIds jobs → All (IsKept moment) jobs → Contains (pending_ids jobs) id
+    → sum_by amount (parts_of (map (started_as now id parts) jobs)) ≡ sum_by amount (parts_of jobs) + sum_by amount parts
+sum-taken amount moment now id parts jobs rising kept waits =
+    let held : JobRecord → List Part = λ job. job.parts in
+    let over : JobRecord → ℕ = λ job. sum_by amount job.parts in
+    let nothing : (job : JobRecord) → IsKept moment job → is_pending job.state ≡ true → over job ≡ 0 = λ job is pending. rw (pending-nothing moment job is pending) refl in
+    let grown = sum-grown (λ (job : JobRecord). job.id) (λ (job : JobRecord). is_pending job.state) (changed (Start now parts)) over id (sum_by amount parts) jobs rising waits
+    (λ k d below pending. omega (arith, nothing (get_or jobs k d) (kept k d below) pending)) in
+    omega (arith, grown, sum_by-flat_map amount held jobs, sum_by-flat_map amount held (map (started_as now id parts) jobs))
+
+pub times-taken : (s : State) (now id node cpu : ℕ) (parts : List Part) → IsSound s → Contains (pending_ids s.jobs) id
+    → times_held (parts_of (map (started_as now id parts) s.jobs)) node cpu ≡ times_held (parts_of s.jobs) node cpu + times_held parts node cpu
+unfolding times_held
+times-taken s now id node cpu parts sound waits = sum-taken (cpu_in node cpu) s.moment now id parts s.jobs sound.rising sound.jobs waits
+
+pub mem-taken : (s : State) (now id node : ℕ) (parts : List Part) → IsSound s → Contains (pending_ids s.jobs) id
+    → mem_held (parts_of (map (started_as now id parts) s.jobs)) node ≡ mem_held (parts_of s.jobs) node + mem_held parts node
+unfolding mem_held
+mem-taken s now id node parts sound waits = sum-taken (mem_in node) s.moment now id parts s.jobs sound.rising sound.jobs waits
+
+-- parts on nodes that differ have a processor once at most
+parts-once : (node cpu : ℕ) (parts : List Part) → OnNodesApart parts → times_held parts node cpu ≤ 1
+unfolding times_held
+parts-once node cpu parts apart = count-once (has_cpu node cpu) parts off
+  where
+    off : AllPairs (λ (one other : Part). has_cpu node cpu one ≡ true → has_cpu node cpu other ≡ false) parts
+    off i j d before below has =
+        let on = (and_parts (eqb (get_or parts i d).node node) (list_any (λ id. eqb id cpu) (get_or parts i d).cpus) has).0 in
+        rw (ne_eqb (get_or parts j d).node node (λ same. apart i j d before below (eqb-true (get_or parts i d).node node on ∙ sym same))) refl
+
+-- a processor that one of them has was held by none
+was-free : (times : ℕ → ℕ → ℕ) (node cpu : ℕ) (parts : List Part) → All (λ (part : Part). All (λ id. times part.node id ≡ 0) part.cpus) parts → Any (λ part. has_cpu node cpu part ≡ true) parts → times node cpu ≡ 0
+was-free times node cpu parts unheld (k, part, below, is, has) =
+    let both = and_parts (eqb part.node node) (list_any (λ id. eqb id cpu) part.cpus) has in
+    found (rw is at (unheld k part below)) (eqb-true part.node node both.0) (Any-from_list_any (λ id. eqb id cpu) part.cpus both.1)
+  where
+    found : All (λ id. times part.node id ≡ 0) part.cpus → part.node ≡ node → Any (λ id. eqb id cpu ≡ true) part.cpus → times node cpu ≡ 0
+    found none on (place, id, inside, at, same) = rw (← on, ← eqb-true id cpu same) (rw at at (none place id inside))
+
+held-taken : (s : State) (id : ℕ) (parts : List Part) → IsSound s → MayTake (map room_of s.nodes) s.jobs id parts → IsHeldOnce (map room_of s.nodes) (parts_of (map (started_as s.moment id parts) s.jobs))
+held-taken s id parts sound may =
+    let rooms = map room_of s.nodes in
+    let held : JobRecord → List Part = λ job. job.parts in
+    let has : JobRecord → Type 0 = λ job. All (IsPartOf rooms) job.parts in
+    let each : All (λ job. has (started_as s.moment id parts job)) s.jobs = All-weaker has (λ job. has (started_as s.moment id parts job))
+    (λ job had. cond_both (eqb job.id id) (changed (Start s.moment parts) job) job has (λ here. may.each) (λ other. had)) s.jobs (All-from_flat_map (IsPartOf rooms) held s.jobs sound.held.each) in
+    record {
+      each = All-flat_map (IsPartOf rooms) held (map (started_as s.moment id parts) s.jobs) (All-map has (started_as s.moment id parts) s.jobs each);
+      once = λ node cpu. once node cpu (sound.held.once node cpu) (parts-once node cpu parts may.apart) (times-taken s s.moment id node cpu parts sound may.waits);
+      mem = λ node. omega (arith, mem-taken s s.moment id node parts sound may.waits, may.mem node);
+    }
+  where
+    once : (node cpu : ℕ) {after : ℕ} → times_held (parts_of s.jobs) node cpu ≤ 1 → times_held parts node cpu ≤ 1 → after ≡ times_held (parts_of s.jobs) node cpu + times_held parts node cpu → after ≤ 1
+    once node cpu was few sum = elim (cases_eq (times_held parts node cpu) 0) [
+      | inl none ↦ omega (arith, sum, none, was)
+      | inr some ↦
+          omega (arith, sum, few, was-free (times_held (parts_of s.jobs)) node cpu parts may.unheld (was-held node cpu parts (omega (arith, some))))
+    ]
+
+kept-started : (now : ℕ) (parts : List Part) (job : JobRecord) → has_members parts ≡ true → OnNodesApart parts → IsKept now job → IsKept now (changed (Start now parts) job)
+kept-started now parts job some apart kept = record {
+  asked = kept.asked;
+  limit = kept.limit;
+  run = record {
+    submitted = kept.run.submitted;
+    started = λ holding. refl;
+    ended = λ has. absurd (both_ways false refl has);
+    start_passed = omega arith;
+    end_passed = omega arith;
+    in_order = λ has. absurd (both_ways false refl has);
+    final = λ same. cc;
+  };
+  parts = record { some = some; apart = apart };
+}
+
+pub sound-taken : (s : State) (id : ℕ) (parts : List Part) (plan : List Placed) → IsSound s → MayTake (map room_of s.nodes) s.jobs id parts → PlansPending (map (started_as s.moment id parts) s.jobs) plan
+    → IsSound (record s { jobs = map (started_as s.moment id parts) s.jobs; plan = plan })
+sound-taken s id parts plan sound may planned =
+    let start = started_as s.moment id parts in
+    let below : JobRecord → Type 0 = λ job. job.id < s.next_id in
+    record {
+      settings = sound.settings;
+      nodes = sound.nodes;
+      rising = rising-kept (λ (job : JobRecord). job.id) start s.jobs (λ k d within. same-id s.moment id parts (get_or s.jobs k d)) sound.rising;
+      below_next = All-map below start s.jobs (λ k d within. rw (same-id s.moment id parts (get_or s.jobs k d)) (sound.below_next k d within));
+      next = sound.next;
+      moment = sound.moment;
+      jobs = All-map (IsKept s.moment) start s.jobs (All-weaker (IsKept s.moment) (λ job. IsKept s.moment (start job))
+          (λ job kept. cond_both (eqb job.id id) (changed (Start s.moment parts) job) job (IsKept s.moment) (λ here. kept-started s.moment parts job may.some may.apart kept) (λ other. kept)) s.jobs sound.jobs);
+      held = held-taken s id parts sound may;
+      plan = planned;
+    }
