@@ -136,17 +136,24 @@ length-left age now (job ∷ jobs) =
     at_most : (some : List JobRecord) → length (those_left (timed_out now) (is_old age now) some) ≤ length some
     at_most some = omega (arith, length-filter (λ job. not (is_old age now job)) (map (timed_out now) some), count_by-le-length (λ job. not (is_old age now job)) (map (timed_out now) some), length-map some (timed_out now))
 
--- the same parts are held, since an old job holds none
-pub parts-left : (age now : ℕ) (jobs : List JobRecord) → All HasItsParts jobs → parts_of (those_left (timed_out now) (is_old age now) jobs) ≡ parts_of jobs
-parts-left age now [] each = refl
-parts-left age now (job ∷ jobs) each =
-    let rest = parts-left age now jobs (All-tail HasItsParts job jobs each) in
+-- what is made of each job's parts is the same in all, since an old job has none
+joined-left : {X : Type 0} (f : JobRecord → List X) (age now : ℕ) (jobs : List JobRecord) → ((job : JobRecord) → f (timed_out now job) ≡ f job) → ((job : JobRecord) → job.parts ≡ [] → f job ≡ [])
+    → All HasItsParts jobs → flat_map f (those_left (timed_out now) (is_old age now) jobs) ≡ flat_map f jobs
+joined-left f age now [] same none each = refl
+joined-left f age now (job ∷ jobs) same none each =
+    let rest = joined-left f age now jobs same none (All-tail HasItsParts job jobs each) in
     elim (cases_Bool (is_old age now job)) [
       | inl old ↦
-          let empty = no_parts job (All-head HasItsParts job jobs each) (ended-others job.state (old-ended age now job old)).1 in
+          let empty = none job (no_parts job (All-head HasItsParts job jobs each) (ended-others job.state (old-ended age now job old)).1) in
           rw (timed_out-old age now job, old, empty) rest
-      | inr recent ↦ rw (timed_out-old age now job, recent, timed_out-parts now job, rest) refl
+      | inr recent ↦ rw (timed_out-old age now job, recent, same job, rest) refl
     ]
+
+pub parts-left : (age now : ℕ) (jobs : List JobRecord) → All HasItsParts jobs → parts_of (those_left (timed_out now) (is_old age now) jobs) ≡ parts_of jobs
+parts-left age now jobs each = joined-left (λ (job : JobRecord). job.parts) age now jobs (timed_out-parts now) (λ job empty. empty) each
+
+pub holds-left : (age now : ℕ) (jobs : List JobRecord) → All HasItsParts jobs → flat_map (holds_of_job now) (those_left (timed_out now) (is_old age now) jobs) ≡ flat_map (holds_of_job now) jobs
+holds-left age now jobs each = joined-left (holds_of_job now) age now jobs (timed_out-holds now) (λ job empty. rw empty refl) each
 
 -- their numbers rise
 pub rising-left : (age now : ℕ) (jobs : List JobRecord) → HaveRisingIds jobs → HaveRisingIds (those_left (timed_out now) (is_old age now) jobs)
