@@ -32,16 +32,9 @@ use Rattle.ctl_state.specs.Soundness.{IsSound, IsKept, IsLimit, PlansPending, pe
 use Rattle.ctl_pass.specs.Limits.{deadline, is_over, timed_out, is_old, hold_end, holds_of_job}
 use Rattle.ctl_pass.specs.Readiness.{ready, base_of, candidates, ranked, planned, placements}
 use Rattle.ctl_pass.proofs.Tallies.{pairs-map, sum_by-larger, sum_by-map, joined-larger, range-rises, range-below}
-use Rattle.ctl_pass.proofs.Soundly.{no-plan, cpus_in, held-counted, free-counted, IsReady, CanStart}
-
--- what holds of every event that starts nothing
-pub record EventLaws : Type 0 where
-  pub letting_go : (s : State) (now : ℕ) (change : JobRecord → JobRecord) (goes : JobRecord → Bool) (plan : List Placed)
-      → IsSound s → now ≤ last_moment → All (λ job. LetsGo now job (change job)) s.jobs → All (λ job. goes (change job) ≡ true → is_holding (change job).state ≡ false) s.jobs
-      → PlansPending (those_left change goes s.jobs) plan → IsSound (record s { jobs = those_left change goes s.jobs; plan = plan; moment = now })
-  pub lets_go : (now : ℕ) (change : Change) (job : JobRecord) → is_start change ≡ false → moment_of change ≡ now → IsKept now job → LetsGo now job (changed change job)
-  pub same : (now : ℕ) (job : JobRecord) → IsKept now job → LetsGo now job job
-  pub later : (before now : ℕ) (job : JobRecord) → before ≤ now → IsKept before job → IsKept now job
+use Rattle.ctl_pass.proofs.Counted.{cpus_in, held-counted, free-counted}
+use Rattle.ctl_pass.proofs.Readied.{EventLaws, readied, sound-readied}
+use Rattle.ctl_pass.proofs.Soundly.{IsReady, CanStart}
 
 -- what holds of every plan
 pub record PlanLaws : Type 0 where
@@ -51,27 +44,6 @@ pub record PlanLaws : Type 0 where
   pub some : (base : BaseView) (ranked : List PlanJob) (now : ℕ) → All (λ (job : PlanJob). 1 ≤ job.need.tasks) ranked → All (λ (placed : Placed). 1 ≤ length placed.parts) (plan_of base ranked now)
   pub parts : (base : BaseView) (ranked : List PlanJob) (now : ℕ) → base.horizon ≤ 250002592000 → All (IsOnRooms base.rooms) ranked → All IsPlannable ranked → All (λ (placed : Placed). AreParts base.rooms placed.parts) (plan_of base ranked now)
   pub fit : (base : BaseView) (ranked : List PlanJob) (now : ℕ) → AreWithin base.rooms base.holds → base.horizon ≤ 250002592000 → All (IsOnRooms base.rooms) ranked → All IsPlannable ranked → StartsFit base (plan_of base ranked now) now
-
--- the ready state at its moment, with no plan yet
-abbrev pub readied : State → ℕ → State
-readied s now = record (ready s now) { plan = []; moment = now }
-
-ended-not_holding : (state : JobState) → is_ended state ≡ true → is_holding state ≡ false
-ended-not_holding Pending ended = refl
-ended-not_holding Running ended = sym ended
-ended-not_holding (Completing final) ended = sym ended
-ended-not_holding (Ended final) ended = refl
-
--- limits and old records let go: what a pass plans is sound
-pub sound-readied : EventLaws → (s : State) (now : ℕ) → IsSound s → s.moment ≤ now → now ≤ last_moment → IsSound (readied s now)
-sound-readied laws s now sound raised in_time =
-    let age = s.settings.min_job_age in
-    laws.letting_go s now (timed_out now) (is_old age now) [] sound in_time (All-weaker (IsKept s.moment) (λ job. LetsGo now job (timed_out now job)) (λ job kept. lets job (laws.later s.moment now job raised kept)) s.jobs sound.jobs)
-    (λ k d below old. let job = timed_out now (get_or s.jobs k d) in ended-not_holding job.state (and_parts (is_ended job.state) (not (eqb age 0) && leb (unwrap_or job.ended 0 + age) now) old).0)
-    (no-plan (those_left (timed_out now) (is_old age now) s.jobs))
-  where
-    lets : (job : JobRecord) → IsKept now job → LetsGo now job (timed_out now job)
-    lets job kept = cond_both (is_over now job) (changed (Leave Timeout now None) job) job (LetsGo now job) (λ over. laws.lets_go now (Leave Timeout now None) job refl refl kept) (λ within. laws.same now job kept)
 
 -- what holds of each element of each joined list
 joined-all : {X Y Z : Type 0} (P : Y → Type 0) (Q : Z → Type 0) (h : X → List Y) (k : X → List Z) (xs : List X) → All P (flat_map h xs) → All (λ x. All P (h x) → All Q (k x)) xs → All Q (flat_map k xs)

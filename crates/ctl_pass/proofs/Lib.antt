@@ -1,6 +1,9 @@
 pub mod Tallies
+pub mod Counted
+pub mod Readied
 pub mod Soundly
 pub mod Given
 pub mod Fitting
+pub mod Sameness
 pub mod Idle
 pub mod Origins

@@ -1,6 +1,7 @@
 use Rattle.ctl_pass.specs.Readiness.{placements}
 use Rattle.ctl_pass.proofs.Soundly.{StateLaws, sound-started}
-use Rattle.ctl_pass.proofs.Fitting.{EventLaws, PlanLaws, readied, can-start_ready}
+use Rattle.ctl_pass.proofs.Readied.{EventLaws, readied}
+use Rattle.ctl_pass.proofs.Fitting.{PlanLaws, can-start_ready}
 use Rattle.ctl_pass.proofs.laws.a_pass_keeps_all_sound.Goals as goal
 
 pub returns : goal.returns

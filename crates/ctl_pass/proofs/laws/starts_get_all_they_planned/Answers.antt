@@ -1,7 +1,8 @@
 use Rattle.ctl_pass.specs.Readiness.{placements}
 use Rattle.ctl_pass.proofs.Soundly.{StateLaws}
 use Rattle.ctl_pass.proofs.Given.{all-given}
-use Rattle.ctl_pass.proofs.Fitting.{EventLaws, PlanLaws, readied, can-start_ready}
+use Rattle.ctl_pass.proofs.Readied.{EventLaws, readied}
+use Rattle.ctl_pass.proofs.Fitting.{PlanLaws, can-start_ready}
 use Rattle.ctl_pass.proofs.laws.starts_get_all_they_planned.Goals as goal
 
 pub returns : goal.returns
