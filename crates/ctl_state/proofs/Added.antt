@@ -1,5 +1,5 @@
 -- Nodes that are heard, jobs that are added and plans that are made keep all sound.
-use Rattle.std.proofs.Common.{◌≡◌, ℕ, ◌+◌, ◌<◌, ◌≤◌, true, List, [], ◌++◌, length, map, filter, flat_map, get_or, All, Contains, refl, ap, sym, ◌∙◌, arith}
+use Rattle.std.proofs.Common.{◌≡◌, ℕ, ◌+◌, ◌<◌, ◌≤◌, true, List, ◌++◌, length, map, filter, get_or, All, Contains, ap, sym, ◌∙◌, arith}
 use Rattle.std.proofs.lemmas.List.{get_or-map, length-map, map-append, append-nil}
 use Rattle.std.proofs.lemmas.List.Concat.{flat_map-append}
 use Rattle.std.proofs.lemmas.List.Elements.{All-append, All-weaker, Contains-append_left, filter-append}
@@ -11,9 +11,9 @@ use Rattle.ctl_state.specs.declared.record.NodeRecord.{NodeRecord}
 use Rattle.ctl_state.specs.declared.record.JobRecord.{JobRecord}
 use Rattle.ctl_state.specs.State.{State, last_job_id, last_moment}
 use Rattle.ctl_state.specs.JobStates.{is_pending}
-use Rattle.ctl_state.specs.Holding.{IsHeldOnce, parts_of}
+use Rattle.ctl_state.specs.Holding.{parts_of}
 use Rattle.ctl_state.specs.Planning.{room_of}
-use Rattle.ctl_state.specs.Soundness.{AreNodes, HaveRisingIds, IsKept, IsNode, IsSound, PlansPending, pending_ids}
+use Rattle.ctl_state.specs.Soundness.{AreNodes, HaveRisingIds, IsKept, IsSound, PlansPending, pending_ids}
 use Rattle.ctl_state.proofs.Kept.{kept-later, pending-nothing}
 use Rattle.ctl_state.proofs.Lists.{flat_map-nothing, map-map, pairs-append}
 

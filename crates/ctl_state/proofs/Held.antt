@@ -1,12 +1,11 @@
 -- What parts hold, as counts and sums over them, and what follows from its being held once.
-use Rattle.std.proofs.Common.{◌≡◌, ℕ, ◌≤◌, Bool, true, false, cond, eqb, List, [], ◌∷◌, sum_by, All, AllPairs, Any, get_or, arith, refl, sym, ap, ◌∙◌, inl, inr}
-use Rattle.std.specs.Prelude.{count_by}
+use Rattle.std.proofs.Common.{◌≡◌, ℕ, ◌≤◌, true, false, cond, eqb, List, AllPairs, Any, get_or, refl, sym, ◌∙◌, inl, inr}
 use Rattle.std.specs.List.{list_any}
 use Rattle.std.proofs.lemmas.Bool.{both_ways, cases_Bool, and_from, eqb-true, eq-eqb}
 use Rattle.std.proofs.lemmas.List.Folds.{list_any_at, Any-from_list_any}
 use Rattle.ctl_state.specs.declared.record.Part.{Part}
 use Rattle.ctl_state.specs.State.{State}
-use Rattle.ctl_state.specs.Holding.{AreApart, has_cpu, is_on, mem_in, mem_held, parts_of, times_held}
+use Rattle.ctl_state.specs.Holding.{AreApart, has_cpu, parts_of, times_held}
 use Rattle.ctl_state.specs.Soundness.{IsSound}
 use Rattle.ctl_state.proofs.Counts.{Any-counted, pairs-counted}
 

@@ -1,6 +1,5 @@
 -- What is kept of a job, as time passes and whatever change but a start happens to it.
-use Rattle.std.proofs.Common.{◌≡◌, ◌≢◌, ℕ, ◌≤◌, Bool, true, false, ◌&&◌, not, List, [], ◌∷◌, filter, Option, Some, None, refl, sym, ◌∙◌, arith, inl, inr}
-use Rattle.std.specs.Prelude.{is_some, unwrap_or}
+use Rattle.std.proofs.Common.{◌≡◌, ◌≢◌, ℕ, ◌≤◌, true, false, ◌&&◌, not, List, [], ◌∷◌, Option, Some, refl, sym, ◌∙◌, arith, inl, inr}
 use Rattle.std.proofs.lemmas.Bool.{cases_Bool, both_ways}
 use Rattle.std.proofs.lemmas.List.Kept.{AllPairs-filter}
 use Rattle.slurm_text.specs.declared.plain.state.JobState.{JobState}
@@ -11,7 +10,7 @@ use Rattle.ctl_state.specs.declared.record.Part.{Part}
 use Rattle.ctl_state.specs.declared.record.JobRecord.{JobRecord}
 use Rattle.ctl_state.specs.declared.change.Change.{Change}
 use Rattle.ctl_state.specs.declared.change.Change.TheVariants.{Start, Leave, DropPart}
-use Rattle.ctl_state.specs.JobStates.{is_pending, is_running, is_completing, is_ended, is_holding, left}
+use Rattle.ctl_state.specs.JobStates.{is_pending, is_running, is_holding, left}
 use Rattle.ctl_state.specs.Changes.{changed, is_start, moment_of, off_node, with_left, end_of}
 use Rattle.ctl_state.specs.Holding.{has_members, is_on, parts_off}
 use Rattle.ctl_state.specs.Soundness.{IsKept, IsWellRun}

@@ -1,5 +1,5 @@
 -- Letting go keeps all sound.
-use Rattle.std.proofs.Common.{◌≡◌, ℕ, ◌<◌, ◌≤◌, Bool, true, false, not, List, [], ◌∷◌, map, filter, sum_by, All, get_or, refl, sym, ap, arith, inl, inr}
+use Rattle.std.proofs.Common.{◌≡◌, ℕ, ◌<◌, ◌≤◌, Bool, true, false, not, List, [], ◌∷◌, map, sum_by, All, get_or, refl, sym, ap, arith, inl, inr}
 use Rattle.std.proofs.lemmas.Bool.{cases_Bool}
 use Rattle.std.proofs.lemmas.List.Elements.{All-head, All-tail, All-map, All-filter}
 use Rattle.std.proofs.lemmas.List.Filters.{sum_by-filter_both}
@@ -47,8 +47,8 @@ held-left rooms now change goes jobs lets held =
     let has : JobRecord → Type 0 = λ job. All (IsPartOf rooms) job.parts in
     let parts : JobRecord → List Part = λ job. job.parts in
     let kept : All (λ job. has (change job)) jobs = λ k d below.
-        let one = lets k d below in
-        rw one.parts (All-filter one.keep (IsPartOf rooms) (get_or jobs k d).parts (All-from_flat_map (IsPartOf rooms) parts jobs held.each k d below)) in
+    let one = lets k d below in
+    rw one.parts (All-filter one.keep (IsPartOf rooms) (get_or jobs k d).parts (All-from_flat_map (IsPartOf rooms) parts jobs held.each k d below)) in
     record {
       each = All-flat_map (IsPartOf rooms) parts (those_left change goes jobs) (All-filter (λ job. not (goes job)) has (map change jobs) (All-map has change jobs kept));
       once = λ node cpu. omega (arith, left-less (cpu_in node cpu) now change goes jobs lets, held.once node cpu);

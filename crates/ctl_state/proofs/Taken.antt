@@ -1,20 +1,17 @@
 -- A waiting job that takes free parts keeps all sound, and adds just these to what is held.
-use Rattle.std.proofs.Common.{◌≡◌, ◌≢◌, ℕ, ◌+◌, ◌<◌, ◌≤◌, Bool, true, false, cond, eqb, List, [], ◌∷◌, map, sum_by, All, AllPairs, Any, Contains, get_or, Some, None, refl, ap, ◌∙◌, sym, arith, inl, inr}
+use Rattle.std.proofs.Common.{◌≡◌, ◌≢◌, ℕ, ◌+◌, ◌<◌, ◌≤◌, true, false, eqb, List, map, sum_by, All, AllPairs, Any, Contains, get_or, refl, ◌∙◌, sym, arith, inl, inr}
 use Rattle.std.specs.List.{list_any}
-use Rattle.std.proofs.lemmas.Bool.{both_ways, cases_eq, cond_both, and_parts, eqb-true, eq-eqb, ne_eqb}
+use Rattle.std.proofs.lemmas.Bool.{both_ways, cases_eq, cond_both, and_parts, eqb-true, ne_eqb}
 use Rattle.std.proofs.lemmas.List.Elements.{All-map, All-weaker}
 use Rattle.std.proofs.lemmas.List.Folds.{Any-from_list_any}
-use Rattle.slurm_text.specs.declared.plain.state.JobState.{JobState}
-use Rattle.slurm_text.specs.declared.plain.state.JobState.TheVariants.{Pending, Running, Completing, Ended}
-use Rattle.resource_profile.specs.declared.NodeRoom.{NodeRoom}
 use Rattle.backfill_planner.specs.declared.Placed.{Placed}
 use Rattle.ctl_state.specs.declared.record.Part.{Part}
 use Rattle.ctl_state.specs.declared.record.JobRecord.{JobRecord}
 use Rattle.ctl_state.specs.declared.change.Change.TheVariants.{Start}
 use Rattle.ctl_state.specs.State.{State}
-use Rattle.ctl_state.specs.JobStates.{is_pending, is_holding}
+use Rattle.ctl_state.specs.JobStates.{is_pending}
 use Rattle.ctl_state.specs.Changes.{changed}
-use Rattle.ctl_state.specs.Holding.{IsHeldOnce, IsPartOf, OnNodesApart, has_cpu, has_members, is_on, mem_held, mem_in, parts_of, times_held}
+use Rattle.ctl_state.specs.Holding.{IsHeldOnce, IsPartOf, OnNodesApart, has_cpu, has_members, mem_held, mem_in, parts_of, times_held}
 use Rattle.ctl_state.specs.Planning.{room_of}
 use Rattle.ctl_state.specs.Events.{MayTake, started_as}
 use Rattle.ctl_state.specs.Soundness.{HaveRisingIds, IsKept, IsSound, PlansPending, pending_ids}
