@@ -6,3 +6,4 @@ pub mod Soundness
 pub mod Events
 pub mod Planning
 pub mod Verdicts
+pub mod Refusals

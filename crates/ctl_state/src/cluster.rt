@@ -1,7 +1,12 @@
 //! What the controller keeps, as plain data.
 
+ghost use Rattle.std.specs.Prelude.{◌≡◌};
+ghost use Rattle.ctl_state.specs.Refusals;
+ghost use Rattle.ctl_state.specs.State.{state_of};
+
 use crate::record::{AssocRecord, JobRecord, NodeRecord};
 use backfill_planner::Placed;
+use slurm_text::name::Name;
 use slurm_text::plain::conf::{PartConf, Settings};
 
 /// The cluster as the controller knows it (own). The controller's type keeps what is true of it; here it is plain data.
@@ -21,4 +26,13 @@ pub struct Cluster {
     pub next_id: u32,
     /// The moment of the last accepted request.
     pub moment: u64,
+}
+
+impl Cluster {
+    /// Whether the user may do everything.
+    pub fn is_privileged(&self, user: &Name) -> bool
+        ensures { result ≡ Refusals.is_privileged (state_of self.now) user.now }
+    {
+        user.as_bytes() == b"root".as_slice() || user.is(&self.settings.slurm_user)
+    }
 }

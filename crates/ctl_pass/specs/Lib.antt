@@ -1,0 +1,5 @@
+pub mod Limits
+pub mod Readiness
+pub mod Starting
+pub mod SamePlans
+pub mod Passing

@@ -1,0 +1,41 @@
+-- When jobs reach their limits, and when their records go.
+use Rattle.std.specs.Prelude.{ℕ, ◌+◌, ◌*◌, Bool, ◌&&◌, not, nat_eq, nat_lt, nat_le, if◌then◌else◌, unwrap_or, List, map, length, Some, None}
+use Rattle.slurm_text.specs.declared.plain.limit.Limit.{Limit}
+use Rattle.slurm_text.specs.declared.plain.limit.Limit.TheVariants.{Minutes, Unlimited}
+use Rattle.slurm_text.specs.declared.plain.state.Final.TheVariants.{Timeout}
+use Rattle.resource_profile.specs.declared.Hold.{Hold}
+use Rattle.ctl_state.specs.declared.record.Part.{Part}
+use Rattle.ctl_state.specs.declared.record.JobRecord.{JobRecord}
+use Rattle.ctl_state.specs.declared.change.Change.TheVariants.{Leave}
+use Rattle.ctl_state.specs.Changes.{changed}
+use Rattle.ctl_state.specs.JobStates.{is_running, is_ended}
+
+-- when a start at this second reaches the limit; without a limit after all moments
+abbrev pub limit_end : Limit → ℕ → ℕ
+limit_end (Minutes minutes) start = start + minutes * 60
+limit_end Unlimited start = 1000000000000
+
+-- when the job reaches its limit
+abbrev pub deadline : JobRecord → ℕ
+deadline job = limit_end job.limit (unwrap_or job.started 0)
+
+-- the job runs and has reached its limit
+abbrev pub is_over : ℕ → JobRecord → Bool
+is_over now job = is_running job.state && nat_le (deadline job) now
+
+-- the job once its limit is seen to
+abbrev pub timed_out : ℕ → JobRecord → JobRecord
+timed_out now job = if is_over now job then changed (Leave Timeout now None) job else job
+
+-- the job ended so long ago that its record goes
+abbrev pub is_old : ℕ → ℕ → JobRecord → Bool
+is_old age now job = is_ended job.state && (not (nat_eq age 0) && nat_le (unwrap_or job.ended 0 + age) now)
+
+-- until when a job holds its parts: to its limit while it runs, and half a minute more once that is over or it is completing
+abbrev pub hold_end : ℕ → JobRecord → ℕ
+hold_end now job = if is_running job.state && nat_lt now (deadline job) then deadline job else now + 30
+
+-- what the job holds
+abbrev pub holds_of_job : ℕ → JobRecord → List Hold
+holds_of_job now job =
+    map (λ (part : Part). record { node = part.node; from = unwrap_or job.started 0; until = hold_end now job; cpus = length part.cpus; mem = part.mem }) job.parts

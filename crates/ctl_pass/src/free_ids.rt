@@ -1,0 +1,1 @@
+//! The processors of the nodes that no job has.

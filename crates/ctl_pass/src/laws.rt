@@ -1,0 +1,39 @@
+//! What holds of every pass. A law is the contract of a function that does nothing.
+
+ghost use Rattle.std.specs.Prelude.{◌≡◌, ◌⊎◌, ℕ, ◌≤◌, All, Any, Contains, true};
+ghost use Rattle.backfill_planner.specs.declared.Placed.{Placed};
+ghost use Rattle.ctl_state.specs.declared.record.JobRecord.{JobRecord};
+ghost use Rattle.ctl_state.specs.State.{State, last_moment};
+ghost use Rattle.ctl_state.specs.JobStates.{is_running};
+ghost use Rattle.ctl_state.specs.Soundness.{IsSound};
+ghost use Rattle.ctl_state.specs.Verdicts.{stamped};
+ghost use Rattle.ctl_pass.specs.Readiness.{placements};
+ghost use Rattle.ctl_pass.specs.Starting.{HasStarted};
+ghost use Rattle.ctl_pass.specs.Passing.{pass_after, is_idle};
+
+/// A pass keeps all sound.
+pub fn a_pass_keeps_all_sound()
+    ensures { (s : State) (now : ℕ) → IsSound s → s.moment ≤ now → now ≤ last_moment → IsSound (stamped now (pass_after s now)) }
+{}
+
+/// A pass is idle exactly where it would change nothing but the moment.
+pub fn an_idle_pass_changes_nothing()
+    ensures idle { (s : State) (now : ℕ) → is_idle s now ≡ true → pass_after s now ≡ s }
+    ensures only { (s : State) (now : ℕ) → IsSound s → pass_after s now ≡ s → is_idle s now ≡ true }
+{}
+
+/// Each placement that begins now is of a job that runs after the pass, since now, with all that was planned for it.
+pub fn starts_get_all_they_planned()
+    ensures { (s : State) (now : ℕ) → IsSound s → s.moment ≤ now → now ≤ last_moment
+        → All (λ (placed : Placed). placed.start ≡ now → Any (HasStarted now placed) (pass_after s now).jobs)
+        (placements s now) }
+{}
+
+/// A job that runs after a pass ran before it just so, or a placement that begins now is of it.
+pub fn a_started_job_was_planned()
+    ensures { (s : State) (now : ℕ)
+        → All (λ (job : JobRecord). is_running job.state ≡ true
+        → Contains s.jobs job
+        ⊎ Any (λ (placed : Placed). (placed.id ≡ job.id) × (placed.start ≡ now)) (placements s now))
+        (pass_after s now).jobs }
+{}

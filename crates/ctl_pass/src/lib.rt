@@ -1,0 +1,13 @@
+//! Passes: what is over its limit ends, old records go, the pending jobs are planned, and those planned at once start.
+#![tactic(auto)]
+
+mod base;
+mod free_ids;
+pub mod laws;
+mod limits;
+mod pass;
+mod same_plans;
+mod starts;
+
+pub use pass::{Decided, act, decide, is_idle, refusal_of};
+pub use starts::JobStart;

@@ -1,0 +1,58 @@
+-- What the node is ordered to do in answer to its report.
+use Rattle.std.specs.Prelude.{ℕ, Bool, ◌&&◌, ◌||◌, not, nat_eq, nat_lt, is_some, if◌then◌else◌, List, [], ◌∷◌, ◌++◌, map, filter, find, fold, filter_map, Option, Some, None, option_map}
+use Rattle.std.specs.List.{list_any}
+use Rattle.slurm_text.specs.declared.plain.report.Start.{Start}
+use Rattle.slurm_text.specs.declared.plain.report.Done.{Done}
+use Rattle.slurm_text.specs.declared.plain.report.Report.{Report}
+use Rattle.slurm_text.specs.declared.plain.orders.Launch.{Launch}
+use Rattle.slurm_text.specs.declared.plain.orders.Orders.{Orders}
+use Rattle.ctl_state.specs.declared.record.Part.{Part}
+use Rattle.ctl_state.specs.declared.record.JobRecord.{JobRecord}
+use Rattle.ctl_state.specs.JobStates.{is_running}
+use Rattle.ctl_state.specs.Holding.{is_on}
+use Rattle.ctl_state.specs.State.{State}
+use Rattle.ctl_report.specs.Reporting.{is_last_start, is_listed, done_of, is_at, is_batch_host, reported}
+
+-- the order of the starts: by job, then by number
+abbrev pub is_before : Start → Start → Bool
+is_before one other = nat_lt one.id other.id || (nat_eq one.id other.id && nat_lt one.number other.number)
+
+-- the starts in order, with one more, each once
+abbrev pub with_start : List Start → Start → List Start
+with_start starts start = filter (λ other. is_before other start) starts ++ start ∷ filter (λ other. is_before start other) starts
+
+-- the starts in order, each once
+unfoldable pub in_order : List Start → List Start
+in_order starts = fold with_start [] starts
+
+-- one of the jobs still runs this start on the node
+abbrev pub runs_start : ℕ → List JobRecord → Start → Bool
+runs_start node jobs start = list_any (λ (job : JobRecord). is_last_start job start && (is_running job.state && is_at node job)) jobs
+
+-- what the node needs to know to launch the job there: on other nodes than the script's own it runs until it is killed
+abbrev pub launch_part : ℕ → JobRecord → Part → Launch
+launch_part node job part = record {
+  start = record { id = job.id; number = job.starts };
+  cpus = part.cpus;
+  mem = part.mem;
+  run = if is_batch_host node job.parts then Some job.desc.run else None;
+  exit = if is_batch_host node job.parts then Some job.desc.exit else None;
+}
+
+-- the launch of a running job that holds something of the node and of whose start the report says nothing
+abbrev pub launch_of : ℕ → Report → JobRecord → Option Launch
+launch_of node report job =
+    if is_running job.state && not (is_listed report job || is_some (done_of report job))
+    then option_map (launch_part node job) (find (is_on node) job.parts)
+    else None
+
+-- The orders that answer the report of the node at a place: what won't run there any more is killed, what is over forgotten.
+unfoldable pub orders_of : State → ℕ → ℕ → Report → Orders
+orders_of s now node report = record {
+  node = report.node;
+  boot = report.boot;
+  number = report.number;
+  kills = in_order (filter (λ start. not (runs_start node (map (reported now node report) s.jobs) start)) report.running);
+  forgets = in_order (map (λ (done : Done). done.start) report.done);
+  launches = filter_map (launch_of node report) s.jobs;
+}

@@ -1,0 +1,78 @@
+-- A node's report, and what it does to the jobs.
+use Rattle.std.specs.Prelude.{ℕ, Bool, false, ◌&&◌, ◌||◌, nat_eq, nat_lt, if◌then◌else◌, List, [], ◌∷◌, map, find, Option, Some, None, option_and_then}
+use Rattle.std.specs.List.{list_any}
+use Rattle.std.specs.Str.{bytes_eq}
+use Rattle.slurm_text.specs.declared.plain.report.Start.{Start}
+use Rattle.slurm_text.specs.declared.plain.report.Done.{Done}
+use Rattle.slurm_text.specs.declared.plain.report.Report.{Report}
+use Rattle.slurm_text.specs.declared.plain.state.Final.{Final}
+use Rattle.slurm_text.specs.declared.plain.state.Final.TheVariants.{Completed, Failed}
+use Rattle.ctl_state.specs.declared.record.Heard.{Heard}
+use Rattle.ctl_state.specs.declared.record.Part.{Part}
+use Rattle.ctl_state.specs.declared.record.NodeRecord.{NodeRecord}
+use Rattle.ctl_state.specs.declared.record.JobRecord.{JobRecord}
+use Rattle.ctl_state.specs.declared.change.Change.TheVariants.{Leave, DropPart}
+use Rattle.ctl_state.specs.Changes.{changed}
+use Rattle.ctl_state.specs.Holding.{is_on}
+use Rattle.ctl_state.specs.State.{State}
+
+-- the node has this name
+abbrev pub is_named : List ℕ → NodeRecord → Bool
+is_named name node = bytes_eq node.conf.name name
+
+-- the last accepted report of the node with this name
+abbrev pub heard_of : List NodeRecord → List ℕ → Option Heard
+heard_of nodes name = option_and_then (λ (node : NodeRecord). node.heard) (find (is_named name) nodes)
+
+-- the report comes after that one
+abbrev pub is_after : Heard → Report → Bool
+is_after heard report = nat_lt heard.boot report.boot || (nat_eq heard.boot report.boot && nat_lt heard.number report.number)
+
+-- the nodes once the report is accepted
+abbrev pub heard_nodes : ℕ → Report → List NodeRecord → List NodeRecord
+heard_nodes now report nodes =
+    map (λ (node : NodeRecord). if is_named report.node node then record node { heard = Some (record { boot = report.boot; number = report.number; moment = now }) } else node) nodes
+
+-- the start is this job's last one
+abbrev pub is_last_start : JobRecord → Start → Bool
+is_last_start job start = nat_eq job.id start.id && nat_eq job.starts start.number
+
+-- the job's start is told to run there
+abbrev pub is_listed : Report → JobRecord → Bool
+is_listed report job = list_any (is_last_start job) report.running
+
+-- what is told of the job's start being over; of several the first
+abbrev pub done_of : Report → JobRecord → Option Done
+done_of report job = find (λ (done : Done). is_last_start job done.start) report.done
+
+-- the job holds something of the node
+abbrev pub is_at : ℕ → JobRecord → Bool
+is_at node job = list_any (is_on node) job.parts
+
+-- the node runs the job's script: the job's first part is there
+abbrev pub is_batch_host : ℕ → List Part → Bool
+is_batch_host node [] = false
+is_batch_host node (part ∷ later) = is_on node part
+
+-- how a script ends that ends with this code
+abbrev pub final_of : ℕ → Final
+final_of exit = if nat_eq exit 0 then Completed else Failed
+
+-- the job once its start is told to be over on the node: where its script ran there it leaves Running, and a completing job
+-- leaves the node
+abbrev pub told_over : ℕ → ℕ → Done → JobRecord → JobRecord
+told_over now node done job =
+    changed (DropPart node now) (if is_batch_host node job.parts then changed (Leave (final_of done.exit) now (Some done.exit)) job else job)
+
+-- the job by what is told of its start: where nothing is, a completing job has left the node
+abbrev pub after_told : ℕ → ℕ → Report → JobRecord → Option Done → JobRecord
+after_told now node report job None = if is_listed report job then job else changed (DropPart node now) job
+after_told now node report job (Some done) = told_over now node done job
+
+-- the job after the report of a node, which changes only jobs that hold something of the node
+abbrev pub reported : ℕ → ℕ → Report → JobRecord → JobRecord
+reported now node report job = if is_at node job then after_told now node report job (done_of report job) else job
+
+-- the state after an accepted report of the node at a place
+abbrev pub report_after : State → ℕ → ℕ → Report → State
+report_after s now node report = record s { nodes = heard_nodes now report s.nodes; jobs = map (reported now node report) s.jobs }

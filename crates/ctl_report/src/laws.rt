@@ -1,0 +1,22 @@
+//! What holds of every report. A law is the contract of a function that does nothing.
+
+ghost use Rattle.std.specs.Prelude.{◌≡◌, ◌↔◌, ℕ, ◌≤◌, List, AllPairs, Contains, true};
+ghost use Rattle.slurm_text.specs.declared.plain.report.Report.{Report};
+ghost use Rattle.slurm_text.specs.declared.plain.report.Start.{Start};
+ghost use Rattle.ctl_state.specs.State.{State, last_moment};
+ghost use Rattle.ctl_state.specs.Soundness.{IsSound};
+ghost use Rattle.ctl_state.specs.Verdicts.{stamped};
+ghost use Rattle.ctl_report.specs.Reporting.{report_after};
+ghost use Rattle.ctl_report.specs.Ordering.{is_before, in_order};
+
+/// An accepted report keeps all sound.
+pub fn a_report_keeps_all_sound()
+    ensures { (s : State) (now node : ℕ) (report : Report) → IsSound s → s.moment ≤ now → now ≤ last_moment
+        → IsSound (stamped now (report_after s now node report)) }
+{}
+
+/// Starts in order rise, each once, and are those that were given.
+pub fn orders_are_in_order()
+    ensures rising { (starts : List Start) → AllPairs (λ one other. is_before one other ≡ true) (in_order starts) }
+    ensures members { (starts : List Start) (start : Start) → Contains (in_order starts) start ↔ Contains starts start }
+{}

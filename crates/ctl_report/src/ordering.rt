@@ -1,0 +1,158 @@
+//! What the node is ordered to do.
+
+ghost use Rattle.std.specs.Prelude.{◌≡◌, ◌&&◌, not, is_some, IfOk, map, filter, filter_map, nat_eq, ℕ, find, option_copied, ◌||◌};
+ghost use Rattle.ctl_state.specs.Holding.{is_on};
+ghost use Rattle.std.specs.List.{list_any};
+ghost use Rattle.ctl_state.specs.JobStates.{is_running};
+ghost use Rattle.ctl_report.specs.Reporting.{is_at, is_listed, is_batch_host, done_of, reported};
+ghost use Rattle.ctl_report.specs.Ordering.{runs_start, in_order, launch_part, launch_of};
+
+use crate::jobs::{done_of, is_at, is_batch_host, is_listed};
+use crate::starts::in_order;
+use ctl_state::record::{JobRecord, Part};
+use slurm_text::items::Items;
+use slurm_text::memory_error::Memory;
+use slurm_text::plain::orders::Launch;
+use slurm_text::plain::report::{Done, Report, Start};
+use slurm_text::plain::state::JobState;
+use std::alloc::Global;
+
+/// The starts that the report tells to run and that won't run on the node any more once it is accepted, whatever its
+/// moment.
+pub(crate) fn kills(
+    alloc: Global,
+    jobs: &[JobRecord],
+    node: u32,
+    report: &Report,
+) -> Result<Items<Start>, Memory>
+    ensures { IfOk result (λ kills. (now : ℕ) →
+        kills ≡ in_order (filter (λ start. not (runs_start node (map (reported now node report.now) jobs.now) start)) report.now.running)) }
+{
+    let kept = kept_starts(alloc, jobs, node, report)?;
+    let lost = without(alloc, report.running.as_slice(), kept.as_slice())?;
+    in_order(alloc, lost.as_slice())
+}
+
+// The starts that aren't among those kept.
+fn without(alloc: Global, starts: &[Start], kept: &[Start]) -> Result<Vec<Start>, Memory>
+    ensures { IfOk result (λ lost. lost.items
+        ≡ filter (λ start. not (list_any (λ other. nat_eq other.id start.id && nat_eq other.number start.number) kept.now)) starts.now) }
+{
+    Ok(
+        starts
+            .iter()
+            .copied()
+            .filter(|start| !kept.contains(start))
+            .collect(alloc)?,
+    )
+}
+
+// The starts that run on the node once the report is accepted.
+fn kept_starts(
+    alloc: Global,
+    jobs: &[JobRecord],
+    node: u32,
+    report: &Report,
+) -> Result<Vec<Start>, Memory>
+    ensures { IfOk result (λ starts. starts.items ≡ map (λ job. record { id = job.id; number = job.starts }) (filter (λ job. is_running job.state
+        && (is_at node job && not (is_batch_host node job.parts && is_some (done_of report.now job)))) jobs.now)) }
+{
+    Ok(
+        jobs.iter()
+            .filter(|job| stays(job, node, report))
+            .map(|job| start_of(job))
+            .collect(alloc)?,
+    )
+}
+
+// Whether the job runs on the node, also once the report is accepted.
+fn stays(job: &JobRecord, node: u32, report: &Report) -> bool
+    ensures { result ≡ (is_running job.now.state
+        && (is_at node job.now && not (is_batch_host node job.now.parts && is_some (done_of report.now job.now)))) }
+{
+    job.state == JobState::Running
+        && is_at(node, job)
+        && !(is_batch_host(node, job.parts.as_slice()) && done_of(report, job).is_some())
+}
+
+fn start_of(job: &JobRecord) -> Start
+    ensures { result ≡ record { id = job.now.id; number = job.now.starts } }
+{
+    Start {
+        id: job.id,
+        number: job.starts,
+    }
+}
+
+/// The starts that the report tells to be over.
+pub(crate) fn forgets(alloc: Global, done: &[Done]) -> Result<Items<Start>, Memory>
+    ensures { IfOk result (λ forgets. forgets ≡ in_order (map (λ done. done.start) done.now)) }
+{
+    let starts = starts_over(alloc, done)?;
+    in_order(alloc, starts.as_slice())
+}
+
+fn starts_over(alloc: Global, done: &[Done]) -> Result<Vec<Start>, Memory>
+    ensures { IfOk result (λ starts. starts.items ≡ map (λ done. done.start) done.now) }
+{
+    Ok(done.iter().map(|done| done.start).collect(alloc)?)
+}
+
+/// The running jobs of the node that the report doesn't tell of.
+pub(crate) fn launches(
+    alloc: Global,
+    jobs: &[JobRecord],
+    node: u32,
+    report: &Report,
+) -> Result<Items<Launch>, Memory>
+    ensures { IfOk result (λ launches. launches ≡ filter_map (launch_of node report.now) jobs.now) }
+{
+    let mut launches = Vec::new(alloc);
+    for job in jobs {
+        if let Some(launch) = launch_of(job, node, report)? {
+            launches.push(launch)?;
+        }
+    }
+    Ok(Items::from_vec(launches))
+}
+
+fn launch_of(job: &JobRecord, node: u32, report: &Report) -> Result<Option<Launch>, Memory>
+    ensures { IfOk result (λ launch. launch ≡ launch_of node report.now job.now) }
+{
+    if job.state != JobState::Running {
+        return Ok(None);
+    }
+    let Some(part) = part_on(node, job.parts.as_slice()) else {
+        return Ok(None);
+    };
+    if is_told(report, job) {
+        return Ok(None);
+    }
+    Ok(Some(launch_part(job, node, part)?))
+}
+
+fn part_on(node: u32, parts: &[Part]) -> Option<&Part>
+    ensures { option_copied result ≡ find (is_on node) parts.now }
+{
+    parts.iter().find(|part| part.node == node)
+}
+
+// Whether the report tells of the job's start.
+fn is_told(report: &Report, job: &JobRecord) -> bool
+    ensures { result ≡ (is_listed report.now job.now || is_some (done_of report.now job.now)) }
+{
+    is_listed(report, job) || done_of(report, job).is_some()
+}
+
+fn launch_part(job: &JobRecord, node: u32, part: &Part) -> Result<Launch, Memory>
+    ensures { IfOk result (λ launch. launch ≡ launch_part node job.now part.now) }
+{
+    let is_batch_host = is_batch_host(node, job.parts.as_slice());
+    Ok(Launch {
+        start: start_of(job),
+        cpus: part.cpus.copy()?,
+        mem: part.mem,
+        run: is_batch_host.then_some(job.desc.run.get() as u32),
+        exit: is_batch_host.then_some(job.desc.exit.get() as u32),
+    })
+}

@@ -1,0 +1,88 @@
+//! A report: its refusals, its orders and what it does.
+
+ghost use Rattle.std.specs.Prelude.{◌≡◌, ◌<◌, ℕ, IfOk, IfSome, length};
+ghost use Rattle.ctl_state.specs.State.{state_of};
+ghost use Rattle.ctl_state.specs.Soundness.{IsSound};
+ghost use Rattle.ctl_state.specs.Refusals.{first_refusal};
+ghost use Rattle.ctl_report.specs.Reporting.{heard_of, report_after};
+ghost use Rattle.ctl_report.specs.Ordering.{orders_of};
+ghost use Rattle.ctl_report.specs.Answering;
+
+use crate::jobs::report_jobs;
+use crate::nodes::{hear, heard_of, is_after, place_of};
+use crate::ordering::{forgets, kills, launches};
+use ctl_state::cluster::Cluster;
+use slurm_text::memory_error::Memory;
+use slurm_text::name::Name;
+use slurm_text::plain::orders::Orders;
+use slurm_text::plain::refusal::Refusal;
+use slurm_text::plain::report::Report;
+use std::alloc::Global;
+
+/// Whether the report's daemon was restarted since its last accepted report. Linear in the nodes.
+pub fn is_restarted(cluster: &Cluster, report: &Report) -> bool
+    ensures { result ≡ Answering.is_restarted (state_of cluster.now) report.now }
+{
+    match heard_of(&cluster.nodes, &report.node) {
+        Some(heard) => heard.boot < report.boot,
+        None => false,
+    }
+}
+
+/// The place of the node that reports. Linear in the nodes.
+pub fn node_of(cluster: &Cluster, report: &Report) -> Option<usize>
+    ensures place { result ≡ Answering.node_of (state_of cluster.now) report.now }
+    ensures within { IfSome result (λ node. node < length cluster.now.nodes.items) }
+{
+    place_of(&cluster.nodes, &report.node)
+}
+
+// Why the report comes too late, if it does.
+fn staleness(cluster: &Cluster, report: &Report) -> Option<Refusal>
+    ensures { result ≡ Answering.staleness report.now (heard_of cluster.now.nodes.items report.now.node) }
+{
+    match heard_of(&cluster.nodes, &report.node) {
+        Some(heard) if !is_after(&heard, report) => Some(Refusal::StaleReport {
+            boot: heard.boot,
+            number: heard.number,
+        }),
+        _ => None,
+    }
+}
+
+/// Why the report is refused, if it is. Linear in the nodes.
+pub fn refusal_of(cluster: &Cluster, user: &Name, report: &Report) -> Option<Refusal>
+    ensures { result ≡ first_refusal (Answering.report_refusals (state_of cluster.now) user.now report.now) }
+{
+    if !cluster.is_privileged(user) {
+        return Some(Refusal::AccessDenied);
+    }
+    if node_of(cluster, report).is_none() {
+        return Some(Refusal::UnknownNode);
+    }
+    staleness(cluster, report)
+}
+
+/// What the node at a place is ordered in answer to its report, whatever its moment. Linear in the jobs, and for each that
+/// holds something of the node in what the report tells.
+pub fn orders(alloc: Global, cluster: &Cluster, node: u32, report: &Report) -> Result<Orders, Memory>
+    requires sound { IsSound (state_of cluster.now) }
+    ensures { IfOk result (λ orders. (now : ℕ) → orders ≡ orders_of (state_of cluster.now) now node report.now) }
+{
+    Ok(Orders {
+        node: report.node.copy()?,
+        boot: report.boot,
+        number: report.number,
+        kills: kills(alloc, &cluster.jobs, node, report)?,
+        forgets: forgets(alloc, report.done.as_slice())?,
+        launches: launches(alloc, &cluster.jobs, node, report)?,
+    })
+}
+
+/// Does what the report of the node at a place makes of the cluster. It takes no memory.
+pub fn accept(alloc: Global, cluster: &mut Cluster, moment: u64, node: u32, report: &Report)
+    ensures { state_of cluster.new ≡ report_after (state_of cluster.old) moment node report.now }
+{
+    hear(&mut cluster.nodes, moment, report);
+    report_jobs(alloc, &mut cluster.jobs, moment, node, report);
+}
