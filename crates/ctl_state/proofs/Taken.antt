@@ -1,7 +1,7 @@
 -- A waiting job that takes free parts keeps all sound, and adds just these to what is held.
-use Rattle.std.proofs.Common.{◌≡◌, ◌≢◌, ℕ, ◌+◌, ◌<◌, ◌≤◌, true, false, eqb, List, map, sum_by, All, AllPairs, Any, Contains, get_or, refl, ◌∙◌, sym, arith, inl, inr}
+use Rattle.std.proofs.Common.{◌≡◌, ◌≢◌, ℕ, ◌+◌, ◌<◌, ◌≤◌, true, false, eqb, List, map, sum_by, All, AllPairs, Any, Contains, get_or, refl, ◌∙◌, sym, arith, rules, inl, inr}
 use Rattle.std.specs.List.{list_any}
-use Rattle.std.proofs.lemmas.Bool.{both_ways, cases_eq, cond_both, and_parts, eqb-true, ne_eqb}
+use Rattle.std.proofs.lemmas.Bool.{cases_eq, cond_both, and_parts, eqb-true, ne_eqb}
 use Rattle.std.proofs.lemmas.List.Elements.{All-map, All-weaker}
 use Rattle.std.proofs.lemmas.List.Folds.{Any-from_list_any}
 use Rattle.backfill_planner.specs.declared.Placed.{Placed}
@@ -11,13 +11,13 @@ use Rattle.ctl_state.specs.declared.change.Change.TheVariants.{Start}
 use Rattle.ctl_state.specs.State.{State}
 use Rattle.ctl_state.specs.JobStates.{is_pending}
 use Rattle.ctl_state.specs.Changes.{changed}
-use Rattle.ctl_state.specs.Holding.{IsHeldOnce, IsPartOf, OnNodesApart, has_cpu, has_members, mem_held, mem_in, parts_of, times_held}
+use Rattle.ctl_state.specs.Holding.{IsHeldOnce, IsPartOf, OnNodesApart, has_cpu, mem_held, mem_in, parts_of, times_held}
 use Rattle.ctl_state.specs.Planning.{room_of}
 use Rattle.ctl_state.specs.Events.{MayTake, started_as}
 use Rattle.ctl_state.specs.Soundness.{HaveRisingIds, IsKept, IsSound, PlansPending, pending_ids}
 use Rattle.ctl_state.proofs.Counts.{count-once, sum-grown, sum_by-flat_map}
 use Rattle.ctl_state.proofs.Held.{cpu_in, was-held}
-use Rattle.ctl_state.proofs.Kept.{pending-nothing}
+use Rattle.ctl_state.proofs.Kept.{kept-started, pending-nothing}
 use Rattle.ctl_state.proofs.Lists.{All-flat_map, All-from_flat_map, contains-still, rising-kept}
 
 -- a job with another number stays as it is
@@ -93,36 +93,14 @@ held-taken s id parts sound may =
           omega (arith, sum, few, was-free (times_held (parts_of s.jobs)) node cpu parts may.unheld (was-held node cpu parts (omega (arith, some))))
     ]
 
-kept-started : (now : ℕ) (parts : List Part) (job : JobRecord) → has_members parts ≡ true → OnNodesApart parts → IsKept now job → IsKept now (changed (Start now parts) job)
-kept-started now parts job some apart kept = record {
-  asked = kept.asked;
-  limit = kept.limit;
-  run = record {
-    submitted = kept.run.submitted;
-    started = λ holding. refl;
-    ended = λ has. absurd (both_ways false refl has);
-    start_passed = omega arith;
-    end_passed = omega arith;
-    in_order = λ has. absurd (both_ways false refl has);
-    final = λ same. cc;
-  };
-  parts = record { some = some; apart = apart };
-}
-
 pub sound-taken : (s : State) (id : ℕ) (parts : List Part) (plan : List Placed) → IsSound s → MayTake (map room_of s.nodes) s.jobs id parts → PlansPending (map (started_as s.moment id parts) s.jobs) plan
     → IsSound (record s { jobs = map (started_as s.moment id parts) s.jobs; plan = plan })
 sound-taken s id parts plan sound may planned =
     let start = started_as s.moment id parts in
-    let below : JobRecord → Type 0 = λ job. job.id < s.next_id in
-    record {
-      settings = sound.settings;
-      nodes = sound.nodes;
-      rising = rising-kept (λ (job : JobRecord). job.id) start s.jobs (λ k d within. same-id s.moment id parts (get_or s.jobs k d)) sound.rising;
-      below_next = All-map below start s.jobs (λ k d within. rw (same-id s.moment id parts (get_or s.jobs k d)) (sound.below_next k d within));
-      next = sound.next;
-      moment = sound.moment;
-      jobs = All-map (IsKept s.moment) start s.jobs (All-weaker (IsKept s.moment) (λ job. IsKept s.moment (start job))
-          (λ job kept. cond_both (eqb job.id id) (changed (Start s.moment parts) job) job (IsKept s.moment) (λ here. kept-started s.moment parts job may.some may.apart kept) (λ other. kept)) s.jobs sound.jobs);
-      held = held-taken s id parts sound may;
-      plan = planned;
-    }
+    let low : JobRecord → Type 0 = λ job. job.id < s.next_id in
+    let rise : HaveRisingIds (map start s.jobs) = rising-kept (λ (job : JobRecord). job.id) start s.jobs (λ k d below. same-id s.moment id parts (get_or s.jobs k d)) sound.rising in
+    let next : All low (map start s.jobs) = All-map low start s.jobs (λ k d below. rw (same-id s.moment id parts (get_or s.jobs k d)) (sound.below_next k d below)) in
+    let kept : All (IsKept s.moment) (map start s.jobs) = All-map (IsKept s.moment) start s.jobs (All-weaker (IsKept s.moment) (λ job. IsKept s.moment (start job))
+    (λ job kept. cond_both (eqb job.id id) (changed (Start s.moment parts) job) job (IsKept s.moment) (λ here. kept-started s.moment parts job may.some may.apart kept) (λ other. kept)) s.jobs sound.jobs) in
+    let held = held-taken s id parts sound may in
+    search rules
