@@ -1,4 +1,4 @@
--- Nodes that are heard, jobs that are added and plans that are made keep all sound.
+-- Nodes that are heard, and jobs that are added keep all sound.
 use Rattle.std.proofs.Common.{◌≡◌, ℕ, ◌+◌, ◌<◌, ◌≤◌, true, List, ◌++◌, length, map, filter, get_or, All, Contains, ap, sym, ◌∙◌, arith, rules}
 use Rattle.std.proofs.lemmas.List.{get_or-map, length-map, map-append, append-nil}
 use Rattle.std.proofs.lemmas.List.Concat.{flat_map-append}
@@ -72,6 +72,3 @@ sound-added s now next more sound later in_time kept pending rising above below 
     let held : IsHeldOnce (map room_of s.nodes) (parts_of both) = rw (parts-added now s.jobs more kept pending) sound.held in
     let planned = planned-added s.jobs more s.plan sound.plan in
     search (rules, arith)
-
-pub sound-planned : (s : State) (plan : List Placed) → IsSound s → PlansPending s.jobs plan → IsSound (record s { plan = plan })
-sound-planned s plan sound planned = search rules

@@ -1,5 +1,5 @@
 -- Letting go keeps all sound.
-use Rattle.std.proofs.Common.{◌≡◌, ℕ, ◌<◌, ◌≤◌, Bool, true, false, not, List, [], ◌∷◌, map, sum_by, All, get_or, refl, sym, ap, arith, rules, inl, inr}
+use Rattle.std.proofs.Common.{◌≡◌, ℕ, ◌<◌, ◌≤◌, Bool, true, false, not, List, [], ◌∷◌, map, sum_by, All, get_or, ap, arith, rules, tests, inl, inr}
 use Rattle.std.proofs.lemmas.Bool.{cases_Bool}
 use Rattle.std.proofs.lemmas.List.Elements.{All-head, All-tail, All-map, All-filter}
 use Rattle.std.proofs.lemmas.List.Filters.{sum_by-filter_both}
@@ -22,11 +22,7 @@ use Rattle.ctl_state.proofs.Lists.{All-flat_map, All-from_flat_map, rising-kept}
 -- what stays of a job, and of all jobs, is no more than there was
 part-less : (amount : Part → ℕ) (now : ℕ) (job after : JobRecord) → LetsGo now job after → sum_by amount after.parts ≤ sum_by amount job.parts
 part-less amount now job after lets =
-    omega (arith, sum_by-filter_both (λ part. not (lets.keep part)) lets.keep (λ part. sym (twice (lets.keep part))) amount job.parts, ap (sum_by amount) lets.parts)
-  where
-    twice : (b : Bool) → not (not b) ≡ b
-    twice true = refl
-    twice false = refl
+    omega (arith, sum_by-filter_both (λ part. not (lets.keep part)) lets.keep (λ part. search (rules, tests)) amount job.parts, ap (sum_by amount) lets.parts)
 
 left-less : (amount : Part → ℕ) (now : ℕ) (change : JobRecord → JobRecord) (goes : JobRecord → Bool) (jobs : List JobRecord) → All (λ job. LetsGo now job (change job)) jobs
     → sum_by amount (parts_of (those_left change goes jobs)) ≤ sum_by amount (parts_of jobs)

@@ -68,10 +68,12 @@ parts-once node cpu parts apart = count-once (has_cpu node cpu) parts off
 was-free : (times : ℕ → ℕ → ℕ) (node cpu : ℕ) (parts : List Part) → All (λ (part : Part). All (λ id. times part.node id ≡ 0) part.cpus) parts → Any (λ part. has_cpu node cpu part ≡ true) parts → times node cpu ≡ 0
 was-free times node cpu parts unheld (k, part, below, is, has) =
     let both = and_parts (eqb part.node node) (list_any (λ id. eqb id cpu) part.cpus) has in
-    found (rw is at (unheld k part below)) (eqb-true part.node node both.0) (Any-from_list_any (λ id. eqb id cpu) part.cpus both.1)
+    let here : All (λ id. times part.node id ≡ 0) part.cpus = rw is at (unheld k part below) in
+    let none : All (λ id. times node id ≡ 0) part.cpus = rw (eqb-true part.node node both.0) at here in
+    found none (Any-from_list_any (λ id. eqb id cpu) part.cpus both.1)
   where
-    found : All (λ id. times part.node id ≡ 0) part.cpus → part.node ≡ node → Any (λ id. eqb id cpu ≡ true) part.cpus → times node cpu ≡ 0
-    found none on (place, id, inside, at, same) = rw (← on, ← eqb-true id cpu same) (rw at at (none place id inside))
+    found : All (λ id. times node id ≡ 0) part.cpus → Any (λ id. eqb id cpu ≡ true) part.cpus → times node cpu ≡ 0
+    found none (place, id, inside, at, same) = rw (← eqb-true id cpu same) (rw at at (none place id inside))
 
 held-taken : (s : State) (id : ℕ) (parts : List Part) → IsSound s → MayTake (map room_of s.nodes) s.jobs id parts → IsHeldOnce (map room_of s.nodes) (parts_of (map (started_as s.moment id parts) s.jobs))
 held-taken s id parts sound may =
