@@ -5,7 +5,6 @@ use Rattle.std.proofs.lemmas.List.Kept.{AllPairs-filter}
 use Rattle.slurm_text.specs.declared.plain.state.JobState.{JobState}
 use Rattle.slurm_text.specs.declared.plain.state.JobState.TheVariants.{Pending, Running, Completing, Ended}
 use Rattle.slurm_text.specs.declared.plain.state.Final.{Final}
-use Rattle.slurm_text.specs.declared.plain.state.Final.TheVariants.{Completed, Cancelled, Failed, Timeout, NodeFail, Requeue}
 use Rattle.ctl_state.specs.declared.record.Part.{Part}
 use Rattle.ctl_state.specs.declared.record.JobRecord.{JobRecord}
 use Rattle.ctl_state.specs.declared.change.Change.{Change}
@@ -44,12 +43,7 @@ lets_go-twice now job middle after one two =
 -- a completing job that holds nothing any more
 settles : (now : ℕ) (final : Final) (job : JobRecord) → IsKept now job
     → (false ≡ is_holding (left final)) × IsWellRun now (record job { parts = []; state = left final; ended = end_of now final job.ended })
-settles now Completed job kept = search (rules, tests)
-settles now Cancelled job kept = search (rules, tests)
-settles now Failed job kept = search (rules, tests)
-settles now Timeout job kept = search (rules, tests)
-settles now NodeFail job kept = search (rules, tests)
-settles now Requeue job kept = search (rules, tests)
+settles now final job kept = search (rules, tests)
 
 leaves-node : (now node : ℕ) (final : Final) (job : JobRecord) (rest : List Part) → IsKept now job → job.state ≡ Completing final → rest ≡ parts_off node job.parts → LetsGo now job (with_left now final rest job)
 leaves-node now node final job [] kept completing off =

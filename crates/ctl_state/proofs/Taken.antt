@@ -84,16 +84,14 @@ held-taken s id parts sound may =
     (λ job had. cond_both (eqb job.id id) (changed (Start s.moment parts) job) job has (λ here. may.each) (λ other. had)) s.jobs (All-from_flat_map (IsPartOf rooms) held s.jobs sound.held.each) in
     record {
       each = All-flat_map (IsPartOf rooms) held (map (started_as s.moment id parts) s.jobs) (All-map has (started_as s.moment id parts) s.jobs each);
-      once = λ node cpu. once node cpu (sound.held.once node cpu) (parts-once node cpu parts may.apart) (times-taken s s.moment id node cpu parts sound may.waits);
+      once = λ node cpu.
+          let sum = times-taken s s.moment id node cpu parts sound may.waits in
+          elim (cases_eq (times_held parts node cpu) 0) [
+            | inl none ↦ omega (arith, sum, none, sound.held.once node cpu)
+            | inr some ↦ omega (arith, sum, parts-once node cpu parts may.apart, was-free (times_held (parts_of s.jobs)) node cpu parts may.unheld (was-held node cpu parts (omega (arith, some))))
+          ];
       mem = λ node. omega (arith, mem-taken s s.moment id node parts sound may.waits, may.mem node);
     }
-  where
-    once : (node cpu : ℕ) {after : ℕ} → times_held (parts_of s.jobs) node cpu ≤ 1 → times_held parts node cpu ≤ 1 → after ≡ times_held (parts_of s.jobs) node cpu + times_held parts node cpu → after ≤ 1
-    once node cpu was few sum = elim (cases_eq (times_held parts node cpu) 0) [
-      | inl none ↦ omega (arith, sum, none, was)
-      | inr some ↦
-          omega (arith, sum, few, was-free (times_held (parts_of s.jobs)) node cpu parts may.unheld (was-held node cpu parts (omega (arith, some))))
-    ]
 
 pub sound-taken : (s : State) (id : ℕ) (parts : List Part) (plan : List Placed) → IsSound s → MayTake (map room_of s.nodes) s.jobs id parts → PlansPending (map (started_as s.moment id parts) s.jobs) plan
     → IsSound (record s { jobs = map (started_as s.moment id parts) s.jobs; plan = plan })
