@@ -33,17 +33,21 @@ use Rattle.ctl_pass.specs.Limits.{deadline, is_over, timed_out, is_old, hold_end
 use Rattle.ctl_pass.specs.Readiness.{ready, base_of, candidates, ranked, planned, placements}
 use Rattle.ctl_pass.proofs.Tallies.{pairs-map, sum_by-larger, sum_by-map, joined-larger, range-rises, range-below}
 use Rattle.ctl_pass.proofs.Counted.{cpus_in, held-counted, free-counted}
-use Rattle.ctl_pass.proofs.Readied.{EventLaws, readied, sound-readied}
+use Rattle.ctl_pass.proofs.Readied.{ReadyLaws, readied, sound-readied}
 use Rattle.ctl_pass.proofs.Soundly.{IsReady, CanStart}
 
--- what holds of every plan
+-- the laws of plans that a pass rests on
 pub record PlanLaws : Type 0 where
   pub ids : (base : BaseView) (ranked : List PlanJob) (now : ℕ) → All (λ (placed : Placed). Contains (map (λ (job : PlanJob). job.id) ranked) placed.id) (plan_of base ranked now)
-  pub rising : (base : BaseView) (ranked : List PlanJob) (now : ℕ) → AllPairs (λ (one other : PlanJob). one.id < other.id) ranked → AllPairs (λ (one other : Placed). one.id < other.id) (plan_of base ranked now)
+  pub rising : (base : BaseView) (ranked : List PlanJob) (now : ℕ)
+      → AllPairs (λ (one other : PlanJob). one.id < other.id) ranked → AllPairs (λ (one other : Placed). one.id < other.id) (plan_of base ranked now)
   pub starts : (base : BaseView) (ranked : List PlanJob) (now : ℕ) → All (λ (placed : Placed). (now ≤ placed.start) × (placed.start ≤ base.horizon)) (plan_of base ranked now)
-  pub some : (base : BaseView) (ranked : List PlanJob) (now : ℕ) → All (λ (job : PlanJob). 1 ≤ job.need.tasks) ranked → All (λ (placed : Placed). 1 ≤ length placed.parts) (plan_of base ranked now)
-  pub parts : (base : BaseView) (ranked : List PlanJob) (now : ℕ) → base.horizon ≤ 250002592000 → All (IsOnRooms base.rooms) ranked → All IsPlannable ranked → All (λ (placed : Placed). AreParts base.rooms placed.parts) (plan_of base ranked now)
-  pub fit : (base : BaseView) (ranked : List PlanJob) (now : ℕ) → AreWithin base.rooms base.holds → base.horizon ≤ 250002592000 → All (IsOnRooms base.rooms) ranked → All IsPlannable ranked → StartsFit base (plan_of base ranked now) now
+  pub some : (base : BaseView) (ranked : List PlanJob) (now : ℕ)
+      → All (λ (job : PlanJob). 1 ≤ job.need.tasks) ranked → All (λ (placed : Placed). 1 ≤ length placed.parts) (plan_of base ranked now)
+  pub parts : (base : BaseView) (ranked : List PlanJob) (now : ℕ)
+      → base.horizon ≤ 250002592000 → All (IsOnRooms base.rooms) ranked → All IsPlannable ranked → All (λ (placed : Placed). AreParts base.rooms placed.parts) (plan_of base ranked now)
+  pub fit : (base : BaseView) (ranked : List PlanJob) (now : ℕ)
+      → AreWithin base.rooms base.holds → base.horizon ≤ 250002592000 → All (IsOnRooms base.rooms) ranked → All IsPlannable ranked → StartsFit base (plan_of base ranked now) now
 
 -- what holds of each element of each joined list
 joined-all : {X Y Z : Type 0} (P : Y → Type 0) (Q : Z → Type 0) (h : X → List Y) (k : X → List Z) (xs : List X) → All P (flat_map h xs) → All (λ x. All P (h x) → All Q (k x)) xs → All Q (flat_map k xs)
@@ -199,6 +203,6 @@ can-start laws s sound =
     }
 
 -- So those of a pass can.
-pub can-start_ready : EventLaws → PlanLaws → (s : State) (now : ℕ) → IsSound s → s.moment ≤ now → now ≤ last_moment → CanStart (readied s now) (placements s now)
+pub can-start_ready : ReadyLaws → PlanLaws → (s : State) (now : ℕ) → IsSound s → s.moment ≤ now → now ≤ last_moment → CanStart (readied s now) (placements s now)
 unfolding planned base_of ranked candidates
-can-start_ready events plans s now sound raised in_time = can-start plans (readied s now) (sound-readied events s now sound raised in_time)
+can-start_ready readies plans s now sound raised in_time = can-start plans (readied s now) (sound-readied readies s now sound raised in_time)

@@ -19,7 +19,7 @@ use Rattle.ctl_state.specs.Events.{started_as}
 use Rattle.ctl_pass.specs.Starting.{part_of, start_of, begun, started, IsAsPlanned, HasStarted}
 use Rattle.ctl_pass.proofs.Tallies.{pairs-head, Any-kept}
 use Rattle.ctl_pass.proofs.Counted.{free-counted}
-use Rattle.ctl_pass.proofs.Soundly.{StateLaws, CanStart, IsReady, parts_for, after_start, can-later, can-begun}
+use Rattle.ctl_pass.proofs.Soundly.{StartLaws, CanStart, IsReady, parts_for, after_start, can-later, can-begun}
 
 -- a share takes no more than its placement, so where that fits the share gets all its processors
 given : (rooms : List NodeRoom) (jobs : List JobRecord) (shares : List Share) → All (λ (share : Share). share.cpus ≤ length (free_ids rooms (parts_of jobs) share.node)) shares → AllZip IsAsPlanned shares (map (part_of rooms jobs) shares)
@@ -62,7 +62,7 @@ stays-given rooms now jobs placed (other ∷ later) differ (k, job, inside, is, 
     ]
 
 -- So each placement that is due is of a job that has started with all that was planned for it.
-pub all-given : StateLaws → (s : State) (plan : List Placed) → CanStart s plan
+pub all-given : StartLaws → (s : State) (plan : List Placed) → CanStart s plan
     → All (λ (placed : Placed). placed.start ≡ s.moment → Any (HasStarted s.moment placed) (started (map room_of s.nodes) s.moment s.jobs plan).jobs) plan
 unfolding started
 all-given laws s [] can = All-nil (λ (placed : Placed). placed.start ≡ s.moment → Any (HasStarted s.moment placed) s.jobs)

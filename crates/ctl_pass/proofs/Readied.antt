@@ -13,18 +13,17 @@ use Rattle.ctl_state.specs.State.{State, last_moment}
 use Rattle.ctl_state.specs.JobStates.{is_running, is_ended, is_holding}
 use Rattle.ctl_state.specs.Changes.{changed, is_start, moment_of}
 use Rattle.ctl_state.specs.Events.{LetsGo, those_left}
+use Rattle.ctl_state.specs.Laws.{LettingGo, ChangesLetGo, LetsGoNothing, KeptLater}
 use Rattle.ctl_state.specs.Soundness.{IsSound, IsKept, PlansPending, pending_ids}
 use Rattle.ctl_pass.specs.Limits.{deadline, is_over, timed_out, is_old}
 use Rattle.ctl_pass.specs.Readiness.{ready}
 
--- what holds of every event that starts nothing
-pub record EventLaws : Type 0 where
-  pub letting_go : (s : State) (now : ℕ) (change : JobRecord → JobRecord) (goes : JobRecord → Bool) (plan : List Placed)
-      → IsSound s → now ≤ last_moment → All (λ job. LetsGo now job (change job)) s.jobs → All (λ job. goes (change job) ≡ true → is_holding (change job).state ≡ false) s.jobs
-      → PlansPending (those_left change goes s.jobs) plan → IsSound (record s { jobs = those_left change goes s.jobs; plan = plan; moment = now })
-  pub lets_go : (now : ℕ) (change : Change) (job : JobRecord) → is_start change ≡ false → moment_of change ≡ now → IsKept now job → LetsGo now job (changed change job)
-  pub same : (now : ℕ) (job : JobRecord) → IsKept now job → LetsGo now job job
-  pub later : (before now : ℕ) (job : JobRecord) → before ≤ now → IsKept before job → IsKept now job
+-- the laws of letting go that a pass rests on
+pub record ReadyLaws : Type 0 where
+  pub letting_go : LettingGo
+  pub changes : ChangesLetGo
+  pub nothing : LetsGoNothing
+  pub later : KeptLater
 
 -- no plan names nobody
 pub no-plan : (jobs : List JobRecord) → PlansPending jobs []
@@ -52,7 +51,7 @@ ended-not_holding (Completing final) ended = sym ended
 ended-not_holding (Ended final) ended = refl
 
 -- limits and old records let go: what a pass plans is sound
-pub sound-readied : EventLaws → (s : State) (now : ℕ) → IsSound s → s.moment ≤ now → now ≤ last_moment → IsSound (readied s now)
+pub sound-readied : ReadyLaws → (s : State) (now : ℕ) → IsSound s → s.moment ≤ now → now ≤ last_moment → IsSound (readied s now)
 sound-readied laws s now sound raised in_time =
     let age = s.settings.min_job_age in
     laws.letting_go s now (timed_out now) (is_old age now) [] sound in_time (All-weaker (IsKept s.moment) (λ job. LetsGo now job (timed_out now job)) (λ job kept. lets job (laws.later s.moment now job raised kept)) s.jobs sound.jobs)
@@ -60,4 +59,4 @@ sound-readied laws s now sound raised in_time =
     (no-plan (those_left (timed_out now) (is_old age now) s.jobs))
   where
     lets : (job : JobRecord) → IsKept now job → LetsGo now job (timed_out now job)
-    lets job kept = cond_both (is_over now job) (changed (Leave Timeout now None) job) job (LetsGo now job) (λ over. laws.lets_go now (Leave Timeout now None) job refl refl kept) (λ within. laws.same now job kept)
+    lets job kept = cond_both (is_over now job) (changed (Leave Timeout now None) job) job (LetsGo now job) (λ over. laws.changes now (Leave Timeout now None) job refl refl kept) (λ within. laws.nothing now job kept)

@@ -20,23 +20,20 @@ use Rattle.ctl_state.specs.JobStates.{is_pending}
 use Rattle.ctl_state.specs.Holding.{cpus_of, mem_of, is_on, has_cpu, mem_in, times_held, mem_held, free_ids, parts_of, has_members, IsPartOf}
 use Rattle.ctl_state.specs.Planning.{room_of}
 use Rattle.ctl_state.specs.Events.{MayTake, started_as}
-use Rattle.ctl_state.specs.Soundness.{IsSound, HaveRisingIds, PlansPending, pending_ids}
+use Rattle.ctl_state.specs.Laws.{Taking, TakenTimes, TakenMem, OthersWait, Planning}
+use Rattle.ctl_state.specs.Soundness.{IsSound, PlansPending, pending_ids}
 use Rattle.ctl_pass.specs.Starting.{part_of, start_of, begun, started, IsAsPlanned, HasStarted}
 use Rattle.ctl_pass.proofs.Tallies.{pairs-head, pairs-tail, pairs-take, pairs-map, sum_by-map}
 use Rattle.ctl_pass.proofs.Counted.{cpus_held, cpus_in, held-counted, held-grown, free-are}
 use Rattle.ctl_pass.proofs.Readied.{no-plan}
 
--- what holds of every state
-pub record StateLaws : Type 0 where
-  pub taking : (s : State) (id : ℕ) (parts : List Part) (plan : List Placed) → IsSound s → MayTake (map room_of s.nodes) s.jobs id parts
-      → PlansPending (map (started_as s.moment id parts) s.jobs) plan → IsSound (record s { jobs = map (started_as s.moment id parts) s.jobs; plan = plan })
-  pub times : (s : State) (now id node cpu : ℕ) (parts : List Part) → IsSound s → Contains (pending_ids s.jobs) id
-      → times_held (parts_of (map (started_as now id parts) s.jobs)) node cpu ≡ times_held (parts_of s.jobs) node cpu + times_held parts node cpu
-  pub mem : (s : State) (now id node : ℕ) (parts : List Part) → IsSound s → Contains (pending_ids s.jobs) id
-      → mem_held (parts_of (map (started_as now id parts) s.jobs)) node ≡ mem_held (parts_of s.jobs) node + mem_held parts node
-  pub waits : (jobs : List JobRecord) (now id other : ℕ) (parts : List Part) → HaveRisingIds jobs → Contains (pending_ids jobs) other → (other ≡ id → ⊥)
-      → Contains (pending_ids (map (started_as now id parts) jobs)) other
-  pub planned : (s : State) (plan : List Placed) → IsSound s → PlansPending s.jobs plan → IsSound (record s { plan = plan })
+-- the laws of starts that a pass rests on
+pub record StartLaws : Type 0 where
+  pub taking : Taking
+  pub times : TakenTimes
+  pub mem : TakenMem
+  pub waits : OthersWait
+  pub planned : Planning
 
 -- a placement that can start once it is due
 pub record IsReady (s : State) (placed : Placed) : Type 0 where
@@ -129,7 +126,7 @@ can-later s placed later can other = record {
   mem = λ node. rw other at (can.mem node);
 }
 
-module _ (laws : StateLaws) where
+module _ (laws : StartLaws) where
   -- where the first placement is due, the others can start after it
   pub can-begun : (s : State) (placed : Placed) (later : List Placed) → CanStart s (placed ∷ later) → eqb placed.start s.moment ≡ true → CanStart (after_start s placed) later
   can-begun s placed later can due =
