@@ -8,19 +8,20 @@ use Rattle.slurm_text.specs.declared.plain.view.View.{View}
 use Rattle.slurm_text.specs.declared.plain.state.Reason.{Reason}
 use Rattle.slurm_text.specs.declared.plain.state.Reason.TheVariants.{Resources, Priority}
 use Rattle.backfill_planner.specs.declared.Placed.{Placed}
-use Rattle.ctl_core.specs.declared.record.Part.{Part}
-use Rattle.ctl_core.specs.declared.record.NodeRecord.{NodeRecord}
-use Rattle.ctl_core.specs.declared.record.JobRecord.{JobRecord}
-use Rattle.ctl_core.specs.JobStates.{is_pending, is_holding}
-use Rattle.ctl_core.specs.State.{State}
+use Rattle.ctl_state.specs.declared.record.Part.{Part}
+use Rattle.ctl_state.specs.declared.record.NodeRecord.{NodeRecord}
+use Rattle.ctl_state.specs.declared.record.JobRecord.{JobRecord}
+use Rattle.ctl_state.specs.JobStates.{is_pending, is_holding}
+use Rattle.ctl_state.specs.State.{State}
+use Rattle.ctl_pass.specs.Readiness.{candidates}
 
 -- jobs that have ended aren't shown; `starts` shows pending jobs alone
 abbrev pub is_shown : Bool → JobRecord → Bool
 is_shown starts job = is_pending job.state || (is_holding job.state && not starts)
 
--- the number of the pending job that is highest in rank
-unfoldable pub highest : List JobRecord → Option ℕ
-highest jobs = option_map (λ (job : JobRecord). job.id) (find (λ (job : JobRecord). is_pending job.state) jobs)
+-- the number of the candidate that is highest in rank
+unfoldable pub highest : State → ℕ → Option ℕ
+highest s now = option_map (λ (job : JobRecord). job.id) (slice_get (candidates s now) 0)
 
 -- why a pending job waits: the highest in rank for what it needs, the others for those above them
 abbrev pub reason_of : Option ℕ → JobRecord → Reason
@@ -36,8 +37,8 @@ unfoldable pub names_of : List NodeRecord → List Part → List (List ℕ)
 names_of nodes parts = filter_map (λ (part : Part). option_map (λ (node : NodeRecord). node.conf.name) (slice_get nodes part.node)) parts
 
 -- what is shown of a pending job
-abbrev pub pending_row : State → JobRecord → JobRow
-pending_row s job = record {
+abbrev pub pending_row : State → ℕ → JobRecord → JobRow
+pending_row s now job = record {
   id = job.id;
   name = job.desc.name;
   user = job.user;
@@ -46,7 +47,7 @@ pending_row s job = record {
   elapsed = 0;
   nodes = 1;
   node_names = [];
-  reason = Some (reason_of (highest s.jobs) job);
+  reason = Some (reason_of (highest s now) job);
   start = planned_start s.plan job.id;
 }
 
@@ -66,7 +67,7 @@ holding_row s now job = record {
 }
 
 unfoldable pub row_of : State → ℕ → JobRecord → JobRow
-row_of s now job = if is_pending job.state then pending_row s job else holding_row s now job
+row_of s now job = if is_pending job.state then pending_row s now job else holding_row s now job
 
 -- what a query shows at a moment, in the order of the jobs' numbers
 unfoldable pub view_of : State → ℕ → Query → View

@@ -1,17 +1,29 @@
 //! What holds of every step. A law is the contract of a function that does nothing.
 
-ghost use Rattle.std.specs.Prelude.{◌≡◌, ◌⊎◌, ℕ, ◌≤◌, List, flat_map, All, AllPairs, Any, Contains, true};
+ghost use Rattle.std.specs.Prelude.{◌≡◌, ◌≢◌, ℕ, List, true};
 ghost use Rattle.slurm_text.specs.declared.plain.request.Request.{Request};
-ghost use Rattle.backfill_planner.specs.declared.Placed.{Placed};
-ghost use Rattle.backfill_planner.specs.declared.job.PlanJob.{PlanJob};
-ghost use Rattle.backfill_planner.specs.Placements.{IsPlannable};
-ghost use Rattle.ctl_core.specs.declared.record.JobRecord.{JobRecord};
-ghost use Rattle.ctl_core.specs.State.{State, last_moment};
-ghost use Rattle.ctl_core.specs.JobStates.{is_running};
-ghost use Rattle.ctl_core.specs.Holding.{AreApart};
-ghost use Rattle.ctl_core.specs.Soundness.{IsSound};
-ghost use Rattle.ctl_core.specs.Step.{reply_of, state_after, raised};
-ghost use Rattle.ctl_core.specs.Passing.{ranked, placements, starting, HasStarted, pass_after, is_idle};
+ghost use Rattle.slurm_text.specs.declared.plain.request.Request.TheVariants.{Pass};
+ghost use Rattle.slurm_text.specs.declared.plain.reply.Reply.{Reply};
+ghost use Rattle.slurm_text.specs.declared.plain.reply.Reply.TheVariants.{Idle};
+ghost use Rattle.ctl_state.specs.State.{State};
+ghost use Rattle.ctl_state.specs.Soundness.{IsSound};
+ghost use Rattle.ctl_state.specs.Verdicts.{Makes};
+ghost use Rattle.ctl_pass.specs.Passing.{pass_after};
+ghost use Rattle.ctl_core.specs.Step.{reply_of, state_after, raised, verdict_of, IsInRange};
+
+use ctl_pass::laws::{a_pass_keeps_all_sound, an_idle_pass_changes_nothing};
+use ctl_report::laws::a_report_keeps_all_sound;
+use ctl_state::laws::added_jobs_keep_all_sound;
+
+/// Whatever is asked, what is sound stays sound.
+pub fn a_step_keeps_all_sound()
+    ensures { (s : State) (now : ℕ) (user : List ℕ) (request : Request) → IsSound s → IsInRange request
+        → IsSound (state_after s now user request) }
+{
+    a_pass_keeps_all_sound();
+    a_report_keeps_all_sound();
+    added_jobs_keep_all_sound();
+}
 
 /// A request is decided at its raised moment as at the one handed in.
 pub fn raised_moments_decide_alike()
@@ -21,39 +33,13 @@ pub fn raised_moments_decide_alike()
         → state_after s (raised s now) user request ≡ state_after s now user request }
 {}
 
-/// An idle pass changes nothing but the moment.
-pub fn an_idle_pass_changes_nothing()
-    ensures { (s : State) (now : ℕ) → is_idle s now ≡ true
-        → record (pass_after s now) { moment = s.moment } ≡ s }
-{}
-
-/// A pass that changes nothing but the moment is idle.
-pub fn a_pass_that_changes_nothing_is_idle()
-    ensures { (s : State) (now : ℕ) → IsSound s
-        → record (pass_after s now) { moment = s.moment } ≡ s → is_idle s now ≡ true }
-{}
-
-/// No two parts, of one job or of two, share a processor.
-pub fn no_two_parts_share_a_processor()
-    ensures { (s : State) → IsSound s
-        → AllPairs AreApart (flat_map (λ (job : JobRecord). job.parts) s.jobs) }
-{}
-
-/// Each placement that begins now is of a job that runs after the pass, since now, with all that was planned for it. What
-/// is asked of the settings and of the jobs that wait, their types keep.
-pub fn starts_get_all_they_planned()
-    ensures { (s : State) (now : ℕ) → IsSound s → s.moment ≤ now → now ≤ last_moment
-        → s.settings.bf_window ≤ 43200 → All IsPlannable (ranked s s.jobs)
-        → All (λ (job : PlanJob). 1 ≤ job.need.tasks) (ranked s s.jobs)
-        → All (λ (placed : Placed). Any (HasStarted now placed) (pass_after s now).jobs)
-        (starting now (placements s now)) }
-{}
-
-/// A job that runs after a pass ran before it just so, or a placement that begins now is of it.
-pub fn a_started_job_was_planned()
-    ensures { (s : State) (now : ℕ)
-        → All (λ (job : JobRecord). is_running job.state ≡ true
-        → Contains s.jobs job
-        ⊎ Any (λ (placed : Placed). placed.id ≡ job.id) (starting now (placements s now)))
-        (pass_after s now).jobs }
-{}
+/// A request is idle exactly where it would change nothing but the moment: what an idle one would leave is the state as it
+/// was, and what another makes is another state.
+pub fn idle_requests_change_nothing()
+    ensures idle { (s : State) (now : ℕ) (user : List ℕ) (request : Request) → reply_of s now user request ≡ Idle
+        → (request ≡ Pass) × (pass_after s (raised s now) ≡ s) }
+    ensures made { (s after : State) (now : ℕ) (user : List ℕ) (request : Request) (reply : Reply) → IsSound s
+        → verdict_of s now user request ≡ Makes reply after → after ≢ s }
+{
+    an_idle_pass_changes_nothing();
+}

@@ -1,10 +1,11 @@
-//! The controller: the state of the cluster, and what each request does to it and answers.
+//! The controller: each request is one step of its state.
 #![tactic(auto)]
 
+mod answering;
 pub mod controller;
-mod free_ids;
-mod jobs;
 pub mod laws;
-mod planning;
-pub mod record;
+mod passing;
 pub mod reply;
+mod reporting;
+mod showing;
+mod submitting;

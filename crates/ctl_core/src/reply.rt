@@ -12,3 +12,11 @@ pub struct Decided {
     /// The moment at which it was decided: the one handed in, or the last one where that is later.
     pub moment: u64,
 }
+
+// What a request comes to, before it bears its moment.
+#[derive(Drop)]
+pub(crate) struct Answered {
+    pub(crate) reply: Reply,
+    // The reply once more, where it makes an entry.
+    pub(crate) entered: Option<Reply>,
+}

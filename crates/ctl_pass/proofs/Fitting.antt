@@ -32,46 +32,22 @@ use Rattle.ctl_state.specs.Soundness.{IsSound, IsKept, IsLimit, PlansPending, pe
 use Rattle.ctl_pass.specs.Limits.{deadline, is_over, timed_out, is_old, hold_end, holds_of_job}
 use Rattle.ctl_pass.specs.Readiness.{ready, base_of, candidates, ranked, planned, placements}
 use Rattle.ctl_pass.proofs.Tallies.{pairs-map, sum_by-larger, sum_by-map, joined-larger, range-rises, range-below}
-use Rattle.ctl_pass.proofs.Soundly.{no-plan, cpus_in, held-counted, free-counted, IsReady, CanStart}
+use Rattle.ctl_pass.proofs.Counted.{cpus_in, held-counted, free-counted}
+use Rattle.ctl_pass.proofs.Readied.{ReadyLaws, readied, sound-readied}
+use Rattle.ctl_pass.proofs.Soundly.{IsReady, CanStart}
 
--- what holds of every event that starts nothing
-pub record EventLaws : Type 0 where
-  pub letting_go : (s : State) (now : ℕ) (change : JobRecord → JobRecord) (goes : JobRecord → Bool) (plan : List Placed)
-      → IsSound s → now ≤ last_moment → All (λ job. LetsGo now job (change job)) s.jobs → All (λ job. goes (change job) ≡ true → is_holding (change job).state ≡ false) s.jobs
-      → PlansPending (those_left change goes s.jobs) plan → IsSound (record s { jobs = those_left change goes s.jobs; plan = plan; moment = now })
-  pub lets_go : (now : ℕ) (change : Change) (job : JobRecord) → is_start change ≡ false → moment_of change ≡ now → IsKept now job → LetsGo now job (changed change job)
-  pub same : (now : ℕ) (job : JobRecord) → IsKept now job → LetsGo now job job
-  pub later : (before now : ℕ) (job : JobRecord) → before ≤ now → IsKept before job → IsKept now job
-
--- what holds of every plan
+-- the laws of plans that a pass rests on
 pub record PlanLaws : Type 0 where
   pub ids : (base : BaseView) (ranked : List PlanJob) (now : ℕ) → All (λ (placed : Placed). Contains (map (λ (job : PlanJob). job.id) ranked) placed.id) (plan_of base ranked now)
-  pub rising : (base : BaseView) (ranked : List PlanJob) (now : ℕ) → AllPairs (λ (one other : PlanJob). one.id < other.id) ranked → AllPairs (λ (one other : Placed). one.id < other.id) (plan_of base ranked now)
+  pub rising : (base : BaseView) (ranked : List PlanJob) (now : ℕ)
+      → AllPairs (λ (one other : PlanJob). one.id < other.id) ranked → AllPairs (λ (one other : Placed). one.id < other.id) (plan_of base ranked now)
   pub starts : (base : BaseView) (ranked : List PlanJob) (now : ℕ) → All (λ (placed : Placed). (now ≤ placed.start) × (placed.start ≤ base.horizon)) (plan_of base ranked now)
-  pub some : (base : BaseView) (ranked : List PlanJob) (now : ℕ) → All (λ (job : PlanJob). 1 ≤ job.need.tasks) ranked → All (λ (placed : Placed). 1 ≤ length placed.parts) (plan_of base ranked now)
-  pub parts : (base : BaseView) (ranked : List PlanJob) (now : ℕ) → base.horizon ≤ 250002592000 → All (IsOnRooms base.rooms) ranked → All IsPlannable ranked → All (λ (placed : Placed). AreParts base.rooms placed.parts) (plan_of base ranked now)
-  pub fit : (base : BaseView) (ranked : List PlanJob) (now : ℕ) → AreWithin base.rooms base.holds → base.horizon ≤ 250002592000 → All (IsOnRooms base.rooms) ranked → All IsPlannable ranked → StartsFit base (plan_of base ranked now) now
-
--- the ready state at its moment, with no plan yet
-abbrev pub readied : State → ℕ → State
-readied s now = record (ready s now) { plan = []; moment = now }
-
-ended-not_holding : (state : JobState) → is_ended state ≡ true → is_holding state ≡ false
-ended-not_holding Pending ended = refl
-ended-not_holding Running ended = sym ended
-ended-not_holding (Completing final) ended = sym ended
-ended-not_holding (Ended final) ended = refl
-
--- limits and old records let go: what a pass plans is sound
-pub sound-readied : EventLaws → (s : State) (now : ℕ) → IsSound s → s.moment ≤ now → now ≤ last_moment → IsSound (readied s now)
-sound-readied laws s now sound raised in_time =
-    let age = s.settings.min_job_age in
-    laws.letting_go s now (timed_out now) (is_old age now) [] sound in_time (All-weaker (IsKept s.moment) (λ job. LetsGo now job (timed_out now job)) (λ job kept. lets job (laws.later s.moment now job raised kept)) s.jobs sound.jobs)
-    (λ k d below old. let job = timed_out now (get_or s.jobs k d) in ended-not_holding job.state (and_parts (is_ended job.state) (not (eqb age 0) && leb (unwrap_or job.ended 0 + age) now) old).0)
-    (no-plan (those_left (timed_out now) (is_old age now) s.jobs))
-  where
-    lets : (job : JobRecord) → IsKept now job → LetsGo now job (timed_out now job)
-    lets job kept = cond_both (is_over now job) (changed (Leave Timeout now None) job) job (LetsGo now job) (λ over. laws.lets_go now (Leave Timeout now None) job refl refl kept) (λ within. laws.same now job kept)
+  pub some : (base : BaseView) (ranked : List PlanJob) (now : ℕ)
+      → All (λ (job : PlanJob). 1 ≤ job.need.tasks) ranked → All (λ (placed : Placed). 1 ≤ length placed.parts) (plan_of base ranked now)
+  pub parts : (base : BaseView) (ranked : List PlanJob) (now : ℕ)
+      → base.horizon ≤ 250002592000 → All (IsOnRooms base.rooms) ranked → All IsPlannable ranked → All (λ (placed : Placed). AreParts base.rooms placed.parts) (plan_of base ranked now)
+  pub fit : (base : BaseView) (ranked : List PlanJob) (now : ℕ)
+      → AreWithin base.rooms base.holds → base.horizon ≤ 250002592000 → All (IsOnRooms base.rooms) ranked → All IsPlannable ranked → StartsFit base (plan_of base ranked now) now
 
 -- what holds of each element of each joined list
 joined-all : {X Y Z : Type 0} (P : Y → Type 0) (Q : Z → Type 0) (h : X → List Y) (k : X → List Z) (xs : List X) → All P (flat_map h xs) → All (λ x. All P (h x) → All Q (k x)) xs → All Q (flat_map k xs)
@@ -135,7 +111,7 @@ held-now counted node now jobs started =
         (rw (le-leb (unwrap_or job.started 0) now before, lt-ltb now (hold_end now job) (hold_end-later now job)) refl)
 
 -- all that is held is within the nodes
-base-within : (s : State) → IsSound s → AreWithin (map room_of s.nodes) (flat_map (holds_of_job s.moment) s.jobs)
+pub base-within : (s : State) → IsSound s → AreWithin (map room_of s.nodes) (flat_map (holds_of_job s.moment) s.jobs)
 unfolding mem_held
 base-within s sound =
     let rooms = map room_of s.nodes in
@@ -227,6 +203,6 @@ can-start laws s sound =
     }
 
 -- So those of a pass can.
-pub can-start_ready : EventLaws → PlanLaws → (s : State) (now : ℕ) → IsSound s → s.moment ≤ now → now ≤ last_moment → CanStart (readied s now) (placements s now)
+pub can-start_ready : ReadyLaws → PlanLaws → (s : State) (now : ℕ) → IsSound s → s.moment ≤ now → now ≤ last_moment → CanStart (readied s now) (placements s now)
 unfolding planned base_of ranked candidates
-can-start_ready events plans s now sound raised in_time = can-start plans (readied s now) (sound-readied events s now sound raised in_time)
+can-start_ready readies plans s now sound raised in_time = can-start plans (readied s now) (sound-readied readies s now sound raised in_time)

@@ -18,7 +18,8 @@ use Rattle.ctl_state.specs.Planning.{room_of}
 use Rattle.ctl_state.specs.Events.{started_as}
 use Rattle.ctl_pass.specs.Starting.{part_of, start_of, begun, started, IsAsPlanned, HasStarted}
 use Rattle.ctl_pass.proofs.Tallies.{pairs-head, Any-kept}
-use Rattle.ctl_pass.proofs.Soundly.{StateLaws, CanStart, IsReady, free-counted, parts_for, after_start, can-later, can-begun}
+use Rattle.ctl_pass.proofs.Counted.{free-counted}
+use Rattle.ctl_pass.proofs.Soundly.{StartLaws, CanStart, IsReady, parts_for, after_start, can-later, can-begun}
 
 -- a share takes no more than its placement, so where that fits the share gets all its processors
 given : (rooms : List NodeRoom) (jobs : List JobRecord) (shares : List Share) → All (λ (share : Share). share.cpus ≤ length (free_ids rooms (parts_of jobs) share.node)) shares → AllZip IsAsPlanned shares (map (part_of rooms jobs) shares)
@@ -61,7 +62,7 @@ stays-given rooms now jobs placed (other ∷ later) differ (k, job, inside, is, 
     ]
 
 -- So each placement that is due is of a job that has started with all that was planned for it.
-pub all-given : StateLaws → (s : State) (plan : List Placed) → CanStart s plan
+pub all-given : StartLaws → (s : State) (plan : List Placed) → CanStart s plan
     → All (λ (placed : Placed). placed.start ≡ s.moment → Any (HasStarted s.moment placed) (started (map room_of s.nodes) s.moment s.jobs plan).jobs) plan
 unfolding started
 all-given laws s [] can = All-nil (λ (placed : Placed). placed.start ≡ s.moment → Any (HasStarted s.moment placed) s.jobs)
@@ -72,7 +73,7 @@ all-given laws s (placed ∷ later) can =
       | inr after ↦
           let jobs = (started rooms s.moment s.jobs later).jobs in
           let none : Given jobs placed = λ now. absurd (eqb-false placed.start s.moment after now) in
-          rw after (All-cons (Given jobs) placed later none (all-given laws s later (can-later laws s placed later can after)))
+          rw after (All-cons (Given jobs) placed later none (all-given laws s later (can-later s placed later can after)))
       | inl due ↦
           let next = after_start s placed in
           let jobs = (started rooms s.moment next.jobs later).jobs in

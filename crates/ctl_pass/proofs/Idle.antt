@@ -30,39 +30,8 @@ use Rattle.ctl_pass.specs.Starting.{start_of, begun, started}
 use Rattle.ctl_pass.specs.Passing.{outcome, pass_after, is_idle}
 use Rattle.ctl_pass.proofs.Tallies.{Any-kept, sum_by-map, sum_by-more}
 use Rattle.ctl_pass.proofs.Fitting.{ranked-ids}
-use Rattle.ctl_pass.proofs.Origins.{by_limit}
-
--- the tests of sameness tell which shares, placements and plans are equal
-shares-same : (one other : Share) → Decides (same_shares one other) (one ≡ other)
-shares-same one other = (equal, λ same. rw same (alike other))
-  where
-    equal : same_shares one other ≡ true → one ≡ other
-    equal same =
-        let first = and_parts (eqb one.node other.node) (eqb one.tasks other.tasks && (eqb one.cpus other.cpus && eqb one.mem other.mem)) same in
-        let second = and_parts (eqb one.tasks other.tasks) (eqb one.cpus other.cpus && eqb one.mem other.mem) first.1 in
-        let third = and_parts (eqb one.cpus other.cpus) (eqb one.mem other.mem) second.1 in
-        rw (← eqb-true one.node other.node first.0, ← eqb-true one.tasks other.tasks second.0, ← eqb-true one.cpus other.cpus third.0, ← eqb-true one.mem other.mem third.1) refl
-
-    alike : (share : Share) → same_shares share share ≡ true
-    alike share = rw (eq-eqb share.node share.node refl, eq-eqb share.tasks share.tasks refl, eq-eqb share.cpus share.cpus refl, eq-eqb share.mem share.mem refl) refl
-
-placements-same : (one other : Placed) → Decides (same_placements one other) (one ≡ other)
-placements-same one other = (equal, λ same. rw same (alike other))
-  where
-    parts-same : (some more : List Share) → Decides (pointwise same_shares some more) (some ≡ more)
-    parts-same some more = slice_eq-Decides shares-same some more (pointwise same_shares some more) refl
-
-    equal : same_placements one other ≡ true → one ≡ other
-    equal same =
-        let first = and_parts (eqb one.id other.id) (eqb one.start other.start && pointwise same_shares one.parts other.parts) same in
-        let second = and_parts (eqb one.start other.start) (pointwise same_shares one.parts other.parts) first.1 in
-        rw (← eqb-true one.id other.id first.0, ← eqb-true one.start other.start second.0, ← (parts-same one.parts other.parts).0 second.1) refl
-
-    alike : (placed : Placed) → same_placements placed placed ≡ true
-    alike placed = rw (eq-eqb placed.id placed.id refl, eq-eqb placed.start placed.start refl, (parts-same placed.parts placed.parts).1 refl) refl
-
-plans-same : (one other : List Placed) → Decides (same_plans one other) (one ≡ other)
-plans-same one other = slice_eq-Decides placements-same one other (same_plans one other) refl
+use Rattle.ctl_pass.proofs.Readied.{by_limit}
+use Rattle.ctl_pass.proofs.Sameness.{plans-same}
 
 -- where no limit is reached and no record is dropped, the jobs stay
 ready-same : (age now : ℕ) (jobs : List JobRecord) → count_by (is_over now) jobs ≡ 0 → length (those_left (timed_out now) (is_old age now) jobs) ≡ length jobs → those_left (timed_out now) (is_old age now) jobs ≡ jobs

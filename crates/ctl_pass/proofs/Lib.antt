@@ -3,9 +3,12 @@ pub mod Lists
 pub mod HeldBits
 pub mod ReadyJobs
 pub mod Beginning
-pub mod Plans
+pub mod Counted
+pub mod Readied
 pub mod Soundly
 pub mod Given
 pub mod Fitting
+pub mod Plans
+pub mod Sameness
 pub mod Idle
 pub mod Origins

@@ -19,6 +19,7 @@ use Rattle.ctl_pass.specs.Limits.{deadline, is_over, timed_out, is_old}
 use Rattle.ctl_pass.specs.Readiness.{ready, placements}
 use Rattle.ctl_pass.specs.Starting.{start_of, begun, started}
 use Rattle.ctl_pass.specs.Passing.{pass_after}
+use Rattle.ctl_pass.proofs.Readied.{by_limit}
 
 -- what holds of each job, and of what each start makes of one, holds of each job in the end
 All-started : (P : JobRecord → Type 0) (rooms : List NodeRoom) (now : ℕ) (jobs : List JobRecord) (plan : List Placed)
@@ -39,13 +40,6 @@ All-started P rooms now jobs (placed ∷ later) starts each =
           (λ job has. cond_both (eqb job.id placed.id) (changed (Start now start.parts) job) job P (λ same. here job start.parts (eqb-true job.id placed.id same)) (λ other. has)) jobs each) in
           rw due (All-started P rooms now (begun now jobs start) later rest more)
     ]
-
--- what the limit makes of a job: it was running where it is over
-pub by_limit : (P : JobRecord → Type 0) (now : ℕ) (job : JobRecord) → (is_over now job ≡ true → is_running job.state ≡ true → P (record job { state = Completing Timeout; ended = Some now; exit = None })) → (is_over now job ≡ false → P job)
-    → P (timed_out now job)
-by_limit P now job ends stays =
-    cond_both (is_over now job) (changed (Leave Timeout now None) job) job P
-    (λ over. let running = (and_parts (is_running job.state) (leb (deadline job) now) over).0 in rw running (ends over running)) stays
 
 -- A job that runs after a pass ran before it just so, or a placement that begins now is of it.
 pub origins : (s : State) (now : ℕ)

@@ -65,16 +65,33 @@ idle-is s now decided is = rw (is.ended, is.starts, is.stays, ← length-left s.
 
 -- time that passes keeps all sound
 later-sound : (s : State) (now : ℕ) → IsSound s → s.moment ≤ now → now ≤ last_moment → IsSound (record s { moment = now })
-later-sound s now sound raised in_time = record sound {
+later-sound s now sound raised in_time = record {
+  settings = sound.settings;
+  nodes = sound.nodes;
+  rising = sound.rising;
+  below_next = sound.below_next;
+  next = sound.next;
   moment = in_time;
-  jobs = λ k d below. let kept = sound.jobs k d below in record kept {
-    run = record kept.run {
-      submitted = omega (arith, kept.run.submitted, raised);
-      start_passed = omega (arith, kept.run.start_passed, raised);
-      end_passed = omega (arith, kept.run.end_passed, raised);
-    };
-  };
+  jobs = All-weaker (IsKept s.moment) (IsKept now) later s.jobs sound.jobs;
+  held = sound.held;
+  plan = sound.plan;
 }
+  where
+    later : (job : JobRecord) → IsKept s.moment job → IsKept now job
+    later job kept = record {
+      asked = kept.asked;
+      limit = kept.limit;
+      run = record {
+        submitted = omega (arith, kept.run.submitted, raised);
+        started = kept.run.started;
+        ended = kept.run.ended;
+        start_passed = omega (arith, kept.run.start_passed, raised);
+        end_passed = omega (arith, kept.run.end_passed, raised);
+        in_order = kept.run.in_order;
+        final = kept.run.final;
+      };
+      parts = kept.parts;
+    }
 
 has-parts : (s : State) → IsSound s → All HasItsParts s.jobs
 has-parts s sound = All-weaker (IsKept s.moment) HasItsParts (λ job kept. kept.parts) s.jobs sound.jobs

@@ -20,77 +20,20 @@ use Rattle.ctl_state.specs.JobStates.{is_pending}
 use Rattle.ctl_state.specs.Holding.{cpus_of, mem_of, is_on, has_cpu, mem_in, times_held, mem_held, free_ids, parts_of, has_members, IsPartOf}
 use Rattle.ctl_state.specs.Planning.{room_of}
 use Rattle.ctl_state.specs.Events.{MayTake, started_as}
-use Rattle.ctl_state.specs.Soundness.{IsSound, HaveRisingIds, PlansPending, pending_ids}
+use Rattle.ctl_state.specs.Laws.{Taking, TakenTimes, TakenMem, OthersWait, Planning}
+use Rattle.ctl_state.specs.Soundness.{IsSound, PlansPending, pending_ids}
 use Rattle.ctl_pass.specs.Starting.{part_of, start_of, begun, started, IsAsPlanned, HasStarted}
-use Rattle.ctl_pass.proofs.Tallies.{pairs-head, pairs-tail, pairs-take, pairs-map, Any-kept, sum_by-same, sum_by-none, sum_by-ones, sum_by-add, sum_by-swap, sum_by-map, range-rises, range-below, range-rising}
+use Rattle.ctl_pass.proofs.Tallies.{pairs-head, pairs-tail, pairs-take, pairs-map, sum_by-map}
+use Rattle.ctl_pass.proofs.Counted.{cpus_held, cpus_in, held-counted, held-grown, free-are}
+use Rattle.ctl_pass.proofs.Readied.{no-plan}
 
--- what holds of every state
-pub record StateLaws : Type 0 where
-  pub taking : (s : State) (id : ℕ) (parts : List Part) (plan : List Placed) → IsSound s → MayTake (map room_of s.nodes) s.jobs id parts
-      → PlansPending (map (started_as s.moment id parts) s.jobs) plan → IsSound (record s { jobs = map (started_as s.moment id parts) s.jobs; plan = plan })
-  pub times : (s : State) (now id node cpu : ℕ) (parts : List Part) → IsSound s → Contains (pending_ids s.jobs) id
-      → times_held (parts_of (map (started_as now id parts) s.jobs)) node cpu ≡ times_held (parts_of s.jobs) node cpu + times_held parts node cpu
-  pub mem : (s : State) (now id node : ℕ) (parts : List Part) → IsSound s → Contains (pending_ids s.jobs) id
-      → mem_held (parts_of (map (started_as now id parts) s.jobs)) node ≡ mem_held (parts_of s.jobs) node + mem_held parts node
-  pub waits : (jobs : List JobRecord) (now id other : ℕ) (parts : List Part) → HaveRisingIds jobs → Contains (pending_ids jobs) other → (other ≡ id → ⊥)
-      → Contains (pending_ids (map (started_as now id parts) jobs)) other
-  pub planned : (s : State) (plan : List Placed) → IsSound s → PlansPending s.jobs plan → IsSound (record s { plan = plan })
-
--- no plan names nobody
-pub no-plan : (jobs : List JobRecord) → PlansPending jobs []
-no-plan jobs = record {
-  pending = All-nil (λ (placed : Placed). Contains (pending_ids jobs) placed.id);
-  once = λ i j d before below. absurd (omega (arith, below));
-  last = All-nil (λ (placed : Placed). placed.start ≤ 250002592000);
-}
-
--- how many processors of the node the parts hold, each as often as it stands in them; and how many one part has
-pub cpus_held : List NodeRoom → List Part → ℕ → ℕ
-cpus_held rooms parts node = sum_by (λ cpu. times_held parts node cpu) (range_with_len 0 (cpus_of rooms node))
-
-abbrev pub cpus_in : ℕ → Part → ℕ
-cpus_in node part = cond (is_on node part) (length part.cpus) 0
-
-pub held-counted : (rooms : List NodeRoom) (parts : List Part) (node : ℕ) → All (IsPartOf rooms) parts → cpus_held rooms parts node ≡ sum_by (cpus_in node) parts
-unfolding cpus_held times_held
-held-counted rooms parts node are =
-    let cpus = range_with_len 0 (cpus_of rooms node) in
-    let has : ℕ → Part → ℕ = λ cpu part. cond (has_cpu node cpu part) 1 0 in
-    let counted = sum_by-same (λ part. sum_by (λ cpu. has cpu part) cpus) (cpus_in node) parts (All-weaker (IsPartOf rooms) (λ part. sum_by (λ cpu. has cpu part) cpus ≡ cpus_in node part) one parts are) in
-    omega (arith, sum_by-swap has cpus parts, counted)
-  where
-    one : (part : Part) → IsPartOf rooms part → sum_by (λ cpu. cond (has_cpu node cpu part) 1 0) (range_with_len 0 (cpus_of rooms node)) ≡ cpus_in node part
-    one part is = elim (cases_Bool (is_on node part)) [
-      | inr off ↦ rw off (sum_by-none (λ cpu. 0) (range_with_len 0 (cpus_of rooms node)) (λ k d below. refl))
-      | inl on ↦ rw on (range-rising part.cpus (cpus_of rooms node) is.rising (rw (← eqb-true part.node node on) is.cpus))
-    ]
-
--- each processor of a node is free or in a part
-pub free-counted : (rooms : List NodeRoom) (parts : List Part) (node : ℕ) → ((cpu : ℕ) → times_held parts node cpu ≤ 1) → length (free_ids rooms parts node) + cpus_held rooms parts node ≡ cpus_of rooms node
-unfolding cpus_held free_ids
-free-counted rooms parts node once =
-    let cpus = range_with_len 0 (cpus_of rooms node) in
-    let is_free : ℕ → Bool = λ cpu. eqb (times_held parts node cpu) 0 in
-    let split = sum_by-add (λ cpu. cond (is_free cpu) 1 0) (λ cpu. times_held parts node cpu) cpus in
-    let each = sum_by-same (λ cpu. cond (is_free cpu) 1 0 + times_held parts node cpu) (λ cpu. 1) cpus (λ k d below. one_of _ (once _)) in
-    omega (arith, split, each, sum_by-ones cpus, length-range_with_len 0 (cpus_of rooms node), length-filter is_free cpus)
-  where
-    one_of : (times : ℕ) → times ≤ 1 → cond (eqb times 0) 1 0 + times ≡ 1
-    one_of times few = elim (cases_Bool (eqb times 0)) [
-      | inl free ↦ rw free (omega (arith, eqb-true times 0 free))
-      | inr taken ↦ rw taken (omega (arith, few, eqb-false times 0 taken))
-    ]
-
--- the free processors rise, are the node's, and stand in no part
-free-are : (rooms : List NodeRoom) (parts : List Part) (node : ℕ) → AllPairs (λ one other. one < other) (free_ids rooms parts node) × All (λ cpu. cpu < cpus_of rooms node) (free_ids rooms parts node) × All (λ cpu. times_held parts node cpu ≡ 0) (free_ids rooms parts node)
-unfolding free_ids
-free-are rooms parts node =
-    let cpus = range_with_len 0 (cpus_of rooms node) in
-    let is_free : ℕ → Bool = λ cpu. eqb (times_held parts node cpu) 0 in (
-      AllPairs-filter (λ one other. one < other) is_free cpus (range-rises (cpus_of rooms node)),
-      All-filter is_free (λ cpu. cpu < cpus_of rooms node) cpus (range-below (cpus_of rooms node)),
-      All-weaker (λ cpu. is_free cpu ≡ true) (λ cpu. times_held parts node cpu ≡ 0) (λ cpu free. eqb-true (times_held parts node cpu) 0 free) (filter is_free cpus) (filter_passes is_free cpus),
-    )
+-- the laws of starts that a pass rests on
+pub record StartLaws : Type 0 where
+  pub taking : Taking
+  pub times : TakenTimes
+  pub mem : TakenMem
+  pub waits : OthersWait
+  pub planned : Planning
 
 -- a placement that can start once it is due
 pub record IsReady (s : State) (placed : Placed) : Type 0 where
@@ -162,20 +105,30 @@ may-take s placed ready fits =
     some [] more = absurd (omega (arith, more))
     some (share ∷ shares) more = refl
 
-module _ (laws : StateLaws) where
-  -- where the first placement isn't due, the others can start
-  pub can-later : (s : State) (placed : Placed) (later : List Placed) → CanStart s (placed ∷ later) → eqb placed.start s.moment ≡ false → CanStart s later
-  can-later s placed later can other = record {
-    sound = can.sound;
-    each = All-tail (IsReady s) placed later can.each;
-    apart = pairs-tail (λ (one other : Placed). one.id ≢ other.id) placed later can.apart;
-    cpus = λ node. rw other at (can.cpus node);
-    mem = λ node. rw other at (can.mem node);
-  }
+-- what holds of each placement holds of each that stays
+All-stays : (P : Placed → Type 0) (rooms : List NodeRoom) (now : ℕ) (jobs : List JobRecord) (plan : List Placed) → All P plan → All P (started rooms now jobs plan).stays
+unfolding started
+All-stays P rooms now jobs [] each = each
+All-stays P rooms now jobs (placed ∷ later) each =
+    let rest = All-tail P placed later each in
+    elim (cases_Bool (eqb placed.start now)) [
+      | inr after ↦ rw after (All-cons P placed (started rooms now jobs later).stays (All-head P placed later each) (All-stays P rooms now jobs later rest))
+      | inl due ↦ rw due (All-stays P rooms now (begun now jobs (start_of rooms jobs placed)) later rest)
+    ]
 
-  -- where it is, they can start after it
+-- where the first placement isn't due, the others can start as well
+pub can-later : (s : State) (placed : Placed) (later : List Placed) → CanStart s (placed ∷ later) → eqb placed.start s.moment ≡ false → CanStart s later
+can-later s placed later can other = record {
+  sound = can.sound;
+  each = All-tail (IsReady s) placed later can.each;
+  apart = pairs-tail (λ (one other : Placed). one.id ≢ other.id) placed later can.apart;
+  cpus = λ node. rw other at (can.cpus node);
+  mem = λ node. rw other at (can.mem node);
+}
+
+module _ (laws : StartLaws) where
+  -- where the first placement is due, the others can start after it
   pub can-begun : (s : State) (placed : Placed) (later : List Placed) → CanStart s (placed ∷ later) → eqb placed.start s.moment ≡ true → CanStart (after_start s placed) later
-  unfolding cpus_held
   can-begun s placed later can due =
       let rooms = map room_of s.nodes in
       let held = parts_of s.jobs in
@@ -196,10 +149,8 @@ module _ (laws : StateLaws) where
         };
         apart = pairs-tail (λ (one other : Placed). one.id ≢ other.id) placed later can.apart;
         cpus = λ node.
-            let range = range_with_len 0 (cpus_of rooms node) in
-            let grown = sum_by-same (λ cpu. times_held (parts_of (after_start s placed).jobs) node cpu) (λ cpu. times_held held node cpu + times_held more node cpu) range (λ k d below. laws.times s s.moment placed.id node _ more can.sound first.waits) in
-            let split = sum_by-add (λ cpu. times_held held node cpu) (λ cpu. times_held more node cpu) range in
-            omega (arith, cpus node, sum_by-cons (cpus_on node) placed (starts_at s.moment later), grown, split, held-counted rooms more node may.each, cpus-taken s placed node);
+            let grown = held-grown rooms held more (parts_of (after_start s placed).jobs) node (λ cpu. laws.times s s.moment placed.id node cpu more can.sound first.waits) in
+            omega (arith, cpus node, sum_by-cons (cpus_on node) placed (starts_at s.moment later), grown, held-counted rooms more node may.each, cpus-taken s placed node);
         mem = λ node. omega (arith, mem node, sum_by-cons (mem_on node) placed (starts_at s.moment later), laws.mem s s.moment placed.id node more can.sound first.waits, mem-taken s placed node);
       }
 
@@ -214,17 +165,6 @@ module _ (laws : StateLaws) where
         | inr after ↦ rw after (waits-started s later other (can-later s placed later can after) rest waits)
         | inl due ↦ rw due (waits-started (after_start s placed) later other (can-begun s placed later can due) rest
             (laws.waits s.jobs s.moment placed.id other (parts_for s placed) can.sound.rising waits (All-head (λ (one : Placed). other ≢ one.id) placed later apart)))
-      ]
-
-  -- what holds of each placement holds of each that stays
-  All-stays : (P : Placed → Type 0) (rooms : List NodeRoom) (now : ℕ) (jobs : List JobRecord) (plan : List Placed) → All P plan → All P (started rooms now jobs plan).stays
-  unfolding started
-  All-stays P rooms now jobs [] each = each
-  All-stays P rooms now jobs (placed ∷ later) each =
-      let rest = All-tail P placed later each in
-      elim (cases_Bool (eqb placed.start now)) [
-        | inr after ↦ rw after (All-cons P placed (started rooms now jobs later).stays (All-head P placed later each) (All-stays P rooms now jobs later rest))
-        | inl due ↦ rw due (All-stays P rooms now (begun now jobs (start_of rooms jobs placed)) later rest)
       ]
 
   -- so the starts keep all sound, and what stays of the plan names pending jobs

@@ -40,8 +40,8 @@ pass_made s now =
     Makes (Passed (count_by (is_over now) s.jobs) (length (outcome s now).starts) (length (outcome s now).stays)) (pass_after s now)
 
 -- how many jobs a pass plans
-abbrev pub steps_of : State → ℕ → ℕ
-steps_of s now = length (ranked (ready s now) now)
+abbrev pub jobs_planned : State → ℕ → ℕ
+jobs_planned s now = length (ranked (ready s now) now)
 
 -- what was decided is what the pass makes
 pub record IsDecided (s : State) (now : ℕ) (decided : Decided) : Type 0 where

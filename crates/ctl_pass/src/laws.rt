@@ -37,7 +37,7 @@ pub fn a_pass_keeps_all_sound()
 /// A pass is idle exactly where it would change nothing but the moment.
 pub fn an_idle_pass_changes_nothing()
     ensures idle { (s : State) (now : ℕ) → is_idle s now ≡ true → pass_after s now ≡ s }
-    ensures only { (s : State) (now : ℕ) → IsSound s → pass_after s now ≡ s → is_idle s now ≡ true }
+    ensures only { (s : State) (now : ℕ) → pass_after s now ≡ s → is_idle s now ≡ true }
 {
     placements_are_of_ranked_jobs();
 }

@@ -58,7 +58,7 @@ pub fn decide<L>(
     requires raised { cluster.now.moment ≤ now }
     requires in_time { now ≤ last_moment }
     ensures decided { IfOk result (Passing.IsDecided (state_of cluster.now) now) }
-    ensures steps { OnOk result (steps.new ≡ ticked steps.old (Passing.steps_of (state_of cluster.now) now)) }
+    ensures steps { OnOk result (steps.new ≡ ticked steps.old (Passing.jobs_planned (state_of cluster.now) now)) }
 {
     let base = base_of(alloc, cluster, now)?;
     let ranked = rank(alloc, cluster, now)?;

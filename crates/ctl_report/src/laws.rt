@@ -1,4 +1,4 @@
-//! What holds of every report. A law is the contract of a function that does nothing.
+//! What holds of every report. A law is the contract of a function that does nothing but call the laws that it rests on.
 
 ghost use Rattle.std.specs.Prelude.{◌≡◌, ◌↔◌, ℕ, ◌≤◌, List, AllPairs, Contains, true};
 ghost use Rattle.slurm_text.specs.declared.plain.report.Report.{Report};
@@ -9,11 +9,21 @@ ghost use Rattle.ctl_state.specs.Verdicts.{stamped};
 ghost use Rattle.ctl_report.specs.Reporting.{report_after};
 ghost use Rattle.ctl_report.specs.Ordering.{is_before, in_order};
 
+use ctl_state::laws::{
+    every_change_but_a_start_lets_go, jobs_are_kept, letting_go_keeps_all_sound,
+    nodes_that_stay_keep_all_sound,
+};
+
 /// An accepted report keeps all sound.
 pub fn a_report_keeps_all_sound()
     ensures { (s : State) (now node : ℕ) (report : Report) → IsSound s → s.moment ≤ now → now ≤ last_moment
         → IsSound (stamped now (report_after s now node report)) }
-{}
+{
+    letting_go_keeps_all_sound();
+    every_change_but_a_start_lets_go();
+    jobs_are_kept();
+    nodes_that_stay_keep_all_sound();
+}
 
 /// Starts in order rise, each once, and are those that were given.
 pub fn orders_are_in_order()

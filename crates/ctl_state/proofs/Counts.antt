@@ -1,20 +1,15 @@
 -- How often a test holds in a list, and how a sum grows where one element changes.
-use Rattle.std.proofs.Common.{◌≡◌, ℕ, zero, suc, ◌+◌, ◌<◌, ◌≤◌, Bool, true, false, cond, eqb, List, [], ◌∷◌, length, map, filter, flat_map, get_or, sum_by, All, AllPairs, Any, Contains, arith, refl, ap, inl, inr}
+use Rattle.std.proofs.Common.{◌≡◌, ℕ, suc, ◌+◌, ◌<◌, ◌≤◌, Bool, true, false, cond, eqb, List, [], ◌∷◌, length, map, filter, flat_map, get_or, sum_by, All, AllPairs, Any, Contains, arith, refl, ap, inl, inr}
 use Rattle.std.specs.Prelude.{count_by}
-use Rattle.std.proofs.lemmas.Bool.{cases_Bool, eq-eqb, ne_eqb}
-use Rattle.std.proofs.lemmas.List.Elements.{All-head, All-tail, All-map, All-filter, All-contains}
+use Rattle.std.proofs.lemmas.Bool.{both_ways, cases_Bool, eq-eqb, ne_eqb}
+use Rattle.std.proofs.lemmas.List.Elements.{All-head, All-tail, All-map, All-filter, All-contains, filter_passes}
 use Rattle.std.proofs.lemmas.List.Folds.{map_fixed}
-use Rattle.std.proofs.lemmas.List.Kept.{AllPairs-cons}
-use Rattle.std.proofs.lemmas.List.Sums.{sum_by-append, sum_by-cons, get_or-le-sum_by}
+use Rattle.std.proofs.lemmas.List.Kept.{AllPairs-cons, AllPairs-filter}
+use Rattle.std.proofs.lemmas.List.Sums.{sum_by-append, sum_by-cons, get_or-le-sum_by, length-filter}
 use Rattle.ctl_state.proofs.Lists.{pairs-head, pairs-tail, contains-cases}
 
 count-cons : {X : Type 0} (p : X → Bool) (x : X) (xs : List X) → count_by p (x ∷ xs) ≡ cond (p x) 1 0 + count_by p xs
 count-cons p x xs = sum_by-cons (λ y. cond (p y) 1 0) x xs
-
-count-none : {X : Type 0} (p : X → Bool) (xs : List X) → All (λ x. p x ≡ false) xs → count_by p xs ≡ 0
-count-none p [] none = refl
-count-none p (x ∷ xs) none =
-    rw (count-cons p x xs, All-head (λ y. p y ≡ false) x xs none) (omega (arith, count-none p xs (All-tail (λ y. p y ≡ false) x xs none)))
 
 -- where a test counts, it holds of an element
 pub Any-counted : {X : Type 0} (p : X → Bool) (xs : List X) → 1 ≤ count_by p xs → Any (λ x. p x ≡ true) xs
@@ -29,13 +24,15 @@ Any-counted p (x ∷ xs) some = elim (cases_Bool (p x)) [
 
 -- a test that holds of one of each two at most counts once at most, and the other way round
 pub count-once : {X : Type 0} (p : X → Bool) (xs : List X) → AllPairs (λ one other. p one ≡ true → p other ≡ false) xs → count_by p xs ≤ 1
-count-once p [] pairs = omega arith
-count-once {X} p (x ∷ xs) pairs =
-    let apart : X → X → Type 0 = λ one other. p one ≡ true → p other ≡ false in
-    elim (cases_Bool (p x)) [
-      | inl passes ↦ rw (count-cons p x xs, passes) (omega (arith, count-none p xs (λ k d below. pairs-head apart x xs pairs k d below passes)))
-      | inr fails ↦ rw (count-cons p x xs, fails) (omega (arith, count-once p xs (pairs-tail apart x xs pairs)))
-    ]
+count-once {X} p xs pairs = rw (← length-filter p xs) (one-most (filter p xs) (filter_passes p xs) (AllPairs-filter apart p xs pairs))
+  where
+    apart : X → X → Type 0
+    apart one other = p one ≡ true → p other ≡ false
+
+    one-most : (ys : List X) → All (λ y. p y ≡ true) ys → AllPairs apart ys → length ys ≤ 1
+    one-most [] passes differ = omega arith
+    one-most (y ∷ []) passes differ = omega arith
+    one-most (y ∷ z ∷ ys) passes differ = absurd (both_ways (p z) (differ 0 1 y (omega arith) (omega arith) (passes 0 y (omega arith))) (passes 1 y (omega arith)))
 
 pub pairs-counted : {X : Type 0} (p : X → Bool) (xs : List X) → count_by p xs ≤ 1 → AllPairs (λ one other. p one ≡ true → p other ≡ false) xs
 pairs-counted p [] once = λ i j d before below. absurd (omega (arith, below))

@@ -1,5 +1,5 @@
 -- Letting go keeps all sound.
-use Rattle.std.proofs.Common.{◌≡◌, ℕ, ◌<◌, ◌≤◌, Bool, true, false, not, List, [], ◌∷◌, map, filter, sum_by, All, get_or, refl, sym, ap, arith, inl, inr}
+use Rattle.std.proofs.Common.{◌≡◌, ℕ, ◌<◌, ◌≤◌, Bool, true, false, not, List, [], ◌∷◌, map, sum_by, All, get_or, ap, arith, rules, tests, inl, inr}
 use Rattle.std.proofs.lemmas.Bool.{cases_Bool}
 use Rattle.std.proofs.lemmas.List.Elements.{All-head, All-tail, All-map, All-filter}
 use Rattle.std.proofs.lemmas.List.Filters.{sum_by-filter_both}
@@ -14,7 +14,7 @@ use Rattle.ctl_state.specs.JobStates.{is_holding}
 use Rattle.ctl_state.specs.Holding.{IsHeldOnce, IsPartOf, mem_held, mem_in, parts_of, times_held}
 use Rattle.ctl_state.specs.Planning.{room_of}
 use Rattle.ctl_state.specs.Events.{LetsGo, those_left}
-use Rattle.ctl_state.specs.Soundness.{IsKept, IsSound, PlansPending}
+use Rattle.ctl_state.specs.Soundness.{HaveRisingIds, IsKept, IsSound, PlansPending}
 use Rattle.ctl_state.proofs.Held.{cpu_in}
 use Rattle.ctl_state.proofs.Kept.{kept-let_go}
 use Rattle.ctl_state.proofs.Lists.{All-flat_map, All-from_flat_map, rising-kept}
@@ -22,11 +22,7 @@ use Rattle.ctl_state.proofs.Lists.{All-flat_map, All-from_flat_map, rising-kept}
 -- what stays of a job, and of all jobs, is no more than there was
 part-less : (amount : Part → ℕ) (now : ℕ) (job after : JobRecord) → LetsGo now job after → sum_by amount after.parts ≤ sum_by amount job.parts
 part-less amount now job after lets =
-    omega (arith, sum_by-filter_both (λ part. not (lets.keep part)) lets.keep (λ part. sym (twice (lets.keep part))) amount job.parts, ap (sum_by amount) lets.parts)
-  where
-    twice : (b : Bool) → not (not b) ≡ b
-    twice true = refl
-    twice false = refl
+    omega (arith, sum_by-filter_both (λ part. not (lets.keep part)) lets.keep (λ part. search (rules, tests)) amount job.parts, ap (sum_by amount) lets.parts)
 
 left-less : (amount : Part → ℕ) (now : ℕ) (change : JobRecord → JobRecord) (goes : JobRecord → Bool) (jobs : List JobRecord) → All (λ job. LetsGo now job (change job)) jobs
     → sum_by amount (parts_of (those_left change goes jobs)) ≤ sum_by amount (parts_of jobs)
@@ -47,8 +43,8 @@ held-left rooms now change goes jobs lets held =
     let has : JobRecord → Type 0 = λ job. All (IsPartOf rooms) job.parts in
     let parts : JobRecord → List Part = λ job. job.parts in
     let kept : All (λ job. has (change job)) jobs = λ k d below.
-        let one = lets k d below in
-        rw one.parts (All-filter one.keep (IsPartOf rooms) (get_or jobs k d).parts (All-from_flat_map (IsPartOf rooms) parts jobs held.each k d below)) in
+    let one = lets k d below in
+    rw one.parts (All-filter one.keep (IsPartOf rooms) (get_or jobs k d).parts (All-from_flat_map (IsPartOf rooms) parts jobs held.each k d below)) in
     record {
       each = All-flat_map (IsPartOf rooms) parts (those_left change goes jobs) (All-filter (λ job. not (goes job)) has (map change jobs) (All-map has change jobs kept));
       once = λ node cpu. omega (arith, left-less (cpu_in node cpu) now change goes jobs lets, held.once node cpu);
@@ -61,16 +57,10 @@ pub sound-left : (s : State) (now : ℕ) (change : JobRecord → JobRecord) (goe
     → PlansPending (those_left change goes s.jobs) plan → IsSound (record s { jobs = those_left change goes s.jobs; plan = plan; moment = now })
 sound-left s now change goes plan sound in_time lets idle planned =
     let stays : JobRecord → Bool = λ job. not (goes job) in
-    let below : JobRecord → Type 0 = λ job. job.id < s.next_id in
-    let kept : All (λ job. IsKept now (change job)) s.jobs = λ k d within. kept-let_go s.moment now (get_or s.jobs k d) (change (get_or s.jobs k d)) (sound.jobs k d within) (lets k d within) in
-    record {
-      settings = sound.settings;
-      nodes = sound.nodes;
-      rising = AllPairs-filter (λ (one other : JobRecord). one.id < other.id) stays (map change s.jobs) (rising-kept (λ (job : JobRecord). job.id) change s.jobs (λ k d within. (lets k d within).id) sound.rising);
-      below_next = All-filter stays below (map change s.jobs) (All-map below change s.jobs (λ k d within. rw ((lets k d within).id) (sound.below_next k d within)));
-      next = sound.next;
-      moment = in_time;
-      jobs = All-filter stays (IsKept now) (map change s.jobs) (All-map (IsKept now) change s.jobs kept);
-      held = held-left (map room_of s.nodes) now change goes s.jobs lets sound.held;
-      plan = planned;
-    }
+    let after = those_left change goes s.jobs in
+    let low : JobRecord → Type 0 = λ job. job.id < s.next_id in
+    let rise : HaveRisingIds after = AllPairs-filter (λ (one other : JobRecord). one.id < other.id) stays (map change s.jobs) (rising-kept (λ (job : JobRecord). job.id) change s.jobs (λ k d below. (lets k d below).id) sound.rising) in
+    let next : All low after = All-filter stays low (map change s.jobs) (All-map low change s.jobs (λ k d below. rw ((lets k d below).id) (sound.below_next k d below))) in
+    let kept : All (IsKept now) after = All-filter stays (IsKept now) (map change s.jobs) (All-map (IsKept now) change s.jobs (λ k d below. kept-let_go s.moment now (get_or s.jobs k d) (change (get_or s.jobs k d)) (sound.jobs k d below) (lets k d below))) in
+    let held = held-left (map room_of s.nodes) now change goes s.jobs lets sound.held in
+    search rules

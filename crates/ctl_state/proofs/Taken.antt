@@ -1,26 +1,23 @@
 -- A waiting job that takes free parts keeps all sound, and adds just these to what is held.
-use Rattle.std.proofs.Common.{◌≡◌, ◌≢◌, ℕ, ◌+◌, ◌<◌, ◌≤◌, Bool, true, false, cond, eqb, List, [], ◌∷◌, map, sum_by, All, AllPairs, Any, Contains, get_or, Some, None, refl, ap, ◌∙◌, sym, arith, inl, inr}
+use Rattle.std.proofs.Common.{◌≡◌, ◌≢◌, ℕ, ◌+◌, ◌<◌, ◌≤◌, true, false, eqb, List, map, sum_by, All, AllPairs, Any, Contains, get_or, refl, ◌∙◌, sym, arith, rules, inl, inr}
 use Rattle.std.specs.List.{list_any}
-use Rattle.std.proofs.lemmas.Bool.{both_ways, cases_eq, cond_both, and_parts, eqb-true, eq-eqb, ne_eqb}
+use Rattle.std.proofs.lemmas.Bool.{cases_eq, cond_both, and_parts, eqb-true, ne_eqb}
 use Rattle.std.proofs.lemmas.List.Elements.{All-map, All-weaker}
 use Rattle.std.proofs.lemmas.List.Folds.{Any-from_list_any}
-use Rattle.slurm_text.specs.declared.plain.state.JobState.{JobState}
-use Rattle.slurm_text.specs.declared.plain.state.JobState.TheVariants.{Pending, Running, Completing, Ended}
-use Rattle.resource_profile.specs.declared.NodeRoom.{NodeRoom}
 use Rattle.backfill_planner.specs.declared.Placed.{Placed}
 use Rattle.ctl_state.specs.declared.record.Part.{Part}
 use Rattle.ctl_state.specs.declared.record.JobRecord.{JobRecord}
 use Rattle.ctl_state.specs.declared.change.Change.TheVariants.{Start}
 use Rattle.ctl_state.specs.State.{State}
-use Rattle.ctl_state.specs.JobStates.{is_pending, is_holding}
+use Rattle.ctl_state.specs.JobStates.{is_pending}
 use Rattle.ctl_state.specs.Changes.{changed}
-use Rattle.ctl_state.specs.Holding.{IsHeldOnce, IsPartOf, OnNodesApart, has_cpu, has_members, is_on, mem_held, mem_in, parts_of, times_held}
+use Rattle.ctl_state.specs.Holding.{IsHeldOnce, IsPartOf, OnNodesApart, has_cpu, mem_held, mem_in, parts_of, times_held}
 use Rattle.ctl_state.specs.Planning.{room_of}
 use Rattle.ctl_state.specs.Events.{MayTake, started_as}
 use Rattle.ctl_state.specs.Soundness.{HaveRisingIds, IsKept, IsSound, PlansPending, pending_ids}
 use Rattle.ctl_state.proofs.Counts.{count-once, sum-grown, sum_by-flat_map}
 use Rattle.ctl_state.proofs.Held.{cpu_in, was-held}
-use Rattle.ctl_state.proofs.Kept.{pending-nothing}
+use Rattle.ctl_state.proofs.Kept.{kept-started, pending-nothing}
 use Rattle.ctl_state.proofs.Lists.{All-flat_map, All-from_flat_map, contains-still, rising-kept}
 
 -- a job with another number stays as it is
@@ -71,10 +68,12 @@ parts-once node cpu parts apart = count-once (has_cpu node cpu) parts off
 was-free : (times : ℕ → ℕ → ℕ) (node cpu : ℕ) (parts : List Part) → All (λ (part : Part). All (λ id. times part.node id ≡ 0) part.cpus) parts → Any (λ part. has_cpu node cpu part ≡ true) parts → times node cpu ≡ 0
 was-free times node cpu parts unheld (k, part, below, is, has) =
     let both = and_parts (eqb part.node node) (list_any (λ id. eqb id cpu) part.cpus) has in
-    found (rw is at (unheld k part below)) (eqb-true part.node node both.0) (Any-from_list_any (λ id. eqb id cpu) part.cpus both.1)
+    let here : All (λ id. times part.node id ≡ 0) part.cpus = rw is at (unheld k part below) in
+    let none : All (λ id. times node id ≡ 0) part.cpus = rw (eqb-true part.node node both.0) at here in
+    found none (Any-from_list_any (λ id. eqb id cpu) part.cpus both.1)
   where
-    found : All (λ id. times part.node id ≡ 0) part.cpus → part.node ≡ node → Any (λ id. eqb id cpu ≡ true) part.cpus → times node cpu ≡ 0
-    found none on (place, id, inside, at, same) = rw (← on, ← eqb-true id cpu same) (rw at at (none place id inside))
+    found : All (λ id. times node id ≡ 0) part.cpus → Any (λ id. eqb id cpu ≡ true) part.cpus → times node cpu ≡ 0
+    found none (place, id, inside, at, same) = rw (← eqb-true id cpu same) (rw at at (none place id inside))
 
 held-taken : (s : State) (id : ℕ) (parts : List Part) → IsSound s → MayTake (map room_of s.nodes) s.jobs id parts → IsHeldOnce (map room_of s.nodes) (parts_of (map (started_as s.moment id parts) s.jobs))
 held-taken s id parts sound may =
@@ -85,47 +84,23 @@ held-taken s id parts sound may =
     (λ job had. cond_both (eqb job.id id) (changed (Start s.moment parts) job) job has (λ here. may.each) (λ other. had)) s.jobs (All-from_flat_map (IsPartOf rooms) held s.jobs sound.held.each) in
     record {
       each = All-flat_map (IsPartOf rooms) held (map (started_as s.moment id parts) s.jobs) (All-map has (started_as s.moment id parts) s.jobs each);
-      once = λ node cpu. once node cpu (sound.held.once node cpu) (parts-once node cpu parts may.apart) (times-taken s s.moment id node cpu parts sound may.waits);
+      once = λ node cpu.
+          let sum = times-taken s s.moment id node cpu parts sound may.waits in
+          elim (cases_eq (times_held parts node cpu) 0) [
+            | inl none ↦ omega (arith, sum, none, sound.held.once node cpu)
+            | inr some ↦ omega (arith, sum, parts-once node cpu parts may.apart, was-free (times_held (parts_of s.jobs)) node cpu parts may.unheld (was-held node cpu parts (omega (arith, some))))
+          ];
       mem = λ node. omega (arith, mem-taken s s.moment id node parts sound may.waits, may.mem node);
     }
-  where
-    once : (node cpu : ℕ) {after : ℕ} → times_held (parts_of s.jobs) node cpu ≤ 1 → times_held parts node cpu ≤ 1 → after ≡ times_held (parts_of s.jobs) node cpu + times_held parts node cpu → after ≤ 1
-    once node cpu was few sum = elim (cases_eq (times_held parts node cpu) 0) [
-      | inl none ↦ omega (arith, sum, none, was)
-      | inr some ↦
-          omega (arith, sum, few, was-free (times_held (parts_of s.jobs)) node cpu parts may.unheld (was-held node cpu parts (omega (arith, some))))
-    ]
-
-kept-started : (now : ℕ) (parts : List Part) (job : JobRecord) → has_members parts ≡ true → OnNodesApart parts → IsKept now job → IsKept now (changed (Start now parts) job)
-kept-started now parts job some apart kept = record {
-  asked = kept.asked;
-  limit = kept.limit;
-  run = record {
-    submitted = kept.run.submitted;
-    started = λ holding. refl;
-    ended = λ has. absurd (both_ways false refl has);
-    start_passed = omega arith;
-    end_passed = omega arith;
-    in_order = λ has. absurd (both_ways false refl has);
-    final = λ same. cc;
-  };
-  parts = record { some = some; apart = apart };
-}
 
 pub sound-taken : (s : State) (id : ℕ) (parts : List Part) (plan : List Placed) → IsSound s → MayTake (map room_of s.nodes) s.jobs id parts → PlansPending (map (started_as s.moment id parts) s.jobs) plan
     → IsSound (record s { jobs = map (started_as s.moment id parts) s.jobs; plan = plan })
 sound-taken s id parts plan sound may planned =
     let start = started_as s.moment id parts in
-    let below : JobRecord → Type 0 = λ job. job.id < s.next_id in
-    record {
-      settings = sound.settings;
-      nodes = sound.nodes;
-      rising = rising-kept (λ (job : JobRecord). job.id) start s.jobs (λ k d within. same-id s.moment id parts (get_or s.jobs k d)) sound.rising;
-      below_next = All-map below start s.jobs (λ k d within. rw (same-id s.moment id parts (get_or s.jobs k d)) (sound.below_next k d within));
-      next = sound.next;
-      moment = sound.moment;
-      jobs = All-map (IsKept s.moment) start s.jobs (All-weaker (IsKept s.moment) (λ job. IsKept s.moment (start job))
-          (λ job kept. cond_both (eqb job.id id) (changed (Start s.moment parts) job) job (IsKept s.moment) (λ here. kept-started s.moment parts job may.some may.apart kept) (λ other. kept)) s.jobs sound.jobs);
-      held = held-taken s id parts sound may;
-      plan = planned;
-    }
+    let low : JobRecord → Type 0 = λ job. job.id < s.next_id in
+    let rise : HaveRisingIds (map start s.jobs) = rising-kept (λ (job : JobRecord). job.id) start s.jobs (λ k d below. same-id s.moment id parts (get_or s.jobs k d)) sound.rising in
+    let next : All low (map start s.jobs) = All-map low start s.jobs (λ k d below. rw (same-id s.moment id parts (get_or s.jobs k d)) (sound.below_next k d below)) in
+    let kept : All (IsKept s.moment) (map start s.jobs) = All-map (IsKept s.moment) start s.jobs (All-weaker (IsKept s.moment) (λ job. IsKept s.moment (start job))
+    (λ job kept. cond_both (eqb job.id id) (changed (Start s.moment parts) job) job (IsKept s.moment) (λ here. kept-started s.moment parts job may.some may.apart kept) (λ other. kept)) s.jobs sound.jobs) in
+    let held = held-taken s id parts sound may in
+    search rules

@@ -1,5 +1,5 @@
 -- What parts hold of the nodes.
-use Rattle.std.specs.Prelude.{◌≡◌, ◌≢◌, ℕ, ◌<◌, ◌≤◌, Bool, true, false, ◌&&◌, not, nat_eq, if◌then◌else◌, List, [], ◌∷◌, length, sum_by, count_by, filter, flat_map, All, AllPairs}
+use Rattle.std.specs.Prelude.{◌≡◌, ◌≢◌, ℕ, ◌<◌, ◌≤◌, Bool, true, false, ◌&&◌, not, nat_eq, if◌then◌else◌, List, [], ◌∷◌, length, sum_by, count_by, filter, flat_map, All, AllPairs, Contains}
 use Rattle.std.specs.List.{list_any, range_with_len}
 use Rattle.resource_profile.specs.declared.NodeRoom.{NodeRoom}
 use Rattle.resource_profile.specs.Free.{room_at}
@@ -61,7 +61,7 @@ OnNodesApart parts = AllPairs (λ (one other : Part). one.node ≢ other.node) p
 
 -- parts on one node have no processor in common
 abbrev pub AreApart : Part → Part → Type 0
-AreApart one other = one.node ≡ other.node → All (λ cpu. list_any (nat_eq cpu) other.cpus ≡ false) one.cpus
+AreApart one other = one.node ≡ other.node → All (λ cpu. Contains other.cpus cpu → ⊥) one.cpus
 
 -- no processor stands in two parts, and no more of a node's memory is held than the node has
 pub record IsHeldOnce (rooms : List NodeRoom) (parts : List Part) : Type 0 where

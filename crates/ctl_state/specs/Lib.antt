@@ -7,3 +7,4 @@ pub mod Events
 pub mod Planning
 pub mod Verdicts
 pub mod Refusals
+pub mod Laws

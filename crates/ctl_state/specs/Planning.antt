@@ -1,10 +1,8 @@
 -- What the planner is told of nodes and jobs.
-use Rattle.std.specs.Prelude.{ℕ, ◌*◌, true, false, List, Option, Some, None}
+use Rattle.std.specs.Prelude.{ℕ, ◌*◌, true, false, Option, Some, None}
 use Rattle.std.specs.List.{range_with_len}
-use Rattle.slurm_text.specs.declared.plain.job.JobDesc.{JobDesc}
 use Rattle.slurm_text.specs.declared.plain.limit.Limit.{Limit}
 use Rattle.slurm_text.specs.declared.plain.limit.Limit.TheVariants.{Minutes, Unlimited}
-use Rattle.slurm_text.specs.declared.plain.mem_ask.MemAsk.{MemAsk}
 use Rattle.resource_profile.specs.declared.NodeRoom.{NodeRoom}
 use Rattle.backfill_planner.specs.declared.job.PlanJob.{PlanJob}
 use Rattle.ctl_state.specs.declared.record.NodeRecord.{NodeRecord}

@@ -7,7 +7,6 @@ use Rattle.slurm_text.specs.declared.plain.job.JobDesc.{JobDesc}
 use Rattle.slurm_text.specs.declared.plain.state.JobState.TheVariants.{Ended}
 use Rattle.slurm_text.specs.declared.plain.state.Final.TheVariants.{Requeue}
 use Rattle.backfill_planner.specs.declared.Placed.{Placed}
-use Rattle.ctl_state.specs.declared.record.Part.{Part}
 use Rattle.ctl_state.specs.declared.record.NodeRecord.{NodeRecord}
 use Rattle.ctl_state.specs.declared.record.JobRecord.{JobRecord}
 use Rattle.ctl_state.specs.State.{State, last_job_id, last_moment}

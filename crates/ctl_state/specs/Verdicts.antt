@@ -26,10 +26,10 @@ reply_by (Makes reply after) = reply
 abbrev pub stamped : ℕ → State → State
 stamped now s = record s { moment = now }
 
--- the state after it: as it was where nothing is made
-abbrev pub state_by : State → ℕ → Verdict → State
-state_by s now (Refuses refusal) = s
-state_by s now (Tells view) = s
-state_by s now Stays = s
-state_by s now Unbuilt = s
-state_by s now (Makes reply after) = stamped now after
+-- the state that it leaves, before it bears the moment
+abbrev pub left_by : State → Verdict → State
+left_by s (Refuses refusal) = s
+left_by s (Tells view) = s
+left_by s Stays = s
+left_by s Unbuilt = s
+left_by s (Makes reply after) = after

@@ -14,7 +14,10 @@ use std::mem;
 #[derive(Drop)]
 pub enum Change {
     /// It starts with these parts.
-    Start { moment: u64, parts: Items<Part> },
+    Start {
+        moment: u64,
+        parts: Items<Part>,
+    },
     /// It leaves Running, and completes.
     Leave {
         to: Final,
@@ -22,7 +25,10 @@ pub enum Change {
         exit: Option<u32>,
     },
     /// It leaves a node, where it is completing.
-    DropPart { node: u32, moment: u64 },
+    DropPart {
+        node: u32,
+        moment: u64,
+    },
 }
 
 /// Changes the job. It takes no memory; the cost is the job's parts.

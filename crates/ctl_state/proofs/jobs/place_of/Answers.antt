@@ -1,5 +1,5 @@
 -- A binary search by the numbers finds the job's place, since they rise.
-use Rattle.std.proofs.Common.{◌≡◌, ◌≢◌, ℕ, ◌<◌, List, length, get_or, All, AllPairs, Result, Ok, Err, HoldsAt, MatchResult, nat_cmp, Less, Equal, Greater, rules, arith, sym, inl, inr}
+use Rattle.std.proofs.Common.{◌≡◌, ◌≢◌, ℕ, ◌<◌, List, get_or, All, AllPairs, Result, Ok, Err, HoldsAt, MatchResult, nat_cmp, Less, Equal, Greater, rules, arith, sym, inl, inr}
 use Rattle.std.specs.Ordering.{ordering_index}
 use Rattle.std.specs.List.Sorted.{IsBinarySearchResult, IsNonDecreasingBy}
 use Rattle.std.proofs.lemmas.Bool.{cases_lt}

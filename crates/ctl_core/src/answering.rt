@@ -1,0 +1,155 @@
+//! One step: a request is judged, and where it is accepted the cluster changes and bears its moment.
+
+ghost use Rattle.std.specs.Prelude.{◌≡◌, ◌≤◌, IfOk, OnOk, OnErr, if◌then◌else◌, Some, None};
+ghost use Rattle.slurm_text.specs.declared.plain.request.Request.TheVariants.{Pass};
+ghost use Rattle.resource_profile.specs.Counts.{ticked};
+ghost use Rattle.ctl_state.specs.State.{state_of, last_moment};
+ghost use Rattle.ctl_state.specs.Soundness.{IsSound};
+ghost use Rattle.ctl_state.specs.Refusals.{first_refusal, unless_refused};
+ghost use Rattle.ctl_state.specs.Verdicts.{reply_by, left_by};
+ghost use Rattle.ctl_core.specs.Step.{reply_of, state_after, is_entered, raised, steps_of, refusals_of, made};
+
+use crate::passing::pass;
+use crate::reply::{Answered, Decided};
+use crate::reporting::report;
+use crate::showing::show;
+use crate::submitting::submit;
+use ctl_report::is_restarted;
+use ctl_state::cluster::Cluster;
+use resource_profile::{Steps, start};
+use slurm_text::memory_error::Memory;
+use slurm_text::name::Name;
+use slurm_text::plain::refusal::Refusal;
+use slurm_text::plain::reply::Reply;
+use slurm_text::plain::request::Request;
+use std::alloc::Global;
+
+const LAST_MOMENT: u64 = 250_000_000_000;
+
+// The answer at a moment; an entry makes the cluster bear it.
+fn stamp(cluster: &mut Cluster, moment: u64, answered: Answered) -> Decided
+    requires { answered.entered ≡ (if is_entered answered.reply then Some answered.reply else None) }
+    ensures reply { result.reply ≡ answered.reply }
+    ensures entered { result.entered ≡ answered.entered }
+    ensures moment { result.moment ≡ moment }
+    ensures after { state_of cluster.new ≡ (if is_entered answered.reply then record (state_of cluster.old) { moment = moment } else state_of cluster.old) }
+{
+    if answered.entered.is_some() {
+        cluster.moment = moment;
+    }
+    Decided {
+        reply: answered.reply,
+        entered: answered.entered,
+        moment,
+    }
+}
+
+// What a request comes to at its raised moment.
+fn work(
+    alloc: Global,
+    cluster: &mut Cluster,
+    moment: u64,
+    user: &Name,
+    request: &Request,
+) -> Result<Answered, Memory>
+    requires sound { IsSound (state_of cluster.old) }
+    requires raised { cluster.old.moment ≤ moment }
+    requires in_time { moment ≤ last_moment }
+    ensures reply { IfOk result (λ answered. answered.reply
+        ≡ reply_by (unless_refused (first_refusal (refusals_of (state_of cluster.old) moment user.now request.now)) (made (state_of cluster.old) moment user.now request.now))) }
+    ensures entered { IfOk result (λ answered.
+        answered.entered ≡ (if is_entered answered.reply then Some answered.reply else None)) }
+    ensures after { IfOk result (λ answered. state_of cluster.new
+        ≡ (if is_entered answered.reply then left_by (state_of cluster.old) (unless_refused (first_refusal (refusals_of (state_of cluster.old) moment user.now request.now)) (made (state_of cluster.old) moment user.now request.now)) else state_of cluster.old)) }
+    ensures err { OnErr result (state_of cluster.new ≡ state_of cluster.old) }
+{
+    match request {
+        Request::Submit(desc) => submit(alloc, cluster, moment, user, desc),
+        Request::Report(told) => report(alloc, cluster, moment, user, told),
+        Request::Pass => pass(alloc, cluster, moment, user, &mut start()),
+        Request::Show(query) => show(alloc, cluster, moment, query),
+    }
+}
+
+// Whether the request is one that isn't worked yet.
+fn is_unbuilt(cluster: &Cluster, request: &Request) -> bool
+    ensures { result ≡ Rattle.ctl_core.specs.Step.is_unbuilt (state_of cluster.now) request.now }
+{
+    match request {
+        Request::Report(report) => is_restarted(cluster, report),
+        _ => false,
+    }
+}
+
+fn unbuilt() -> Answered
+    ensures reply { result.reply ≡ Reply.NotBuilt }
+    ensures entered { result.entered ≡ None }
+{
+    Answered {
+        reply: Reply::NotBuilt,
+        entered: None,
+    }
+}
+
+/// The answer to a refused request, which makes no entry.
+pub(crate) fn refused(refusal: Refusal) -> Answered
+    ensures reply { result.reply ≡ Reply.Refused refusal }
+    ensures entered { result.entered ≡ None }
+{
+    Answered {
+        reply: Reply::Refused(refusal),
+        entered: None,
+    }
+}
+
+/// Answers a request.
+pub(crate) fn answer(
+    alloc: Global,
+    cluster: &mut Cluster,
+    now: u64,
+    user: &Name,
+    request: &Request,
+) -> Result<Decided, Memory>
+    requires sound { IsSound (state_of cluster.old) }
+    ensures reply { IfOk result (λ decided. decided.reply ≡ reply_of (state_of cluster.old) now user.now request.now) }
+    ensures entered { IfOk result (λ decided.
+        decided.entered ≡ (if is_entered decided.reply then Some decided.reply else None)) }
+    ensures moment { IfOk result (λ decided. decided.moment ≡ raised (state_of cluster.old) now) }
+    ensures after { OnOk result (state_of cluster.new ≡ state_after (state_of cluster.old) now user.now request.now) }
+    ensures err { OnErr result (state_of cluster.new ≡ state_of cluster.old) }
+{
+    let moment = cluster.moment.max(now);
+    if is_unbuilt(cluster, request) {
+        return Ok(stamp(cluster, moment, unbuilt()));
+    }
+    if now > LAST_MOMENT {
+        return Ok(stamp(cluster, moment, refused(Refusal::MomentTooLarge)));
+    }
+    let answered = work(alloc, cluster, moment, user, request)?;
+    Ok(stamp(cluster, moment, answered))
+}
+
+/// Answers a pass, and counts its steps.
+pub(crate) fn answer_pass<L>(
+    alloc: Global,
+    cluster: &mut Cluster,
+    now: u64,
+    user: &Name,
+    steps: &mut Steps<L>,
+) -> Result<Decided, Memory>
+    requires sound { IsSound (state_of cluster.old) }
+    ensures reply { IfOk result (λ decided. decided.reply ≡ reply_of (state_of cluster.old) now user.now Pass) }
+    ensures entered { IfOk result (λ decided.
+        decided.entered ≡ (if is_entered decided.reply then Some decided.reply else None)) }
+    ensures moment { IfOk result (λ decided. decided.moment ≡ raised (state_of cluster.old) now) }
+    ensures after { OnOk result (state_of cluster.new ≡ state_after (state_of cluster.old) now user.now Pass) }
+    ensures err { OnErr result (state_of cluster.new ≡ state_of cluster.old) }
+    ensures steps { OnOk result (steps.new ≡ ticked steps.old (steps_of (state_of cluster.old) now user.now)) }
+{
+    let moment = cluster.moment.max(now);
+    if now > LAST_MOMENT {
+        return Ok(stamp(cluster, moment, refused(Refusal::MomentTooLarge)));
+    }
+    let answered = pass(alloc, cluster, moment, user, steps)?;
+    Ok(stamp(cluster, moment, answered))
+}

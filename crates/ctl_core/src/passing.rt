@@ -1,0 +1,83 @@
+//! Passes.
+
+ghost use Rattle.std.specs.Prelude.{◌≡◌, ◌≤◌, IfOk, OnOk, OnErr, if◌then◌else◌, Some, None};
+ghost use Rattle.resource_profile.specs.Counts.{ticked};
+ghost use Rattle.ctl_state.specs.State.{state_of, last_moment};
+ghost use Rattle.ctl_state.specs.Soundness.{IsSound};
+ghost use Rattle.ctl_state.specs.Refusals.{first_refusal, unless_refused, is_privileged};
+ghost use Rattle.ctl_state.specs.Verdicts.{reply_by, left_by};
+ghost use Rattle.ctl_pass.specs.Passing.{pass_refusals, pass_made, jobs_planned};
+ghost use Rattle.ctl_core.specs.Step.{is_entered};
+
+use crate::answering::refused;
+use crate::reply::Answered;
+use ctl_pass::{act, decide, is_idle, refusal_of};
+use ctl_state::cluster::Cluster;
+use resource_profile::Steps;
+use slurm_text::memory_error::Memory;
+use slurm_text::name::Name;
+use slurm_text::plain::reply::Reply;
+use std::alloc::Global;
+
+fn idle() -> Answered
+    ensures reply { result.reply ≡ Reply.Idle }
+    ensures entered { result.entered ≡ None }
+{
+    Answered {
+        reply: Reply::Idle,
+        entered: None,
+    }
+}
+
+fn passed(ended: u32, started: u32, planned: u32) -> Answered
+    ensures reply { result.reply ≡ Reply.Passed ended started planned }
+    ensures entered { result.entered ≡ Some result.reply }
+{
+    Answered {
+        reply: Reply::Passed {
+            ended,
+            started,
+            planned,
+        },
+        entered: Some(Reply::Passed {
+            ended,
+            started,
+            planned,
+        }),
+    }
+}
+
+/// A pass at its raised moment.
+pub(crate) fn pass<L>(
+    alloc: Global,
+    cluster: &mut Cluster,
+    moment: u64,
+    user: &Name,
+    steps: &mut Steps<L>,
+) -> Result<Answered, Memory>
+    requires sound { IsSound (state_of cluster.old) }
+    requires raised { cluster.old.moment ≤ moment }
+    requires in_time { moment ≤ last_moment }
+    ensures reply { IfOk result (λ answered. answered.reply
+        ≡ reply_by (unless_refused (first_refusal (pass_refusals (state_of cluster.old) user.now)) (pass_made (state_of cluster.old) moment))) }
+    ensures entered { IfOk result (λ answered.
+        answered.entered ≡ (if is_entered answered.reply then Some answered.reply else None)) }
+    ensures after { IfOk result (λ answered. state_of cluster.new
+        ≡ (if is_entered answered.reply then left_by (state_of cluster.old) (unless_refused (first_refusal (pass_refusals (state_of cluster.old) user.now)) (pass_made (state_of cluster.old) moment)) else state_of cluster.old)) }
+    ensures err { OnErr result (state_of cluster.new ≡ state_of cluster.old) }
+    ensures steps { OnOk result (steps.new
+        ≡ ticked steps.old (if is_privileged (state_of cluster.old) user.now then jobs_planned (state_of cluster.old) moment else 0)) }
+{
+    if let Some(refusal) = refusal_of(cluster, user) {
+        return Ok(refused(refusal));
+    }
+    let decided = decide(alloc, cluster, moment, steps)?;
+    if is_idle(cluster, moment, &decided) {
+        return Ok(idle());
+    }
+    let started = decided.starts.len() as u32;
+    let planned = decided.stays.len() as u32;
+    let answered = passed(decided.ended, started, planned);
+    act(alloc, cluster, moment, decided);
+    Ok(answered)
+}

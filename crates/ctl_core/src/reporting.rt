@@ -1,0 +1,55 @@
+//! Reports of nodes.
+
+ghost use Rattle.std.specs.Prelude.{◌≡◌, ◌≤◌, IfOk, OnErr, if◌then◌else◌, Some, None};
+ghost use Rattle.ctl_state.specs.State.{state_of, last_moment};
+ghost use Rattle.ctl_state.specs.Soundness.{IsSound};
+ghost use Rattle.ctl_state.specs.Refusals.{first_refusal, unless_refused};
+ghost use Rattle.ctl_state.specs.Verdicts.{reply_by, left_by};
+ghost use Rattle.ctl_report.specs.Answering.{report_refusals, report_made};
+ghost use Rattle.ctl_core.specs.Step.{is_entered};
+
+use crate::answering::refused;
+use crate::reply::Answered;
+use ctl_report::{accept, node_of, orders, refusal_of};
+use ctl_state::cluster::Cluster;
+use slurm_text::memory_error::Memory;
+use slurm_text::name::Name;
+use slurm_text::plain::refusal::Refusal;
+use slurm_text::plain::reply::Reply;
+use slurm_text::plain::report::Report;
+use std::alloc::Global;
+
+/// A report at its raised moment.
+pub(crate) fn report(
+    alloc: Global,
+    cluster: &mut Cluster,
+    moment: u64,
+    user: &Name,
+    report: &Report,
+) -> Result<Answered, Memory>
+    requires sound { IsSound (state_of cluster.old) }
+    requires raised { cluster.old.moment ≤ moment }
+    requires in_time { moment ≤ last_moment }
+    ensures reply { IfOk result (λ answered. answered.reply
+        ≡ reply_by (unless_refused (first_refusal (report_refusals (state_of cluster.old) user.now report.now)) (report_made (state_of cluster.old) moment report.now))) }
+    ensures entered { IfOk result (λ answered.
+        answered.entered ≡ (if is_entered answered.reply then Some answered.reply else None)) }
+    ensures after { IfOk result (λ answered. state_of cluster.new
+        ≡ (if is_entered answered.reply then left_by (state_of cluster.old) (unless_refused (first_refusal (report_refusals (state_of cluster.old) user.now report.now)) (report_made (state_of cluster.old) moment report.now)) else state_of cluster.old)) }
+    ensures err { OnErr result (state_of cluster.new ≡ state_of cluster.old) }
+{
+    if let Some(refusal) = refusal_of(cluster, user, report) {
+        return Ok(refused(refusal));
+    }
+    let Some(node) = node_of(cluster, report) else {
+        return Ok(refused(Refusal::UnknownNode));
+    };
+    let node = node as u32;
+    let orders = orders(alloc, cluster, node, report)?;
+    let entered = orders.copy()?;
+    accept(alloc, cluster, moment, node, report);
+    Ok(Answered {
+        reply: Reply::Orders(orders),
+        entered: Some(Reply::Orders(entered)),
+    })
+}

@@ -1,0 +1,12 @@
+pub mod State
+pub mod JobStates
+pub mod Holding
+pub mod Soundness
+pub mod Submission
+pub mod SamePlans
+pub mod Passing
+pub mod Launching
+pub mod Reporting
+pub mod ReportReply
+pub mod Showing
+pub mod Step

@@ -1,0 +1,8 @@
+use Rattle.ctl_report.proofs.Soundly.{sound-reported}
+use Rattle.ctl_report.proofs.laws.a_report_keeps_all_sound.Goals as goal
+
+pub returns : goal.returns
+returns c =
+    let kept = c.jobs_are_kept.ensures in
+    sound-reported c.letting_go_keeps_all_sound.ensures kept.later c.nodes_that_stay_keep_all_sound.ensures
+    (record { changes = c.every_change_but_a_start_lets_go.ensures; kept = kept.let_go; nothing = kept.same; twice = kept.twice })
