@@ -11,6 +11,7 @@ ghost use Rattle.ctl_state.specs.State.{state_of, last_moment};
 ghost use Rattle.ctl_pass.specs.Limits;
 ghost use Rattle.ctl_pass.specs.Readiness;
 
+use crate::laws::what_a_pass_plans_is_sound;
 use crate::limits::{hold_end, is_old};
 use backfill_planner::{Base, PlanJob};
 use ctl_state::cluster::Cluster;
@@ -74,6 +75,7 @@ pub(crate) fn base_of(alloc: Global, cluster: &Cluster, now: u64) -> Result<Base
     requires in_time { now ≤ last_moment }
     ensures { IfOk result (λ base. base ≡ Readiness.base_of (Readiness.ready (state_of cluster.now) now) now) }
 {
+    what_a_pass_plans_is_sound();
     let age = cluster.settings.min_job_age.get();
     let rooms = rooms_of(alloc, &cluster.nodes)?;
     let holds = holds_of(alloc, age, now, &cluster.jobs)?;

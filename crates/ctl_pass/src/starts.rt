@@ -14,6 +14,7 @@ ghost use Rattle.ctl_pass.specs.Passing;
 ghost use Rattle.ctl_pass.specs.Awaiting.{CanBegin};
 
 use crate::free_ids::{held_ids, take_parts};
+use crate::laws::what_a_pass_plans_is_sound;
 use backfill_planner::Placed;
 use backfill_planner::laws::placements_are_of_ranked_jobs;
 use ctl_state::change::{Change, apply};
@@ -75,6 +76,8 @@ fn starts_of(
     placements: &[Placed],
 ) -> Result<Vec<JobStart>, Memory>
     requires sound { IsSound (state_of cluster.now) }
+    requires raised { cluster.now.moment ≤ now }
+    requires in_time { now ≤ last_moment }
     requires plan { placements.now ≡ Readiness.placements (state_of cluster.now) now }
     requires parts { All (λ (placed : Placed). AreParts (map room_of cluster.now.nodes.items) placed.parts) placements.now }
     ensures { IfOk result (λ starts. starts.items ≡ (Passing.outcome (state_of cluster.now) now).starts) }
@@ -82,6 +85,7 @@ fn starts_of(
     if !any_starts(now, placements) {
         return Ok(Vec::new(alloc));
     }
+    what_a_pass_plans_is_sound();
     placements_are_of_ranked_jobs();
     let mut held = held_ids(alloc, cluster.nodes.len(), &cluster.jobs)?;
     starts_beside(alloc, now, &cluster.nodes, &mut held, placements)
@@ -104,6 +108,8 @@ pub(crate) fn split(
     placements: Vec<Placed>,
 ) -> Result<(Vec<JobStart>, Vec<Placed>), Memory>
     requires sound { IsSound (state_of cluster.now) }
+    requires raised { cluster.now.moment ≤ now }
+    requires in_time { now ≤ last_moment }
     requires plan { placements.items ≡ Readiness.placements (state_of cluster.now) now }
     requires parts { All (λ (placed : Placed). AreParts (map room_of cluster.now.nodes.items) placed.parts) placements.items }
     ensures starts { IfOk result (λ both. both.0.items ≡ (Passing.outcome (state_of cluster.now) now).starts) }
