@@ -1,28 +1,25 @@
 -- The plan that a pass makes is the one of the definition, and its placements can begin; and how many jobs there can be.
-use Rattle.std.proofs.Common.{◌≡◌, ℕ, ◌+◌, ◌*◌, ◌≤◌, ◌<◌, Bool, true, not, ◌&&◌, eqb, List, [], length, map, filter, flat_map, get_or, All, AllPairs, Any, Contains, arith, refl, ap, sym, ◌∙◌, inl, inr}
+use Rattle.std.proofs.Common.{◌≡◌, ℕ, ◌+◌, ◌*◌, ◌≤◌, ◌<◌, Bool, true, not, ◌&&◌, eqb, List, length, map, filter, flat_map, get_or, All, AllPairs, Any, Contains, arith, refl, ap, ◌∙◌, inl, inr}
 use Rattle.std.specs.List.{list_any}
 use Rattle.std.proofs.lemmas.Bool.{cases_order, eq-eqb}
 use Rattle.std.proofs.lemmas.List.{get_or_default}
 use Rattle.std.proofs.lemmas.List.Folds.{list_any-from_Any}
-use Rattle.std.proofs.lemmas.List.Elements.{All-weaker}
-use Rattle.std.proofs.lemmas.List.Kept.{AllPairs-filter}
-use Rattle.resource_profile.specs.Profiles.{AreWithin}
 use Rattle.backfill_planner.specs.declared.Placed.{Placed}
 use Rattle.backfill_planner.specs.declared.job.PlanJob.{PlanJob}
 use Rattle.backfill_planner.specs.Bases.{BaseView}
 use Rattle.backfill_planner.specs.Plans.{PlannedView, plan_of}
 use Rattle.ctl_state.specs.declared.record.JobRecord.{JobRecord}
 use Rattle.ctl_state.specs.JobStates.{is_pending}
-use Rattle.ctl_state.specs.State.{State, last_job_id, last_moment}
+use Rattle.ctl_state.specs.State.{State, last_job_id}
 use Rattle.ctl_state.specs.Holding.{parts_of}
 use Rattle.ctl_state.specs.Planning.{room_of, plan_job}
-use Rattle.ctl_state.specs.Soundness.{IsSound, IsKept, HasItsParts, HaveRisingIds, pending_ids}
+use Rattle.ctl_state.specs.Soundness.{IsSound, HasItsParts, pending_ids}
 use Rattle.ctl_pass.specs.Limits.{is_old, holds_of_job}
 use Rattle.ctl_pass.specs.Readiness.{ready, base_of, candidates, ranked, planned, placements}
 use Rattle.ctl_pass.specs.SamePlans.{same_plans}
 use Rattle.ctl_pass.specs.HeldIds.{ShowsParts}
 use Rattle.ctl_pass.specs.Awaiting.{Awaits, CanBegin}
-use Rattle.ctl_pass.specs.Passing.{outcome, is_idle, IsDecided}
+use Rattle.ctl_pass.specs.Passing.{is_idle, IsDecided}
 use Rattle.ctl_pass.specs.declared.pass.Decided.{Decided}
 use Rattle.ctl_pass.proofs.Tallies.{Any-kept}
 use Rattle.ctl_pass.proofs.Lists.{length-rising}

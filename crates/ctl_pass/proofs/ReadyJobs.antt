@@ -1,21 +1,19 @@
 -- What the first steps of a pass leave of the jobs: those that wait, what is held, and how many there are.
-use Rattle.std.proofs.Common.{◌≡◌, ℕ, suc, ◌+◌, ◌≤◌, ◌<◌, Bool, true, false, ◌&&◌, not, cond, eqb, leb, ltb, List, [], ◌∷◌, ◌++◌, length, map, flat_map, filter, take, get_or, unwrap_or, All, AllPairs, arith, refl, ap, sym, ◌∙◌, inl, inr}
+use Rattle.std.proofs.Common.{◌≡◌, ℕ, suc, ◌+◌, ◌≤◌, ◌<◌, Bool, true, false, ◌&&◌, not, cond, eqb, leb, ltb, List, [], ◌∷◌, ◌++◌, length, map, flat_map, filter, take, get_or, unwrap_or, All, arith, refl, ap, sym, ◌∙◌, inl, inr}
 use Rattle.std.specs.List.{list_any}
 use Rattle.std.proofs.lemmas.Bool.{cases_Bool, cases_eq, and_parts, both_ways, leb-true, le-ltb, ne_eqb, eq-eqb}
 use Rattle.std.proofs.lemmas.List.{take_more, map-append, append-nil, length-map}
-use Rattle.std.proofs.lemmas.List.Elements.{All-head, All-tail, All-map, All-filter, filter-append}
+use Rattle.std.proofs.lemmas.List.Elements.{All-head, All-tail, filter-append}
 use Rattle.std.proofs.lemmas.List.Sums.{length-filter, count_by-le-length}
 use Rattle.std.proofs.lemmas.List.Kept.{AllPairs-filter}
 use Rattle.slurm_text.specs.declared.plain.state.JobState.{JobState}
 use Rattle.slurm_text.specs.declared.plain.state.JobState.TheVariants.{Pending, Running, Completing, Ended}
-use Rattle.resource_profile.specs.declared.Hold.{Hold}
-use Rattle.ctl_state.specs.declared.record.Part.{Part}
 use Rattle.ctl_state.specs.declared.record.JobRecord.{JobRecord}
 use Rattle.ctl_state.specs.JobStates.{is_pending, is_running, is_ended, is_holding}
 use Rattle.ctl_state.specs.Events.{those_left}
 use Rattle.ctl_state.specs.Holding.{parts_of, has_members}
 use Rattle.ctl_state.specs.Soundness.{HasItsParts, HaveRisingIds}
-use Rattle.ctl_pass.specs.Limits.{deadline, is_over, timed_out, is_old, holds_of_job}
+use Rattle.ctl_pass.specs.Limits.{deadline, timed_out, is_old, holds_of_job}
 use Rattle.ctl_pass.proofs.Tallies.{pairs-map}
 use Rattle.ctl_pass.proofs.Readied.{by_limit}
 use Rattle.ctl_pass.proofs.Lists.{flat_map-append}

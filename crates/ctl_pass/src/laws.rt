@@ -1,7 +1,7 @@
 //! What holds of every pass. A law is the contract of a function that does nothing but call the laws
 //! that it rests on.
 
-ghost use Rattle.std.specs.Prelude.{◌≡◌, ◌⊎◌, ℕ, ◌≤◌, List, [], All, Any, Contains, true};
+ghost use Rattle.std.specs.Prelude.{◌≡◌, ◌⊎◌, ℕ, ◌≤◌, [], All, Any, Contains, true};
 ghost use Rattle.backfill_planner.specs.declared.Placed.{Placed};
 ghost use Rattle.ctl_state.specs.declared.record.JobRecord.{JobRecord};
 ghost use Rattle.ctl_state.specs.State.{State, last_moment};
@@ -20,7 +20,8 @@ use ctl_state::laws::{
 
 /// A pass keeps all sound.
 pub fn a_pass_keeps_all_sound()
-    ensures { (s : State) (now : ℕ) → IsSound s → s.moment ≤ now → now ≤ last_moment → IsSound (stamped now (pass_after s now)) }
+    ensures { (s : State) (now : ℕ) → IsSound s → s.moment ≤ now → now ≤ last_moment
+        → IsSound (stamped now (pass_after s now)) }
 {
     every_change_but_a_start_lets_go();
     jobs_are_kept();
