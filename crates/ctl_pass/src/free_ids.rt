@@ -16,7 +16,7 @@ use slurm_text::memory_error::Memory;
 use slurm_text::plain::orders::CpuIds;
 use std::alloc::Global;
 
-// The bits of a node: it has no more processors.
+// How many bits a node has: no node has more processors.
 const WIDTH: usize = 1024;
 
 // Holds the part's processors too.
