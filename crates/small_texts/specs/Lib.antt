@@ -5,3 +5,4 @@ pub mod Memory
 pub mod Moment
 pub mod Name
 pub mod Options
+pub mod Refusals

@@ -5,14 +5,29 @@ ghost use Rattle.std.specs.Result.{result_ok};
 ghost use Rattle.small_texts.specs.Memory.{in_megabytes, megabytes_of};
 
 use crate::digits::{parse_number, split_digits};
+use std::error::Error;
+use std::fmt;
 
 /// The text is no amount of memory.
 #[derive(Clone, Copy, PartialEq, Eq, Debug)]
 pub struct BadMem;
 
+impl fmt::Display for BadMem {
+    ghost use Rattle.std.specs.Prelude.{Some, codes};
+
+    ghost output = { λ _. Some (codes "bad amount of memory") };
+
+    fn fmt<W: fmt::Write>(&self, f: &mut fmt::Formatter<W>) -> fmt::Result {
+        f.write_str("bad amount of memory")
+    }
+}
+
+impl Error for BadMem {}
+
 const GREATEST: u64 = 16_777_216;
 
-/// The megabytes of a text such as `4000`, `4g` or `512K`; 0 stands for all memory of each node.
+/// The megabytes of a text such as `4000`, `4g` or `512K`, at most 16,777,216: one to twelve digits, and maybe a
+/// unit in either case of its letter, else megabytes. Kilobytes round up. 0 stands for all memory of each node.
 #[tactic(auto, unfolding(crate::specs::Memory::megabytes_of))]
 pub fn parse_mem(text: &[u8]) -> Result<u64, BadMem>
     ensures value { result_ok result ≡ megabytes_of text.now }

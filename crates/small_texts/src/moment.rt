@@ -9,15 +9,30 @@ ghost use Rattle.small_texts.specs.Civil.{date_after, IsDateAfter};
 use crate::civil::{date_after_epoch, day_after_epoch};
 use crate::digits::{parse_number, split_digits, to_two_digits};
 use crate::fields::{UpToThree, up_to_three};
+use std::error::Error;
+use std::fmt;
 
 /// The text names no moment.
 #[derive(Clone, Copy, PartialEq, Eq, Debug)]
 pub struct BadMoment;
 
+impl fmt::Display for BadMoment {
+    ghost use Rattle.std.specs.Prelude.{Some, codes};
+
+    ghost output = { λ _. Some (codes "bad moment") };
+
+    fn fmt<W: fmt::Write>(&self, f: &mut fmt::Formatter<W>) -> fmt::Result {
+        f.write_str("bad moment")
+    }
+}
+
+impl Error for BadMoment {}
+
 const LAST: u64 = 250_000_000_000;
 
-/// The moment of a text such as `2030-01-31T08:00`, `now` or `now+2hours`, from 1970 on and at most
-/// 250,000,000,000.
+/// The moment of a text such as `2030-01-31T08:00`, `now` or `now+2hours`, in seconds since 1970, at most
+/// 250,000,000,000. A wait has one to nine digits and maybe a unit: `seconds`, `minutes`, `hours`, `days` or `weeks`,
+/// else seconds. A date and a time of day are of UTC, whose seconds end at 59.
 pub fn parse_moment(text: &[u8], now: u64) -> Result<u64, BadMoment>
     ensures value { result_ok result ≡ moment_of text.now now }
     ensures bound { IfOk result (λ moment. moment ≤ 250_000_000_000) }

@@ -9,9 +9,8 @@ ghost use Rattle.std.specs.Cmp.{partial_equiv_from_equiv};
 ghost use Rattle.std.specs.Cmp.Lexicographic.{slice_cmp, nat_list_eq_equiv, nat_list_cmp_total, texts_ties, texts_po};
 ghost use Rattle.std.specs.Cmp.Rules.{hashing};
 
-use crate::memory_error;
-use crate::memory_error::Memory;
-use std::alloc::{AllocError, Global};
+use crate::memory_error::{self, Memory};
+use std::alloc::{AllocError, AllocFailed, Global};
 use std::cmp::Ordering;
 use std::error::Error;
 use std::fmt;
@@ -104,19 +103,60 @@ impl Model for JobName {
     ghost invariant = { λ n. IsTrue (is_job_name n.text.items) };
 }
 
+impl PartialEq for JobName {
+    ghost eq = { bytes_eq };
+
+    ghost laws = { partial_equiv_from_equiv nat_list_eq_equiv };
+
+    fn eq(&self, other: &JobName) -> bool {
+        self.text.as_slice() == other.text.as_slice()
+    }
+}
+
+impl Eq for JobName {
+    ghost laws = { nat_list_eq_equiv };
+}
+
+impl fmt::Debug for Name {
+    fn fmt<W: fmt::Write>(&self, f: &mut fmt::Formatter<W>) -> fmt::Result {
+        write_quoted(f, self.text.as_slice())
+    }
+}
+
+impl fmt::Debug for JobName {
+    fn fmt<W: fmt::Write>(&self, f: &mut fmt::Formatter<W>) -> fmt::Result {
+        write_quoted(f, self.text.as_slice())
+    }
+}
+
+// Writes a text in quotes.
+fn write_quoted<W: fmt::Write>(f: &mut fmt::Formatter<W>, text: &[u8]) -> fmt::Result {
+    f.write_char('"')?;
+    for b in text {
+        f.write_char(char::from(*b))?;
+    }
+    f.write_char('"')
+}
+
 /// Why a text gave no name.
 #[derive(Clone, Copy, Debug, PartialEq, Eq)]
 pub enum NameRefusal {
+    /// It is off the grammar.
     BadName,
     Memory,
 }
 
 impl fmt::Display for NameRefusal {
+    ghost use Rattle.std.specs.Prelude.{Some};
+    ghost use Rattle.small_texts.specs.Refusals.{name_message};
+
+    ghost output = { λ refusal. Some (name_message refusal) };
+
     fn fmt<W: fmt::Write>(&self, f: &mut fmt::Formatter<W>) -> fmt::Result {
-        match self {
-            NameRefusal::BadName => write!(f, "not a name"),
-            NameRefusal::Memory => write!(f, "out of memory"),
-        }
+        f.write_str(match self {
+            NameRefusal::BadName => "bad name",
+            NameRefusal::Memory => "out of memory",
+        })
     }
 }
 
@@ -129,6 +169,17 @@ impl From<AllocError> for NameRefusal {
     ghost from_gives = { λ _ e. e ≡ Memory };
 
     fn from(_error: AllocError) -> NameRefusal {
+        NameRefusal::Memory
+    }
+}
+
+impl<T: Drop> From<AllocFailed<T>> for NameRefusal {
+    ghost use Rattle.std.specs.Prelude.{◌≡◌};
+    ghost use Rattle.small_texts.specs.declared.name.NameRefusal.TheVariants.{Memory};
+
+    ghost from_gives = { λ _ e. e ≡ Memory };
+
+    fn from(_error: AllocFailed<T>) -> NameRefusal {
         NameRefusal::Memory
     }
 }
