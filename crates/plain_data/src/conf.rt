@@ -7,7 +7,7 @@ use small_texts::name::Name;
 use std::marker::Model;
 
 /// The settings of slurm.conf(5) that are of no node or partition.
-#[derive(Drop)]
+#[derive(Debug, Drop)]
 pub struct Settings {
     /// `MinJobAge`: how many seconds an ended job is kept at least; 0 keeps it for good.
     pub min_job_age: Ranged<0, 65533>,
@@ -20,7 +20,7 @@ pub struct Settings {
 }
 
 /// A node of slurm.conf(5).
-#[derive(Drop)]
+#[derive(Debug, Drop)]
 pub struct NodeConf {
     pub name: Name,
     /// Its processors.
@@ -30,13 +30,13 @@ pub struct NodeConf {
 }
 
 /// A partition of slurm.conf(5).
-#[derive(Drop)]
+#[derive(Debug, Drop)]
 pub struct PartConf {
     pub name: Name,
 }
 
 /// What slurm.conf(5) says.
-#[derive(Drop)]
+#[derive(Debug, Drop)]
 pub struct Conf {
     pub settings: Settings,
     /// The nodes, in the order of the file, 1,024 at most.
@@ -57,7 +57,7 @@ impl Model for Conf {
 }
 
 /// An association: an account or a user of it. sacctmgr(1), "Flat file".
-#[derive(Drop)]
+#[derive(Debug, Drop)]
 pub struct AssocConf {
     pub name: Name,
     /// Whether it is a user; else it is an account.
@@ -65,7 +65,7 @@ pub struct AssocConf {
 }
 
 /// What the association file says.
-#[derive(Drop)]
+#[derive(Debug, Drop)]
 pub struct AssocFile {
     /// The associations, in the order of the file.
     pub assocs: Items<AssocConf>,

@@ -1,8 +1,13 @@
+//! Lists of plain data.
+
 ghost use Rattle.std.specs.Prelude.{◌≡◌, IfOk};
+ghost use Rattle.std.specs.Cmp.Lexicographic.{lists_per, pointwise};
+ghost use Rattle.std.specs.Slice.Iter.{iter_rest};
 
 use crate::Plain;
 use small_texts::memory_error::Memory;
 use std::marker::Model;
+use std::{fmt, slice};
 
 /// A list of plain data. A contract sees it as the list of its members, in order (own).
 #[derive(Drop)]
@@ -16,6 +21,22 @@ impl<T> Model for Items<T> {
     ghost Value = { List T };
 
     ghost view = { λ list. list.items.items };
+}
+
+impl<T: PartialEq> PartialEq for Items<T> {
+    ghost eq = { pointwise T.eq };
+
+    ghost laws = { lists_per T.laws };
+
+    fn eq(&self, other: &Self) -> bool {
+        self.items == other.items
+    }
+}
+
+impl<T: fmt::Debug> fmt::Debug for Items<T> {
+    fn fmt<W: fmt::Write>(&self, f: &mut fmt::Formatter<W>) -> fmt::Result {
+        fmt::Debug::fmt(&self.items, f)
+    }
 }
 
 impl<T> Items<T> {
@@ -33,11 +54,30 @@ impl<T> Items<T> {
         self.items
     }
 
+    /// The members, one after the other.
+    pub fn iter(&self) -> slice::Iter<'_, T>
+        ensures { iter_rest result ≡ self.now }
+    {
+        self.items.iter()
+    }
+
     /// The members in order.
     pub fn as_slice(&self) -> &[T]
         ensures { result.now ≡ self.now }
     {
         self.items.as_slice()
+    }
+}
+
+impl<'a, T> IntoIterator for &'a Items<T> {
+    type Item = &'a T;
+
+    type IntoIter = slice::Iter<'a, T>;
+
+    ghost into_iter_gives = { λ items it. iter_rest it ≡ items.now };
+
+    fn into_iter(self) -> Self::IntoIter {
+        self.iter()
     }
 }
 

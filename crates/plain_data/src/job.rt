@@ -8,7 +8,7 @@ use small_texts::memory_error::Memory;
 use small_texts::name::JobName;
 
 /// What a submission asks for. sbatch(1).
-#[derive(Drop)]
+#[derive(PartialEq, Debug, Drop)]
 pub struct JobDesc {
     pub name: JobName,
     /// The tasks, each on one processor.

@@ -3,7 +3,7 @@
 use crate::ranged::Ranged;
 
 /// The memory that a job asks for on each node (sbatch(1): `--mem`, `--mem-per-cpu`), in megabytes.
-#[derive(Clone, Copy)]
+#[derive(Clone, Copy, PartialEq, Eq, Debug)]
 pub enum MemAsk {
     /// All that the node has.
     All,

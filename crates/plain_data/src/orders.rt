@@ -1,6 +1,8 @@
 //! What the controller orders a node's daemon to do.
 
-ghost use Rattle.std.specs.Prelude.{◌≡◌, ◌<◌, All, AllPairs, IfOk};
+ghost use Rattle.std.specs.Prelude.{◌≡◌, ◌<◌, All, AllPairs, IfOk, bytes_eq};
+ghost use Rattle.std.specs.Cmp.{partial_equiv_from_equiv};
+ghost use Rattle.std.specs.Cmp.Lexicographic.{nat_list_eq_equiv};
 
 use crate::Plain;
 use crate::items::Items;
@@ -10,7 +12,7 @@ use small_texts::name::Name;
 use std::marker::Model;
 
 /// Processor numbers of a node. A contract sees them as a list that rises (own).
-#[derive(Drop)]
+#[derive(Debug, Drop)]
 pub struct CpuIds {
     numbers: Vec<u32>,
 }
@@ -23,6 +25,16 @@ impl Model for CpuIds {
     ghost view = { λ ids. ids.numbers.items };
 
     ghost invariant = { λ ids. AllPairs (λ a b. a < b) ids.numbers.items × All (λ a. a < 1024) ids.numbers.items };
+}
+
+impl PartialEq for CpuIds {
+    ghost eq = { bytes_eq };
+
+    ghost laws = { partial_equiv_from_equiv nat_list_eq_equiv };
+
+    fn eq(&self, other: &CpuIds) -> bool {
+        self.numbers == other.numbers
+    }
 }
 
 impl CpuIds {
@@ -54,7 +66,7 @@ impl CpuIds {
 }
 
 /// A start that is to be launched on the node.
-#[derive(Drop)]
+#[derive(PartialEq, Debug, Drop)]
 pub struct Launch {
     pub start: Start,
     /// The processors that it gets there.
@@ -80,7 +92,7 @@ impl Plain for Launch {
 }
 
 /// What the controller orders a node's daemon to do, in answer to a report (own).
-#[derive(Drop)]
+#[derive(PartialEq, Debug, Drop)]
 pub struct Orders {
     pub node: Name,
     /// The boot number of the report that they answer.

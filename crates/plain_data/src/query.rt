@@ -5,7 +5,7 @@ ghost use Rattle.std.specs.Prelude.{◌≡◌, IfOk};
 use small_texts::memory_error::Memory;
 
 /// What to show.
-#[derive(Drop)]
+#[derive(PartialEq, Debug, Drop)]
 pub enum Query {
     /// The jobs that haven't ended. squeue(1).
     Squeue {

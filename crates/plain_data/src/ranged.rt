@@ -1,4 +1,6 @@
-ghost use Rattle.std.specs.Prelude.{◌≡◌, ◌≤◌};
+//! Numbers that keep a range.
+
+ghost use Rattle.std.specs.Prelude.{◌≡◌, ◌≤◌, ◌↔◌, IsSome, IfSome};
 
 use std::alloc::AllocError;
 use std::marker::Model;
@@ -30,12 +32,24 @@ impl<const LEAST: u64, const MOST: u64> Clone for Ranged<LEAST, MOST> {
 impl<const LEAST: u64, const MOST: u64> Copy for Ranged<LEAST, MOST> {}
 
 impl<const LEAST: u64, const MOST: u64> Ranged<LEAST, MOST> {
-    /// This number.
+    /// This number, which the caller has seen to be in the range.
     pub fn new(number: u64) -> Self
         requires { (LEAST ≤ number) × (number ≤ MOST) }
         ensures { result ≡ number }
     {
         Ranged { number }
+    }
+
+    /// The number, where it is in the range: the test that `new` leaves to its caller.
+    pub fn try_new(number: u64) -> Option<Self>
+        ensures some { IsSome result ↔ ((LEAST ≤ number) × (number ≤ MOST)) }
+        ensures value { IfSome result (λ ranged. ranged ≡ number) }
+    {
+        if LEAST <= number && number <= MOST {
+            Some(Ranged { number })
+        } else {
+            None
+        }
     }
 
     /// The number.

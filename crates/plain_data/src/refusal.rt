@@ -5,7 +5,7 @@ ghost use Rattle.std.specs.Prelude.{◌≡◌, IfOk};
 use small_texts::memory_error::Memory;
 
 /// Why a request was refused. The numbers are those that its text shows (own).
-#[derive(Drop)]
+#[derive(PartialEq, Debug, Drop)]
 pub enum Refusal {
     /// 2: the user has no association.
     InvalidAccount,

@@ -8,7 +8,7 @@ use crate::view::View;
 use small_texts::memory_error::Memory;
 
 /// The answer to a request.
-#[derive(Drop)]
+#[derive(PartialEq, Debug, Drop)]
 pub enum Reply {
     /// A job was taken, and has this number.
     Submitted {

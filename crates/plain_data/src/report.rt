@@ -24,7 +24,7 @@ pub struct Done {
 }
 
 /// What a node's daemon reports of itself (own).
-#[derive(Drop)]
+#[derive(PartialEq, Debug, Drop)]
 pub struct Report {
     pub node: Name,
     /// Which of the daemon's lives it is: a restarted daemon has a greater one.

@@ -8,7 +8,7 @@ use crate::report::Report;
 use small_texts::memory_error::Memory;
 
 /// A request to the controller.
-#[derive(Drop)]
+#[derive(PartialEq, Debug, Drop)]
 pub enum Request {
     /// Hands in a job. sbatch(1).
     Submit(JobDesc),

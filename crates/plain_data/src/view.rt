@@ -10,7 +10,7 @@ use small_texts::memory_error::Memory;
 use small_texts::name::{JobName, Name};
 
 /// What is shown of a job. squeue(1).
-#[derive(Drop)]
+#[derive(PartialEq, Debug, Drop)]
 pub struct JobRow {
     pub id: u32,
     pub name: JobName,
@@ -49,7 +49,7 @@ impl JobRow {
 }
 
 /// A record that is shown.
-#[derive(Drop)]
+#[derive(PartialEq, Debug, Drop)]
 pub enum Row {
     Job(JobRow),
 }
@@ -63,7 +63,7 @@ impl Plain for Row {
 }
 
 /// The records that are shown, in the order of their lines.
-#[derive(Drop)]
+#[derive(PartialEq, Debug, Drop)]
 pub struct View {
     pub rows: Items<Row>,
 }
