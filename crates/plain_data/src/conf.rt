@@ -39,21 +39,22 @@ pub struct PartConf {
 #[derive(Debug, Drop)]
 pub struct Conf {
     pub settings: Settings,
-    /// The nodes, in the order of the file, 1,024 at most.
+    /// The nodes, in the order of the file, 1,024 at most, each named once.
     pub nodes: Items<NodeConf>,
     /// The partition, which has all nodes.
     pub partition: PartConf,
 }
 
 impl Model for Conf {
-    ghost use Rattle.std.specs.Prelude.{◌≤◌, length};
+    ghost use Rattle.std.specs.Prelude.{◌≢◌, ◌≤◌, length, AllPairs};
+    ghost use Rattle.plain_data.specs.declared.conf.NodeConf.{NodeConf};
     ghost use Rattle.plain_data.specs.Confs.{ConfView};
 
     ghost Value = { ConfView };
 
     ghost view = { λ conf. record { settings = conf.settings; nodes = conf.nodes; partition = conf.partition } };
 
-    ghost invariant = { λ conf. length conf.nodes ≤ 1024 };
+    ghost invariant = { λ conf. (length conf.nodes ≤ 1024) × AllPairs (λ (one other : NodeConf). one.name ≢ other.name) conf.nodes };
 }
 
 /// An association: an account or a user of it. sacctmgr(1), "Flat file".
