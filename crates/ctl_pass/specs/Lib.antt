@@ -3,3 +3,5 @@ pub mod Readiness
 pub mod Starting
 pub mod SamePlans
 pub mod Passing
+pub mod HeldIds
+pub mod Awaiting

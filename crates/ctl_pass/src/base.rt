@@ -1,31 +1,112 @@
 //! What a plan begins with, and the jobs that it ranks.
 
-ghost use Rattle.std.specs.Prelude.{◌≡◌, ◌≤◌, ◌<◌, ◌++◌, All, IfOk, OnOk, length, map};
+ghost use Rattle.std.specs.Prelude.{◌≡◌, ◌≤◌, ◌<◌, ◌++◌, All, IfOk, OnOk, length, map, filter, flat_map, unwrap_or};
 ghost use Rattle.backfill_planner.specs.declared.job.PlanJob.{PlanJob};
+ghost use Rattle.ctl_state.specs.declared.record.JobRecord.{JobRecord};
+ghost use Rattle.ctl_state.specs.JobStates;
+ghost use Rattle.ctl_state.specs.Events.{those_left};
+ghost use Rattle.ctl_state.specs.Planning;
 ghost use Rattle.ctl_state.specs.Soundness.{IsSound};
 ghost use Rattle.ctl_state.specs.State.{state_of, last_moment};
-ghost use Rattle.ctl_state.specs.Planning.{room_of};
+ghost use Rattle.ctl_pass.specs.Limits;
 ghost use Rattle.ctl_pass.specs.Readiness;
 
+use crate::limits::{hold_end, is_old};
 use backfill_planner::{Base, PlanJob};
 use ctl_state::cluster::Cluster;
+use ctl_state::jobs::is_pending;
+use ctl_state::planning::{plan_job, rooms_of};
+use ctl_state::record::JobRecord;
+use resource_profile::Hold;
+use slurm_text::items::Items;
 use slurm_text::memory_error::Memory;
+use slurm_text::plain::orders::CpuIds;
 use std::alloc::Global;
+
+fn count_of(cpus: &CpuIds) -> u32
+    ensures { result ≡ length cpus.now }
+{
+    cpus.as_slice().len() as u32
+}
+
+// Adds what the job holds.
+fn push_holds(now: u64, job: &JobRecord, holds: &mut Vec<Hold>) -> Result<(), Memory>
+    requires started { unwrap_or job.now.started 0 ≤ last_moment }
+    requires in_time { now ≤ last_moment }
+    ensures { OnOk result (holds.new.items ≡ holds.old.items ++ Limits.holds_of_job now job.now) }
+{
+    let from = job.started.unwrap_or(0);
+    let until = hold_end(now, job);
+    for part in job.parts.as_slice() {
+        holds.push(Hold {
+            node: part.node,
+            from,
+            until,
+            cpus: count_of(&part.cpus),
+            mem: part.mem,
+        })?;
+    }
+    Ok(())
+}
+
+// What those of the jobs hold that the first steps of a pass leave: one past its limit holds as long as one that completes.
+fn holds_of(alloc: Global, age: u64, now: u64, jobs: &[JobRecord]) -> Result<Vec<Hold>, Memory>
+    requires started { All (λ (job : JobRecord). unwrap_or job.started 0 ≤ last_moment) jobs.now }
+    requires in_time { now ≤ last_moment }
+    ensures { IfOk result (λ holds. holds.items
+        ≡ flat_map (Limits.holds_of_job now) (those_left (Limits.timed_out now) (Limits.is_old age now) jobs.now)) }
+{
+    let mut holds = Vec::new(alloc);
+    for job in jobs {
+        if !is_old(age, now, job) {
+            push_holds(now, job, &mut holds)?;
+        }
+    }
+    Ok(holds)
+}
 
 /// What the plan of a pass begins with: the jobs are read as the pass's first steps leave them. Linear in nodes, jobs and
 /// parts.
+#[tactic(auto, unfolding(crate::specs::Readiness::base_of))]
 pub(crate) fn base_of(alloc: Global, cluster: &Cluster, now: u64) -> Result<Base, Memory>
     requires sound { IsSound (state_of cluster.now) }
     requires raised { cluster.now.moment ≤ now }
     requires in_time { now ≤ last_moment }
     ensures { IfOk result (λ base. base ≡ Readiness.base_of (Readiness.ready (state_of cluster.now) now) now) }
 {
-    Err(Memory)
+    let age = cluster.settings.min_job_age.get();
+    let rooms = rooms_of(alloc, &cluster.nodes)?;
+    let holds = holds_of(alloc, age, now, &cluster.jobs)?;
+    Ok(Base {
+        rooms: Items::from_vec(rooms),
+        holds: Items::from_vec(holds),
+        horizon: now + cluster.settings.bf_window.get() * 60,
+    })
+}
+
+// What the pending jobs need of so many nodes, in the order of the jobs.
+fn needs_of(alloc: Global, count: u32, jobs: &[JobRecord]) -> Result<Vec<PlanJob>, Memory>
+    ensures ranked { IfOk result (λ ranked. ranked.items
+        ≡ map (Planning.plan_job count) (filter (λ (job : JobRecord). JobStates.is_pending job.state) jobs.now)) }
+    ensures nodes { IfOk result (λ ranked. All (λ (job : PlanJob). All (λ node. node < count) job.nodes) ranked.items) }
+    ensures tasks { IfOk result (λ ranked. All (λ (job : PlanJob). 1 ≤ job.need.tasks) ranked.items) }
+{
+    let mut ranked = Vec::new(alloc);
+    for job in jobs {
+        if is_pending(job) {
+            ranked.push(plan_job(alloc, count, job)?)?;
+        }
+    }
+    Ok(ranked)
 }
 
 /// What the jobs need that the pass plans, highest in rank first. Linear in the jobs and the nodes of each.
 pub(crate) fn rank(alloc: Global, cluster: &Cluster, now: u64) -> Result<Vec<PlanJob>, Memory>
+    requires { length cluster.now.nodes.items ≤ 1024 }
     ensures ranked { IfOk result (λ ranked. ranked.items ≡ Readiness.ranked (Readiness.ready (state_of cluster.now) now) now) }
+    ensures nodes { IfOk result (λ ranked.
+        All (λ (job : PlanJob). All (λ node. node < length cluster.now.nodes.items) job.nodes) ranked.items) }
+    ensures tasks { IfOk result (λ ranked. All (λ (job : PlanJob). 1 ≤ job.need.tasks) ranked.items) }
 {
-    Err(Memory)
+    needs_of(alloc, cluster.nodes.len() as u32, &cluster.jobs)
 }

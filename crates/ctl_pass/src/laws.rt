@@ -1,4 +1,5 @@
-//! What holds of every pass. A law is the contract of a function that does nothing.
+//! What holds of every pass. A law is the contract of a function that does nothing but call the laws
+//! that it rests on.
 
 ghost use Rattle.std.specs.Prelude.{◌≡◌, ◌⊎◌, ℕ, ◌≤◌, All, Any, Contains, true};
 ghost use Rattle.backfill_planner.specs.declared.Placed.{Placed};
@@ -11,23 +12,53 @@ ghost use Rattle.ctl_pass.specs.Readiness.{placements};
 ghost use Rattle.ctl_pass.specs.Starting.{HasStarted};
 ghost use Rattle.ctl_pass.specs.Passing.{pass_after, is_idle};
 
+use backfill_planner::laws::{parts_are_apart, placements_are_of_ranked_jobs, starts_fit};
+use ctl_state::laws::{
+    every_change_but_a_start_lets_go, jobs_are_kept, letting_go_keeps_all_sound, others_wait_on,
+    plans_keep_all_sound, taking_keeps_all_sound, what_is_taken_is_counted,
+};
+
 /// A pass keeps all sound.
 pub fn a_pass_keeps_all_sound()
     ensures { (s : State) (now : ℕ) → IsSound s → s.moment ≤ now → now ≤ last_moment → IsSound (stamped now (pass_after s now)) }
-{}
+{
+    every_change_but_a_start_lets_go();
+    jobs_are_kept();
+    letting_go_keeps_all_sound();
+    placements_are_of_ranked_jobs();
+    parts_are_apart();
+    starts_fit();
+    taking_keeps_all_sound();
+    what_is_taken_is_counted();
+    others_wait_on();
+    plans_keep_all_sound();
+}
 
 /// A pass is idle exactly where it would change nothing but the moment.
 pub fn an_idle_pass_changes_nothing()
     ensures idle { (s : State) (now : ℕ) → is_idle s now ≡ true → pass_after s now ≡ s }
-    ensures only { (s : State) (now : ℕ) → IsSound s → pass_after s now ≡ s → is_idle s now ≡ true }
-{}
+    ensures only { (s : State) (now : ℕ) → pass_after s now ≡ s → is_idle s now ≡ true }
+{
+    placements_are_of_ranked_jobs();
+}
 
 /// Each placement that begins now is of a job that runs after the pass, since now, with all that was planned for it.
 pub fn starts_get_all_they_planned()
     ensures { (s : State) (now : ℕ) → IsSound s → s.moment ≤ now → now ≤ last_moment
         → All (λ (placed : Placed). placed.start ≡ now → Any (HasStarted now placed) (pass_after s now).jobs)
         (placements s now) }
-{}
+{
+    every_change_but_a_start_lets_go();
+    jobs_are_kept();
+    letting_go_keeps_all_sound();
+    placements_are_of_ranked_jobs();
+    parts_are_apart();
+    starts_fit();
+    taking_keeps_all_sound();
+    what_is_taken_is_counted();
+    others_wait_on();
+    plans_keep_all_sound();
+}
 
 /// A job that runs after a pass ran before it just so, or a placement that begins now is of it.
 pub fn a_started_job_was_planned()

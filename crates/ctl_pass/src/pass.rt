@@ -1,11 +1,15 @@
 //! A pass: what it decides, and what it does.
 
-ghost use Rattle.std.specs.Prelude.{◌≡◌, ◌≤◌, IfOk, OnOk, OnErr, length, map};
+ghost use Rattle.std.specs.Prelude.{◌≡◌, ◌≤◌, ◌&&◌, not, nat_eq, IfOk, OnOk, OnErr, fold, length, map};
+ghost use Rattle.std.specs.List.{list_any};
 ghost use Rattle.resource_profile.specs.Counts.{ticked};
 ghost use Rattle.ctl_state.specs.State.{state_of, last_moment};
-ghost use Rattle.ctl_state.specs.Soundness.{IsSound};
+ghost use Rattle.ctl_state.specs.Events.{those_left};
+ghost use Rattle.ctl_state.specs.Soundness.{IsSound, HaveRisingIds};
 ghost use Rattle.ctl_state.specs.Refusals.{first_refusal};
-ghost use Rattle.ctl_pass.specs.Readiness;
+ghost use Rattle.ctl_pass.specs.Limits.{is_old, timed_out};
+ghost use Rattle.ctl_pass.specs.Starting.{begun};
+ghost use Rattle.ctl_pass.specs.SamePlans.{same_plans};
 ghost use Rattle.ctl_pass.specs.Passing;
 
 use crate::base::{base_of, rank};
@@ -14,6 +18,7 @@ use crate::same_plans::are_same;
 use crate::starts::{JobStart, begin, split};
 use backfill_planner::{Placed, plan};
 use ctl_state::cluster::Cluster;
+use ctl_state::record::JobRecord;
 use resource_profile::Steps;
 use slurm_text::memory_error::Memory;
 use slurm_text::name::Name;
@@ -68,15 +73,35 @@ pub fn decide<L>(
     })
 }
 
+// Whether nothing ends, is dropped or starts, and the plan is the last one.
+fn is_same(cluster: &Cluster, now: u64, decided: &Decided) -> bool
+    ensures { result ≡ (nat_eq decided.now.ended 0
+        && (not (list_any (is_old cluster.now.settings.min_job_age now) cluster.now.jobs.items)
+        && (nat_eq (length decided.now.starts.items) 0
+        && same_plans decided.now.stays.items cluster.now.plan.items))) }
+{
+    decided.ended == 0
+        && !any_old(cluster.settings.min_job_age.get(), now, &cluster.jobs)
+        && decided.starts.as_slice().is_empty()
+        && are_same(&decided.stays, &cluster.plan)
+}
+
 /// Whether it would change nothing but the moment. Linear in the jobs and the plan.
 pub fn is_idle(cluster: &Cluster, now: u64, decided: &Decided) -> bool
     requires { Passing.IsDecided (state_of cluster.now) now decided.now }
     ensures { result ≡ Passing.is_idle (state_of cluster.now) now }
 {
-    decided.ended == 0
-        && !any_old(cluster.settings.min_job_age.get(), now, &cluster.jobs)
-        && decided.starts.is_empty()
-        && are_same(&decided.stays, &cluster.plan)
+    is_same(cluster, now, decided)
+}
+
+// Sees to the limits, drops the old records, and starts jobs.
+fn advance(alloc: Global, age: u64, now: u64, jobs: &mut Vec<JobRecord>, starts: Vec<JobStart>)
+    requires { HaveRisingIds jobs.old.items }
+    ensures { jobs.new.items ≡ fold (begun now) (those_left (timed_out now) (is_old age now) jobs.old.items) starts.items }
+{
+    time_out(alloc, now, jobs);
+    drop_old(age, now, jobs);
+    begin(alloc, now, jobs, starts);
 }
 
 /// Does what was decided. It takes no memory.
@@ -85,8 +110,7 @@ pub fn act(alloc: Global, cluster: &mut Cluster, now: u64, decided: Decided)
     requires decided { Passing.IsDecided (state_of cluster.old) now decided }
     ensures { state_of cluster.new ≡ Passing.pass_after (state_of cluster.old) now }
 {
-    time_out(alloc, now, &mut cluster.jobs);
-    drop_old(cluster.settings.min_job_age.get(), now, &mut cluster.jobs);
-    begin(alloc, now, &mut cluster.jobs, decided.starts);
+    let age = cluster.settings.min_job_age.get();
+    advance(alloc, age, now, &mut cluster.jobs, decided.starts);
     cluster.plan = decided.stays;
 }

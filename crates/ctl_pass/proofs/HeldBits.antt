@@ -1,0 +1,183 @@
+-- Bits of processors that stand in parts: those that a part adds, and the processors that are free by them.
+use Rattle.std.proofs.Common.{◌≡◌, ◌≢◌, ℕ, ◌+◌, ◌*◌, ◌<◌, ◌≤◌, Bool, true, false, ◌||◌, ◌&&◌, not, cond, eqb, List, [], ◌∷◌, ◌++◌, map, take, set, length, get_or, replicate, filter, count_by, zero, suc, All, AllPairs, arith, refl, ap, sym, ◌∙◌, inl, inr}
+use Rattle.std.specs.List.{list_any, range_with_len}
+use Rattle.std.proofs.lemmas.Bool.{cases_Bool, cases_eq, eq-eqb, ne_eqb, and_left, and_right, or_right}
+use Rattle.std.proofs.lemmas.List.{get_or-set_same, get_or-set_other, get_or-map, get_or-take, get_or_default, length-take, length-append, map-id, take_all, take-append-le, append-nil}
+use Rattle.std.proofs.lemmas.List.Sums.{length-filter}
+use Rattle.std.proofs.lemmas.List.Folds.{list_any-append, list_any_more, list_any_none}
+use Rattle.std.proofs.lemmas.List.Elements.{All-head, All-tail, All-map, All-take, All-filter, All-weaker, filter-append}
+use Rattle.std.proofs.lemmas.List.Kept.{AllPairs-filter}
+use Rattle.std.proofs.lemmas.List.FromFn.{length-range_with_len, get_or-range_with_len, map-range_with_len_more}
+use Rattle.resource_profile.specs.declared.NodeRoom.{NodeRoom}
+use Rattle.backfill_planner.specs.declared.Share.{Share}
+use Rattle.ctl_state.specs.declared.record.Part.{Part}
+use Rattle.ctl_state.specs.declared.record.NodeRecord.{NodeRecord}
+use Rattle.ctl_state.specs.declared.record.JobRecord.{JobRecord}
+use Rattle.ctl_state.specs.Holding.{cpus_of, has_cpu, times_held, free_ids, parts_of}
+use Rattle.ctl_state.specs.Planning.{room_of}
+use Rattle.ctl_state.specs.Soundness.{IsNode}
+use Rattle.ctl_pass.specs.HeldIds.{is_held, ShowsParts, AddsParts, part_by}
+use Rattle.ctl_pass.specs.Starting.{part_of}
+use Rattle.ctl_pass.proofs.Tallies.{pairs-take, range-rises, range-below}
+use Rattle.ctl_pass.proofs.Lists.{filter-same}
+
+or_assoc : (a b c : Bool) → ((a || b) || c) ≡ (a || (b || c))
+or_assoc true b c = refl
+or_assoc false b c = refl
+
+or_none : (a : Bool) → a ≡ (a || false)
+or_none true = refl
+or_none false = refl
+
+-- one bit is set
+bit-set : (held : List Bool) (node id there cpu : ℕ) → id < 1024 → cpu < 1024 → node * 1024 + id < length held
+    → is_held (set held (node * 1024 + id) true) there cpu ≡ (is_held held there cpu || (eqb node there && eqb id cpu))
+bit-set held node id there cpu low short inside = elim (cases_eq (node * 1024 + id) (there * 1024 + cpu)) [
+  | inl same ↦
+      let on : node ≡ there = omega (arith, same, low, short) in
+      let is : id ≡ cpu = omega (arith, same, on) in
+      let marked : get_or (set held (node * 1024 + id) true) (there * 1024 + cpu) false ≡ true = rw (← same) (get_or-set_same held (node * 1024 + id) true false inside) in
+      marked ∙ sym (or_right (is_held held there cpu) (eqb node there && eqb id cpu) (rw (eq-eqb node there on, eq-eqb id cpu is) refl))
+  | inr other ↦
+      let kept : get_or (set held (node * 1024 + id) true) (there * 1024 + cpu) false ≡ is_held held there cpu =
+      get_or-set_other held (node * 1024 + id) (there * 1024 + cpu) true false (λ is. other (sym is)) in
+      let neither : (eqb node there && eqb id cpu) ≡ false = elim (cases_eq node there) [
+        | inr off ↦ and_left (eqb node there) (eqb id cpu) (ne_eqb node there off)
+        | inl on ↦ and_right (eqb node there) (eqb id cpu) (ne_eqb id cpu (λ is. other (omega (arith, on, is))))
+      ] in
+      kept ∙ rw neither (or_none (is_held held there cpu))
+]
+
+-- one more processor of a part
+pub adds-cpu : (before held : List Bool) (part : Part) (i : ℕ) → i < length part.cpus → get_or part.cpus i 0 < 1024 → part.node * 1024 + get_or part.cpus i 0 < length held
+    → AddsParts before (record part { cpus = take i part.cpus } ∷ []) held
+    → AddsParts before (record part { cpus = take (i + 1) part.cpus } ∷ []) (set held (part.node * 1024 + get_or part.cpus i 0) true)
+adds-cpu before held part i within low inside adds = record {
+  bits = λ node cpu short.
+      let is_it : ℕ → Bool = λ id. eqb id cpu in
+      bit-set held part.node (get_or part.cpus i 0) node cpu low short inside
+      ∙ ap (λ bit. bit || (eqb part.node node && eqb (get_or part.cpus i 0) cpu)) (adds.bits node cpu short)
+      ∙ mixed (is_held before node cpu) (eqb part.node node) (list_any is_it (take i part.cpus)) (eqb (get_or part.cpus i 0) cpu)
+      ∙ ap (λ bit. is_held before node cpu || ((eqb part.node node && bit) || false)) (sym (list_any_more is_it part.cpus i 0 within));
+}
+  where
+    mixed : (a o t e : Bool) → ((a || ((o && t) || false)) || (o && e)) ≡ (a || ((o && (t || e)) || false))
+    mixed true o t e = refl
+    mixed false false t e = refl
+    mixed false true true e = refl
+    mixed false true false true = refl
+    mixed false true false false = refl
+
+pub adds-none : (held : List Bool) → AddsParts held [] held
+adds-none held = record { bits = λ node cpu short. or_none (is_held held node cpu) }
+
+pub adds-then : (before middle after : List Bool) (parts later : List Part) → AddsParts before parts middle → AddsParts middle later after → AddsParts before (parts ++ later) after
+adds-then before middle after parts later one two = record {
+  bits = λ node cpu short.
+      let p : Part → Bool = has_cpu node cpu in
+      two.bits node cpu short ∙ ap (λ bit. bit || list_any p later) (one.bits node cpu short)
+      ∙ or_assoc (is_held before node cpu) (list_any p parts) (list_any p later)
+      ∙ ap (λ bit. is_held before node cpu || bit) (sym (list_any-append p parts later));
+}
+
+-- where none was held, those are shown that were added
+pub shows-added : (count : ℕ) (parts : List Part) (held : List Bool) → AddsParts (replicate count false) parts held → ShowsParts parts held
+shows-added count parts held adds = record {
+  bits = λ node cpu short. adds.bits node cpu short ∙ ap (λ bit. bit || list_any (has_cpu node cpu) parts) (none count (node * 1024 + cpu));
+}
+  where
+    none : (n k : ℕ) → get_or (replicate n false) k false ≡ false
+    none zero k = refl
+    none (suc n) zero = refl
+    none (suc n) (suc k) = none n k
+
+-- the lowest processors that pass a test: one more is looked at
+range-more : (n : ℕ) → range_with_len 0 (n + 1) ≡ range_with_len 0 n ++ n ∷ []
+range-more n = sym (map-id (range_with_len 0 (n + 1))) ∙ map-range_with_len_more (λ (k : ℕ). k) 0 n n (omega arith) ∙ ap (λ front. front ++ n ∷ []) (map-id (range_with_len 0 n))
+
+passing-more : (p : ℕ → Bool) (n : ℕ) → filter p (range_with_len 0 (n + 1)) ≡ filter p (range_with_len 0 n) ++ cond (p n) (n ∷ []) []
+passing-more p n = rw (range-more n) (filter-append p (range_with_len 0 n) (n ∷ []))
+
+pub lowest-more : (p : ℕ → Bool) (count n : ℕ) (ids : List ℕ) → ids ≡ take count (filter p (range_with_len 0 n)) → p n ≡ true → length ids < count
+    → ids ++ n ∷ [] ≡ take count (filter p (range_with_len 0 (n + 1)))
+lowest-more p count n ids is passes short =
+    let found = filter p (range_with_len 0 n) in
+    let few : length found ≤ count = omega (arith, short, ap length is, length-take count found) in
+    let all : ids ≡ found = is ∙ take_all count found few in
+    let long : length (found ++ n ∷ []) ≤ count = omega (arith, short, ap length all, length-append found (n ∷ [])) in
+    rw (passing-more p n, passes) (ap (λ front. front ++ n ∷ []) all ∙ sym (take_all count (found ++ n ∷ []) long))
+
+pub lowest-fails : (p : ℕ → Bool) (count n : ℕ) (ids : List ℕ) → ids ≡ take count (filter p (range_with_len 0 n)) → p n ≡ false
+    → ids ≡ take count (filter p (range_with_len 0 (n + 1)))
+lowest-fails p count n ids is fails = rw (passing-more p n, fails, append-nil (filter p (range_with_len 0 n))) is
+
+pub lowest-full : (p : ℕ → Bool) (count n : ℕ) (ids : List ℕ) → ids ≡ take count (filter p (range_with_len 0 n)) → count ≤ length ids
+    → ids ≡ take count (filter p (range_with_len 0 (n + 1)))
+lowest-full p count n ids is full =
+    let found = filter p (range_with_len 0 n) in
+    let enough : count ≤ length found = omega (arith, full, ap length is, length-take count found) in
+    rw (passing-more p n, take-append-le count found (cond (p n) (n ∷ []) []) enough) is
+
+-- they rise, and are below any bound of the range
+pub lowest-rise : (p : ℕ → Bool) (count n : ℕ) → AllPairs (λ one other. one < other) (take count (filter p (range_with_len 0 n)))
+lowest-rise p count n = pairs-take (λ one other. one < other) count (filter p (range_with_len 0 n)) (AllPairs-filter (λ one other. one < other) p (range_with_len 0 n) (range-rises n))
+
+pub lowest-below : (p : ℕ → Bool) (count n most : ℕ) → n ≤ most → All (λ id. id < most) (take count (filter p (range_with_len 0 n)))
+lowest-below p count n most le =
+    All-take (λ id. id < most) count (filter p (range_with_len 0 n)) (All-filter p (λ id. id < most) (range_with_len 0 n)
+    (All-weaker (λ id. id < n) (λ id. id < most) (λ id below. omega (arith, below, le)) (range_with_len 0 n) (range-below n)))
+
+-- the processors of a node are at most 1,024
+pub room-cpus : (nodes : List NodeRecord) (node : ℕ) (one : NodeRecord) → node < length nodes → one ≡ get_or nodes node one → cpus_of (map room_of nodes) node ≡ one.conf.cpus
+room-cpus nodes node one inside is =
+    let none : NodeRoom = record { cpus = 0; mem = 0; usable = false } in
+    ap (λ (room : NodeRoom). room.cpus) (get_or-map room_of nodes node one none inside) ∙ ap (λ (record_of : NodeRecord). record_of.conf.cpus) (sym is)
+
+pub few-cpus : (nodes : List NodeRecord) (node : ℕ) → All IsNode nodes → cpus_of (map room_of nodes) node ≤ 1024
+few-cpus [] node each = omega arith
+few-cpus (one ∷ nodes) zero each = (All-head IsNode one nodes each).cpus.1
+few-cpus (one ∷ nodes) (suc node) each = few-cpus nodes node (All-tail IsNode one nodes each)
+
+-- tests that agree on the processors of a node leave the same ones
+pub same-cpus : (p q : ℕ → Bool) (count : ℕ) → count ≤ 1024 → ((cpu : ℕ) → cpu < 1024 → p cpu ≡ q cpu) → filter p (range_with_len 0 count) ≡ filter q (range_with_len 0 count)
+same-cpus p q count few same =
+    filter-same p q (range_with_len 0 count)
+    (All-weaker (λ cpu. cpu < count) (λ cpu. p cpu ≡ q cpu) (λ cpu below. same cpu (omega (arith, below, few))) (range_with_len 0 count) (range-below count))
+
+-- parts on other nodes change nothing of what a share becomes
+pub part-elsewhere : (rooms : List NodeRoom) (before held : List Bool) (shares : List Share) (i : ℕ) (share : Share) → i < length shares → share ≡ get_or shares i share
+    → AllPairs (λ (one other : Share). one.node ≢ other.node) shares → cpus_of rooms share.node ≤ 1024 → AddsParts before (map (part_by rooms before) (take i shares)) held → part_by rooms held share ≡ part_by rooms before share
+part-elsewhere rooms before held shares i share within is apart few adds =
+    let parts = map (part_by rooms before) (take i shares) in
+    let node = share.node in
+    let off : All (λ (one : Share). one.node ≢ node) (take i shares) = λ k d below.
+    let low : k < i = omega (arith, below, length-take i shares) in
+    rw (get_or-take i shares k d low) (λ same. apart k i share low within (ap (λ (one : Share). one.node) (get_or_default shares k share d (omega (arith, low, within))) ∙ same ∙ ap (λ (one : Share). one.node) is)) in
+    let none = λ (cpu : ℕ). list_any_none (has_cpu node cpu) parts
+    (All-map (λ part. has_cpu node cpu part ≡ false) (part_by rooms before) (take i shares)
+    (All-weaker (λ (one : Share). one.node ≢ node) (λ one. has_cpu node cpu (part_by rooms before one) ≡ false)
+    (λ one differs. and_left (eqb one.node node) (list_any (λ id. eqb id cpu) (part_by rooms before one).cpus) (ne_eqb one.node node differs)) (take i shares) off)) in
+    let same = same-cpus (λ cpu. not (is_held held node cpu)) (λ cpu. not (is_held before node cpu)) (cpus_of rooms node) few
+    (λ cpu short. ap not (adds.bits node cpu short ∙ ap (λ bit. is_held before node cpu || bit) (none cpu) ∙ sym (or_none (is_held before node cpu)))) in
+    rw same refl
+
+-- a count is 0 where none passes
+count-none : {X : Type 0} (p : X → Bool) (xs : List X) → eqb (count_by p xs) 0 ≡ not (list_any p xs)
+count-none p xs = ap (λ count. eqb count 0) (sym (length-filter p xs)) ∙ none-passes p xs
+  where
+    none-passes : {X : Type 0} (p : X → Bool) (xs : List X) → eqb (length (filter p xs)) 0 ≡ not (list_any p xs)
+    none-passes p [] = refl
+    none-passes p (x ∷ xs) = elim (cases_Bool (p x)) [
+      | inl passes ↦ rw passes (ne_eqb (length (x ∷ filter p xs)) 0 (λ same. omega (arith, same)))
+      | inr fails ↦ rw fails (none-passes p xs)
+    ]
+
+-- what is free by bits that show the jobs' parts is what is free beside the jobs
+pub part-shown : (rooms : List NodeRoom) (jobs : List JobRecord) (held : List Bool) (share : Share) → cpus_of rooms share.node ≤ 1024 → ShowsParts (parts_of jobs) held → part_by rooms held share ≡ part_of rooms jobs share
+unfolding free_ids times_held
+part-shown rooms jobs held share few shows =
+    let node = share.node in
+    let parts = parts_of jobs in
+    let same = same-cpus (λ cpu. not (is_held held node cpu)) (λ cpu. eqb (count_by (has_cpu node cpu) parts) 0) (cpus_of rooms node) few
+    (λ cpu short. ap not (shows.bits node cpu short) ∙ sym (count-none (has_cpu node cpu) parts)) in
+    rw same refl

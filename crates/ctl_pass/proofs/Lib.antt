@@ -1,0 +1,14 @@
+pub mod Tallies
+pub mod Lists
+pub mod HeldBits
+pub mod ReadyJobs
+pub mod Beginning
+pub mod Counted
+pub mod Readied
+pub mod Soundly
+pub mod Given
+pub mod Fitting
+pub mod Plans
+pub mod Sameness
+pub mod Idle
+pub mod Origins

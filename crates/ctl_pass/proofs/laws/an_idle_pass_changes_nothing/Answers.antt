@@ -1,0 +1,5 @@
+use Rattle.ctl_pass.proofs.Idle.{idle-unchanged, unchanged-idle}
+use Rattle.ctl_pass.proofs.laws.an_idle_pass_changes_nothing.Goals as goal
+
+pub returns : goal.returns
+returns c = record { idle = idle-unchanged; only = unchanged-idle c.placements_are_of_ranked_jobs.ensures.ids }
