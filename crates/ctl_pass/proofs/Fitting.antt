@@ -1,15 +1,11 @@
 -- A pass plans a sound state, and the plan can start: it fits beside what the jobs hold.
-use Rattle.std.proofs.Common.{◌≡◌, ℕ, suc, ◌+◌, ◌*◌, ◌≤◌, ◌<◌, Bool, true, false, ◌&&◌, cond, eqb, leb, ltb, not, List, [], ◌∷◌, ◌++◌, length, map, filter, flat_map, sum_by, All, AllPairs, Contains, IfSome, unwrap_or, None, get_or, refl, ap, sym, arith}
-use Rattle.std.specs.List.{range_with_len}
-use Rattle.std.proofs.lemmas.Bool.{cond_both, and_parts, both_ways, le-leb, lt-ltb, ltb-true}
+use Rattle.std.proofs.Common.{◌≡◌, ℕ, ◌+◌, ◌≤◌, ◌<◌, Bool, true, false, ◌&&◌, cond, leb, ltb, List, [], ◌∷◌, ◌++◌, length, map, filter, flat_map, sum_by, All, AllPairs, Contains, IfSome, unwrap_or, get_or, refl, ap, arith}
+use Rattle.std.proofs.lemmas.Bool.{cond_both, and_parts, le-leb, lt-ltb, ltb-true}
 use Rattle.std.proofs.lemmas.List.{length-map, length-append, get_or_append_left, get_or-append-add}
-use Rattle.std.proofs.lemmas.List.Elements.{All-nil, All-append, All-head, All-tail, All-map, All-filter, All-weaker}
+use Rattle.std.proofs.lemmas.List.Elements.{All-nil, All-append, All-head, All-tail, All-map, All-filter}
 use Rattle.std.proofs.lemmas.List.Kept.{AllPairs-filter}
 use Rattle.slurm_text.specs.declared.plain.limit.Limit.{Limit}
 use Rattle.slurm_text.specs.declared.plain.limit.Limit.TheVariants.{Minutes, Unlimited}
-use Rattle.slurm_text.specs.declared.plain.state.JobState.{JobState}
-use Rattle.slurm_text.specs.declared.plain.state.JobState.TheVariants.{Pending, Running, Completing, Ended}
-use Rattle.slurm_text.specs.declared.plain.state.Final.TheVariants.{Timeout}
 use Rattle.resource_profile.specs.declared.Hold.{Hold}
 use Rattle.resource_profile.specs.Free.{covers}
 use Rattle.resource_profile.specs.Profiles.{AreWithin}
@@ -20,21 +16,17 @@ use Rattle.backfill_planner.specs.Plans.{plan_of}
 use Rattle.backfill_planner.specs.Placements.{IsPlannable, IsOnRooms, AreParts, StartsFit}
 use Rattle.ctl_state.specs.declared.record.Part.{Part}
 use Rattle.ctl_state.specs.declared.record.JobRecord.{JobRecord}
-use Rattle.ctl_state.specs.declared.change.Change.{Change}
-use Rattle.ctl_state.specs.declared.change.Change.TheVariants.{Leave}
 use Rattle.ctl_state.specs.State.{State, last_moment}
-use Rattle.ctl_state.specs.JobStates.{is_pending, is_running, is_ended, is_holding}
-use Rattle.ctl_state.specs.Changes.{changed, is_start, moment_of}
-use Rattle.ctl_state.specs.Holding.{cpus_of, is_on, mem_held, mem_in, parts_of, IsPartOf}
+use Rattle.ctl_state.specs.JobStates.{is_pending, is_running}
+use Rattle.ctl_state.specs.Holding.{is_on, mem_held, mem_in, parts_of, IsPartOf}
 use Rattle.ctl_state.specs.Planning.{room_of, seconds_of, plan_job}
-use Rattle.ctl_state.specs.Events.{LetsGo, those_left}
-use Rattle.ctl_state.specs.Soundness.{IsSound, IsKept, IsLimit, PlansPending, pending_ids}
-use Rattle.ctl_pass.specs.Limits.{deadline, is_over, timed_out, is_old, hold_end, holds_of_job}
-use Rattle.ctl_pass.specs.Readiness.{ready, base_of, candidates, ranked, planned, placements}
+use Rattle.ctl_state.specs.Soundness.{IsSound, IsLimit, pending_ids}
+use Rattle.ctl_pass.specs.Limits.{deadline, hold_end, holds_of_job}
+use Rattle.ctl_pass.specs.Readiness.{base_of, candidates, ranked, planned, placements}
 use Rattle.ctl_pass.proofs.Tallies.{pairs-map, sum_by-larger, sum_by-map, joined-larger, range-rises, range-below}
 use Rattle.ctl_pass.proofs.Counted.{cpus_in, held-counted, free-counted}
 use Rattle.ctl_pass.proofs.Readied.{ReadyLaws, readied, sound-readied}
-use Rattle.ctl_pass.proofs.Soundly.{IsReady, CanStart}
+use Rattle.ctl_pass.proofs.Soundly.{CanStart}
 
 -- the laws of plans that a pass rests on
 pub record PlanLaws : Type 0 where

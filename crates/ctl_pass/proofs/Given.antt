@@ -1,5 +1,5 @@
 -- Each job that a plan starts gets all that it was planned.
-use Rattle.std.proofs.Common.{◌≡◌, ◌≢◌, ℕ, ◌≤◌, true, cond, eqb, List, [], ◌∷◌, length, map, sum_by, get_or, All, Any, refl, ap, sym, ◌∙◌, arith, inl, inr}
+use Rattle.std.proofs.Common.{◌≡◌, ◌≢◌, ℕ, ◌≤◌, true, cond, eqb, List, [], ◌∷◌, length, map, get_or, All, Any, refl, ap, sym, ◌∙◌, arith, inl, inr}
 use Rattle.std.specs.List.{AllZip}
 use Rattle.std.proofs.lemmas.Bool.{cases_Bool, eqb-false, eq-eqb, ne_eqb}
 use Rattle.std.proofs.lemmas.List.{length-map, length-take-le, get_or-map}
@@ -9,11 +9,10 @@ use Rattle.resource_profile.specs.declared.NodeRoom.{NodeRoom}
 use Rattle.backfill_planner.specs.declared.Share.{Share}
 use Rattle.backfill_planner.specs.declared.Placed.{Placed}
 use Rattle.backfill_planner.specs.Plans.{starts_at, cpus_on}
-use Rattle.ctl_state.specs.declared.record.Part.{Part}
 use Rattle.ctl_state.specs.declared.record.JobRecord.{JobRecord}
 use Rattle.ctl_state.specs.State.{State}
 use Rattle.ctl_state.specs.JobStates.{is_pending}
-use Rattle.ctl_state.specs.Holding.{cpus_of, free_ids, parts_of}
+use Rattle.ctl_state.specs.Holding.{free_ids, parts_of}
 use Rattle.ctl_state.specs.Planning.{room_of}
 use Rattle.ctl_state.specs.Events.{started_as}
 use Rattle.ctl_pass.specs.Starting.{part_of, start_of, begun, started, IsAsPlanned, HasStarted}
@@ -33,11 +32,11 @@ given-first : (s : State) (placed : Placed) (later : List Placed) → CanStart s
 given-first s placed later can due =
     let rooms = map room_of s.nodes in
     let fits : All (λ (share : Share). share.cpus ≤ length (free_ids rooms (parts_of s.jobs) share.node)) placed.parts = λ k d below.
-        let share = get_or placed.parts k d in
-        let amount : Share → ℕ = λ one. cond (eqb one.node share.node) one.cpus 0 in
-        let whole : amount share ≡ share.cpus = rw (eq-eqb share.node share.node refl) refl in
-        let room = rw due at (can.cpus share.node) in
-        omega (arith, whole, get_or-le-sum_by amount placed.parts k d below, room, sum_by-cons (cpus_on share.node) placed (starts_at s.moment later), free-counted rooms (parts_of s.jobs) share.node (can.sound.held.once share.node)) in
+    let share = get_or placed.parts k d in
+    let amount : Share → ℕ = λ one. cond (eqb one.node share.node) one.cpus 0 in
+    let whole : amount share ≡ share.cpus = rw (eq-eqb share.node share.node refl) refl in
+    let room = rw due at (can.cpus share.node) in
+    omega (arith, whole, get_or-le-sum_by amount placed.parts k d below, room, sum_by-cons (cpus_on share.node) placed (starts_at s.moment later), free-counted rooms (parts_of s.jobs) share.node (can.sound.held.once share.node)) in
     by (given rooms s.jobs placed.parts fits) (Any-kept (λ (job : JobRecord). job.id) (λ (job : JobRecord). is_pending job.state) placed.id s.jobs (All-head (IsReady s) placed later can.each).waits)
   where
     by : AllZip IsAsPlanned placed.parts (parts_for s placed) → Any (λ (job : JobRecord). (job.id ≡ placed.id) × (is_pending job.state ≡ true)) s.jobs → Any (HasStarted s.moment placed) (after_start s placed).jobs

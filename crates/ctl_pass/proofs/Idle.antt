@@ -1,15 +1,11 @@
 -- A pass is idle exactly where it changes nothing but the moment.
-use Rattle.std.proofs.Common.{◌≡◌, ◌⊎◌, ℕ, suc, ◌+◌, ◌≤◌, ◌<◌, Bool, true, false, ◌&&◌, not, cond, eqb, List, [], ◌∷◌, length, map, filter, sum_by, All, Any, Contains, get_or, arith, refl, ap, sym, ◌∙◌, inl, inr}
+use Rattle.std.proofs.Common.{◌≡◌, ◌⊎◌, ℕ, ◌+◌, ◌≤◌, ◌<◌, Bool, true, ◌&&◌, not, cond, eqb, List, [], ◌∷◌, length, map, sum_by, All, Any, Contains, arith, refl, ap, sym, ◌∙◌, inl, inr}
 use Rattle.std.specs.Prelude.{count_by}
-use Rattle.std.specs.Bool.{Decides}
-use Rattle.std.specs.Cmp.Lexicographic.{pointwise}
-use Rattle.std.proofs.lemmas.Bool.{cases_Bool, cond_both, and_parts, and_from, eqb-true, eq-eqb}
-use Rattle.std.proofs.lemmas.Slice.Eq.{slice_eq-Decides}
+use Rattle.std.proofs.lemmas.Bool.{cases_Bool, cond_both, and_parts, eqb-true, eq-eqb}
 use Rattle.std.proofs.lemmas.List.{length-map}
 use Rattle.std.proofs.lemmas.List.Sums.{sum_by-cons, sum_by-le-sum_by, length-filter, count_by-le-length}
 use Rattle.std.proofs.lemmas.List.Elements.{All-head, All-tail}
 use Rattle.resource_profile.specs.declared.NodeRoom.{NodeRoom}
-use Rattle.backfill_planner.specs.declared.Share.{Share}
 use Rattle.backfill_planner.specs.declared.Placed.{Placed}
 use Rattle.backfill_planner.specs.declared.job.PlanJob.{PlanJob}
 use Rattle.backfill_planner.specs.Bases.{BaseView}
@@ -24,7 +20,7 @@ use Rattle.ctl_state.specs.Planning.{room_of}
 use Rattle.ctl_state.specs.Events.{started_as, those_left}
 use Rattle.ctl_state.specs.Soundness.{pending_ids}
 use Rattle.ctl_pass.specs.Limits.{is_over, timed_out, is_old}
-use Rattle.ctl_pass.specs.SamePlans.{same_shares, same_placements, same_plans}
+use Rattle.ctl_pass.specs.SamePlans.{same_plans}
 use Rattle.ctl_pass.specs.Readiness.{ready, base_of, ranked, planned, placements}
 use Rattle.ctl_pass.specs.Starting.{start_of, begun, started}
 use Rattle.ctl_pass.specs.Passing.{outcome, pass_after, is_idle}

@@ -1,21 +1,19 @@
 -- Where the jobs come from that run after a pass.
-use Rattle.std.proofs.Common.{◌≡◌, ◌⊎◌, ℕ, true, eqb, List, [], ◌∷◌, map, All, Any, Contains, get_or, refl, sym, inl, inr, false, not, leb, Some, None}
-use Rattle.std.proofs.lemmas.Bool.{cases_Bool, cond_both, and_parts, both_ways, eqb-true}
+use Rattle.std.proofs.Common.{◌≡◌, ◌⊎◌, ℕ, true, eqb, List, [], ◌∷◌, map, All, Any, Contains, get_or, refl, sym, inl, inr, false, not}
+use Rattle.std.proofs.lemmas.Bool.{cases_Bool, cond_both, both_ways, eqb-true}
 use Rattle.std.proofs.lemmas.List.{get_or_default}
 use Rattle.std.proofs.lemmas.List.Elements.{All-head, All-tail, All-map, All-filter, All-weaker, All-contains_itself}
-use Rattle.slurm_text.specs.declared.plain.state.JobState.TheVariants.{Completing}
-use Rattle.slurm_text.specs.declared.plain.state.Final.TheVariants.{Timeout}
 use Rattle.resource_profile.specs.declared.NodeRoom.{NodeRoom}
 use Rattle.backfill_planner.specs.declared.Placed.{Placed}
 use Rattle.ctl_state.specs.declared.record.Part.{Part}
 use Rattle.ctl_state.specs.declared.record.JobRecord.{JobRecord}
-use Rattle.ctl_state.specs.declared.change.Change.TheVariants.{Start, Leave}
+use Rattle.ctl_state.specs.declared.change.Change.TheVariants.{Start}
 use Rattle.ctl_state.specs.Changes.{changed}
 use Rattle.ctl_state.specs.JobStates.{is_running}
 use Rattle.ctl_state.specs.Events.{started_as}
 use Rattle.ctl_state.specs.State.{State}
 use Rattle.ctl_state.specs.Planning.{room_of}
-use Rattle.ctl_pass.specs.Limits.{deadline, is_over, timed_out, is_old}
+use Rattle.ctl_pass.specs.Limits.{timed_out, is_old}
 use Rattle.ctl_pass.specs.Readiness.{ready, placements}
 use Rattle.ctl_pass.specs.Starting.{start_of, begun, started}
 use Rattle.ctl_pass.specs.Passing.{pass_after}

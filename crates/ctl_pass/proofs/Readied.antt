@@ -1,5 +1,5 @@
 -- What a pass plans is sound: its first steps let go.
-use Rattle.std.proofs.Common.{◌≡◌, ℕ, ◌+◌, ◌≤◌, Bool, true, false, ◌&&◌, not, eqb, leb, List, [], All, AllPairs, Contains, unwrap_or, Some, None, get_or, refl, sym, arith}
+use Rattle.std.proofs.Common.{◌≡◌, ℕ, ◌+◌, ◌≤◌, true, false, ◌&&◌, not, eqb, leb, List, [], Contains, unwrap_or, Some, None, get_or, refl, sym, arith}
 use Rattle.std.proofs.lemmas.Bool.{cond_both, and_parts}
 use Rattle.std.proofs.lemmas.List.Elements.{All-nil, All-weaker}
 use Rattle.slurm_text.specs.declared.plain.state.JobState.{JobState}
@@ -7,11 +7,10 @@ use Rattle.slurm_text.specs.declared.plain.state.JobState.TheVariants.{Pending, 
 use Rattle.slurm_text.specs.declared.plain.state.Final.TheVariants.{Timeout}
 use Rattle.backfill_planner.specs.declared.Placed.{Placed}
 use Rattle.ctl_state.specs.declared.record.JobRecord.{JobRecord}
-use Rattle.ctl_state.specs.declared.change.Change.{Change}
 use Rattle.ctl_state.specs.declared.change.Change.TheVariants.{Leave}
 use Rattle.ctl_state.specs.State.{State, last_moment}
 use Rattle.ctl_state.specs.JobStates.{is_running, is_ended, is_holding}
-use Rattle.ctl_state.specs.Changes.{changed, is_start, moment_of}
+use Rattle.ctl_state.specs.Changes.{changed}
 use Rattle.ctl_state.specs.Events.{LetsGo, those_left}
 use Rattle.ctl_state.specs.Laws.{LettingGo, ChangesLetGo, LetsGoNothing, KeptLater}
 use Rattle.ctl_state.specs.Soundness.{IsSound, IsKept, PlansPending, pending_ids}

@@ -1,13 +1,10 @@
 -- The starts of a plan, one after another, end in a sound state, and each job gets all that it was planned.
-use Rattle.std.proofs.Common.{◌≡◌, ◌≢◌, ℕ, zero, suc, ◌+◌, ◌≤◌, ◌<◌, Bool, true, false, cond, eqb, List, [], ◌∷◌, length, map, filter, sum_by, take, get_or, All, AllPairs, Any, Contains, Some, refl, ap, sym, ◌∙◌, arith, inl, inr}
-use Rattle.std.specs.List.{AllZip, range_with_len}
-use Rattle.std.proofs.lemmas.Bool.{cases_Bool, both_ways, eqb-true, eqb-false, eq-eqb, ne_eqb}
-use Rattle.std.proofs.lemmas.List.{length-map, length-take, length-take-le, get_or-map}
-use Rattle.std.proofs.lemmas.List.Sums.{sum_by-cons, sum_by-le-sum_by, get_or-le-sum_by, length-filter}
-use Rattle.std.proofs.lemmas.List.FromFn.{length-range_with_len}
-use Rattle.std.proofs.lemmas.List.Elements.{All-nil, All-cons, All-head, All-tail, All-map, All-take, All-filter, All-weaker, filter_passes}
-use Rattle.std.proofs.lemmas.List.Kept.{AllPairs-cons, AllPairs-filter}
-use Rattle.slurm_text.specs.declared.plain.state.JobState.TheVariants.{Running}
+use Rattle.std.proofs.Common.{◌≡◌, ◌≢◌, ℕ, ◌+◌, ◌≤◌, ◌<◌, true, false, cond, eqb, List, [], ◌∷◌, length, map, sum_by, get_or, All, AllPairs, Contains, refl, sym, arith, inl, inr}
+use Rattle.std.proofs.lemmas.Bool.{cases_Bool}
+use Rattle.std.proofs.lemmas.List.{length-take}
+use Rattle.std.proofs.lemmas.List.Sums.{sum_by-cons, sum_by-le-sum_by}
+use Rattle.std.proofs.lemmas.List.Elements.{All-cons, All-head, All-tail, All-map, All-take}
+use Rattle.std.proofs.lemmas.List.Kept.{AllPairs-cons}
 use Rattle.resource_profile.specs.declared.NodeRoom.{NodeRoom}
 use Rattle.backfill_planner.specs.declared.Share.{Share}
 use Rattle.backfill_planner.specs.declared.Placed.{Placed}
@@ -16,13 +13,12 @@ use Rattle.backfill_planner.specs.Placements.{AreParts}
 use Rattle.ctl_state.specs.declared.record.Part.{Part}
 use Rattle.ctl_state.specs.declared.record.JobRecord.{JobRecord}
 use Rattle.ctl_state.specs.State.{State}
-use Rattle.ctl_state.specs.JobStates.{is_pending}
-use Rattle.ctl_state.specs.Holding.{cpus_of, mem_of, is_on, has_cpu, mem_in, times_held, mem_held, free_ids, parts_of, has_members, IsPartOf}
+use Rattle.ctl_state.specs.Holding.{cpus_of, mem_of, mem_in, times_held, mem_held, free_ids, parts_of, has_members, IsPartOf}
 use Rattle.ctl_state.specs.Planning.{room_of}
 use Rattle.ctl_state.specs.Events.{MayTake, started_as}
 use Rattle.ctl_state.specs.Laws.{Taking, TakenTimes, TakenMem, OthersWait, Planning}
 use Rattle.ctl_state.specs.Soundness.{IsSound, PlansPending, pending_ids}
-use Rattle.ctl_pass.specs.Starting.{part_of, start_of, begun, started, IsAsPlanned, HasStarted}
+use Rattle.ctl_pass.specs.Starting.{part_of, start_of, begun, started}
 use Rattle.ctl_pass.proofs.Tallies.{pairs-head, pairs-tail, pairs-take, pairs-map, sum_by-map}
 use Rattle.ctl_pass.proofs.Counted.{cpus_held, cpus_in, held-counted, held-grown, free-are}
 use Rattle.ctl_pass.proofs.Readied.{no-plan}

@@ -20,7 +20,8 @@ use ctl_state::laws::{
 
 /// A pass keeps all sound.
 pub fn a_pass_keeps_all_sound()
-    ensures { (s : State) (now : ℕ) → IsSound s → s.moment ≤ now → now ≤ last_moment → IsSound (stamped now (pass_after s now)) }
+    ensures { (s : State) (now : ℕ) → IsSound s → s.moment ≤ now → now ≤ last_moment
+        → IsSound (stamped now (pass_after s now)) }
 {
     every_change_but_a_start_lets_go();
     jobs_are_kept();
