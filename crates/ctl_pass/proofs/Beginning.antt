@@ -1,13 +1,12 @@
 -- Starts one after another: what each takes, and what comes of the plan.
-use Rattle.std.proofs.Common.{◌≡◌, ◌≢◌, ℕ, ◌+◌, ◌<◌, ◌≤◌, Bool, true, false, ◌||◌, ◌&&◌, not, cond, eqb, List, [], ◌∷◌, ◌++◌, map, flat_map, filter, fold, drop, length, get_or, All, AllPairs, arith, refl, ap, sym, ◌∙◌, append_assoc, inl, inr}
+use Rattle.std.proofs.Common.{◌≡◌, ◌≢◌, ℕ, ◌<◌, Bool, true, false, ◌||◌, ◌&&◌, not, eqb, List, [], ◌∷◌, ◌++◌, map, filter, fold, get_or, All, arith, refl, ap, sym, ◌∙◌, append_assoc, inl, inr}
 use Rattle.std.specs.List.{list_any}
-use Rattle.std.proofs.lemmas.Bool.{cases_Bool, cases_eq, eq-eqb, ne_eqb, eqb-true, both_ways, or_cases}
-use Rattle.std.proofs.lemmas.List.{append-nil, drop_all}
+use Rattle.std.proofs.lemmas.Bool.{cases_Bool, cases_eq, eq-eqb, ne_eqb, both_ways}
+use Rattle.std.proofs.lemmas.List.{append-nil}
 use Rattle.std.proofs.lemmas.List.Sums.{fold_push}
 use Rattle.std.proofs.lemmas.List.Folds.{list_any-append}
 use Rattle.std.proofs.lemmas.List.Elements.{All-head, All-tail, All-map, All-weaker}
 use Rattle.resource_profile.specs.declared.NodeRoom.{NodeRoom}
-use Rattle.backfill_planner.specs.declared.Share.{Share}
 use Rattle.backfill_planner.specs.declared.Placed.{Placed}
 use Rattle.ctl_state.specs.declared.record.Part.{Part}
 use Rattle.ctl_state.specs.declared.record.NodeRecord.{NodeRecord}
@@ -16,12 +15,12 @@ use Rattle.ctl_state.specs.Events.{started_as}
 use Rattle.ctl_state.specs.Holding.{has_cpu, parts_of}
 use Rattle.ctl_state.specs.Planning.{room_of}
 use Rattle.ctl_state.specs.Soundness.{IsNode, HaveRisingIds}
-use Rattle.ctl_pass.specs.HeldIds.{is_held, ShowsParts, AddsParts, part_by}
+use Rattle.ctl_pass.specs.HeldIds.{AddsParts, part_by}
 use Rattle.ctl_pass.specs.Awaiting.{Awaits, CanBegin}
 use Rattle.ctl_pass.specs.declared.starts.JobStart.{JobStart}
 use Rattle.ctl_pass.specs.Starting.{part_of, start_of, begun, started}
 use Rattle.ctl_pass.proofs.Tallies.{pairs-head, pairs-tail, pairs-map}
-use Rattle.ctl_pass.proofs.Lists.{next, map-same}
+use Rattle.ctl_pass.proofs.Lists.{map-same}
 use Rattle.ctl_pass.proofs.HeldBits.{few-cpus, part-shown}
 
 -- a start changes no number, and nothing of another job
@@ -93,8 +92,7 @@ can-begin now nodes jobs before after placed later start each can is adds =
     let parts = map-same (part_by rooms before) (part_of rooms jobs) placed.parts (λ k d below. part-shown rooms jobs before (get_or placed.parts k d) (few-cpus nodes (get_or placed.parts k d).node each) can.shown) in
     let id : start.id ≡ placed.id = ap (λ (one : JobStart). one.id) is in
     let first = All-head (Awaits jobs) placed later can.awaits in
-    let differs = pairs-head (λ (one other : Placed). one.id ≢ other.id) placed later can.once in
-    (
+    let differs = pairs-head (λ (one other : Placed). one.id ≢ other.id) placed later can.once in (
       is ∙ ap (λ (some : List Part). record { id = placed.id; parts = some }) parts,
       record {
         shown = record {

@@ -138,7 +138,7 @@ ranked-all P s now each =
     let waits : JobRecord → Bool = λ job. is_pending job.state in
     All-map P (plan_job (length s.nodes)) (filter waits s.jobs) (All-filter waits (λ job. P (plan_job (length s.nodes) job)) s.jobs each)
 
-ranked-rising : (s : State) (now : ℕ) → IsSound s → AllPairs (λ (one other : PlanJob). one.id < other.id) (ranked s now)
+pub ranked-rising : (s : State) (now : ℕ) → IsSound s → AllPairs (λ (one other : PlanJob). one.id < other.id) (ranked s now)
 unfolding ranked candidates plan_job
 ranked-rising s now sound =
     let waits : JobRecord → Bool = λ job. is_pending job.state in

@@ -1,13 +1,13 @@
 -- Bits of processors that stand in parts: those that a part adds, and the processors that are free by them.
-use Rattle.std.proofs.Common.{◌≡◌, ◌≢◌, ℕ, ◌+◌, ◌*◌, ◌<◌, ◌≤◌, Bool, true, false, ◌||◌, ◌&&◌, not, cond, eqb, List, [], ◌∷◌, ◌++◌, map, take, set, length, get_or, replicate, filter, count_by, zero, suc, All, AllPairs, arith, refl, ap, sym, ◌∙◌, inl, inr}
+use Rattle.std.proofs.Common.{◌≡◌, ◌≢◌, ℕ, ◌+◌, ◌<◌, ◌≤◌, Bool, true, false, ◌||◌, not, cond, eqb, List, [], ◌∷◌, ◌++◌, map, take, length, get_or, filter, count_by, zero, suc, All, AllPairs, arith, refl, ap, sym, ◌∙◌, inl, inr}
 use Rattle.std.specs.List.{list_any, range_with_len}
-use Rattle.std.proofs.lemmas.Bool.{cases_Bool, cases_eq, eq-eqb, ne_eqb, and_left, and_right, or_right}
-use Rattle.std.proofs.lemmas.List.{get_or-set_same, get_or-set_other, get_or-map, get_or-take, get_or_default, length-take, length-append, map-id, take_all, take-append-le, append-nil}
+use Rattle.std.proofs.lemmas.Bool.{cases_Bool, ne_eqb, and_left}
+use Rattle.std.proofs.lemmas.List.{get_or-take, get_or_default, length-take, length-append, map-id, take_all, take-append-le, append-nil}
 use Rattle.std.proofs.lemmas.List.Sums.{length-filter}
-use Rattle.std.proofs.lemmas.List.Folds.{list_any-append, list_any_more, list_any_none}
+use Rattle.std.proofs.lemmas.List.Folds.{list_any-append, list_any_none}
 use Rattle.std.proofs.lemmas.List.Elements.{All-head, All-tail, All-map, All-take, All-filter, All-weaker, filter-append}
 use Rattle.std.proofs.lemmas.List.Kept.{AllPairs-filter}
-use Rattle.std.proofs.lemmas.List.FromFn.{length-range_with_len, get_or-range_with_len, map-range_with_len_more}
+use Rattle.std.proofs.lemmas.List.FromFn.{map-range_with_len_more}
 use Rattle.resource_profile.specs.declared.NodeRoom.{NodeRoom}
 use Rattle.backfill_planner.specs.declared.Share.{Share}
 use Rattle.ctl_state.specs.declared.record.Part.{Part}
@@ -29,48 +29,7 @@ or_none : (a : Bool) → a ≡ (a || false)
 or_none true = refl
 or_none false = refl
 
--- one bit is set
-bit-set : (held : List Bool) (node id there cpu : ℕ) → id < 1024 → cpu < 1024 → node * 1024 + id < length held
-    → is_held (set held (node * 1024 + id) true) there cpu ≡ (is_held held there cpu || (eqb node there && eqb id cpu))
-bit-set held node id there cpu low short inside = elim (cases_eq (node * 1024 + id) (there * 1024 + cpu)) [
-  | inl same ↦
-      let on : node ≡ there = omega (arith, same, low, short) in
-      let is : id ≡ cpu = omega (arith, same, on) in
-      let marked : get_or (set held (node * 1024 + id) true) (there * 1024 + cpu) false ≡ true = rw (← same) (get_or-set_same held (node * 1024 + id) true false inside) in
-      marked ∙ sym (or_right (is_held held there cpu) (eqb node there && eqb id cpu) (rw (eq-eqb node there on, eq-eqb id cpu is) refl))
-  | inr other ↦
-      let kept : get_or (set held (node * 1024 + id) true) (there * 1024 + cpu) false ≡ is_held held there cpu =
-      get_or-set_other held (node * 1024 + id) (there * 1024 + cpu) true false (λ is. other (sym is)) in
-      let neither : (eqb node there && eqb id cpu) ≡ false = elim (cases_eq node there) [
-        | inr off ↦ and_left (eqb node there) (eqb id cpu) (ne_eqb node there off)
-        | inl on ↦ and_right (eqb node there) (eqb id cpu) (ne_eqb id cpu (λ is. other (omega (arith, on, is))))
-      ] in
-      kept ∙ rw neither (or_none (is_held held there cpu))
-]
-
--- one more processor of a part
-pub adds-cpu : (before held : List Bool) (part : Part) (i : ℕ) → i < length part.cpus → get_or part.cpus i 0 < 1024 → part.node * 1024 + get_or part.cpus i 0 < length held
-    → AddsParts before (record part { cpus = take i part.cpus } ∷ []) held
-    → AddsParts before (record part { cpus = take (i + 1) part.cpus } ∷ []) (set held (part.node * 1024 + get_or part.cpus i 0) true)
-adds-cpu before held part i within low inside adds = record {
-  bits = λ node cpu short.
-      let is_it : ℕ → Bool = λ id. eqb id cpu in
-      bit-set held part.node (get_or part.cpus i 0) node cpu low short inside
-      ∙ ap (λ bit. bit || (eqb part.node node && eqb (get_or part.cpus i 0) cpu)) (adds.bits node cpu short)
-      ∙ mixed (is_held before node cpu) (eqb part.node node) (list_any is_it (take i part.cpus)) (eqb (get_or part.cpus i 0) cpu)
-      ∙ ap (λ bit. is_held before node cpu || ((eqb part.node node && bit) || false)) (sym (list_any_more is_it part.cpus i 0 within));
-}
-  where
-    mixed : (a o t e : Bool) → ((a || ((o && t) || false)) || (o && e)) ≡ (a || ((o && (t || e)) || false))
-    mixed true o t e = refl
-    mixed false false t e = refl
-    mixed false true true e = refl
-    mixed false true false true = refl
-    mixed false true false false = refl
-
-pub adds-none : (held : List Bool) → AddsParts held [] held
-adds-none held = record { bits = λ node cpu short. or_none (is_held held node cpu) }
-
+-- parts that are held one list after another
 pub adds-then : (before middle after : List Bool) (parts later : List Part) → AddsParts before parts middle → AddsParts middle later after → AddsParts before (parts ++ later) after
 adds-then before middle after parts later one two = record {
   bits = λ node cpu short.
@@ -79,17 +38,6 @@ adds-then before middle after parts later one two = record {
       ∙ or_assoc (is_held before node cpu) (list_any p parts) (list_any p later)
       ∙ ap (λ bit. is_held before node cpu || bit) (sym (list_any-append p parts later));
 }
-
--- where none was held, those are shown that were added
-pub shows-added : (count : ℕ) (parts : List Part) (held : List Bool) → AddsParts (replicate count false) parts held → ShowsParts parts held
-shows-added count parts held adds = record {
-  bits = λ node cpu short. adds.bits node cpu short ∙ ap (λ bit. bit || list_any (has_cpu node cpu) parts) (none count (node * 1024 + cpu));
-}
-  where
-    none : (n k : ℕ) → get_or (replicate n false) k false ≡ false
-    none zero k = refl
-    none (suc n) zero = refl
-    none (suc n) (suc k) = none n k
 
 -- the lowest processors that pass a test: one more is looked at
 range-more : (n : ℕ) → range_with_len 0 (n + 1) ≡ range_with_len 0 n ++ n ∷ []
@@ -128,11 +76,6 @@ lowest-below p count n most le =
     (All-weaker (λ id. id < n) (λ id. id < most) (λ id below. omega (arith, below, le)) (range_with_len 0 n) (range-below n)))
 
 -- the processors of a node are at most 1,024
-pub room-cpus : (nodes : List NodeRecord) (node : ℕ) (one : NodeRecord) → node < length nodes → one ≡ get_or nodes node one → cpus_of (map room_of nodes) node ≡ one.conf.cpus
-room-cpus nodes node one inside is =
-    let none : NodeRoom = record { cpus = 0; mem = 0; usable = false } in
-    ap (λ (room : NodeRoom). room.cpus) (get_or-map room_of nodes node one none inside) ∙ ap (λ (record_of : NodeRecord). record_of.conf.cpus) (sym is)
-
 pub few-cpus : (nodes : List NodeRecord) (node : ℕ) → All IsNode nodes → cpus_of (map room_of nodes) node ≤ 1024
 few-cpus [] node each = omega arith
 few-cpus (one ∷ nodes) zero each = (All-head IsNode one nodes each).cpus.1

@@ -1,40 +1,45 @@
 -- What the first steps of a pass leave of the jobs: those that wait, what is held, and how many there are.
-use Rattle.std.proofs.Common.{◌≡◌, ℕ, suc, ◌+◌, ◌≤◌, ◌<◌, Bool, true, false, ◌&&◌, not, cond, eqb, leb, ltb, List, [], ◌∷◌, ◌++◌, length, map, flat_map, filter, take, get_or, unwrap_or, All, AllPairs, arith, refl, ap, sym, ◌∙◌, inl, inr}
+use Rattle.std.proofs.Common.{◌≡◌, ℕ, suc, ◌+◌, ◌≤◌, ◌<◌, Bool, true, false, ◌&&◌, not, cond, eqb, leb, ltb, List, [], ◌∷◌, ◌++◌, length, map, flat_map, filter, take, get_or, unwrap_or, All, arith, refl, ap, sym, ◌∙◌, inl, inr}
 use Rattle.std.specs.List.{list_any}
 use Rattle.std.proofs.lemmas.Bool.{cases_Bool, cases_eq, and_parts, both_ways, leb-true, le-ltb, ne_eqb, eq-eqb}
 use Rattle.std.proofs.lemmas.List.{take_more, map-append, append-nil, length-map}
-use Rattle.std.proofs.lemmas.List.Elements.{All-head, All-tail, All-map, All-filter, filter-append}
+use Rattle.std.proofs.lemmas.List.Elements.{All-head, All-tail, filter-append}
 use Rattle.std.proofs.lemmas.List.Sums.{length-filter, count_by-le-length}
 use Rattle.std.proofs.lemmas.List.Kept.{AllPairs-filter}
 use Rattle.slurm_text.specs.declared.plain.state.JobState.{JobState}
 use Rattle.slurm_text.specs.declared.plain.state.JobState.TheVariants.{Pending, Running, Completing, Ended}
-use Rattle.resource_profile.specs.declared.Hold.{Hold}
-use Rattle.ctl_state.specs.declared.record.Part.{Part}
 use Rattle.ctl_state.specs.declared.record.JobRecord.{JobRecord}
 use Rattle.ctl_state.specs.JobStates.{is_pending, is_running, is_ended, is_holding}
 use Rattle.ctl_state.specs.Events.{those_left}
 use Rattle.ctl_state.specs.Holding.{parts_of, has_members}
 use Rattle.ctl_state.specs.Soundness.{HasItsParts, HaveRisingIds}
-use Rattle.ctl_pass.specs.Limits.{deadline, is_over, timed_out, is_old, holds_of_job}
+use Rattle.ctl_pass.specs.Limits.{deadline, timed_out, is_old, holds_of_job}
 use Rattle.ctl_pass.proofs.Tallies.{pairs-map}
+use Rattle.ctl_pass.proofs.Readied.{by_limit}
 use Rattle.ctl_pass.proofs.Lists.{flat_map-append}
 
-running-others : (state : JobState) → is_running state ≡ true → (is_pending state ≡ false) × (is_ended state ≡ false)
-running-others Running running = (refl, refl)
-running-others Pending running = absurd (both_ways false refl running)
-running-others (Completing final) running = absurd (both_ways false refl running)
-running-others (Ended final) running = absurd (both_ways false refl running)
+running-not_ended : (state : JobState) → is_running state ≡ true → is_ended state ≡ false
+running-not_ended Running running = refl
+running-not_ended Pending running = refl
+running-not_ended (Completing final) running = refl
+running-not_ended (Ended final) running = sym running
+
+running-not_pending : (state : JobState) → is_running state ≡ true → is_pending state ≡ false
+running-not_pending Running running = refl
+running-not_pending Pending running = sym running
+running-not_pending (Completing final) running = refl
+running-not_pending (Ended final) running = refl
 
 ended-others : (state : JobState) → is_ended state ≡ true → (is_pending state ≡ false) × (is_holding state ≡ false)
 ended-others (Ended final) ended = (refl, refl)
-ended-others Pending ended = absurd (both_ways false refl ended)
-ended-others Running ended = absurd (both_ways false refl ended)
-ended-others (Completing final) ended = absurd (both_ways false refl ended)
+ended-others Pending ended = (sym ended, refl)
+ended-others Running ended = (refl, sym ended)
+ended-others (Completing final) ended = (refl, sym ended)
 
 pub pending-holds_not : (state : JobState) → is_pending state ≡ true → is_holding state ≡ false
 pending-holds_not Pending pending = refl
-pending-holds_not Running pending = absurd (both_ways false refl pending)
-pending-holds_not (Completing final) pending = absurd (both_ways false refl pending)
+pending-holds_not Running pending = sym pending
+pending-holds_not (Completing final) pending = sym pending
 pending-holds_not (Ended final) pending = refl
 
 no_members : {X : Type 0} (xs : List X) → has_members xs ≡ false → xs ≡ []
@@ -46,36 +51,22 @@ pub no_parts : (job : JobRecord) → HasItsParts job → is_holding job.state �
 no_parts job has idle = no_members job.parts (has.some ∙ idle)
 
 -- a limit that is seen to changes no number and no part, nor how long the job holds, nor whether it is old
-pub timed_out-id : (now : ℕ) (job : JobRecord) → (timed_out now job).id ≡ job.id
-timed_out-id now job = elim (cases_Bool (is_over now job)) [
-  | inr within ↦ rw within refl
-  | inl over ↦ let running = (and_parts (is_running job.state) (leb (deadline job) now) over).0 in rw (over, running) refl
-]
+timed_out-id : (now : ℕ) (job : JobRecord) → (timed_out now job).id ≡ job.id
+timed_out-id now job = by_limit (λ after. after.id ≡ job.id) now job (λ over running. refl) (λ within. refl)
 
-pub timed_out-parts : (now : ℕ) (job : JobRecord) → (timed_out now job).parts ≡ job.parts
-timed_out-parts now job = elim (cases_Bool (is_over now job)) [
-  | inr within ↦ rw within refl
-  | inl over ↦ let running = (and_parts (is_running job.state) (leb (deadline job) now) over).0 in rw (over, running) refl
-]
+timed_out-parts : (now : ℕ) (job : JobRecord) → (timed_out now job).parts ≡ job.parts
+timed_out-parts now job = by_limit (λ after. after.parts ≡ job.parts) now job (λ over running. refl) (λ within. refl)
 
 timed_out-holds : (now : ℕ) (job : JobRecord) → holds_of_job now (timed_out now job) ≡ holds_of_job now job
-timed_out-holds now job = elim (cases_Bool (is_over now job)) [
-  | inr within ↦ rw within refl
-  | inl over ↦
-      let running = (and_parts (is_running job.state) (leb (deadline job) now) over).0 in
-      let late = leb-true (deadline job) now (and_parts (is_running job.state) (leb (deadline job) now) over).1 in
-      let past : ltb now (deadline job) ≡ false = le-ltb now (deadline job) late in
-      rw (over, running, past) refl
-]
+timed_out-holds now job =
+    by_limit (λ after. holds_of_job now after ≡ holds_of_job now job) now job
+    (λ over running.
+    let past : ltb now (deadline job) ≡ false = le-ltb now (deadline job) (leb-true (deadline job) now (and_parts (is_running job.state) (leb (deadline job) now) over).1) in
+    rw (running, past) refl) (λ within. refl)
 
 timed_out-old : (age now : ℕ) (job : JobRecord) → is_old age now (timed_out now job) ≡ is_old age now job
-timed_out-old age now job = elim (cases_Bool (is_over now job)) [
-  | inr within ↦ rw within refl
-  | inl over ↦
-      let running = (and_parts (is_running job.state) (leb (deadline job) now) over).0 in
-      let ended_not = (running-others job.state running).1 in
-      rw (over, running, ended_not) refl
-]
+timed_out-old age now job =
+    by_limit (λ after. is_old age now after ≡ is_old age now job) now job (λ over running. let lasts = running-not_ended job.state running in rw lasts refl) (λ within. refl)
 
 old-ended : (age now : ℕ) (job : JobRecord) → is_old age now job ≡ true → is_ended job.state ≡ true
 old-ended age now job old = (and_parts (is_ended job.state) (not (eqb age 0) && leb (unwrap_or job.ended 0 + age) now) old).0
@@ -100,21 +91,18 @@ pub pending-left : (age now : ℕ) (jobs : List JobRecord)
     → filter (λ (job : JobRecord). is_pending job.state) (those_left (timed_out now) (is_old age now) jobs) ≡ filter (λ (job : JobRecord). is_pending job.state) jobs
 pending-left age now [] = refl
 pending-left age now (job ∷ jobs) =
+    let waits : JobRecord → Bool = λ one. is_pending one.state in
     let rest = pending-left age now jobs in
     elim (cases_Bool (is_old age now job)) [
       | inl old ↦
           let waits_not = (ended-others job.state (old-ended age now job old)).0 in
           rw (timed_out-old age now job, old, waits_not) rest
-      | inr recent ↦ elim (cases_Bool (is_over now job)) [
-        | inl over ↦
-            let running = (and_parts (is_running job.state) (leb (deadline job) now) over).0 in
-            let waits_not = (running-others job.state running).0 in
-            rw (timed_out-old age now job, recent, over, running, waits_not) rest
-        | inr within ↦ elim (cases_Bool (is_pending job.state)) [
-          | inl waits ↦ rw (timed_out-old age now job, recent, within, waits) (ap (λ later. job ∷ later) rest)
-          | inr waits_not ↦ rw (timed_out-old age now job, recent, within, waits_not) rest
-        ]
-      ]
+      | inr recent ↦
+          let left = those_left (timed_out now) (is_old age now) jobs in
+          rw (timed_out-old age now job, recent)
+          (by_limit (λ after. filter waits (after ∷ left) ≡ filter waits (job ∷ jobs)) now job
+          (λ over running. let waits_not = running-not_pending job.state running in rw waits_not rest)
+          (λ within. elim (cases_Bool (is_pending job.state)) [ inl pending ↦ rw pending (ap (λ later. job ∷ later) rest) | inr waits_not ↦ rw waits_not rest ]))
     ]
 
 -- nothing is dropped where none is old
@@ -136,24 +124,17 @@ length-left age now (job ∷ jobs) =
     at_most : (some : List JobRecord) → length (those_left (timed_out now) (is_old age now) some) ≤ length some
     at_most some = omega (arith, length-filter (λ job. not (is_old age now job)) (map (timed_out now) some), count_by-le-length (λ job. not (is_old age now job)) (map (timed_out now) some), length-map some (timed_out now))
 
--- what is made of each job's parts is the same in all, since an old job has none
-joined-left : {X : Type 0} (f : JobRecord → List X) (age now : ℕ) (jobs : List JobRecord) → ((job : JobRecord) → f (timed_out now job) ≡ f job) → ((job : JobRecord) → job.parts ≡ [] → f job ≡ [])
-    → All HasItsParts jobs → flat_map f (those_left (timed_out now) (is_old age now) jobs) ≡ flat_map f jobs
-joined-left f age now [] same none each = refl
-joined-left f age now (job ∷ jobs) same none each =
-    let rest = joined-left f age now jobs same none (All-tail HasItsParts job jobs each) in
+-- the same parts are held, since an old job holds none
+pub parts-left : (age now : ℕ) (jobs : List JobRecord) → All HasItsParts jobs → parts_of (those_left (timed_out now) (is_old age now) jobs) ≡ parts_of jobs
+parts-left age now [] each = refl
+parts-left age now (job ∷ jobs) each =
+    let rest = parts-left age now jobs (All-tail HasItsParts job jobs each) in
     elim (cases_Bool (is_old age now job)) [
       | inl old ↦
-          let empty = none job (no_parts job (All-head HasItsParts job jobs each) (ended-others job.state (old-ended age now job old)).1) in
+          let empty = no_parts job (All-head HasItsParts job jobs each) (ended-others job.state (old-ended age now job old)).1 in
           rw (timed_out-old age now job, old, empty) rest
-      | inr recent ↦ rw (timed_out-old age now job, recent, same job, rest) refl
+      | inr recent ↦ rw (timed_out-old age now job, recent, timed_out-parts now job, rest) refl
     ]
-
-pub parts-left : (age now : ℕ) (jobs : List JobRecord) → All HasItsParts jobs → parts_of (those_left (timed_out now) (is_old age now) jobs) ≡ parts_of jobs
-parts-left age now jobs each = joined-left (λ (job : JobRecord). job.parts) age now jobs (timed_out-parts now) (λ job empty. empty) each
-
-pub holds-left : (age now : ℕ) (jobs : List JobRecord) → All HasItsParts jobs → flat_map (holds_of_job now) (those_left (timed_out now) (is_old age now) jobs) ≡ flat_map (holds_of_job now) jobs
-holds-left age now jobs each = joined-left (holds_of_job now) age now jobs (timed_out-holds now) (λ job empty. rw empty refl) each
 
 -- their numbers rise
 pub rising-left : (age now : ℕ) (jobs : List JobRecord) → HaveRisingIds jobs → HaveRisingIds (those_left (timed_out now) (is_old age now) jobs)
@@ -161,7 +142,3 @@ rising-left age now jobs rising =
     let lower : JobRecord → JobRecord → Type 0 = λ one other. one.id < other.id in
     AllPairs-filter lower (λ job. not (is_old age now job)) (map (timed_out now) jobs)
     (pairs-map lower (timed_out now) jobs (λ i j d before within. omega (arith, rising i j d before within, timed_out-id now (get_or jobs i d), timed_out-id now (get_or jobs j d))))
-
--- and what is true of each and of what a limit makes of it is true of each that is left
-pub All-left : (P : JobRecord → Type 0) (age now : ℕ) (jobs : List JobRecord) → All (λ job. P (timed_out now job)) jobs → All P (those_left (timed_out now) (is_old age now) jobs)
-All-left P age now jobs each = All-filter (λ job. not (is_old age now job)) P (map (timed_out now) jobs) (All-map P (timed_out now) jobs each)

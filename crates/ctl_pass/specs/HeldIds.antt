@@ -16,7 +16,8 @@ pub record ShowsParts (parts : List Part) (held : List Bool) : Type 0 where
 
 -- the bits after these parts are held too
 pub record AddsParts (before : List Bool) (parts : List Part) (after : List Bool) : Type 0 where
-  pub bits : (node cpu : ℕ) → cpu < 1024 → is_held after node cpu ≡ (is_held before node cpu || list_any (has_cpu node cpu) parts)
+  pub bits : (node cpu : ℕ) → cpu < 1024
+      → is_held after node cpu ≡ (is_held before node cpu || list_any (has_cpu node cpu) parts)
 
 -- the part that a share becomes: with the lowest processors of the node that aren't held
 abbrev pub part_by : List NodeRoom → List Bool → Share → Part

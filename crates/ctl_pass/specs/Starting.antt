@@ -1,5 +1,5 @@
 -- What comes of a plan: the jobs that are planned at once start, the other placements stay.
-use Rattle.std.specs.Prelude.{◌≡◌, ℕ, Bool, nat_eq, if◌then◌else◌, List, [], ◌∷◌, map, take, length, Some}
+use Rattle.std.specs.Prelude.{◌≡◌, ℕ, nat_eq, if◌then◌else◌, List, [], ◌∷◌, map, take, length, Some}
 use Rattle.std.specs.List.{AllZip}
 use Rattle.slurm_text.specs.declared.plain.state.JobState.TheVariants.{Running}
 use Rattle.resource_profile.specs.declared.NodeRoom.{NodeRoom}

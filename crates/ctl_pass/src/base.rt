@@ -11,6 +11,7 @@ ghost use Rattle.ctl_state.specs.State.{state_of, last_moment};
 ghost use Rattle.ctl_pass.specs.Limits;
 ghost use Rattle.ctl_pass.specs.Readiness;
 
+use crate::laws::what_a_pass_plans_is_sound;
 use crate::limits::{hold_end, is_old};
 use backfill_planner::{Base, PlanJob};
 use ctl_state::cluster::Cluster;
@@ -49,7 +50,8 @@ fn push_holds(now: u64, job: &JobRecord, holds: &mut Vec<Hold>) -> Result<(), Me
     Ok(())
 }
 
-// What those of the jobs hold that the first steps of a pass leave: one past its limit holds as long as one that completes.
+// What those of the jobs hold that the first steps of a pass leave. One past its limit holds as long as one that
+// completes.
 fn holds_of(alloc: Global, age: u64, now: u64, jobs: &[JobRecord]) -> Result<Vec<Hold>, Memory>
     requires started { All (λ (job : JobRecord). unwrap_or job.started 0 ≤ last_moment) jobs.now }
     requires in_time { now ≤ last_moment }
@@ -65,8 +67,8 @@ fn holds_of(alloc: Global, age: u64, now: u64, jobs: &[JobRecord]) -> Result<Vec
     Ok(holds)
 }
 
-/// What the plan of a pass begins with: the jobs are read as the pass's first steps leave them. Linear in nodes, jobs and
-/// parts.
+/// What the plan of a pass begins with: the jobs are read as the pass's first steps leave them. Linear in nodes, jobs
+/// and parts.
 #[tactic(auto, unfolding(crate::specs::Readiness::base_of))]
 pub(crate) fn base_of(alloc: Global, cluster: &Cluster, now: u64) -> Result<Base, Memory>
     requires sound { IsSound (state_of cluster.now) }
@@ -74,6 +76,7 @@ pub(crate) fn base_of(alloc: Global, cluster: &Cluster, now: u64) -> Result<Base
     requires in_time { now ≤ last_moment }
     ensures { IfOk result (λ base. base ≡ Readiness.base_of (Readiness.ready (state_of cluster.now) now) now) }
 {
+    what_a_pass_plans_is_sound();
     let age = cluster.settings.min_job_age.get();
     let rooms = rooms_of(alloc, &cluster.nodes)?;
     let holds = holds_of(alloc, age, now, &cluster.jobs)?;
@@ -103,7 +106,8 @@ fn needs_of(alloc: Global, count: u32, jobs: &[JobRecord]) -> Result<Vec<PlanJob
 /// What the jobs need that the pass plans, highest in rank first. Linear in the jobs and the nodes of each.
 pub(crate) fn rank(alloc: Global, cluster: &Cluster, now: u64) -> Result<Vec<PlanJob>, Memory>
     requires { length cluster.now.nodes.items ≤ 1024 }
-    ensures ranked { IfOk result (λ ranked. ranked.items ≡ Readiness.ranked (Readiness.ready (state_of cluster.now) now) now) }
+    ensures ranked { IfOk result (λ ranked.
+        ranked.items ≡ Readiness.ranked (Readiness.ready (state_of cluster.now) now) now) }
     ensures nodes { IfOk result (λ ranked.
         All (λ (job : PlanJob). All (λ node. node < length cluster.now.nodes.items) job.nodes) ranked.items) }
     ensures tasks { IfOk result (λ ranked. All (λ (job : PlanJob). 1 ≤ job.need.tasks) ranked.items) }

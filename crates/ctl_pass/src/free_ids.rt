@@ -1,6 +1,6 @@
 //! Which processors of the nodes stand in parts, and which are free.
 
-ghost use Rattle.std.specs.Prelude.{◌≡◌, ℕ, ◌+◌, ◌*◌, ◌≤◌, ◌<◌, ◌≢◌, not, All, AllPairs, IfOk, OnOk, length, map, take, filter, ◌∷◌, [], ◌++◌};
+ghost use Rattle.std.specs.Prelude.{◌≡◌, ◌+◌, ◌*◌, ◌≤◌, ◌<◌, not, All, IfOk, length, map, take, filter, ◌∷◌, []};
 ghost use Rattle.std.specs.List.{range_with_len};
 ghost use Rattle.backfill_planner.specs.declared.Share.{Share};
 ghost use Rattle.backfill_planner.specs.Placements.{AreParts};
@@ -81,7 +81,12 @@ fn lowest(alloc: Global, held: &[bool], node: u32, cpus: u32, count: u32) -> Res
 }
 
 // The part that the share becomes, which is held from then on.
-fn take_part(alloc: Global, nodes: &[NodeRecord], held: &mut [bool], share: &Share) -> Result<Part, Memory>
+fn take_part(
+    alloc: Global,
+    nodes: &[NodeRecord],
+    held: &mut [bool],
+    share: &Share,
+) -> Result<Part, Memory>
     requires node { share.now.node < length nodes.now }
     requires long { length held.old ≡ length nodes.now * 1024 }
     ensures part { IfOk result (λ part. part ≡ part_by (map room_of nodes.now) held.old share.now) }

@@ -1,14 +1,14 @@
 //! What holds of every pass. A law is the contract of a function that does nothing but call the laws
 //! that it rests on.
 
-ghost use Rattle.std.specs.Prelude.{◌≡◌, ◌⊎◌, ℕ, ◌≤◌, All, Any, Contains, true};
+ghost use Rattle.std.specs.Prelude.{◌≡◌, ◌⊎◌, ℕ, ◌≤◌, [], All, Any, Contains, true};
 ghost use Rattle.backfill_planner.specs.declared.Placed.{Placed};
 ghost use Rattle.ctl_state.specs.declared.record.JobRecord.{JobRecord};
 ghost use Rattle.ctl_state.specs.State.{State, last_moment};
 ghost use Rattle.ctl_state.specs.JobStates.{is_running};
 ghost use Rattle.ctl_state.specs.Soundness.{IsSound};
 ghost use Rattle.ctl_state.specs.Verdicts.{stamped};
-ghost use Rattle.ctl_pass.specs.Readiness.{placements};
+ghost use Rattle.ctl_pass.specs.Readiness.{ready, placements};
 ghost use Rattle.ctl_pass.specs.Starting.{HasStarted};
 ghost use Rattle.ctl_pass.specs.Passing.{pass_after, is_idle};
 
@@ -69,3 +69,13 @@ pub fn a_started_job_was_planned()
         ⊎ Any (λ (placed : Placed). (placed.id ≡ job.id) × (placed.start ≡ now)) (placements s now))
         (pass_after s now).jobs }
 {}
+
+/// The state that a pass plans is sound, with no plan yet.
+pub fn what_a_pass_plans_is_sound()
+    ensures { (s : State) (now : ℕ) → IsSound s → s.moment ≤ now → now ≤ last_moment
+        → IsSound (record (ready s now) { plan = []; moment = now }) }
+{
+    every_change_but_a_start_lets_go();
+    jobs_are_kept();
+    letting_go_keeps_all_sound();
+}

@@ -1,6 +1,6 @@
 //! A pass: what it decides, and what it does.
 
-ghost use Rattle.std.specs.Prelude.{◌≡◌, ◌≤◌, ◌&&◌, not, nat_eq, IfOk, OnOk, OnErr, fold, length, map};
+ghost use Rattle.std.specs.Prelude.{◌≡◌, ◌≤◌, ◌&&◌, not, nat_eq, IfOk, OnOk, fold, length};
 ghost use Rattle.std.specs.List.{list_any};
 ghost use Rattle.resource_profile.specs.Counts.{ticked};
 ghost use Rattle.ctl_state.specs.State.{state_of, last_moment};
@@ -97,7 +97,8 @@ pub fn is_idle(cluster: &Cluster, now: u64, decided: &Decided) -> bool
 // Sees to the limits, drops the old records, and starts jobs.
 fn advance(alloc: Global, age: u64, now: u64, jobs: &mut Vec<JobRecord>, starts: Vec<JobStart>)
     requires { HaveRisingIds jobs.old.items }
-    ensures { jobs.new.items ≡ fold (begun now) (those_left (timed_out now) (is_old age now) jobs.old.items) starts.items }
+    ensures { jobs.new.items
+        ≡ fold (begun now) (those_left (timed_out now) (is_old age now) jobs.old.items) starts.items }
 {
     time_out(alloc, now, jobs);
     drop_old(age, now, jobs);

@@ -1,6 +1,6 @@
 //! The starts of a pass.
 
-ghost use Rattle.std.specs.Prelude.{◌≡◌, ◌≤◌, ◌*◌, ◌≢◌, ◌<◌, All, AllPairs, IfOk, fold, map, nat_eq, not, filter, length, List};
+ghost use Rattle.std.specs.Prelude.{◌≡◌, ◌≤◌, ◌*◌, All, IfOk, fold, map, nat_eq, not, filter, length, List};
 ghost use Rattle.std.specs.List.{list_any};
 ghost use Rattle.backfill_planner.specs.declared.Placed.{Placed};
 ghost use Rattle.backfill_planner.specs.Placements.{AreParts};
@@ -14,6 +14,7 @@ ghost use Rattle.ctl_pass.specs.Passing;
 ghost use Rattle.ctl_pass.specs.Awaiting.{CanBegin};
 
 use crate::free_ids::{held_ids, take_parts};
+use crate::laws::what_a_pass_plans_is_sound;
 use backfill_planner::Placed;
 use backfill_planner::laws::placements_are_of_ranked_jobs;
 use ctl_state::change::{Change, apply};
@@ -75,13 +76,17 @@ fn starts_of(
     placements: &[Placed],
 ) -> Result<Vec<JobStart>, Memory>
     requires sound { IsSound (state_of cluster.now) }
+    requires raised { cluster.now.moment ≤ now }
+    requires in_time { now ≤ last_moment }
     requires plan { placements.now ≡ Readiness.placements (state_of cluster.now) now }
-    requires parts { All (λ (placed : Placed). AreParts (map room_of cluster.now.nodes.items) placed.parts) placements.now }
+    requires parts { All (λ (placed : Placed).
+        AreParts (map room_of cluster.now.nodes.items) placed.parts) placements.now }
     ensures { IfOk result (λ starts. starts.items ≡ (Passing.outcome (state_of cluster.now) now).starts) }
 {
     if !any_starts(now, placements) {
         return Ok(Vec::new(alloc));
     }
+    what_a_pass_plans_is_sound();
     placements_are_of_ranked_jobs();
     let mut held = held_ids(alloc, cluster.nodes.len(), &cluster.jobs)?;
     starts_beside(alloc, now, &cluster.nodes, &mut held, placements)
@@ -95,8 +100,8 @@ fn stays_of(now: u64, mut placements: Vec<Placed>) -> Vec<Placed>
     placements
 }
 
-/// The starts that come of the plan, and the placements that stay. Linear in the plan, and where something starts in the
-/// parts and the nodes' processors.
+/// The starts that come of the plan, and the placements that stay. Linear in the plan, and where something starts in
+/// the parts and the nodes' processors; each part of a start looks at its node's processors.
 pub(crate) fn split(
     alloc: Global,
     cluster: &Cluster,
@@ -104,8 +109,11 @@ pub(crate) fn split(
     placements: Vec<Placed>,
 ) -> Result<(Vec<JobStart>, Vec<Placed>), Memory>
     requires sound { IsSound (state_of cluster.now) }
+    requires raised { cluster.now.moment ≤ now }
+    requires in_time { now ≤ last_moment }
     requires plan { placements.items ≡ Readiness.placements (state_of cluster.now) now }
-    requires parts { All (λ (placed : Placed). AreParts (map room_of cluster.now.nodes.items) placed.parts) placements.items }
+    requires parts { All (λ (placed : Placed).
+        AreParts (map room_of cluster.now.nodes.items) placed.parts) placements.items }
     ensures starts { IfOk result (λ both. both.0.items ≡ (Passing.outcome (state_of cluster.now) now).starts) }
     ensures stays { IfOk result (λ both. both.1.items ≡ (Passing.outcome (state_of cluster.now) now).stays) }
 {

@@ -13,5 +13,5 @@ returns c =
     let now = c.args.now in
     let advanced = rw c.get-age.ensures.value at c.advance.ensures in
     let jobs : c.advance.new.jobs.items ≡ (outcome s now).jobs =
-        advanced ∙ ap (fold (begun now) (ready s now).jobs) c.requires.decided.starts ∙ sym (jobs-begun (map room_of s.nodes) now (ready s now).jobs (placements s now)) in
+    advanced ∙ ap (fold (begun now) (ready s now).jobs) c.requires.decided.starts ∙ sym (jobs-begun (map room_of s.nodes) now (ready s now).jobs (placements s now)) in
     rw (jobs, c.requires.decided.stays) refl

@@ -25,20 +25,20 @@ loop-placed-preserved c =
       | then-placed-now+in_ok-parts+in_ok-push w ↦
           let start : JobStart = record { id = placed.id; parts = w.in_ok-parts.parts.items } in
           let is : start ≡ record { id = placed.id; parts = map (part_by (map room_of nodes) c.loop-placed.held) placed.parts } =
-              ap (λ (parts : List Part). record { id = placed.id; parts = parts }) (w.in_ok-parts.ensures.parts ∙ ap (map (part_by (map room_of nodes) c.loop-placed.held)) w.as_slice.ensures) in
+          ap (λ (parts : List Part). record { id = placed.id; parts = parts }) (w.in_ok-parts.ensures.parts ∙ ap (map (part_by (map room_of nodes) c.loop-placed.held)) w.as_slice.ensures) in
           λ jobs can.
-              rw (w.starts-is, w.held-is, w.in_ok-push.ensures.items, w.from_vec.ensures)
-              (first-begun now nodes jobs c.loop-placed.held w.take_parts.new.held placed (drop (i + 1) placements) starts _ start c.requires.nodes w.if-placed-now.true is w.in_ok-parts.ensures.held
-              (rw (next placements i placed c.loop-placed-test.true c.placed-item.is) at (c.loop-placed.invariant jobs can)))
+          rw (w.starts-is, w.held-is, w.in_ok-push.ensures.items, w.from_vec.ensures)
+          (first-begun now nodes jobs c.loop-placed.held w.take_parts.new.held placed (drop (i + 1) placements) starts _ start c.requires.nodes w.if-placed-now.true is w.in_ok-parts.ensures.held
+          (rw (next placements i placed c.loop-placed-test.true c.placed-item.is) at (c.loop-placed.invariant jobs can)))
       | else-placed-now w ↦
           λ jobs can.
-              rw (w.starts-is, w.held-is)
-              (first-passed now nodes jobs c.loop-placed.held placed (drop (i + 1) placements) starts _ w.if-placed-now.false
-              (rw (next placements i placed c.loop-placed-test.true c.placed-item.is) at (c.loop-placed.invariant jobs can)))
+          rw (w.starts-is, w.held-is)
+          (first-passed now nodes jobs c.loop-placed.held placed (drop (i + 1) placements) starts _ w.if-placed-now.false
+          (rw (next placements i placed c.loop-placed-test.true c.placed-item.is) at (c.loop-placed.invariant jobs can)))
     ]
 
 pub returns : goal.returns
 returns c =
     λ jobs can.
-        first-all c.args.now c.args.nodes.now jobs c.loop-placed.held c.loop-placed.starts.items _
-        (rw (drop_all c.loop-placed.placed-index c.args.placements.now c.loop-placed-test.false) at (c.loop-placed.invariant jobs can))
+    first-all c.args.now c.args.nodes.now jobs c.loop-placed.held c.loop-placed.starts.items _
+    (rw (drop_all c.loop-placed.placed-index c.args.placements.now c.loop-placed-test.false) at (c.loop-placed.invariant jobs can))

@@ -1,6 +1,5 @@
-use Rattle.std.proofs.Common.{◌≡◌, map, sym, ap, ◌∙◌}
+use Rattle.std.proofs.Common.{map, sym, ap, ◌∙◌}
 use Rattle.std.proofs.lemmas.Result.{IfOk-weaker}
-use Rattle.backfill_planner.specs.declared.Placed.{Placed}
 use Rattle.ctl_state.specs.Planning.{room_of}
 use Rattle.ctl_state.specs.State.{state_of}
 use Rattle.ctl_pass.specs.Readiness.{ready, placements}
@@ -26,7 +25,8 @@ returns c =
     let shown = rw c.deref.ensures.value at c.in_ok-held.ensures.shown in
     let ids = c.placements_are_of_ranked_jobs.ensures.ids in
     let rising = c.placements_are_of_ranked_jobs.ensures.rising in
-    let can = can-begin-ready s now c.in_ok-held.held.items c.args.placements.now c.requires.sound c.requires.plan shown ids rising in
+    let sound = c.what_a_pass_plans_is_sound.ensures s now c.requires.sound c.requires.raised c.requires.in_time in
+    let can = can-begin-ready s now c.in_ok-held.held.items c.args.placements.now c.requires.sound sound c.requires.plan shown ids rising in
     IfOk-weaker c.starts_beside.result _ _
     (λ starts has. has jobs (rw c.deref_mut.ensures.value can) ∙ ap (λ plan. (started (map room_of s.nodes) now jobs plan).starts) c.requires.plan)
     (rw c.deref-2.ensures.value at c.starts_beside.ensures)
