@@ -1,13 +1,15 @@
 //! The controller.
 
-ghost use Rattle.std.specs.Prelude.{◌≡◌, IfOk, OnOk, OnErr, if◌then◌else◌, Some, None, map};
+ghost use Rattle.std.specs.Prelude.{◌≡◌, IfOk, OnOk, OnErr, if◌then◌else◌, Some, None, map, All};
 ghost use Rattle.slurm_text.specs.declared.plain.request.Request.TheVariants.{Pass};
 ghost use Rattle.resource_profile.specs.Counts.{ticked};
 ghost use Rattle.ctl_state.specs.State.{opening};
-ghost use Rattle.ctl_state.specs.Soundness.{IsSound};
+ghost use Rattle.ctl_state.specs.Soundness.{IsSound, IsNode, HasRanges};
 ghost use Rattle.ctl_core.specs.Step.{reply_of, state_after, is_entered, raised, steps_of};
 
 use crate::answering::{answer, answer_pass};
+use crate::laws::a_step_keeps_all_sound;
+use crate::ranges::in_range;
 use crate::reply::Decided;
 use backfill_planner::Planned;
 use ctl_state::cluster::Cluster;
@@ -15,7 +17,7 @@ use ctl_state::record::{AssocRecord, NodeRecord};
 use resource_profile::Steps;
 use slurm_text::memory_error::Memory;
 use slurm_text::name::Name;
-use slurm_text::plain::conf::{AssocConf, AssocFile, Conf, NodeConf};
+use slurm_text::plain::conf::{AssocConf, AssocFile, Conf, NodeConf, Settings};
 use slurm_text::plain::request::Request;
 use std::alloc::Global;
 use std::marker::Model;
@@ -45,6 +47,7 @@ impl Ctl {
         ensures opening { IfOk result (λ ctl. ctl.state ≡ opening conf assocs) }
         ensures sound { IfOk result (λ ctl. IsSound ctl.state) }
     {
+        settings_in_range(&conf.settings);
         let nodes = node_records(alloc, conf.nodes.into_vec())?;
         let assocs = assoc_records(alloc, assocs.assocs.into_vec())?;
         let cluster = Cluster {
@@ -72,6 +75,8 @@ impl Ctl {
         ensures err { OnErr result (self.new ≡ self.old) }
         ensures sound { IsSound self.old.state × IsSound self.new.state }
     {
+        a_step_keeps_all_sound();
+        in_range(request);
         answer(self.alloc, &mut self.cluster, now, user, request)
     }
 
@@ -93,19 +98,38 @@ impl Ctl {
         ensures sound { IsSound self.old.state × IsSound self.new.state }
     {
         drop(hint);
+        a_step_keeps_all_sound();
         answer_pass(self.alloc, &mut self.cluster, now, user, steps)
     }
 }
 
-fn node_records(alloc: Global, confs: Vec<NodeConf>) -> Result<Vec<NodeRecord>, Memory>
-    ensures { IfOk result (λ records. records.items ≡ map (λ node. record { conf = node; heard = None }) confs.items) }
+// The node before it was heard.
+fn node_record(conf: NodeConf) -> NodeRecord
+    ensures record { result ≡ record { conf = conf; heard = None } }
+    ensures ranges { IsNode result }
 {
-    Ok(
-        confs
-            .into_iter()
-            .map(|conf| NodeRecord { conf, heard: None })
-            .collect(alloc)?,
-    )
+    let _ = conf.cpus.get();
+    let _ = conf.mem.get();
+    NodeRecord { conf, heard: None }
+}
+
+fn node_records(alloc: Global, confs: Vec<NodeConf>) -> Result<Vec<NodeRecord>, Memory>
+    ensures records { IfOk result (λ records. records.items ≡ map (λ node. record { conf = node; heard = None }) confs.items) }
+    ensures ranges { IfOk result (λ records. All IsNode records.items) }
+{
+    let mut records = Vec::with_capacity(alloc, confs.len())?;
+    for conf in confs {
+        records.push(node_record(conf))?;
+    }
+    Ok(records)
+}
+
+// It tells what the type of settings keeps of them.
+fn settings_in_range(settings: &Settings)
+    ensures { HasRanges settings.now }
+{
+    let _ = settings.bf_window.get();
+    let _ = settings.min_job_age.get();
 }
 
 fn assoc_records(alloc: Global, confs: Vec<AssocConf>) -> Result<Vec<AssocRecord>, Memory>

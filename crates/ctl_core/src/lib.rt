@@ -5,6 +5,7 @@ mod answering;
 pub mod controller;
 pub mod laws;
 mod passing;
+mod ranges;
 pub mod reply;
 mod reporting;
 mod showing;

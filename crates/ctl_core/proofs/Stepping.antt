@@ -1,0 +1,129 @@
+-- Each step keeps all sound.
+use Rattle.std.proofs.Common.{◌≡◌, ℕ, zero, suc, ◌+◌, ◌<◌, ◌≤◌, ◌∙◌, Bool, true, false, List, [], ◌∷◌, ◌++◌, length, get_or, All, Option, Some, None, if◌then◌else◌, refl, sym, ap, arith, inl, inr}
+use Rattle.std.specs.Prelude.{max, nat_lt, not, unwrap_or, IfSome}
+use Rattle.std.proofs.lemmas.Bool.{cases_Bool, ltb-false, both_ways}
+use Rattle.slurm_text.specs.declared.plain.job.JobDesc.{JobDesc}
+use Rattle.slurm_text.specs.declared.plain.limit.Limit.{Limit}
+use Rattle.slurm_text.specs.declared.plain.limit.Limit.TheVariants.{Minutes, Unlimited}
+use Rattle.slurm_text.specs.declared.plain.refusal.Refusal.{Refusal}
+use Rattle.slurm_text.specs.declared.plain.refusal.Refusal.TheVariants.{InvalidAccount, NodesNotAvailable, JobIdsSpent, MomentTooLarge}
+use Rattle.slurm_text.specs.declared.plain.report.Report.{Report as Told}
+use Rattle.slurm_text.specs.declared.plain.request.Request.{Request}
+use Rattle.slurm_text.specs.declared.plain.request.Request.TheVariants.{Submit, Report, Pass, Show}
+use Rattle.ctl_state.specs.declared.record.JobRecord.{JobRecord}
+use Rattle.ctl_state.specs.State.{State, last_moment, last_job_id}
+use Rattle.ctl_state.specs.Laws.{Adding}
+use Rattle.ctl_state.specs.Soundness.{IsSound, IsKept, IsAsked, IsLimit, IsWellRun, HasItsParts}
+use Rattle.ctl_state.specs.Refusals.{refused_if, first_refusal, unless_refused}
+use Rattle.ctl_state.specs.Verdicts.{Verdict, Refuses, Tells, Stays, Unbuilt, Makes, reply_by, left_by, stamped}
+use Rattle.ctl_pass.specs.Passing.{pass_after, pass_made, is_idle}
+use Rattle.ctl_report.specs.Reporting.{report_after}
+use Rattle.ctl_report.specs.Answering.{report_made, made_by_report, node_of}
+use Rattle.ctl_core.specs.Submission.{new_job, submit_after, submit_refusals, is_known, is_placeable, limit_of}
+use Rattle.ctl_core.specs.Step.{raised, refusals_of, made, verdict_of, reply_of, is_entered, is_unbuilt, state_after, IsInRange}
+
+-- what a verdict makes is sound, once it bears the moment
+abbrev pub MakesSound : State → ℕ → Verdict → Type 0
+MakesSound s now (Refuses refusal) = Unit {0}
+MakesSound s now (Tells view) = Unit {0}
+MakesSound s now Stays = Unit {0}
+MakesSound s now Unbuilt = Unit {0}
+MakesSound s now (Makes reply after) = IsSound (stamped now after)
+
+-- the first of refusals that come to none: none of them stands
+pub none-first : (refusal : Refusal) (stands : Bool) (later : List (Option Refusal)) → first_refusal (refused_if stands refusal ∷ later) ≡ None → (stands ≡ false) × (first_refusal later ≡ None)
+none-first refusal true later none = absurd (cc)
+none-first refusal false later none = (refl, none)
+
+-- a submission that isn't refused
+limit-kept : (limit : Option Limit) → IfSome limit IsLimit → IsLimit (unwrap_or limit Unlimited)
+limit-kept None ranges = tt
+limit-kept (Some limit) ranges = ranges
+
+pub sound-submitted : Adding → (s : State) (moment : ℕ) (user : List ℕ) (desc : JobDesc) → IsSound s → s.moment ≤ moment → moment ≤ last_moment → IsInRange (Submit desc)
+    → s.next_id ≤ last_job_id → IsSound (stamped moment (submit_after s moment user desc))
+sound-submitted adding s moment user desc sound later in_time ranges room =
+    let job = new_job s moment user desc in
+    let kept : IsKept moment job = record {
+      asked = ranges.0;
+      limit = limit-kept desc.limit ranges.1;
+      run = record {
+        submitted = omega arith;
+        started = λ held. absurd (both_ways false refl held);
+        ended = λ over. absurd (both_ways false refl over);
+        start_passed = omega arith;
+        end_passed = omega arith;
+        in_order = λ has. absurd (both_ways false refl has);
+        final = λ same. cc;
+      };
+      parts = record { some = refl; apart = λ i j d before within. absurd (omega (arith, within)) };
+    } in
+    let one : {P : JobRecord → Type 0} → P job → All P (job ∷ []) = λ {P} holds. only P holds in
+    adding s moment (s.next_id + 1) (job ∷ []) sound later in_time (one kept) (one refl) (λ i j d before within. absurd (omega (arith, before, within))) (one (omega arith)) (one (omega arith)) (omega arith) (omega (arith, room))
+  where
+    only : (P : JobRecord → Type 0) → P (new_job s moment user desc) → All P (new_job s moment user desc ∷ [])
+    only P holds zero d within = holds
+    only P holds (suc k) d within = absurd (omega (arith, within))
+
+-- what an accepted report, and a pass, keep
+abbrev pub ReportsKeep : Type 0
+ReportsKeep = (s : State) (now node : ℕ) (report : Told) → IsSound s → s.moment ≤ now → now ≤ last_moment → IsSound (stamped now (report_after s now node report))
+
+abbrev pub PassesKeep : Type 0
+PassesKeep = (s : State) (now : ℕ) → IsSound s → s.moment ≤ now → now ≤ last_moment → IsSound (stamped now (pass_after s now))
+
+sound-told : ReportsKeep → (s : State) (moment : ℕ) (report : Told) (node : Option ℕ) → IsSound s → s.moment ≤ moment → moment ≤ last_moment → MakesSound s moment (made_by_report s moment report node)
+sound-told reports s moment report None sound later in_time = tt
+sound-told reports s moment report (Some node) sound later in_time = reports s moment node report sound later in_time
+
+sound-passed : PassesKeep → (s : State) (moment : ℕ) → IsSound s → s.moment ≤ moment → moment ≤ last_moment → MakesSound s moment (pass_made s moment)
+sound-passed passes s moment sound later in_time = elim (cases_Bool (is_idle s moment)) [
+  | inl idle ↦ rw idle tt
+  | inr busy ↦ rw busy (passes s moment sound later in_time)
+]
+
+-- what a request makes that isn't refused
+sound-made : Adding → ReportsKeep → PassesKeep → (s : State) (moment : ℕ) (user : List ℕ) (request : Request) → IsSound s → s.moment ≤ moment → moment ≤ last_moment → IsInRange request
+    → first_refusal (refusals_of s moment user request) ≡ None → MakesSound s moment (made s moment user request)
+sound-made adding reports passes s moment user (Submit desc) sound later in_time ranges none =
+    let known = none-first InvalidAccount (not (is_known s user)) (submit_refusals_after_known s moment user desc) none in
+    let placeable = none-first NodesNotAvailable (not (is_placeable s (new_job s moment user desc))) (refused_if (nat_lt last_job_id s.next_id) JobIdsSpent ∷ []) known.1 in
+    let left = none-first JobIdsSpent (nat_lt last_job_id s.next_id) [] placeable.1 in
+    sound-submitted adding s moment user desc sound later in_time ranges (ltb-false last_job_id s.next_id left.0)
+  where
+    submit_refusals_after_known : State → ℕ → List ℕ → JobDesc → List (Option Refusal)
+    submit_refusals_after_known s moment user desc =
+        refused_if (not (is_placeable s (new_job s moment user desc))) NodesNotAvailable ∷ refused_if (nat_lt last_job_id s.next_id) JobIdsSpent ∷ []
+sound-made adding reports passes s moment user (Report report) sound later in_time ranges none = sound-told reports s moment report (node_of s report) sound later in_time
+sound-made adding reports passes s moment user Pass sound later in_time ranges none = sound-passed passes s moment sound later in_time
+sound-made adding reports passes s moment user (Show query) sound later in_time ranges none = tt
+
+sound-judged : (s : State) (moment : ℕ) (refusal : Option Refusal) (verdict : Verdict) → (refusal ≡ None → MakesSound s moment verdict) → MakesSound s moment (unless_refused refusal verdict)
+sound-judged s moment None verdict makes = makes refl
+sound-judged s moment (Some refusal) verdict makes = tt
+
+sound-left : (s : State) (moment : ℕ) (verdict : Verdict) → IsSound s → MakesSound s moment verdict → IsSound (if is_entered (reply_by verdict) then stamped moment (left_by s verdict) else s)
+sound-left s moment (Refuses refusal) sound makes = sound
+sound-left s moment (Tells view) sound makes = sound
+sound-left s moment Stays sound makes = sound
+sound-left s moment Unbuilt sound makes = sound
+sound-left s moment (Makes reply after) sound makes = elim (cases_Bool (is_entered reply)) [ inl entered ↦ rw entered makes | inr other ↦ rw other sound ]
+
+-- the raised moment lies between the last one and the end of all moments
+max-above : (n m : ℕ) → n ≤ max n m
+max-above n m = omega arith
+
+max-below : (n m most : ℕ) → n ≤ most → m ≤ most → max n m ≤ most
+max-below n m most one other = omega arith
+
+-- Whatever is asked, what is sound stays sound.
+pub sound-step : Adding → ReportsKeep → PassesKeep → (s : State) (now : ℕ) (user : List ℕ) (request : Request) → IsSound s → IsInRange request → IsSound (state_after s now user request)
+sound-step adding reports passes s now user request sound ranges =
+    sound-left s (raised s now) (verdict_of s now user request) sound
+    (elim (cases_Bool (is_unbuilt s request)) [
+      | inl unbuilt ↦ rw unbuilt tt
+      | inr built ↦ rw built (sound-judged s (raised s now) (first_refusal (refused_if (nat_lt last_moment now) MomentTooLarge ∷ refusals_of s (raised s now) user request)) (made s (raised s now) user request)
+      (λ none.
+      let early = none-first MomentTooLarge (nat_lt last_moment now) (refusals_of s (raised s now) user request) none in
+      sound-made adding reports passes s (raised s now) user request sound (max-above s.moment now) (max-below s.moment now last_moment sound.moment (ltb-false last_moment now early.0)) ranges early.1))
+    ])

@@ -1,0 +1,36 @@
+//! What the type of requests keeps of them.
+
+ghost use Rattle.std.specs.Prelude.{IfSome};
+ghost use Rattle.ctl_state.specs.Soundness.{IsAsked, IsLimit};
+ghost use Rattle.ctl_core.specs.Step.{IsInRange};
+
+use slurm_text::plain::job::JobDesc;
+use slurm_text::plain::limit::Limit;
+use slurm_text::plain::request::Request;
+
+fn limit_in_range(limit: Option<Limit>)
+    ensures { IfSome limit IsLimit }
+{
+    if let Some(Limit::Minutes(minutes)) = limit {
+        let _ = minutes.get();
+    }
+}
+
+fn is_asked(desc: &JobDesc)
+    ensures asked { IsAsked desc.now }
+    ensures limit { IfSome desc.now.limit IsLimit }
+{
+    let _ = desc.tasks.get();
+    let _ = desc.run.get();
+    let _ = desc.exit.get();
+    limit_in_range(desc.limit);
+}
+
+/// It does nothing: its contract tells what the type keeps of every request.
+pub(crate) fn in_range(request: &Request)
+    ensures { IsInRange request.now }
+{
+    if let Request::Submit(desc) = request {
+        is_asked(desc);
+    }
+}

@@ -1,0 +1,12 @@
+pub mod Both
+pub mod BracketLemmas
+pub mod ByteOrder
+pub mod Decimals
+pub mod FoldedItems
+pub mod FoldedNames
+pub mod FoldingLaw
+pub mod FoldingLemmas
+pub mod Groups
+pub mod HostLemmas
+pub mod ItemLemmas
+pub mod NameSets
