@@ -1,6 +1,11 @@
 -- The rows of the jobs that are shown, and the first of a filter.
 use Rattle.std.proofs.Common.{◌≡◌, ℕ, ◌+◌, ◌<◌, Bool, true, false, List, [], ◌∷◌, ◌++◌, length, take, map, filter, refl, ◌∙◌, ap, get_or, cond, inl, inr}
-use Rattle.std.specs.Prelude.{find, slice_get}
+use Rattle.std.specs.Prelude.{find, slice_get, option_map}
+use Rattle.ctl_state.specs.declared.record.JobRecord.{JobRecord}
+use Rattle.ctl_state.specs.JobStates.{is_pending}
+use Rattle.ctl_state.specs.State.{State}
+use Rattle.ctl_pass.specs.Readiness.{candidates}
+use Rattle.ctl_core.specs.Showing.{highest}
 use Rattle.std.proofs.lemmas.Bool.{cases_Bool}
 use Rattle.std.proofs.lemmas.List.{take_more, append-nil, map-append}
 use Rattle.std.proofs.lemmas.List.Elements.{filter-append}
@@ -26,6 +31,10 @@ rows_skip f p xs i x below at fails =
 pub find-first : {X : Type 0} (p : X → Bool) (xs : List X) → find p xs ≡ slice_get (filter p xs) 0
 find-first p [] = refl
 find-first p (x ∷ xs) = elim (cases_Bool (p x)) [
-  | inl passes ↦ rw (passes, passes) refl
-  | inr fails ↦ rw (fails, fails) (find-first p xs)
+  | inl passes ↦ rw passes refl
+  | inr fails ↦ rw fails (find-first p xs)
 ]
+
+pub highest-is : (s : State) (now : ℕ) → option_map (λ (job : JobRecord). job.id) (find (λ (job : JobRecord). is_pending job.state) s.jobs) ≡ highest s now
+unfolding highest candidates
+highest-is s now = ap (option_map (λ (job : JobRecord). job.id)) (find-first (λ (job : JobRecord). is_pending job.state) s.jobs)

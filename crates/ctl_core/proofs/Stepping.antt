@@ -1,5 +1,5 @@
 -- Each step keeps all sound.
-use Rattle.std.proofs.Common.{◌≡◌, ℕ, zero, suc, ◌+◌, ◌<◌, ◌≤◌, ◌∙◌, Bool, true, false, List, [], ◌∷◌, ◌++◌, length, get_or, All, Option, Some, None, if◌then◌else◌, refl, sym, ap, arith, inl, inr}
+use Rattle.std.proofs.Common.{◌≡◌, ℕ, zero, suc, ◌+◌, ◌<◌, ◌≤◌, ◌∙◌, Bool, true, false, List, [], ◌∷◌, ◌++◌, length, get_or, All, Option, Some, None, Result, Ok, Err, OnOk, OnErr, if◌then◌else◌, refl, sym, ap, arith, inl, inr}
 use Rattle.std.specs.Prelude.{max, nat_lt, not, unwrap_or, IfSome}
 use Rattle.std.proofs.lemmas.Bool.{cases_Bool, ltb-false, both_ways}
 use Rattle.slurm_text.specs.declared.plain.job.JobDesc.{JobDesc}
@@ -11,11 +11,14 @@ use Rattle.slurm_text.specs.declared.plain.report.Report.{Report as Told}
 use Rattle.slurm_text.specs.declared.plain.request.Request.{Request}
 use Rattle.slurm_text.specs.declared.plain.request.Request.TheVariants.{Submit, Report, Pass, Show}
 use Rattle.ctl_state.specs.declared.record.JobRecord.{JobRecord}
+use Rattle.ctl_state.specs.JobStates.{is_pending}
 use Rattle.ctl_state.specs.State.{State, last_moment, last_job_id}
 use Rattle.ctl_state.specs.Laws.{Adding}
 use Rattle.ctl_state.specs.Soundness.{IsSound, IsKept, IsAsked, IsLimit, IsWellRun, HasItsParts}
 use Rattle.ctl_state.specs.Refusals.{refused_if, first_refusal, unless_refused}
 use Rattle.ctl_state.specs.Verdicts.{Verdict, Refuses, Tells, Stays, Unbuilt, Makes, reply_by, left_by, stamped}
+use Rattle.slurm_text.specs.declared.memory_error.Memory.{Memory}
+use Rattle.ctl_core.specs.declared.reply.Decided.{Decided}
 use Rattle.ctl_pass.specs.Passing.{pass_after, pass_made, is_idle}
 use Rattle.ctl_report.specs.Reporting.{report_after}
 use Rattle.ctl_report.specs.Answering.{report_made, made_by_report, node_of}
@@ -58,8 +61,9 @@ sound-submitted adding s moment user desc sound later in_time ranges room =
       };
       parts = record { some = refl; apart = λ i j d before within. absurd (omega (arith, within)) };
     } in
-    let one : {P : JobRecord → Type 0} → P job → All P (job ∷ []) = λ {P} holds. only P holds in
-    adding s moment (s.next_id + 1) (job ∷ []) sound later in_time (one kept) (one refl) (λ i j d before within. absurd (omega (arith, before, within))) (one (omega arith)) (one (omega arith)) (omega arith) (omega (arith, room))
+    adding s moment (s.next_id + 1) (job ∷ []) sound later in_time
+    (only (IsKept moment) kept) (only (λ (one : JobRecord). is_pending one.state ≡ true) refl) (λ i j d before within. absurd (omega (arith, before, within)))
+    (only (λ (one : JobRecord). s.next_id ≤ one.id) (omega arith)) (only (λ (one : JobRecord). one.id + 1 ≤ s.next_id + 1) (omega arith)) (omega arith) (omega (arith, room))
   where
     only : (P : JobRecord → Type 0) → P (new_job s moment user desc) → All P (new_job s moment user desc ∷ [])
     only P holds zero d within = holds
@@ -127,3 +131,8 @@ sound-step adding reports passes s now user request sound ranges =
       let early = none-first MomentTooLarge (nat_lt last_moment now) (refusals_of s (raised s now) user request) none in
       sound-made adding reports passes s (raised s now) user request sound (max-above s.moment now) (max-below s.moment now last_moment sound.moment (ltb-false last_moment now early.0)) ranges early.1))
     ])
+
+-- so what a step leaves is sound, whatever comes of it
+pub sound-either : (result : Result Decided Memory) (new old after : State) → OnOk result (new ≡ after) → OnErr result (new ≡ old) → IsSound old → IsSound after → IsSound new
+sound-either (Ok decided) new old after made same was is = rw made is
+sound-either (Err memory) new old after made same was is = rw same was

@@ -7,9 +7,11 @@ ghost use Rattle.ctl_state.specs.State.{state_of, last_moment};
 ghost use Rattle.ctl_state.specs.Soundness.{IsSound};
 ghost use Rattle.ctl_state.specs.Refusals.{first_refusal, unless_refused};
 ghost use Rattle.ctl_state.specs.Verdicts.{reply_by, left_by};
-ghost use Rattle.ctl_core.specs.Step.{reply_of, state_after, is_entered, raised, steps_of, refusals_of, made};
+ghost use Rattle.ctl_core.specs.Step.{reply_of, state_after, is_entered, is_unbuilt, raised, steps_of, refusals_of, made};
 
+use crate::laws::a_step_keeps_all_sound;
 use crate::passing::pass;
+use crate::ranges::in_range;
 use crate::reply::{Answered, Decided};
 use crate::reporting::report;
 use crate::showing::show;
@@ -73,7 +75,7 @@ fn work(
 
 // Whether the request is one that isn't worked yet.
 fn is_unbuilt(cluster: &Cluster, request: &Request) -> bool
-    ensures { result ≡ Rattle.ctl_core.specs.Step.is_unbuilt (state_of cluster.now) request.now }
+    ensures { result ≡ is_unbuilt (state_of cluster.now) request.now }
 {
     match request {
         Request::Report(report) => is_restarted(cluster, report),
@@ -102,8 +104,8 @@ pub(crate) fn refused(refusal: Refusal) -> Answered
     }
 }
 
-/// Answers a request.
-pub(crate) fn answer(
+// Answers a request.
+fn answer(
     alloc: Global,
     cluster: &mut Cluster,
     now: u64,
@@ -129,8 +131,8 @@ pub(crate) fn answer(
     Ok(stamp(cluster, moment, answered))
 }
 
-/// Answers a pass, and counts its steps.
-pub(crate) fn answer_pass<L>(
+// Answers a pass, and counts its steps.
+fn answer_pass<L>(
     alloc: Global,
     cluster: &mut Cluster,
     now: u64,
@@ -152,4 +154,48 @@ pub(crate) fn answer_pass<L>(
     }
     let answered = pass(alloc, cluster, moment, user, steps)?;
     Ok(stamp(cluster, moment, answered))
+}
+
+/// Answers a request, and keeps all sound.
+pub(crate) fn ask(
+    alloc: Global,
+    cluster: &mut Cluster,
+    now: u64,
+    user: &Name,
+    request: &Request,
+) -> Result<Decided, Memory>
+    requires sound { IsSound (state_of cluster.old) }
+    ensures reply { IfOk result (λ decided. decided.reply ≡ reply_of (state_of cluster.old) now user.now request.now) }
+    ensures entered { IfOk result (λ decided.
+        decided.entered ≡ (if is_entered decided.reply then Some decided.reply else None)) }
+    ensures moment { IfOk result (λ decided. decided.moment ≡ raised (state_of cluster.old) now) }
+    ensures after { OnOk result (state_of cluster.new ≡ state_after (state_of cluster.old) now user.now request.now) }
+    ensures err { OnErr result (state_of cluster.new ≡ state_of cluster.old) }
+    ensures sound { IsSound (state_of cluster.new) }
+{
+    a_step_keeps_all_sound();
+    in_range(request);
+    answer(alloc, cluster, now, user, request)
+}
+
+/// Answers a pass, counts its steps, and keeps all sound.
+pub(crate) fn ask_pass<L>(
+    alloc: Global,
+    cluster: &mut Cluster,
+    now: u64,
+    user: &Name,
+    steps: &mut Steps<L>,
+) -> Result<Decided, Memory>
+    requires sound { IsSound (state_of cluster.old) }
+    ensures reply { IfOk result (λ decided. decided.reply ≡ reply_of (state_of cluster.old) now user.now Pass) }
+    ensures entered { IfOk result (λ decided.
+        decided.entered ≡ (if is_entered decided.reply then Some decided.reply else None)) }
+    ensures moment { IfOk result (λ decided. decided.moment ≡ raised (state_of cluster.old) now) }
+    ensures after { OnOk result (state_of cluster.new ≡ state_after (state_of cluster.old) now user.now Pass) }
+    ensures err { OnErr result (state_of cluster.new ≡ state_of cluster.old) }
+    ensures steps { OnOk result (steps.new ≡ ticked steps.old (steps_of (state_of cluster.old) now user.now)) }
+    ensures sound { IsSound (state_of cluster.new) }
+{
+    a_step_keeps_all_sound();
+    answer_pass(alloc, cluster, now, user, steps)
 }

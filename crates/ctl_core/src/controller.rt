@@ -7,9 +7,7 @@ ghost use Rattle.ctl_state.specs.State.{opening};
 ghost use Rattle.ctl_state.specs.Soundness.{IsSound, IsNode, HasRanges};
 ghost use Rattle.ctl_core.specs.Step.{reply_of, state_after, is_entered, raised, steps_of};
 
-use crate::answering::{answer, answer_pass};
-use crate::laws::a_step_keeps_all_sound;
-use crate::ranges::in_range;
+use crate::answering::{ask, ask_pass};
 use crate::reply::Decided;
 use backfill_planner::Planned;
 use ctl_state::cluster::Cluster;
@@ -75,9 +73,7 @@ impl Ctl {
         ensures err { OnErr result (self.new ≡ self.old) }
         ensures sound { IsSound self.old.state × IsSound self.new.state }
     {
-        a_step_keeps_all_sound();
-        in_range(request);
-        answer(self.alloc, &mut self.cluster, now, user, request)
+        ask(self.alloc, &mut self.cluster, now, user, request)
     }
 
     /// A pass, whatever plan is at hand. It counts a step for each job that it plans, where it is allowed.
@@ -98,8 +94,7 @@ impl Ctl {
         ensures sound { IsSound self.old.state × IsSound self.new.state }
     {
         drop(hint);
-        a_step_keeps_all_sound();
-        answer_pass(self.alloc, &mut self.cluster, now, user, steps)
+        ask_pass(self.alloc, &mut self.cluster, now, user, steps)
     }
 }
 

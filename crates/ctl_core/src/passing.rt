@@ -11,6 +11,7 @@ ghost use Rattle.ctl_core.specs.Step.{is_entered};
 
 use crate::answering::refused;
 use crate::reply::Answered;
+use ctl_pass::laws::few_start_or_stay;
 use ctl_pass::{act, decide, is_idle, refusal_of};
 use ctl_state::cluster::Cluster;
 use resource_profile::Steps;
@@ -71,6 +72,7 @@ pub(crate) fn pass<L>(
     if let Some(refusal) = refusal_of(cluster, user) {
         return Ok(refused(refusal));
     }
+    few_start_or_stay();
     let decided = decide(alloc, cluster, moment, steps)?;
     if is_idle(cluster, moment, &decided) {
         return Ok(idle());

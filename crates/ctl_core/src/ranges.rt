@@ -8,22 +8,20 @@ use slurm_text::plain::job::JobDesc;
 use slurm_text::plain::limit::Limit;
 use slurm_text::plain::request::Request;
 
-fn limit_in_range(limit: Option<Limit>)
-    ensures { IfSome limit IsLimit }
-{
-    if let Some(Limit::Minutes(minutes)) = limit {
-        let _ = minutes.get();
-    }
-}
-
 fn is_asked(desc: &JobDesc)
-    ensures asked { IsAsked desc.now }
-    ensures limit { IfSome desc.now.limit IsLimit }
+    ensures { IsAsked desc.now }
 {
     let _ = desc.tasks.get();
     let _ = desc.run.get();
     let _ = desc.exit.get();
-    limit_in_range(desc.limit);
+}
+
+fn is_limit(desc: &JobDesc)
+    ensures { IfSome desc.now.limit IsLimit }
+{
+    if let Some(Limit::Minutes(minutes)) = &desc.limit {
+        let _ = minutes.get();
+    }
 }
 
 /// It does nothing: its contract tells what the type keeps of every request.
@@ -32,5 +30,6 @@ pub(crate) fn in_range(request: &Request)
 {
     if let Request::Submit(desc) = request {
         is_asked(desc);
+        is_limit(desc);
     }
 }

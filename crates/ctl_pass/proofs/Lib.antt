@@ -12,3 +12,4 @@ pub mod Plans
 pub mod Sameness
 pub mod Idle
 pub mod Origins
+pub mod Few

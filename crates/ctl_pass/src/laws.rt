@@ -1,16 +1,16 @@
 //! What holds of every pass. A law is the contract of a function that does nothing but call the laws
 //! that it rests on.
 
-ghost use Rattle.std.specs.Prelude.{◌≡◌, ◌⊎◌, ℕ, ◌≤◌, [], All, Any, Contains, true};
+ghost use Rattle.std.specs.Prelude.{◌≡◌, ◌⊎◌, ℕ, ◌≤◌, [], All, Any, Contains, true, ◌+◌, length};
 ghost use Rattle.backfill_planner.specs.declared.Placed.{Placed};
 ghost use Rattle.ctl_state.specs.declared.record.JobRecord.{JobRecord};
-ghost use Rattle.ctl_state.specs.State.{State, last_moment};
+ghost use Rattle.ctl_state.specs.State.{State, last_job_id, last_moment};
 ghost use Rattle.ctl_state.specs.JobStates.{is_running};
 ghost use Rattle.ctl_state.specs.Soundness.{IsSound};
 ghost use Rattle.ctl_state.specs.Verdicts.{stamped};
 ghost use Rattle.ctl_pass.specs.Readiness.{ready, placements};
 ghost use Rattle.ctl_pass.specs.Starting.{HasStarted};
-ghost use Rattle.ctl_pass.specs.Passing.{pass_after, is_idle};
+ghost use Rattle.ctl_pass.specs.Passing.{outcome, pass_after, is_idle};
 
 use backfill_planner::laws::{parts_are_apart, placements_are_of_ranked_jobs, starts_fit};
 use ctl_state::laws::{
@@ -79,3 +79,9 @@ pub fn what_a_pass_plans_is_sound()
     jobs_are_kept();
     letting_go_keeps_all_sound();
 }
+
+/// No more jobs start and stay than there are numbers.
+pub fn few_start_or_stay()
+    ensures { (s : State) (now : ℕ) → IsSound s
+        → length (outcome s now).starts + length (outcome s now).stays ≤ last_job_id + 1 }
+{}

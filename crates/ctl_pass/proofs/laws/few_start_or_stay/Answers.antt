@@ -1,0 +1,5 @@
+use Rattle.ctl_pass.proofs.Few.{few-go}
+use Rattle.ctl_pass.proofs.laws.few_start_or_stay.Goals as goal
+
+pub returns : goal.returns
+returns c = few-go
