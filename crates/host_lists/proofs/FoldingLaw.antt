@@ -3,7 +3,7 @@ use Rattle.std.proofs.Common.{ℕ, ◌≡◌, ◌+◌, ◌≤◌, ◌||◌, Bool
 use Rattle.std.specs.List.{list_all}
 use Rattle.std.proofs.lemmas.List.{length-append}
 use Rattle.small_texts.specs.Name.{is_name}
-use Rattle.host_lists.specs.Hosts.{has, distinct, items_from, host_items, bad_from, first_bad_item, all_names, hosts_in}
+use Rattle.host_lists.specs.Hosts.{has, items_from, host_items, bad_from, first_bad_item, all_names, hosts_in}
 use Rattle.host_lists.specs.Folding.{in_byte_order, grouped, group_text, with_commas, folded}
 use Rattle.host_lists.proofs.NameSets.{has-append, has-distinct, has_in_byte_order, list_all-in_byte_order, length-in_byte_order, some-in_byte_order}
 use Rattle.host_lists.proofs.ByteOrder.{folded-same}
@@ -28,9 +28,8 @@ has-all_names : (q : List ℕ) (groups : List (List (List ℕ))) → AreGroups g
 has-all_names q [] g h = refl
 has-all_names q (group ∷ groups) g h =
     rw (item_names-group group g.0 (omega (arith, length-append group (flat groups))))
-    (has-append q (distinct group) (all_names (map group_text groups))
-    ∙ (ap (λ (t : Bool). t || has q (all_names (map group_text groups))) (has-distinct q group)
-    ∙ (ap (λ (t : Bool). has q group || t) (has-all_names q groups g.1 (omega (arith, length-append group (flat groups)))) ∙ sym (has-append q group (flat groups)))))
+    (has-append q group (all_names (map group_text groups))
+    ∙ (ap (λ (t : Bool). has q group || t) (has-all_names q groups g.1 (omega (arith, length-append group (flat groups)))) ∙ sym (has-append q group (flat groups))))
 
 -- what the groups of names are, where these are 1 to 1,024
 pub record Folds (names : List (List ℕ)) : Type 0 where
