@@ -2,7 +2,7 @@ ghost use Rattle.std.specs.Prelude.{ℕ, ◌≡◌, ◌<◌, ◌≤◌, ◌^◌,
 ghost use Rattle.std.specs.Char.{is_ascii_digit};
 ghost use Rattle.std.specs.List.{list_all};
 ghost use Rattle.small_texts.specs.Name.{is_name};
-ghost use Rattle.host_lists.specs.Hosts.{has, hosts_in, first_bad_item};
+ghost use Rattle.host_lists.specs.Hosts.{has, distinct, hosts_in, first_bad_item};
 ghost use Rattle.host_lists.specs.Folding.{in_byte_order, digits_len, prefix_of, digits_of, number_of, grouped, runs, runs_text, run_text, group_text, with_commas, folded};
 
 use small_texts::digits::parse_number;
@@ -193,10 +193,10 @@ pub fn fold_hosts(alloc: Global, names: &[Name]) -> Result<Vec<u8>, Memory>
     ensures set { (others : List (List ℕ)) → ((name : List ℕ) → has name others ≡ has name names.now)
         → IfOk result (λ text. text.items ≡ folded others) }
 
-    // Expanding the text of 1 to 1,024 names gives the same set.
-    ensures good { 1 ≤ length names.now → length names.now ≤ 1024
+    // Expanding the text of 1 to 1,024 names, each counted once, gives the same set.
+    ensures good { 1 ≤ length names.now → length (distinct names.now) ≤ 1024
         → IfOk result (λ text. first_bad_item text.items ≡ None) }
-    ensures same { 1 ≤ length names.now → length names.now ≤ 1024
+    ensures same { 1 ≤ length names.now → length (distinct names.now) ≤ 1024
         → IfOk result (λ text. (name : List ℕ) → has name (hosts_in text.items) ≡ has name names.now) }
 {
     let text = folded_text(alloc, names)?;
