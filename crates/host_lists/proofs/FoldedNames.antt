@@ -1,17 +1,19 @@
 -- The text of a group gives the names of the group.
-use Rattle.std.proofs.Common.{ℕ, zero, suc, ◌≡◌, ◌+◌, ◌-◌, ◌<◌, ◌≤◌, ◌&&◌, ◌==◌, if◌then◌else◌, not, nat_le, nat_lt, Bool, true, false, Some, None, List, [], ◌∷◌, ◌++◌, length, take, drop, position, map, flat_map, slice_index, sym, refl, ap, ◌∙◌, subst, arith, eqb-true}
+use Rattle.std.proofs.Common.{ℕ, zero, suc, ◌≡◌, ◌+◌, ◌-◌, ◌^◌, ◌<◌, ◌≤◌, ◌&&◌, ◌==◌, if◌then◌else◌, not, nat_le, nat_lt, Bool, true, false, Some, List, [], ◌∷◌, ◌++◌, length, take, drop, map, flat_map, sym, refl, ap, ◌∙◌, subst, arith, eqb-true}
 use Rattle.std.specs.Str.{bytes_eq}
 use Rattle.std.specs.Char.{is_ascii_digit}
-use Rattle.std.specs.Int.{is_in_range}
-use Rattle.std.specs.List.{list_all, range_with_len, position_or_len, slice_split}
+use Rattle.std.specs.List.{list_all, range_with_len, slice_split}
 use Rattle.std.proofs.lemmas.Bool.Decides.{nat_tests}
-use Rattle.std.proofs.lemmas.List.{append-nil, append_assoc, length-append}
+use Rattle.std.proofs.lemmas.List.{append-nil, append_assoc}
 use Rattle.std.proofs.lemmas.List.Folds.{list_all-append}
-use Rattle.host_lists.specs.declared.hosts.HostRange.{HostRange}
+use Rattle.std.specs.Str.{all_ascii_digits}
+use Rattle.std.specs.Str.Parse.{digits_value}
+use Rattle.small_texts.specs.Digits.{number_within}
+use Rattle.small_texts.specs.Fields.{fields}
 use Rattle.small_texts.specs.Name.{is_name, is_name_byte}
-use Rattle.host_lists.specs.Hosts.{digits_number, number_in, range_of, range_at, range_in, padded, range_names, distinct, ranges_in, few_with, names_of_parts, bracket_names, item_names}
+use Rattle.host_lists.specs.Hosts.{Numbers, number_in, numbers_of, numbers_in, padded, range_names, distinct, made_by_parts, made_behind, made_by, few, item_names}
 use Rattle.host_lists.specs.Folding.{digits_len, prefix_of, digits_of, number_of, same_group, continued, runs, run_text, with_commas, runs_text, group_text}
-use Rattle.host_lists.proofs.Decimals.{padded_digits}
+use Rattle.host_lists.proofs.Decimals.{padded_digits, small}
 use Rattle.host_lists.proofs.FoldingLemmas.{digits_of-digits, digits_len-few, length-digits_of}
 use Rattle.host_lists.proofs.HostLemmas.{bytes_eq-same}
 use Rattle.host_lists.proofs.NameSets.{length-fold-with_name-le}
@@ -39,38 +41,7 @@ not-true : (t : Bool) → not t ≡ true → t ≡ false
 not-true true h = sym h
 not-true false h = refl
 
--- no element passes a test
-position_or_len-none : {X : Type 0} (p : X → Bool) (xs : List X) → list_all (λ x. not (p x)) xs ≡ true → position_or_len p xs ≡ length xs
-position_or_len-none p [] h = refl
-position_or_len-none p (x ∷ xs) h =
-    rw (not-true (p x) (both-left (not (p x)) (list_all (λ y. not (p y)) xs) h), position_or_len-none p xs (both-right (not (p x)) (list_all (λ y. not (p y)) xs) h)) (omega arith)
-
-position-none : {X : Type 0} (p : X → Bool) (xs : List X) → list_all (λ x. not (p x)) xs ≡ true → position p xs ≡ None
-position-none p xs h = passed (position_or_len p xs) (length xs) (position_or_len-none p xs h) where
-  passed : (n m : ℕ) → n ≡ m → (if nat_lt n m then Some n else None) ≡ None
-  passed n m e = grind (arith, nat_tests)
-
--- the first that does
-position_or_len-first : {X : Type 0} (p : X → Bool) (xs : List X) (y : X) (ys : List X) → list_all (λ x. not (p x)) xs ≡ true → p y ≡ true → position_or_len p (xs ++ y ∷ ys) ≡ length xs
-position_or_len-first p [] y ys h k = rw k refl
-position_or_len-first p (x ∷ xs) y ys h k =
-    rw (not-true (p x) (both-left (not (p x)) (list_all (λ z. not (p z)) xs) h), position_or_len-first p xs y ys (both-right (not (p x)) (list_all (λ z. not (p z)) xs) h) k) (omega arith)
-
-position-first : {X : Type 0} (p : X → Bool) (xs : List X) (y : X) (ys : List X) → list_all (λ x. not (p x)) xs ≡ true → p y ≡ true → position p (xs ++ y ∷ ys) ≡ Some (length xs)
-position-first p xs y ys h k = found (position_or_len p (xs ++ y ∷ ys)) (length (xs ++ y ∷ ys)) (length xs) (position_or_len-first p xs y ys h k) (omega (arith, length-append xs (y ∷ ys))) where
-  found : (n m k : ℕ) → n ≡ k → k < m → (if nat_lt n m then Some n else None) ≡ Some k
-  found n m k e h = rw e (grind (arith, nat_tests))
-
-take-front : {X : Type 0} (xs ys : List X) → take (length xs) (xs ++ ys) ≡ xs
-take-front [] ys = refl
-take-front (x ∷ xs) ys = ap (λ (u : List _). x ∷ u) (take-front xs ys)
-
-drop-front : {X : Type 0} (xs : List X) (y : X) (ys : List X) → drop (length xs + 1) (xs ++ y ∷ ys) ≡ ys
-drop-front [] y ys = refl
-drop-front (x ∷ xs) y ys =
-    let n : length (x ∷ xs) + 1 ≡ suc (length xs + 1) = omega arith in
-    rw n (drop-front xs y ys)
-
+-- a text is cut where a byte passes a test
 split-none : (p : ℕ → Bool) (xs : List ℕ) → list_all (λ x. not (p x)) xs ≡ true → slice_split p xs ≡ xs ∷ []
 split-none p [] h = refl
 split-none p (x ∷ xs) h =
@@ -97,11 +68,21 @@ abbrev IsOf : List ℕ → ℕ → List (List ℕ) → Type 0
 IsOf prefix width [] = Unit {0}
 IsOf prefix width (name ∷ names) = ((prefix_of name ≡ prefix) × (digits_len name ≡ width)) × IsOf prefix width names
 
-digit-number_in : (digits : List ℕ) → list_all is_ascii_digit digits ≡ true → 1 ≤ length digits → length digits ≤ 9 → number_in digits ≡ Some (digits_number digits)
-unfolding number_in
-digit-number_in digits h k n = rw (within (length digits) k n, h) refl where
-  within : (m : ℕ) → 1 ≤ m → m ≤ 9 → is_in_range 1 9 m ≡ true
-  within m k n = grind (arith, nat_tests)
+list_all-digits : (digits : List ℕ) → all_ascii_digits digits ≡ list_all is_ascii_digit digits
+list_all-digits [] = refl
+list_all-digits (d ∷ digits) = ap (λ (t : Bool). is_ascii_digit d && t) (list_all-digits digits)
+
+digit-number_in : (digits : List ℕ) → list_all is_ascii_digit digits ≡ true → 1 ≤ length digits → length digits ≤ 9 → number_in digits ≡ Some (digits_value 10 digits)
+unfolding number_within
+digit-number_in digits h k n = rw (some (length digits) k, few_digits (length digits) n, list_all-digits digits, h, low (digits_value 10 digits) (small digits h n)) refl where
+  some : (m : ℕ) → 1 ≤ m → nat_lt 0 m ≡ true
+  some m k = grind (arith, nat_tests)
+
+  few_digits : (m : ℕ) → m ≤ 9 → nat_le m 9 ≡ true
+  few_digits m n = grind (arith, nat_tests)
+
+  low : (m : ℕ) → m < 10 ^ 9 → nat_le m 999_999_999 ≡ true
+  low m n = grind (arith, nat_tests)
 
 name-digits : (name : List ℕ) → prefix_of name ++ digits_of name ≡ name
 name-digits name = joined (length name - digits_len name) name where
@@ -119,40 +100,34 @@ name-padded name prefix width h p w =
     ∙ (ap (λ (n : ℕ). prefix_of name ++ padded n (number_of name)) (sym len)
     ∙ (ap (λ (x : List ℕ). prefix_of name ++ x) same ∙ name-digits name))
 
-abbrev run_range : ℕ → List ℕ × List ℕ → HostRange
+abbrev run_range : ℕ → List ℕ × List ℕ → Numbers
 run_range width run = record { first = number_of run.0; last = number_of run.1; width = width }
 
-record IsRun (width most : ℕ) (run : List ℕ × List ℕ) : Type 0 where
+record IsRun (width : ℕ) (run : List ℕ × List ℕ) : Type 0 where
   pub rising : number_of run.0 ≤ number_of run.1
-  pub few : number_of run.1 + 1 ≤ number_of run.0 + most
   pub first_width : digits_len run.0 ≡ width
   pub last_width : digits_len run.1 ≡ width
 
-abbrev AreRuns : ℕ → ℕ → List (List ℕ × List ℕ) → Type 0
-AreRuns width most [] = Unit {0}
-AreRuns width most (run ∷ rs) = IsRun width most run × AreRuns width most rs
+abbrev AreRuns : ℕ → List (List ℕ × List ℕ) → Type 0
+AreRuns width [] = Unit {0}
+AreRuns width (run ∷ rs) = IsRun width run × AreRuns width rs
 
-AreRuns-more : (width most more : ℕ) (rs : List (List ℕ × List ℕ)) → most ≤ more → AreRuns width most rs → AreRuns width more rs
-AreRuns-more width most more [] h g = tt
-AreRuns-more width most more (run ∷ rs) h g =
-    (record { rising = g.0.rising; few = omega (arith, g.0.few); first_width = g.0.first_width; last_width = g.0.last_width }, AreRuns-more width most more rs h g.1)
+one_run : (width : ℕ) (name : List ℕ) → digits_len name ≡ width → IsRun width (name, name)
+one_run width name w = record { rising = omega arith; first_width = w; last_width = w }
 
-one_run : (width most : ℕ) (name : List ℕ) → 1 ≤ most → digits_len name ≡ width → IsRun width most (name, name)
-one_run width most name h w = record { rising = omega arith; few = omega arith; first_width = w; last_width = w }
-
-AreRuns-continued : (width most : ℕ) (name : List ℕ) (rs : List (List ℕ × List ℕ)) → digits_len name ≡ width → AreRuns width most rs → AreRuns width (most + 1) (continued name name rs)
-AreRuns-continued width most name [] w g = (one_run width (most + 1) name (omega arith) w, tt)
-AreRuns-continued width most name (next ∷ rs) w g = by_next (number_of next.0 == number_of name + 1) refl where
-  by_next : (t : Bool) → (number_of next.0 == number_of name + 1) ≡ t → AreRuns width (most + 1) (if t then (name, next.1) ∷ rs else (name, name) ∷ next ∷ rs)
+AreRuns-continued : (width : ℕ) (name : List ℕ) (rs : List (List ℕ × List ℕ)) → digits_len name ≡ width → AreRuns width rs → AreRuns width (continued name name rs)
+AreRuns-continued width name [] w g = (one_run width name w, tt)
+AreRuns-continued width name (next ∷ rs) w g = by_next (number_of next.0 == number_of name + 1) refl where
+  by_next : (t : Bool) → (number_of next.0 == number_of name + 1) ≡ t → AreRuns width (if t then (name, next.1) ∷ rs else (name, name) ∷ next ∷ rs)
   by_next true e =
       let at : number_of next.0 ≡ number_of name + 1 = eqb-true (number_of next.0) (number_of name + 1) e in
-      (record { rising = omega (arith, at, g.0.rising); few = omega (arith, at, g.0.few); first_width = w; last_width = g.0.last_width }, AreRuns-more width most (most + 1) rs (omega arith) g.1)
-  by_next false e = (one_run width (most + 1) name (omega arith) w, AreRuns-more width most (most + 1) (next ∷ rs) (omega arith) g)
+      (record { rising = omega (arith, at, g.0.rising); first_width = w; last_width = g.0.last_width }, g.1)
+  by_next false e = (one_run width name w, g)
 
-AreRuns-runs : (prefix : List ℕ) (width : ℕ) (names : List (List ℕ)) → IsOf prefix width names → AreRuns width (length names) (runs names)
+AreRuns-runs : (prefix : List ℕ) (width : ℕ) (names : List (List ℕ)) → IsOf prefix width names → AreRuns width (runs names)
 AreRuns-runs prefix width [] h = tt
 AreRuns-runs prefix width (name ∷ names) h =
-    AreRuns-more width (length names + 1) (length (name ∷ names)) (continued name name (runs names)) (omega arith) (AreRuns-continued width (length names) name (runs names) h.0.1 (AreRuns-runs prefix width names h.1))
+    AreRuns-continued width name (runs names) h.0.1 (AreRuns-runs prefix width names h.1)
 
 -- the names of the ranges of runs are the names
 one_range : (prefix : List ℕ) (width : ℕ) (name : List ℕ) → prefix ++ padded width (number_of name) ≡ name → range_names prefix (run_range width (name, name)) ≡ name ∷ []
@@ -167,9 +142,9 @@ more_range prefix width name first last h e k =
     let count : number_of last + 1 - number_of name ≡ suc (number_of last + 1 - number_of first) = omega arith in
     rw (count, e) (ap (λ (x : List ℕ). x ∷ map (λ n. prefix ++ padded width n) (range_with_len (number_of name + 1) (number_of last + 1 - (number_of name + 1)))) h)
 
-names-continued : (prefix : List ℕ) (width most : ℕ) (name : List ℕ) (rs : List (List ℕ × List ℕ)) → prefix ++ padded width (number_of name) ≡ name → AreRuns width most rs → flat_map (range_names prefix) (map (run_range width) (continued name name rs)) ≡ name ∷ flat_map (range_names prefix) (map (run_range width) rs)
-names-continued prefix width most name [] h g = rw (one_range prefix width name h) refl
-names-continued prefix width most name (next ∷ rs) h g = by_next (number_of next.0 == number_of name + 1) refl where
+names-continued : (prefix : List ℕ) (width : ℕ) (name : List ℕ) (rs : List (List ℕ × List ℕ)) → prefix ++ padded width (number_of name) ≡ name → AreRuns width rs → flat_map (range_names prefix) (map (run_range width) (continued name name rs)) ≡ name ∷ flat_map (range_names prefix) (map (run_range width) rs)
+names-continued prefix width name [] h g = rw (one_range prefix width name h) refl
+names-continued prefix width name (next ∷ rs) h g = by_next (number_of next.0 == number_of name + 1) refl where
   by_next : (t : Bool) → (number_of next.0 == number_of name + 1) ≡ t → flat_map (range_names prefix) (map (run_range width) (if t then (name, next.1) ∷ rs else (name, name) ∷ next ∷ rs)) ≡ name ∷ flat_map (range_names prefix) (map (run_range width) (next ∷ rs))
   by_next true e = rw (more_range prefix width name next.0 next.1 h (eqb-true (number_of next.0) (number_of name + 1) e) g.0.rising) refl
   by_next false e = rw (one_range prefix width name h) refl
@@ -177,7 +152,7 @@ names-continued prefix width most name (next ∷ rs) h g = by_next (number_of ne
 names-runs : (prefix : List ℕ) (width : ℕ) (names : List (List ℕ)) → 1 ≤ width → IsOf prefix width names → flat_map (range_names prefix) (map (run_range width) (runs names)) ≡ names
 names-runs prefix width [] h g = refl
 names-runs prefix width (name ∷ names) h g =
-    names-continued prefix width (length names) name (runs names) (name-padded name prefix width h g.0.0 g.0.1) (AreRuns-runs prefix width names g.1)
+    names-continued prefix width name (runs names) (name-padded name prefix width h g.0.0 g.0.1) (AreRuns-runs prefix width names g.1)
     ∙ ap (λ (u : List (List ℕ)). name ∷ u) (names-runs prefix width names h g.1)
 
 -- ---- the texts of runs
@@ -185,38 +160,32 @@ names-runs prefix width (name ∷ names) h g =
 digits-no_dash : (name : List ℕ) → list_all (λ b. not (b == 45)) (digits_of name) ≡ true
 digits-no_dash name = list_all-weaker is_ascii_digit (λ b. not (b == 45)) (digits_of name) (λ b h. ap not (other_byte is_ascii_digit b 45 h refl)) (digits_of-digits name)
 
-range_of-good : (width a b : ℕ) → a ≤ b → b + 1 ≤ a + 1024 → range_of width (Some a) (Some b) ≡ Some (record { first = a; last = b; width = width })
-range_of-good width a b h k = rw (low a b h, high a b k) refl where
-  low : (a b : ℕ) → a ≤ b → nat_le a b ≡ true
-  low a b h = grind (arith, nat_tests)
-
-  high : (a b : ℕ) → b + 1 ≤ a + 1024 → nat_lt (b - a) 1024 ≡ true
-  high a b k = grind (arith, nat_tests)
-
 name-number_in : (name : List ℕ) (width : ℕ) → digits_len name ≡ width → 1 ≤ width → number_in (digits_of name) ≡ Some (number_of name)
 name-number_in name width w h =
     let len : length (digits_of name) ≡ digits_len name = length-digits_of name in
     let few : digits_len name ≤ 9 = digits_len-few name in
     digit-number_in (digits_of name) (digits_of-digits name) (omega arith) (omega arith)
 
-range_in-run : (width : ℕ) (first last : List ℕ) → 1 ≤ width → IsRun width 1024 (first, last) → range_in (run_text first last) ≡ Some (run_range width (first, last))
-unfolding range_in run_text
-range_in-run width first last h g = by_same (bytes_eq first last) refl where
+numbers_in-run : (width : ℕ) (first last : List ℕ) → 1 ≤ width → IsRun width (first, last) → numbers_in (run_text first last) ≡ Some (run_range width (first, last))
+unfolding numbers_of run_text
+numbers_in-run width first last h g = by_same (bytes_eq first last) refl where
   len : length (digits_of first) ≡ width
   len = length-digits_of first ∙ g.first_width
 
-  by_same : (t : Bool) → bytes_eq first last ≡ t → range_at (if t then digits_of first else digits_of first ++ 45 ∷ digits_of last) (position (λ b. b == 45) (if t then digits_of first else digits_of first ++ 45 ∷ digits_of last)) ≡ Some (run_range width (first, last))
+  low : (a b : ℕ) → a ≤ b → nat_le a b ≡ true
+  low a b h = grind (arith, nat_tests)
+
+  by_same : (t : Bool) → bytes_eq first last ≡ t → numbers_in (if t then digits_of first else digits_of first ++ 45 ∷ digits_of last) ≡ Some (run_range width (first, last))
   by_same true e =
       let same : first ≡ last = bytes_eq-same first last e in
-      let P : List ℕ → Type 0 = λ x. range_at (digits_of first) (position (λ b. b == 45) (digits_of first)) ≡ Some (record { first = number_of first; last = number_of x; width = width }) in
-      subst P same (rw (position-none (λ b. b == 45) (digits_of first) (digits-no_dash first), name-number_in first width g.first_width h, len) (range_of-good width (number_of first) (number_of first) (omega arith) (omega arith)))
+      let P : List ℕ → Type 0 = λ x. numbers_in (digits_of first) ≡ Some (record { first = number_of first; last = number_of x; width = width }) in
+      subst P same (rw (split-none (λ b. b == 45) (digits_of first) (digits-no_dash first), name-number_in first width g.first_width h, len) refl)
   by_same false e =
-      rw (position-first (λ b. b == 45) (digits_of first) 45 (digits_of last) (digits-no_dash first) refl, take-front (digits_of first) (45 ∷ digits_of last), drop-front (digits_of first) 45 (digits_of last), name-number_in first width g.first_width h, name-number_in last width g.last_width h, len)
-      (range_of-good width (number_of first) (number_of last) g.rising g.few)
+      rw (split-first (λ b. b == 45) (digits_of first) 45 (digits_of last) (digits-no_dash first) refl, split-none (λ b. b == 45) (digits_of last) (digits-no_dash last), name-number_in first width g.first_width h, name-number_in last width g.last_width h, len, low (number_of first) (number_of last) g.rising) refl
 
-ranges_in-runs : (width : ℕ) (rs : List (List ℕ × List ℕ)) → 1 ≤ width → AreRuns width 1024 rs → ranges_in (map (λ run. run_text run.0 run.1) rs) ≡ Some (map (run_range width) rs)
-ranges_in-runs width [] h g = refl
-ranges_in-runs width (run ∷ rs) h g = rw (range_in-run width run.0 run.1 h g.0, ranges_in-runs width rs h g.1) refl
+made_by_parts-runs : (prefix : List ℕ) (width : ℕ) (rs : List (List ℕ × List ℕ)) → 1 ≤ width → AreRuns width rs → made_by_parts prefix (map (λ run. run_text run.0 run.1) rs) ≡ Some (flat_map (range_names prefix) (map (run_range width) rs))
+made_by_parts-runs prefix width [] h g = refl
+made_by_parts-runs prefix width (run ∷ rs) h g = rw (numbers_in-run width run.0 run.1 h g.0, made_by_parts-runs prefix width rs h g.1) refl
 
 run_text-bytes : (first last : List ℕ) → list_all is_run_byte (run_text first last) ≡ true
 unfolding run_text
@@ -261,30 +230,21 @@ prefix-bytes name h = list_all-front is_name_byte name (length name - digits_len
 no_bracket : (text : List ℕ) → list_all is_name_byte text ≡ true → list_all (λ b. not (b == 91)) text ≡ true
 no_bracket text h = list_all-weaker is_name_byte (λ b. not (b == 91)) text (λ b k. ap not (other_byte is_name_byte b 91 k refl)) h
 
-item_names-name : (name : List ℕ) → is_name name ≡ true → item_names name ≡ Some (name ∷ [])
-unfolding item_names
-item_names-name name h = rw (position-none (λ b. b == 91) name (no_bracket name (name-bytes name h)), h) refl
+no_closing : (text : List ℕ) → list_all is_bracket_byte text ≡ true → list_all (λ b. not (b == 93)) text ≡ true
+no_closing text h = list_all-weaker is_bracket_byte (λ b. not (b == 93)) text (λ b k. ap not (other_byte is_bracket_byte b 93 k refl)) h
 
-closing : (inside : List ℕ) → (slice_index (inside ++ 93 ∷ []) (length (inside ++ 93 ∷ []) - 1) == 93) ≡ true
-closing inside = rw at (last inside) where
-  at : length (inside ++ 93 ∷ []) - 1 ≡ length inside
-  at = omega (arith, length-append inside (93 ∷ []))
+no_opening : (text : List ℕ) → list_all is_bracket_byte text ≡ true → list_all (λ b. not (b == 91)) (text ++ 93 ∷ []) ≡ true
+no_opening text h = list_all-join (λ b. not (b == 91)) text (93 ∷ []) (list_all-weaker is_bracket_byte (λ b. not (b == 91)) text (λ b k. ap not (other_byte is_bracket_byte b 91 k refl)) h) refl
 
-  last : (xs : List ℕ) → (slice_index (xs ++ 93 ∷ []) (length xs) == 93) ≡ true
-  last [] = refl
-  last (x ∷ xs) = last xs
+made_by-name : (name : List ℕ) → is_name name ≡ true → made_by (fields 91 name) ≡ Some (name ∷ [])
+unfolding made_by
+made_by-name name h = rw (split-none (λ b. b == 91) name (no_bracket name (name-bytes name h))) refl
 
-bracket_names-is : (prefix inside : List ℕ) → bracket_names prefix (inside ++ 93 ∷ []) ≡ names_of_parts prefix (slice_split (λ b. b == 44) inside)
-unfolding bracket_names
-bracket_names-is prefix inside = rw (closing inside, at, take-front inside (93 ∷ [])) refl where
-  at : length (inside ++ 93 ∷ []) - 1 ≡ length inside
-  at = omega (arith, length-append inside (93 ∷ []))
-
-item_names-bracket : (prefix inside : List ℕ) → list_all is_name_byte prefix ≡ true → item_names (prefix ++ 91 ∷ inside ++ 93 ∷ []) ≡ names_of_parts prefix (slice_split (λ b. b == 44) inside)
-unfolding item_names
-item_names-bracket prefix inside h =
+made_by-bracket : (prefix inside : List ℕ) → list_all is_name_byte prefix ≡ true → list_all is_bracket_byte inside ≡ true → made_by (fields 91 (prefix ++ 91 ∷ inside ++ 93 ∷ [])) ≡ made_by_parts prefix (fields 44 inside)
+unfolding made_by made_behind
+made_by-bracket prefix inside h k =
     let whole : prefix ++ 91 ∷ inside ++ 93 ∷ [] ≡ prefix ++ (91 ∷ (inside ++ 93 ∷ [])) = simp append_assoc in
-    rw (whole, position-first (λ b. b == 91) prefix 91 (inside ++ 93 ∷ []) (no_bracket prefix h) refl, take-front prefix (91 ∷ (inside ++ 93 ∷ [])), drop-front prefix 91 (inside ++ 93 ∷ [])) (bracket_names-is prefix inside)
+    rw (whole, split-first (λ b. b == 91) prefix 91 (inside ++ 93 ∷ []) (no_bracket prefix h) refl, split-none (λ b. b == 91) (inside ++ 93 ∷ []) (no_opening inside k), split-first (λ b. b == 93) inside 93 [] (no_closing inside k) refl) refl
 
 -- a group's names are of its first name's prefix and number of digits
 same_group-is : (first name : List ℕ) → same_group first name ≡ true → (prefix_of name ≡ prefix_of first) × (digits_len name ≡ digits_len first) × (1 ≤ digits_len name)
@@ -302,17 +262,11 @@ IsOf-group first (name ∷ names) h =
     let one = same_group-is first name (both-left (same_group first name) (list_all (same_group first) names) h) in
     ((one.0, one.1), IsOf-group first names (both-right (same_group first name) (list_all (same_group first) names) h))
 
-few-distinct : (names : List (List ℕ)) → list_all is_name names ≡ true → length names ≤ 1024 → few_with [] names ≡ Some (distinct names)
-unfolding few_with
-few-distinct names h k = rw (h, few (length (distinct names)) (omega (arith, length-fold-with_name-le names []))) refl where
-  few : (n : ℕ) → n ≤ 1024 → nat_le n 1024 ≡ true
-  few n k = grind (arith, nat_tests)
-
-parts-runs : (prefix : List ℕ) (width : ℕ) (names : List (List ℕ)) → 1 ≤ width → IsOf prefix width names → length names ≤ 1024 → list_all is_name names ≡ true → names_of_parts prefix (map (λ run. run_text run.0 run.1) (runs names)) ≡ Some (distinct names)
-unfolding names_of_parts
-parts-runs prefix width names h g k n =
-    let good : AreRuns width 1024 (runs names) = AreRuns-more width (length names) 1024 (runs names) k (AreRuns-runs prefix width names g) in
-    rw (ranges_in-runs width (runs names) h good, names-runs prefix width names h g) (few-distinct names n k)
+few-names : (names : List (List ℕ)) → list_all is_name names ≡ true → length names ≤ 1024 → few names ≡ Some names
+unfolding few
+few-names names h k = rw (h, low (length (distinct names)) (omega (arith, length-fold-with_name-le names []))) refl where
+  low : (n : ℕ) → n ≤ 1024 → nat_le n 1024 ≡ true
+  low n k = grind (arith, nat_tests)
 
 -- there is a run where there is a name
 split-runs : (name : List ℕ) (names : List (List ℕ)) → slice_split (λ b. b == 44) (runs_text (runs (name ∷ names))) ≡ map (λ run. run_text run.0 run.1) (runs (name ∷ names))
@@ -324,17 +278,24 @@ split-runs name names = by_runs (runs names) where
     by_next true = split_with_commas (run_text name next.1) (map (λ run. run_text run.0 run.1) rs) (AllWithout-runs ((name, next.1) ∷ rs))
     by_next false = split_with_commas (run_text name name) (map (λ run. run_text run.0 run.1) (next ∷ rs)) (AllWithout-runs ((name, name) ∷ next ∷ rs))
 
-pub item_names-group : (group : List (List ℕ)) → IsGroup group → length group ≤ 1024 → item_names (group_text group) ≡ Some (distinct group)
+made_by-group : (group : List (List ℕ)) → IsGroup group → made_by (fields 91 (group_text group)) ≡ Some group
 unfolding group_text
-item_names-group [] g k = absurd g
-item_names-group (name ∷ []) g k = item_names-name name g.0
-item_names-group (name ∷ next ∷ names) g k =
+made_by-group [] g = absurd g
+made_by-group (name ∷ []) g = made_by-name name g.0
+made_by-group (name ∷ next ∷ names) g =
     let one = same_group-is name next (both-left (same_group name next) (list_all (same_group name) names) g.2) in
-    let all : list_all is_name (name ∷ next ∷ names) ≡ true = rw (g.0, g.1) refl in
     let of : IsOf (prefix_of name) (digits_len name) (name ∷ next ∷ names) = ((refl, refl), IsOf-group name (next ∷ names) g.2) in
-    item_names-bracket (prefix_of name) (runs_text (runs (name ∷ next ∷ names))) (prefix-bytes name g.0)
-    ∙ (ap (names_of_parts (prefix_of name)) (split-runs name (next ∷ names))
-    ∙ parts-runs (prefix_of name) (digits_len name) (name ∷ next ∷ names) (omega arith) of k all)
+    made_by-bracket (prefix_of name) (runs_text (runs (name ∷ next ∷ names))) (prefix-bytes name g.0) (runs_text-bytes (runs (name ∷ next ∷ names)))
+    ∙ (ap (made_by_parts (prefix_of name)) (split-runs name (next ∷ names))
+    ∙ (made_by_parts-runs (prefix_of name) (digits_len name) (runs (name ∷ next ∷ names)) (omega arith) (AreRuns-runs (prefix_of name) (digits_len name) (name ∷ next ∷ names) of)
+    ∙ ap Some (names-runs (prefix_of name) (digits_len name) (name ∷ next ∷ names) (omega arith) of)))
+
+group-named : (group : List (List ℕ)) → IsGroup group → list_all is_name group ≡ true
+group-named [] g = absurd g
+group-named (name ∷ names) g = rw (g.0, g.1) refl
+
+pub item_names-group : (group : List (List ℕ)) → IsGroup group → length group ≤ 1024 → item_names (group_text group) ≡ Some group
+item_names-group group g k = rw (made_by-group group g) (few-names group (group-named group g) k)
 
 pub Passes-group : (group : List (List ℕ)) → IsGroup group → Passes (group_text group)
 unfolding group_text

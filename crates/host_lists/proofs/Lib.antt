@@ -10,3 +10,4 @@ pub mod Groups
 pub mod HostLemmas
 pub mod ItemLemmas
 pub mod NameSets
+pub mod NumberLemmas

@@ -5,7 +5,8 @@ use Rattle.std.specs.Cmp.Lexicographic.{slice_cmp}
 use Rattle.std.specs.Char.{is_ascii_digit}
 use Rattle.std.specs.List.{suffix_len}
 use Rattle.std.specs.BTreeSet.{insert_key}
-use Rattle.host_lists.specs.Hosts.{digits_number}
+use Rattle.std.specs.Str.{byte}
+use Rattle.std.specs.Str.Parse.{digits_value}
 
 -- each name once, in byte order
 unfoldable pub in_byte_order : List (List ℕ) → List (List ℕ)
@@ -22,7 +23,7 @@ abbrev pub digits_of : List ℕ → List ℕ
 digits_of name = drop (length name - digits_len name) name
 
 abbrev pub number_of : List ℕ → ℕ
-number_of name = digits_number (digits_of name)
+number_of name = digits_value 10 (digits_of name)
 
 -- names of equal prefix and equal number of digits are of one group, and a name without digits stands alone
 abbrev pub same_group : List ℕ → List ℕ → Bool
@@ -53,23 +54,22 @@ abbrev pub runs : List (List ℕ) → List (List ℕ × List ℕ)
 runs [] = []
 runs (name ∷ names) = continued name name (runs names)
 
--- 45 is a dash
 unfoldable pub run_text : List ℕ → List ℕ → List ℕ
-run_text first last = if bytes_eq first last then digits_of first else digits_of first ++ 45 ∷ digits_of last
+run_text first last = if bytes_eq first last then digits_of first else digits_of first ++ byte "-" ∷ digits_of last
 
--- texts with commas (44) between them
+-- texts with commas between them
 abbrev pub with_commas : List (List ℕ) → List ℕ
 with_commas [] = []
-with_commas (text ∷ texts) = text ++ flat_map (λ t. 44 ∷ t) texts
+with_commas (text ∷ texts) = text ++ flat_map (λ t. byte "," ∷ t) texts
 
 abbrev pub runs_text : List (List ℕ × List ℕ) → List ℕ
 runs_text runs = with_commas (map (λ run. run_text run.0 run.1) runs)
 
--- a name alone, or the prefix and the runs in a bracket (91 and 93)
+-- a name alone, or the prefix and the runs in a bracket
 unfoldable pub group_text : List (List ℕ) → List ℕ
 group_text [] = []
 group_text (name ∷ []) = name
-group_text (name ∷ next ∷ names) = prefix_of name ++ 91 ∷ runs_text (runs (name ∷ next ∷ names)) ++ 93 ∷ []
+group_text (name ∷ next ∷ names) = prefix_of name ++ byte "[" ∷ runs_text (runs (name ∷ next ∷ names)) ++ byte "]" ∷ []
 
 -- the text of a set of names
 unfoldable pub folded : List (List ℕ) → List ℕ

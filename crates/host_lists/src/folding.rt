@@ -2,10 +2,10 @@ ghost use Rattle.std.specs.Prelude.{ℕ, ◌≡◌, ◌<◌, ◌≤◌, ◌^◌,
 ghost use Rattle.std.specs.Char.{is_ascii_digit};
 ghost use Rattle.std.specs.List.{list_all};
 ghost use Rattle.small_texts.specs.Name.{is_name};
-ghost use Rattle.host_lists.specs.Hosts.{has, hosts_in, first_bad_item};
+ghost use Rattle.host_lists.specs.Hosts.{has, distinct, hosts_in, first_bad_item};
 ghost use Rattle.host_lists.specs.Folding.{in_byte_order, digits_len, prefix_of, digits_of, number_of, grouped, runs, runs_text, run_text, group_text, with_commas, folded};
 
-use crate::hosts::digits_number;
+use small_texts::digits::parse_number;
 use small_texts::memory_error::Memory;
 use small_texts::name::Name;
 use std::alloc::{AllocError, Global};
@@ -45,11 +45,11 @@ fn prefix_and_digits(name: &[u8]) -> (&[u8], &[u8])
     name.split_at(name.len() - digits_len(name))
 }
 
-fn number_of(name: &[u8]) -> u32
+fn number_of(name: &[u8]) -> u64
     ensures value { result ≡ number_of name.now }
     ensures small { result < 10 ^ 9 }
 {
-    digits_number(prefix_and_digits(name).1)
+    parse_number(prefix_and_digits(name).1, 9, 999_999_999).unwrap_or(0)
 }
 
 #[tactic(auto, unfolding(crate::specs::Folding::run_text))]
@@ -193,10 +193,10 @@ pub fn fold_hosts(alloc: Global, names: &[Name]) -> Result<Vec<u8>, Memory>
     ensures set { (others : List (List ℕ)) → ((name : List ℕ) → has name others ≡ has name names.now)
         → IfOk result (λ text. text.items ≡ folded others) }
 
-    // Expanding the text of 1 to 1,024 names gives the same set.
-    ensures good { 1 ≤ length names.now → length names.now ≤ 1024
+    // Expanding the text of 1 to 1,024 names, each counted once, gives the same set.
+    ensures good { 1 ≤ length names.now → length (distinct names.now) ≤ 1024
         → IfOk result (λ text. first_bad_item text.items ≡ None) }
-    ensures same { 1 ≤ length names.now → length names.now ≤ 1024
+    ensures same { 1 ≤ length names.now → length (distinct names.now) ≤ 1024
         → IfOk result (λ text. (name : List ℕ) → has name (hosts_in text.items) ≡ has name names.now) }
 {
     let text = folded_text(alloc, names)?;

@@ -17,7 +17,8 @@ use std::fmt;
 use std::hash::{Hash, Hasher};
 use std::marker::Model;
 
-const LONGEST_NAME: usize = 64;
+/// How many bytes a name has at most.
+pub const LONGEST_NAME: usize = 64;
 
 const LONGEST_JOB_NAME: usize = 128;
 
@@ -195,7 +196,8 @@ impl From<Memory> for NameRefusal {
     }
 }
 
-fn has_name_bytes(text: &[u8]) -> bool
+/// Whether the text has only bytes of names: letters, digits, `_`, `-` and `.`.
+pub fn has_name_bytes(text: &[u8]) -> bool
     ensures { result ≡ list_all is_name_byte text.now }
 {
     text.iter().all(|b| b.is_ascii_alphanumeric() || matches!(*b, b'_' | b'-' | b'.'))
@@ -207,8 +209,9 @@ fn is_printable(text: &[u8]) -> bool
     text.iter().all(|b| matches!(*b, b' '..=b'~'))
 }
 
+/// Whether the text is a name: the test that `Name::read` makes, without a copy.
 #[tactic(auto, unfolding(crate::specs::Name::is_name))]
-fn is_name(text: &[u8]) -> bool
+pub fn is_name(text: &[u8]) -> bool
     ensures { result ≡ is_name text.now }
 {
     !text.is_empty() && text.len() <= LONGEST_NAME && has_name_bytes(text)
