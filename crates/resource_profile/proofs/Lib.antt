@@ -1,3 +1,6 @@
 pub mod Least
 pub mod Held
 pub mod Rooms
+pub mod LevelEdits
+pub mod LevelChanges
+pub mod LevelLeast

@@ -1,3 +1,4 @@
 pub mod Counts
 pub mod Free
 pub mod Profiles
+pub mod Levels

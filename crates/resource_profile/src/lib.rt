@@ -5,9 +5,11 @@ use std::alloc::AllocError;
 use std::error::Error;
 use std::fmt;
 
+mod levels;
 mod profile;
 mod steps;
 
+pub use levels::{Amount, Window};
 pub use profile::Profile;
 pub use steps::{Plain, Steps, start};
 
@@ -47,6 +49,3 @@ impl From<AllocError> for Memory {
         Memory
     }
 }
-
-#[cfg(test)]
-mod tests;
