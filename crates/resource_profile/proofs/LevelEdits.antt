@@ -157,7 +157,7 @@ remove-levelled free levels place some within same levelled =
       ];
     }
 
-abbrev amount : ℕ → ℕ → Amount
+abbrev pub amount : ℕ → ℕ → Amount
 amount cpus mem = record { cpus = cpus; mem = mem }
 
 same-amounts : (one other : Amount) → (eqb one.cpus other.cpus && eqb one.mem other.mem) ≡ true → one ≡ other

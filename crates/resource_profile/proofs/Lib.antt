@@ -4,3 +4,6 @@ pub mod Rooms
 pub mod LevelEdits
 pub mod LevelChanges
 pub mod LevelLeast
+pub mod EndEdits
+pub mod Keeping
+pub mod NextEnds

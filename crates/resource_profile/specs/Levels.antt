@@ -1,11 +1,10 @@
--- How a profile keeps what a node has free: by levels, each from its moment on and until the next one begins. Contracts of
--- public calls but for the profile's invariant don't speak of it.
-use Rattle.std.specs.Prelude.{◌≡◌, ℕ, ◌+◌, ◌-◌, ◌^◌, ◌≤◌, ◌<◌, ◌&&◌, nat_le, nat_lt, if◌then◌else◌, List, length, slice_index_or}
+-- How a profile keeps what a node has free: by levels, each from its moment on and until the next one begins. Of the public
+-- calls only the profile's invariant speaks of it.
+use Rattle.std.specs.Prelude.{◌≡◌, ℕ, ◌+◌, ◌-◌, ◌≤◌, ◌<◌, ◌&&◌, nat_le, nat_lt, if◌then◌else◌, List, length, slice_index_or}
+use Rattle.resource_profile.specs.declared.NodeRoom.{NodeRoom}
 use Rattle.resource_profile.specs.declared.Hold.{Hold}
 use Rattle.resource_profile.specs.declared.levels.Amount.{Amount}
-use Rattle.resource_profile.specs.declared.levels.Window.{Window}
 use Rattle.resource_profile.specs.declared.levels.Level.{Level}
-use Rattle.resource_profile.specs.Free.{least_over}
 
 -- the levels begin at 0, each later than the one before it
 pub record HasLevels (levels : List Level) : Type 0 where
@@ -66,19 +65,9 @@ pub record CanTake (levels : List Level) (hold : Hold) : Type 0 where
   pub cpus : (moment : ℕ) → hold.from ≤ moment → moment < hold.until → hold.cpus ≤ (free moment).cpus
   pub mem : (moment : ℕ) → hold.from ≤ moment → moment < hold.until → hold.mem ≤ (free moment).mem
 
--- what is free without the hold is in the types' range
-pub record CanGive (levels : List Level) (hold : Hold) : Type 0 where
+-- what is free without the hold is no more than the room
+pub record CanGive (levels : List Level) (hold : Hold) (room : NodeRoom) : Type 0 where
   pub free : ℕ → Amount
   pub levelled : IsLevelled free levels
-  pub cpus : (moment : ℕ) → hold.from ≤ moment → moment < hold.until → (free moment).cpus + hold.cpus < 2 ^ 32
-  pub mem : (moment : ℕ) → hold.from ≤ moment → moment < hold.until → (free moment).mem + hold.mem < 2 ^ 64
-
--- The least that is free over the window from `from` to `until`, and over each that begins and ends no earlier, but early
--- enough.
-pub record IsSteady (free : ℕ → Amount) (from until : ℕ) (window : Window) : Type 0 where
-  pub begins : from < window.begins_before
-  pub ends : until ≤ window.ends_up_to
-  pub cpus : (begin end : ℕ) → from ≤ begin → begin < window.begins_before → until ≤ end → end ≤ window.ends_up_to → begin < end
-      → window.free.cpus ≡ least_over (λ moment. (free moment).cpus) begin end
-  pub mem : (begin end : ℕ) → from ≤ begin → begin < window.begins_before → until ≤ end → end ≤ window.ends_up_to → begin < end
-      → window.free.mem ≡ least_over (λ moment. (free moment).mem) begin end
+  pub cpus : (moment : ℕ) → hold.from ≤ moment → moment < hold.until → (free moment).cpus + hold.cpus ≤ room.cpus
+  pub mem : (moment : ℕ) → hold.from ≤ moment → moment < hold.until → (free moment).mem + hold.mem ≤ room.mem

@@ -1,10 +1,10 @@
 ghost use Rattle.std.specs.Prelude.{◌≡◌, ℕ, ◌+◌, ◌-◌, ◌^◌, ◌≤◌, ◌<◌, length, slice_index_or, vec_len, vec_capacity};
-ghost use Rattle.resource_profile.specs.Free.{least_over};
-ghost use Rattle.resource_profile.specs.Levels.{HasLevels, IsLevelled, AreEnds, AreChanged, CanTake, CanGive, IsSteady, less, more, taken, given, amount_of};
+ghost use Rattle.resource_profile.specs.Windows.{IsSteady};
+ghost use Rattle.resource_profile.specs.Levels.{HasLevels, IsLevelled, AreEnds, AreChanged, CanTake, CanGive, less, more, taken, given, amount_of};
 ghost use Rattle.resource_profile.specs.declared.levels.Amount.{Amount};
 ghost use Rattle.resource_profile.specs.declared.levels.Level.{Level};
 
-use crate::Hold;
+use crate::{Hold, NodeRoom};
 
 /// Processors and megabytes of a node.
 #[derive(Clone, Copy, Debug, PartialEq, Eq)]
@@ -156,12 +156,12 @@ fn lower(levels: &mut Vec<Level>, first: usize, end: usize, amount: &Amount)
     }
 }
 
-// Adds the amount to the levels from `first` on and before `end`.
-fn lift(levels: &mut Vec<Level>, first: usize, end: usize, amount: &Amount)
+// Adds the amount to the levels from `first` on and before `end`, which stay within the room.
+fn lift(levels: &mut Vec<Level>, first: usize, end: usize, amount: &Amount, room: NodeRoom)
     requires order { first ≤ end }
     requires end { end ≤ length levels.old.items }
-    requires cpus { (i : ℕ) (d : Level) → first ≤ i → i < end → (slice_index_or levels.old.items i d).free.cpus + amount.now.cpus < 2 ^ 32 }
-    requires mem { (i : ℕ) (d : Level) → first ≤ i → i < end → (slice_index_or levels.old.items i d).free.mem + amount.now.mem < 2 ^ 64 }
+    requires cpus { (i : ℕ) (d : Level) → first ≤ i → i < end → (slice_index_or levels.old.items i d).free.cpus + amount.now.cpus ≤ room.cpus }
+    requires mem { (i : ℕ) (d : Level) → first ≤ i → i < end → (slice_index_or levels.old.items i d).free.mem + amount.now.mem ≤ room.mem }
     ensures changed { AreChanged (more amount.now) first end levels.old.items levels.new.items }
     ensures len { vec_len levels.new ≡ vec_len levels.old }
     ensures capacity { vec_capacity levels.new ≡ vec_capacity levels.old }
@@ -188,17 +188,17 @@ pub(crate) fn take(levels: &mut Vec<Level>, hold: &Hold)
 }
 
 // Gives what the hold takes back to the levels of its window.
-pub(crate) fn give(levels: &mut Vec<Level>, hold: &Hold)
+pub(crate) fn give(levels: &mut Vec<Level>, hold: &Hold, room: NodeRoom)
     requires room { vec_len levels.old + 2 ≤ vec_capacity levels.old }
     requires window { hold.now.from < hold.now.until }
-    requires small { CanGive levels.old.items hold.now }
+    requires small { CanGive levels.old.items hold.now room }
     ensures kept { (free : ℕ → Amount) → IsLevelled free levels.old.items → IsLevelled (given hold.now free) levels.new.items }
     ensures len { vec_len levels.new ≤ vec_len levels.old + 2 }
     ensures capacity { vec_capacity levels.old ≤ vec_capacity levels.new }
 {
     let (first, end) = cut_window(levels, hold.from, hold.until);
     let amount = hold.amount();
-    lift(levels, first, end, &amount);
+    lift(levels, first, end, &amount, room);
     join_window(levels, first, end);
 }
 

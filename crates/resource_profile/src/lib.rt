@@ -5,9 +5,11 @@ use std::alloc::AllocError;
 use std::error::Error;
 use std::fmt;
 
+mod ends;
 mod levels;
 mod profile;
 mod steps;
+mod timeline;
 
 pub use levels::{Amount, Window};
 pub use profile::Profile;
