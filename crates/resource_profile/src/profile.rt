@@ -172,6 +172,14 @@ impl Profile {
         self.timelines[hold.node as usize].drop_hold(hold, room);
     }
 
+    /// The holds in some order. At no second do those of a node pass its room.
+    pub fn holds(&self) -> &[Hold]
+        ensures holds { result.now ≡ self.now.holds }
+        ensures within { AreWithin self.now.rooms result.now }
+    {
+        self.holds.as_slice()
+    }
+
     /// What the node has free over the window, and how far the window may move with nothing changed. Logarithmic in the
     /// holds of the node, and linear in those that begin or end within the window.
     pub fn free_over(&self, node: u32, from: u64, until: u64) -> Window
