@@ -72,9 +72,9 @@ gives-later rooms holds job from later node tasks until order before gives = rec
 pub swept-capacities : (rooms : List NodeRoom) (holds : List Hold) (job : PlanJob) (second : ℕ) (caps untils : List ℕ) → length caps ≡ length job.nodes → ((i : ℕ) → i < length job.nodes → GivesUntil rooms holds job second (get_or job.nodes i 0) (get_or caps i 0) (get_or untils i 0)) → second ≤ 250002592000 → caps ≡ capacities rooms holds job second
 swept-capacities rooms holds job second caps untils long each last =
     same_number_lists caps (capacities rooms holds job second) (long ∙ sym (length-capacities rooms holds job second)) (λ k inside.
-      let here : k < length job.nodes = omega (arith, inside, long) in
-      let gives = each k here in
-      sym (capacity-give rooms holds job second k here ∙ gives.same second (omega arith) gives.later last))
+    let here : k < length job.nodes = omega (arith, inside, long) in
+    let gives = each k here in
+    sym (capacity-give rooms holds job second k here ∙ gives.same second (omega arith) gives.later last))
 
 -- one node is counted anew
 pub gives-set : (rooms : List NodeRoom) (holds : List Hold) (job : PlanJob) (second node i tasks until : ℕ) (caps untils : List ℕ) → i < length caps → i < length untils → GivesUntil rooms holds job second node tasks until → GivesUntil rooms holds job second node (get_or (slice_set caps i tasks) i 0) (get_or (slice_set untils i until) i 0)

@@ -1,6 +1,6 @@
 ghost use Rattle.std.specs.Prelude.{◌≡◌, ◌≢◌, ◌≤◌, ◌<◌, ◌++◌, length, Some, slice_index_or, IfOk, OnOk, OnErr, IfSome, All, AllPairs};
 ghost use Rattle.std.specs.List.Sorted.{IsPermutation};
-ghost use Rattle.resource_profile.specs.Counts.{ticked};
+ghost use Rattle.resource_profile.specs.Counts.{ticked, IsTickedUpTo};
 ghost use Rattle.resource_profile.specs.Profiles.{AreWithin, HasFree};
 ghost use Rattle.resource_profile.specs.declared.Hold.{Hold};
 ghost use Rattle.backfill_planner.specs.declared.Placed.{Placed};
@@ -113,9 +113,12 @@ fn search<L>(
     requires nodes { All (λ (job : PlanJob). All (λ node. node < length base.now.rooms) job.nodes) ranked.now }
     requires seen { All (IsSeen base.now.rooms profile.now.holds ranked.now now) searches.old.seen.items }
     ensures start { IfOk result (λ placed. IfSome placed (λ placed. placed.start ≤ 250002592000)) }
-    ensures free { IfOk result (λ placed. (d : PlanJob) → All (HasFree base.now.rooms profile.now.holds) (holds_of (slice_index_or ranked.now index d) placed)) }
-    ensures apart { IfOk result (λ placed. (d : PlanJob) → AllPairs (λ (one other : Hold). one.node ≢ other.node) (holds_of (slice_index_or ranked.now index d) placed)) }
-    ensures placed { IfOk result (λ placed. (d : PlanJob) → placed ≡ placed_of base.now.rooms profile.now.holds (slice_index_or ranked.now index d) now base.now.horizon) }
+    ensures free { IfOk result (λ placed. (d : PlanJob)
+        → All (HasFree base.now.rooms profile.now.holds) (holds_of (slice_index_or ranked.now index d) placed)) }
+    ensures apart { IfOk result (λ placed. (d : PlanJob)
+        → AllPairs (λ (one other : Hold). one.node ≢ other.node) (holds_of (slice_index_or ranked.now index d) placed)) }
+    ensures placed { IfOk result (λ placed. (d : PlanJob)
+        → placed ≡ placed_of base.now.rooms profile.now.holds (slice_index_or ranked.now index d) now base.now.horizon) }
     ensures seen { OnOk result (All (IsSeen base.now.rooms profile.now.holds ranked.now now) searches.new.seen.items) }
     ensures steps { steps.new ≡ ticked steps.old 1 }
 {
@@ -135,7 +138,8 @@ fn search<L>(
 
 /// The plan of the ranked jobs at this moment: each, the highest first, begins at the least second from `now` to the
 /// horizon at which some set of its nodes fits, beside the base's holds and what the jobs above it hold. So at no second
-/// is more held than there is, and what begins now fits beside what the base holds. It counts a step for each job.
+/// is more held than there is, and what begins now fits beside what the base holds. It counts a step for each job, and after
+/// want of memory at most that many.
 pub fn plan<L>(
     alloc: Global,
     base: Base,
@@ -150,13 +154,14 @@ pub fn plan<L>(
     ensures starts_fit { OnOk result (StartsFit base (plan_of base ranked.items now) now) }
     ensures apart { OnOk result (All (λ (placed : Placed). AreParts base.rooms placed.parts) (plan_of base ranked.items now)) }
     ensures steps { OnOk result (steps.new ≡ ticked steps.old (length ranked.items)) }
+    ensures steps_err { OnErr result (IsTickedUpTo (length ranked.items) steps.old steps.new) }
 {
     let mut profile = Profile::with_holds(alloc, base.rooms.as_slice(), base.holds.as_slice())?;
     let mut placements = Vec::with_capacity(alloc, ranked.len())?;
     let mut searches = Searches::new(alloc)?;
     let mut index = 0;
     for job in &ranked {
-        job.recall();
+        job.tell_plannable();
         if let Some(placed) = search(
             alloc,
             &profile,

@@ -40,7 +40,9 @@ impl Searches {
     pub(crate) fn bound(&self, ranked: &[PlanJob], job: &PlanJob, now: u64) -> u64
         requires { All (λ (one : OneSeen). one.place < length ranked.now) self.now.seen.items }
         ensures from { now ≤ result }
-        ensures none { (rooms : List Room) (holds : List Hold) → All (IsSeen rooms holds ranked.now now) self.now.seen.items → NoneBefore rooms holds job.now now result }
+        ensures none { (rooms : List Room) (holds : List Hold)
+            → All (IsSeen rooms holds ranked.now now) self.now.seen.items
+            → NoneBefore rooms holds job.now now result }
     {
         let mut bound = now;
         for one in self.seen.as_slice() {
@@ -53,7 +55,9 @@ impl Searches {
 
     // Keeps one search more in mind. Where there are many, the one goes that tells least.
     pub(crate) fn add(&mut self, one: Seen) -> Result<(), Memory>
-        ensures { (rooms : List Room) (holds : List Hold) (ranked : List AJob) (now : ℕ) → All (IsSeen rooms holds ranked now) self.old.seen.items → IsSeen rooms holds ranked now one → All (IsSeen rooms holds ranked now) self.new.seen.items }
+        ensures { (rooms : List Room) (holds : List Hold) (ranked : List AJob) (now : ℕ)
+            → All (IsSeen rooms holds ranked now) self.old.seen.items → IsSeen rooms holds ranked now one
+            → All (IsSeen rooms holds ranked now) self.new.seen.items }
     {
         if self.seen.len() < MOST {
             self.seen.reserve(1)?;

@@ -36,7 +36,12 @@ fn given_from(profile: &Profile, rooms: &[NodeRoom], job: &PlanJob, node: u32, s
     ensures word { result.tasks < 2 ^ 32 }
 {
     let window = profile.free_over(node, second, window_end(job, second));
-    let tasks = tasks_given(job, &rooms[node as usize], window.free.cpus, window.free.mem);
+    let tasks = tasks_given(
+        job,
+        &rooms[node as usize],
+        window.free.cpus,
+        window.free.mem,
+    );
     let until = match job.seconds {
         Some(seconds) => window
             .begins_before

@@ -110,7 +110,11 @@ fn pending_job(alloc: Global, size: &Size, id: u32, chance: &mut Chance) -> Resu
         mem_ask: MemAsk::PerCpu(Ranged::new(1)),
         exclusive: false,
         nodes: all_nodes(alloc, size.nodes)?,
-        seconds: if limited { Some(Ranged::new(seconds)) } else { None },
+        seconds: if limited {
+            Some(Ranged::new(seconds))
+        } else {
+            None
+        },
     })
 }
 

@@ -67,8 +67,8 @@ changed-levelled change free first end from until levels after ends are levelled
       said = λ i moment d inside low high.
           let from_there : (get_or levels i d).from ≤ moment = omega (arith, from-kept change first end levels after are i d, low) in
           let next_there : i + 1 < length levels → moment < (get_or levels (i + 1) d).from = λ next.
-              let bound = high (omega (arith, next, are.same_length)) in
-              omega (arith, bound, from-kept change first end levels after are (i + 1) d) in
+          let bound = high (omega (arith, next, are.same_length)) in
+          omega (arith, bound, from-kept change first end levels after are (i + 1) d) in
           let old = levelled.said i moment d (omega (arith, inside, are.same_length)) from_there next_there in
           elim (cases_lt i first) [
             | inl before ↦

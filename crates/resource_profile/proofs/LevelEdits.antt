@@ -97,16 +97,16 @@ insert-levelled free levels place level is same levelled =
               let before = is.later (place - 1) d (omega (arith, is.some)) in
               rw (e, get_or-insert_at levels place level d is.within, same d)
               (levelled.said (place - 1) moment d (omega (arith, is.some, is.within)) (omega (arith, before, starts)) (λ next.
-                let bound = rw (e, insert-past levels place level d (place + 1) (omega arith) is.within) at (high (omega (arith, long, next, e, is.some))) in
-                let step : (place + 1) - 1 ≡ place = omega arith in
-                rw back (rw step at bound)))
+              let bound = rw (e, insert-past levels place level d (place + 1) (omega arith) is.within) at (high (omega (arith, long, next, e, is.some))) in
+              let step : (place + 1) - 1 ≡ place = omega arith in
+              rw back (rw step at bound)))
           | inr past ↦
               let here = insert-past levels place level d i (omega arith) is.within in
               let back : (i - 1) + 1 ≡ i = omega arith in
               rw here (levelled.said (i - 1) moment d (omega (arith, inside, long)) (rw here at low) (λ next.
-                let bound = rw (insert-past levels place level d (i + 1) (omega arith) is.within) at (high (omega (arith, long, next, back))) in
-                let step : (i + 1) - 1 ≡ i = omega arith in
-                rw back (rw step at bound)))
+              let bound = rw (insert-past levels place level d (i + 1) (omega arith) is.within) at (high (omega (arith, long, next, back))) in
+              let step : (i + 1) - 1 ≡ i = omega arith in
+              rw back (rw step at bound)))
         ]
       ];
     }
@@ -153,7 +153,7 @@ remove-levelled free levels place some within same levelled =
         | inr above ↦
             let here = get_or-remove_above levels place d i above within in
             rw here (levelled.said (i + 1) moment d (omega (arith, inside, long)) (rw here at low) (λ next.
-              rw (get_or-remove_above levels place d (i + 1) (omega arith) within) at (high (omega (arith, long, next)))))
+            rw (get_or-remove_above levels place d (i + 1) (omega arith) within) at (high (omega (arith, long, next)))))
       ];
     }
 

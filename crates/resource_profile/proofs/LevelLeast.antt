@@ -80,11 +80,11 @@ least-read count free levels first place from until begins_before ends_up_to lea
     let d : Level = record { from = 0; free = record { cpus = 0; mem = 0 } } in
     let has = levelled.shape in
     let lower : (moment : ℕ) → begin ≤ moment → moment < end → least ≤ count (free moment) = λ moment after before.
-        let e : first + (place - 1 - first) + 1 ≡ place = omega (arith, is.order) in
-        let found = find-level levels first (place - 1 - first) moment d (omega (arith, is.early d, low, after)) (rw e (λ inside. omega (arith, is.last d inside, before, end_high))) in
-        let inside : found.place < place = omega (arith, found.high, is.order) in
-        let says = levelled.said found.place moment d (omega (arith, inside, is.within)) found.from found.until in
-        omega (arith, least_is.below found.place d found.low inside, ap count says) in
+    let e : first + (place - 1 - first) + 1 ≡ place = omega (arith, is.order) in
+    let found = find-level levels first (place - 1 - first) moment d (omega (arith, is.early d, low, after)) (rw e (λ inside. omega (arith, is.last d inside, before, end_high))) in
+    let inside : found.place < place = omega (arith, found.high, is.order) in
+    let says = levelled.said found.place moment d (omega (arith, inside, is.within)) found.from found.until in
+    omega (arith, least_is.below found.place d found.low inside, ap count says) in
     elim (cases_eq least_is.at first) [
       | inl at_first ↦
           let e : least_is.at ≡ first = at_first in

@@ -48,7 +48,8 @@ fn begun(levels: &[Level], moment: u64) -> usize
     ensures some { 0 < result }
     ensures bound { result ≤ length levels.now }
     ensures before { (i : ℕ) (d : Level) → i < result → (slice_index_or levels.now i d).from ≤ moment }
-    ensures after { (i : ℕ) (d : Level) → result ≤ i → i < length levels.now → moment < (slice_index_or levels.now i d).from }
+    ensures after { (i : ℕ) (d : Level) → result ≤ i → i < length levels.now
+        → moment < (slice_index_or levels.now i d).from }
 {
     let mut low = 1;
     let mut high = levels.len();
@@ -71,8 +72,10 @@ fn cut(levels: &mut Vec<Level>, moment: u64) -> usize
     ensures kept { (free : ℕ → Amount) → IsLevelled free levels.old.items → IsLevelled free levels.new.items }
     ensures inside { result < length levels.new.items }
     ensures at { (d : Level) → (slice_index_or levels.new.items result d).from ≡ moment }
-    ensures before { (i : ℕ) (d : Level) → i < result → slice_index_or levels.new.items i d ≡ slice_index_or levels.old.items i d }
-    ensures order { (i : ℕ) (d : Level) → i < length levels.old.items → (slice_index_or levels.old.items i d).from < moment → i < result }
+    ensures before { (i : ℕ) (d : Level) → i < result
+        → slice_index_or levels.new.items i d ≡ slice_index_or levels.old.items i d }
+    ensures order { (i : ℕ) (d : Level) → i < length levels.old.items
+        → (slice_index_or levels.old.items i d).from < moment → i < result }
     ensures len { vec_len levels.new ≤ vec_len levels.old + 1 }
     ensures capacity { vec_capacity levels.old ≤ vec_capacity levels.new }
 {
@@ -144,8 +147,10 @@ fn join_window(levels: &mut Vec<Level>, first: usize, end: usize)
 fn lower(levels: &mut Vec<Level>, first: usize, end: usize, amount: &Amount)
     requires order { first ≤ end }
     requires end { end ≤ length levels.old.items }
-    requires cpus { (i : ℕ) (d : Level) → first ≤ i → i < end → amount.now.cpus ≤ (slice_index_or levels.old.items i d).free.cpus }
-    requires mem { (i : ℕ) (d : Level) → first ≤ i → i < end → amount.now.mem ≤ (slice_index_or levels.old.items i d).free.mem }
+    requires cpus { (i : ℕ) (d : Level) → first ≤ i → i < end
+        → amount.now.cpus ≤ (slice_index_or levels.old.items i d).free.cpus }
+    requires mem { (i : ℕ) (d : Level) → first ≤ i → i < end
+        → amount.now.mem ≤ (slice_index_or levels.old.items i d).free.mem }
     ensures changed { AreChanged (less amount.now) first end levels.old.items levels.new.items }
     ensures len { vec_len levels.new ≡ vec_len levels.old }
     ensures capacity { vec_capacity levels.new ≡ vec_capacity levels.old }
@@ -160,8 +165,10 @@ fn lower(levels: &mut Vec<Level>, first: usize, end: usize, amount: &Amount)
 fn lift(levels: &mut Vec<Level>, first: usize, end: usize, amount: &Amount, room: NodeRoom)
     requires order { first ≤ end }
     requires end { end ≤ length levels.old.items }
-    requires cpus { (i : ℕ) (d : Level) → first ≤ i → i < end → (slice_index_or levels.old.items i d).free.cpus + amount.now.cpus ≤ room.cpus }
-    requires mem { (i : ℕ) (d : Level) → first ≤ i → i < end → (slice_index_or levels.old.items i d).free.mem + amount.now.mem ≤ room.mem }
+    requires cpus { (i : ℕ) (d : Level) → first ≤ i → i < end
+        → (slice_index_or levels.old.items i d).free.cpus + amount.now.cpus ≤ room.cpus }
+    requires mem { (i : ℕ) (d : Level) → first ≤ i → i < end
+        → (slice_index_or levels.old.items i d).free.mem + amount.now.mem ≤ room.mem }
     ensures changed { AreChanged (more amount.now) first end levels.old.items levels.new.items }
     ensures len { vec_len levels.new ≡ vec_len levels.old }
     ensures capacity { vec_capacity levels.new ≡ vec_capacity levels.old }
@@ -177,7 +184,8 @@ pub(crate) fn take(levels: &mut Vec<Level>, hold: &Hold)
     requires room { vec_len levels.old + 2 ≤ vec_capacity levels.old }
     requires window { hold.now.from < hold.now.until }
     requires free { CanTake levels.old.items hold.now }
-    ensures kept { (free : ℕ → Amount) → IsLevelled free levels.old.items → IsLevelled (taken hold.now free) levels.new.items }
+    ensures kept { (free : ℕ → Amount) → IsLevelled free levels.old.items
+        → IsLevelled (taken hold.now free) levels.new.items }
     ensures len { vec_len levels.new ≤ vec_len levels.old + 2 }
     ensures capacity { vec_capacity levels.old ≤ vec_capacity levels.new }
 {
@@ -192,7 +200,8 @@ pub(crate) fn give(levels: &mut Vec<Level>, hold: &Hold, room: NodeRoom)
     requires room { vec_len levels.old + 2 ≤ vec_capacity levels.old }
     requires window { hold.now.from < hold.now.until }
     requires small { CanGive levels.old.items hold.now room }
-    ensures kept { (free : ℕ → Amount) → IsLevelled free levels.old.items → IsLevelled (given hold.now free) levels.new.items }
+    ensures kept { (free : ℕ → Amount) → IsLevelled free levels.old.items
+        → IsLevelled (given hold.now free) levels.new.items }
     ensures len { vec_len levels.new ≤ vec_len levels.old + 2 }
     ensures capacity { vec_capacity levels.old ≤ vec_capacity levels.new }
 {

@@ -44,7 +44,8 @@ impl Model for Profile {
 // A timeline for each of the rooms, with no holds.
 fn fresh(alloc: Global, rooms: &[NodeRoom]) -> Result<Vec<Timeline>, Memory>
     ensures long { IfOk result (λ timelines. length timelines.items ≡ length rooms.now) }
-    ensures each { IfOk result (λ timelines. (node : ℕ) (d : OneTimeline) → node < length rooms.now → IsTimeline rooms.now [] node 0 (slice_index_or timelines.items node d)) }
+    ensures each { IfOk result (λ timelines. (node : ℕ) (d : OneTimeline) → node < length rooms.now
+        → IsTimeline rooms.now [] node 0 (slice_index_or timelines.items node d)) }
 {
     let mut timelines = Vec::with_capacity(alloc, rooms.len())?;
     for room in rooms {
@@ -58,7 +59,8 @@ fn fresh(alloc: Global, rooms: &[NodeRoom]) -> Result<Vec<Timeline>, Memory>
 fn reserve_each(timelines: &mut Vec<Timeline>, count: u32) -> Result<(), Memory>
     requires holds { All (λ (timeline : OneTimeline). 2 * timeline.holds < 2 ^ 64) timelines.old.items }
     ensures long { length timelines.new.items ≡ length timelines.old.items }
-    ensures each { (node : ℕ) (d : OneTimeline) → node < length timelines.old.items → StaysAsItWas (slice_index_or timelines.old.items node d) (slice_index_or timelines.new.items node d) }
+    ensures each { (node : ℕ) (d : OneTimeline) → node < length timelines.old.items
+        → StaysAsItWas (slice_index_or timelines.old.items node d) (slice_index_or timelines.new.items node d) }
     ensures room { OnOk result (All (λ (timeline : OneTimeline). vec_len timeline.levels + (2 * timeline.holds + 4 * count) ≤ vec_capacity timeline.levels) timelines.new.items) }
 {
     for i in 0..timelines.len() {

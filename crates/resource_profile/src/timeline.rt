@@ -56,7 +56,8 @@ impl Timeline {
         requires count { self.old.holds + 1 < 2 ^ 64 }
         requires window { hold.now.from < hold.now.until }
         requires free { CanTake self.old.levels.items hold.now }
-        ensures kept { (free : ℕ → AnAmount) → IsLevelled free self.old.levels.items → IsLevelled (taken hold.now free) self.new.levels.items }
+        ensures kept { (free : ℕ → AnAmount) → IsLevelled free self.old.levels.items
+            → IsLevelled (taken hold.now free) self.new.levels.items }
         ensures holds { self.new.holds ≡ self.old.holds + 1 }
         ensures len { vec_len self.new.levels ≤ vec_len self.old.levels + 2 }
         ensures capacity { vec_capacity self.old.levels ≤ vec_capacity self.new.levels }
@@ -71,7 +72,8 @@ impl Timeline {
         requires count { 1 ≤ self.old.holds }
         requires window { hold.now.from < hold.now.until }
         requires small { CanGive self.old.levels.items hold.now room }
-        ensures kept { (free : ℕ → AnAmount) → IsLevelled free self.old.levels.items → IsLevelled (given hold.now free) self.new.levels.items }
+        ensures kept { (free : ℕ → AnAmount) → IsLevelled free self.old.levels.items
+            → IsLevelled (given hold.now free) self.new.levels.items }
         ensures holds { self.new.holds + 1 ≡ self.old.holds }
         ensures len { vec_len self.new.levels ≤ vec_len self.old.levels + 2 }
         ensures capacity { vec_capacity self.old.levels ≤ vec_capacity self.new.levels }

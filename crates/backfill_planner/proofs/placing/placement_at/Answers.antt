@@ -12,7 +12,7 @@ returns-then-sweep-from-clause-placement c =
     let caps = c.go_to.new.self.caps.items in
     let need = c.args.job.now.need in
     let nowhere : chosen caps need ≡ None = chosen-none_fits caps need (λ set fits.
-        omega (arith, c.fitting_sets_are_within.ensures caps need set fits, c.go_to.ensures.swept.total, c.if-sweep-from.true, c.from.ensures)) in
+    omega (arith, c.fitting_sets_are_within.ensures caps need set fits, c.go_to.ensures.swept.total, c.if-sweep-from.true, c.from.ensures)) in
     placement-none c.args.rooms.now c.args.profile.now.holds c.args.job.now c.args.start caps c.go_to.ensures.capacities nowhere
 
 pub returns-then-not-branch-clause-placement : goal.returns-then-not-branch-clause-placement

@@ -1,5 +1,5 @@
 use Rattle.std.proofs.Common.{rules, subst, ◌≡◌, ◌≤◌, ◌<◌, ◌+◌, ◌++◌, ◌∷◌, [], length, take, drop, All, get_or, arith, refl, sym, ap, ◌∙◌, Some, None}
-use Rattle.resource_profile.specs.Counts.{ticked}
+use Rattle.resource_profile.specs.Counts.{ticked, IsTickedUpTo}
 use Rattle.backfill_planner.specs.Bases.{BaseView}
 use Rattle.std.proofs.lemmas.Grind.{common_steps}
 use Rattle.std.proofs.lemmas.List.{take_all}
@@ -42,7 +42,7 @@ loop-job-preserved g c =
     let below : i < length ranked = rw c.deref-job-items.ensures.value at c.loop-job-test.true in
     let job_is : job ≡ get_or ranked i job = rw c.deref-job-items.ensures.value at c.job-item.is in
     let next = next-job ranked i job below job_is in
-    let jobs : All IsPlannable (take (i + 1) ranked) = All-more IsPlannable ranked i job below c.loop-job.invariant.jobs (rw (← job_is) c.recall.ensures) in
+    let jobs : All IsPlannable (take (i + 1) ranked) = All-more IsPlannable ranked i job below c.loop-job.invariant.jobs (rw (← job_is) c.tell_plannable.ensures) in
     let whole : done ++ plan_beside c.args.base c.args.now c.loop-job.profile.holds (job ∷ later) ≡ all = rw next at c.loop-job.invariant.so_far in
     let placed_is : c.in_ok-placed.field-0 ≡ placed_of c.args.base.rooms c.loop-job.profile.holds job c.args.now c.args.base.horizon =
     rw (c.as_slice-in-loop-job.ensures.value, c.loop-job.invariant.index, ← job_is) at (c.in_ok-placed.ensures.placed job) in
@@ -116,4 +116,19 @@ returns g c =
       starts_fit = starts-fit base ranked c.args.now within;
       apart = plan-parts base ranked c.args.now fits.1 c.requires.nodes jobs;
       steps = search rules;
+      steps_err = search rules;
     }
+
+pub returns-in_err-placed-clause-steps_err : goal.returns-in_err-placed-clause-steps_err
+returns-in_err-placed-clause-steps_err g c =
+    let below : c.loop-job.job-index < length c.args.ranked.items = rw c.deref-job-items.ensures.value at c.loop-job-test.true in
+    let ticks : c.search.new.steps ≡ ticked c.args.steps.now (c.loop-job.job-index + 1) = (rw c.loop-job.invariant.steps at c.search.ensures.steps) ∙ ticked-more c.args.steps.now c.loop-job.job-index in
+    let counted : IsTickedUpTo (length c.args.ranked.items) c.args.steps.now c.search.new.steps = record { times = c.loop-job.job-index + 1; few = omega (arith, below); is = ticks } in
+    search (rules, counted)
+
+pub returns-in_err-hold-clause-steps_err : goal.returns-in_err-hold-clause-steps_err
+returns-in_err-hold-clause-steps_err g c =
+    let below : c.loop-job.job-index < length c.args.ranked.items = rw c.deref-job-items.ensures.value at c.loop-job-test.true in
+    let ticks : c.search.new.steps ≡ ticked c.args.steps.now (c.loop-job.job-index + 1) = (rw c.loop-job.invariant.steps at c.search.ensures.steps) ∙ ticked-more c.args.steps.now c.loop-job.job-index in
+    let counted : IsTickedUpTo (length c.args.ranked.items) c.args.steps.now c.search.new.steps = record { times = c.loop-job.job-index + 1; few = omega (arith, below); is = ticks } in
+    search (rules, counted)

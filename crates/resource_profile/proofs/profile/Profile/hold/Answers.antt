@@ -11,8 +11,7 @@ invariant_of-self-in_err-reserve-3 c =
     let spare = c.self.inside.room_for in
     let hold = c.args.hold.now in
     let inside : hold.node < length rooms = rw (← c.self.view_is) at c.requires.node in
-    let same : StaysAsItWas c.index_mut.result.now c.reserve-3.new.self = record { levels = c.reserve-3.ensures.levels; holds = c.reserve-3.ensures.holds; len = c.reserve-3.ensures.len; capacity = c.reserve-3.ensures.capacity } in
-    (
+    let same : StaysAsItWas c.index_mut.result.now c.reserve-3.new.self = record { levels = c.reserve-3.ensures.levels; holds = c.reserve-3.ensures.holds; len = c.reserve-3.ensures.len; capacity = c.reserve-3.ensures.capacity } in (
       rw c.reserve.ensures.items (rw c.reserve-2.ensures.items (kept-reserve rooms holds c.self.inside.ends.items c.self.inside.timelines.items spare hold.node c.index_mut.result.now c.reserve-3.new.self c.self.invariant.0 inside c.index_mut.ensures.value same)),
       omega (arith, c.reserve.ensures.len, c.reserve.ensures.capacity, c.self.invariant.1),
       omega (arith, c.reserve-2.ensures.len, c.reserve-2.ensures.capacity, c.self.invariant.2),
@@ -50,8 +49,7 @@ invariant_of-self-2 c =
     let inside : hold.node < length timelines = omega (arith, free.node, c.self.invariant.0.long) in
     let there : c.index_mut-2.result.now ≡ reserved = c.index_mut-2.ensures.value ∙ get_or-set_same timelines hold.node reserved c.index_mut-2.result.now inside in
     let added : IsAdded hold c.index_mut-2.result.now c.add.new.self = record { kept = c.add.ensures.kept; holds = c.add.ensures.holds; len = c.add.ensures.len; capacity = c.add.ensures.capacity } in
-    let here = here-add rooms holds hold spare reserved c.add.new.self wide (rw there at added) in
-    (
+    let here = here-add rooms holds hold spare reserved c.add.new.self wide (rw there at added) in (
       rw pushed (rw c.reserve.ensures.items (kept-add rooms holds c.self.inside.ends.items c.add_end.new.ends.items (slice_set timelines hold.node reserved) spare spare hold c.add.new.self kept free (omega arith) (rw c.reserve-2.ensures.items at c.add_end.ensures.permutation) c.add_end.ensures.sorted here)),
       omega (arith, longer, c.push.ensures.capacity, c.in_ok-reserve.ensures.ok, c.from-more.ensures, c.self.invariant.1),
       omega (arith, c.add_end.ensures.len, c.add_end.ensures.capacity, c.in_ok-reserve-2.ensures.ok, c.from-more.ensures, c.self.invariant.2),
