@@ -1,5 +1,5 @@
 -- A profile's parts agree after a hold is added or dropped.
-use Rattle.std.proofs.Common.{◌≡◌, ◌≢◌, ℕ, ◌+◌, ◌-◌, ◌*◌, ◌≤◌, ◌<◌, zero, suc, true, false, ◌&&◌, cond, eqb, leb, ltb, List, [], ◌∷◌, ◌++◌, length, map, sum_by, get_or, slice_set, All, Contains, vec_len, vec_capacity, arith, refl, sym, ap, subst, ◌∙◌, inl, inr}
+use Rattle.std.proofs.Common.{◌≡◌, ◌≢◌, ℕ, ◌+◌, ◌*◌, ◌≤◌, ◌<◌, zero, suc, true, false, ◌&&◌, cond, eqb, leb, ltb, List, [], ◌∷◌, ◌++◌, length, sum_by, get_or, slice_set, Contains, vec_len, vec_capacity, arith, refl, sym, ap, subst, ◌∙◌, inl, inr}
 use Rattle.std.specs.List.{swap_remove}
 use Rattle.std.specs.List.Sorted.{IsPermutation, IsNonDecreasing}
 use Rattle.std.proofs.lemmas.Bool.{cases_lt, cases_eq, cases_Bool, eq-eqb, eqb-true}
@@ -12,7 +12,7 @@ use Rattle.resource_profile.specs.declared.Hold.{Hold}
 use Rattle.resource_profile.specs.declared.levels.Amount.{Amount}
 use Rattle.resource_profile.specs.declared.levels.Level.{Level}
 use Rattle.resource_profile.specs.declared.timeline.Timeline.{Timeline}
-use Rattle.resource_profile.specs.Free.{room_at, covers, held_cpus, held_mem, free_cpus, free_mem}
+use Rattle.resource_profile.specs.Free.{room_at, covers, free_cpus, free_mem}
 use Rattle.resource_profile.specs.Profiles.{AreWithin, HasFree}
 use Rattle.resource_profile.specs.Levels.{IsLevelled, CanTake, CanGive, taken, given}
 use Rattle.resource_profile.specs.Windows.{free_of}

@@ -1,9 +1,9 @@
 -- What a change of some levels changes.
-use Rattle.std.proofs.Common.{◌≡◌, ◌≢◌, ℕ, ◌+◌, ◌-◌, ◌≤◌, ◌<◌, List, length, get_or, true, false, ◌&&◌, leb, ltb, arith, refl, ap, sym, ◌∙◌, inl, inr}
-use Rattle.std.proofs.lemmas.Bool.{cases_lt, cases_eq, le-leb, lt-ltb, le-ltb, lt-leb, and_from}
+use Rattle.std.proofs.Common.{◌≡◌, ℕ, ◌+◌, ◌≤◌, ◌<◌, List, length, get_or, true, false, leb, ltb, arith, refl, ap, ◌∙◌, inl, inr}
+use Rattle.std.proofs.lemmas.Bool.{cases_lt, le-leb, lt-ltb, le-ltb, lt-leb}
 use Rattle.resource_profile.specs.declared.levels.Amount.{Amount}
 use Rattle.resource_profile.specs.declared.levels.Level.{Level}
-use Rattle.resource_profile.specs.Levels.{HasLevels, IsLevelled, AreEnds, AreChanged, changed, changed_level}
+use Rattle.resource_profile.specs.Levels.{HasLevels, IsLevelled, AreEnds, AreChanged, changed}
 use Rattle.resource_profile.proofs.LevelEdits.{in-order}
 
 -- a level between them begins within their window, and says what is free there

@@ -1,11 +1,11 @@
 -- The least over a window, read off the levels.
-use Rattle.std.proofs.Common.{◌≡◌, ◌≢◌, ℕ, ◌+◌, ◌-◌, ◌≤◌, ◌<◌, min, zero, suc, List, length, get_or, arith, refl, ap, sym, ◌∙◌, inl, inr}
+use Rattle.std.proofs.Common.{◌≡◌, ℕ, ◌+◌, ◌-◌, ◌≤◌, ◌<◌, min, zero, suc, List, length, get_or, arith, ap, inl, inr}
 use Rattle.std.proofs.lemmas.Bool.{cases_lt, cases_eq}
 use Rattle.std.proofs.lemmas.List.{get_or_default}
 use Rattle.resource_profile.specs.declared.levels.Amount.{Amount}
 use Rattle.resource_profile.specs.declared.levels.Level.{Level}
 use Rattle.resource_profile.specs.Free.{least_over}
-use Rattle.resource_profile.specs.Levels.{HasLevels, IsLevelled}
+use Rattle.resource_profile.specs.Levels.{IsLevelled}
 use Rattle.resource_profile.proofs.Least.{least_over-is}
 use Rattle.resource_profile.proofs.LevelEdits.{in-order}
 

@@ -1,17 +1,16 @@
 -- The holds stay within the rooms, and what is free over a window.
-use Rattle.std.proofs.Common.{◌≡◌, ◌≢◌, ℕ, ◌-◌, ◌≤◌, ◌<◌, cond, List, [], ◌∷◌, ◌++◌, length, sum_by, All, Contains, arith, refl, true, inl, inr, max}
-use Rattle.std.specs.List.{AllWithin}
+use Rattle.std.proofs.Common.{◌≡◌, ℕ, ◌-◌, ◌≤◌, ◌<◌, cond, List, [], ◌∷◌, ◌++◌, length, sum_by, Contains, arith, refl, true, inl, inr}
 use Rattle.std.specs.List.Sorted.{IsPermutation}
-use Rattle.std.proofs.lemmas.Bool.{cases_lt, cases_Bool}
+use Rattle.std.proofs.lemmas.Bool.{cases_Bool}
 use Rattle.std.proofs.lemmas.List.Sums.{sum_by-cons, sum_by-append}
-use Rattle.std.proofs.lemmas.List.Elements.{All-tail, All-push, All-weaker, All-contains, Contains-append_right}
+use Rattle.std.proofs.lemmas.List.Elements.{All-tail, All-push, All-contains, Contains-append_right}
 use Rattle.std.proofs.lemmas.List.Sorted.{sum_by-IsPermutation, All-permutation}
 use Rattle.resource_profile.specs.declared.NodeRoom.{NodeRoom}
 use Rattle.resource_profile.specs.declared.Hold.{Hold}
-use Rattle.resource_profile.specs.Free.{room_at, covers, free_cpus, free_mem, least_over, IsMostOver}
+use Rattle.resource_profile.specs.Free.{room_at, covers, free_cpus, free_mem, least_over}
 use Rattle.resource_profile.specs.Profiles.{AreWithin, HasFree}
-use Rattle.resource_profile.proofs.Least.{least_over-le, least_over-is, least_over-reached, least_over-same}
-use Rattle.resource_profile.proofs.Held.{covers-true, covers-from, last_start, held-at_start, held-push}
+use Rattle.resource_profile.proofs.Least.{least_over-le, least_over-reached, least_over-same}
+use Rattle.resource_profile.proofs.Held.{covers-true, covers-from, held-push}
 
 -- so much is free over the window that the hold's amount is free wherever it covers the moment
 fits_more : (amount : Hold → ℕ) (room node moment : ℕ) (holds : List Hold) (hold : Hold) → sum_by (λ (one : Hold). cond (covers node moment one) (amount one) 0) holds ≤ room → (hold.node ≡ node → amount hold ≤ least_over (λ m. room - sum_by (λ (one : Hold). cond (covers node m one) (amount one) 0) holds) hold.from hold.until) → sum_by (λ (one : Hold). cond (covers node moment one) (amount one) 0) (holds ++ hold ∷ []) ≤ room

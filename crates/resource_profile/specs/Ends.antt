@@ -1,5 +1,5 @@
 -- The ends of the holds, in order.
-use Rattle.std.specs.Prelude.{◌≡◌, ℕ, ◌≤◌, ◌<◌, List, All, Contains}
+use Rattle.std.specs.Prelude.{ℕ, ◌≤◌, ◌<◌, List, All, Contains}
 
 -- the least of the ends that are later than `after`
 pub record IsNextOf (ends : List ℕ) (after end : ℕ) : Type 0 where

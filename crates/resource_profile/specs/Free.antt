@@ -1,5 +1,5 @@
 -- What a node has free at a moment, and the least that it has free over a window.
-use Rattle.std.specs.Prelude.{◌≡◌, ℕ, ◌+◌, ◌-◌, ◌≤◌, ◌<◌, min, zero, suc, Bool, false, ◌&&◌, nat_eq, nat_le, nat_lt, if◌then◌else◌, List, slice_index_or, sum_by}
+use Rattle.std.specs.Prelude.{ℕ, ◌+◌, ◌-◌, min, zero, suc, Bool, false, ◌&&◌, nat_eq, nat_le, nat_lt, if◌then◌else◌, List, slice_index_or, sum_by}
 use Rattle.resource_profile.specs.declared.NodeRoom.{NodeRoom}
 use Rattle.resource_profile.specs.declared.Hold.{Hold}
 

@@ -1,7 +1,7 @@
 use Rattle.std.proofs.Common.{◌≡◌, ◌-◌, ◌≤◌, length, get_or, ◌∙◌, sym}
 use Rattle.std.proofs.lemmas.List.{get_or_default}
 use Rattle.std.proofs.lemmas.List.Sorted.{IsPermutation-remove}
-use Rattle.resource_profile.proofs.EndEdits.{remove-sorted, last-at, IsLastAt}
+use Rattle.resource_profile.proofs.EndEdits.{remove-sorted, last-at}
 use Rattle.resource_profile.proofs.ends.drop_end.Goals as goal
 
 pub returns-clause-sorted : goal.returns-clause-sorted

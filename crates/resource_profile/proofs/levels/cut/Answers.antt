@@ -1,4 +1,4 @@
-use Rattle.std.proofs.Common.{◌≡◌, ◌-◌, ◌≤◌, ◌<◌, length, get_or, arith, refl}
+use Rattle.std.proofs.Common.{◌≡◌, ◌-◌, ◌≤◌, length, arith, refl}
 use Rattle.std.specs.List.{insert}
 use Rattle.resource_profile.specs.declared.levels.Level.{Level}
 use Rattle.resource_profile.proofs.LevelEdits.{cut-between, insert-levelled, last-free}

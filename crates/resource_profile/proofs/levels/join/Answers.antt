@@ -1,4 +1,4 @@
-use Rattle.std.proofs.Common.{◌≡◌, ◌-◌, true, ◌∙◌, sym, arith}
+use Rattle.std.proofs.Common.{◌-◌, ◌∙◌, sym, arith}
 use Rattle.resource_profile.proofs.LevelEdits.{remove-has, remove-levelled, same-free}
 use Rattle.resource_profile.proofs.levels.join.Goals as goal
 

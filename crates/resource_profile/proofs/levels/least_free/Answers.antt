@@ -1,8 +1,7 @@
-use Rattle.std.proofs.Common.{◌≡◌, ◌+◌, ◌-◌, ◌≤◌, ◌<◌, length, get_or, arith, refl, ap, inl, inr}
-use Rattle.std.proofs.lemmas.Bool.{cases_lt, cases_eq}
-use Rattle.std.proofs.lemmas.List.{get_or_default}
+use Rattle.std.proofs.Common.{◌-◌, ◌≤◌, ◌<◌, length, get_or, arith, inl, inr}
+use Rattle.std.proofs.lemmas.Bool.{cases_lt}
 use Rattle.resource_profile.specs.declared.levels.Level.{Level}
-use Rattle.resource_profile.proofs.LevelLeast.{IsLeastOf-one, IsLeastOf-more, IsRead, least-read, read-one, read-more, begins-more, read-bounds}
+use Rattle.resource_profile.proofs.LevelLeast.{IsRead, least-read, read-one, read-more, begins-more, read-bounds}
 use Rattle.resource_profile.proofs.levels.least_free.Goals as goal
 use Rattle.resource_profile.proofs.levels.least_free.Goals.{then-loop-place-test+else-levels-place, else-loop-place-test}
 

@@ -1,4 +1,4 @@
-use Rattle.std.proofs.Common.{◌≡◌, ℕ, ◌-◌, ◌≤◌, ◌<◌, length, get_or}
+use Rattle.std.proofs.Common.{ℕ, ◌-◌, ◌≤◌, ◌<◌, length, get_or}
 use Rattle.resource_profile.specs.declared.levels.Level.{Level}
 use Rattle.resource_profile.proofs.LevelLeast.{IsLeastOf}
 use Rattle.resource_profile.proofs.levels.least_free.Given as goal

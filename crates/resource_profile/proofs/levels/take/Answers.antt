@@ -1,4 +1,3 @@
-use Rattle.std.proofs.Common.{arith}
 use Rattle.resource_profile.specs.Levels.{less, amount_of}
 use Rattle.resource_profile.proofs.LevelChanges.{between-ends, changed-has, changed-levelled}
 use Rattle.resource_profile.proofs.levels.take.Goals as goal

@@ -1,4 +1,4 @@
-use Rattle.std.proofs.Common.{◌≡◌, ◌<◌, length, refl, sym, ◌∙◌}
+use Rattle.std.proofs.Common.{◌<◌, length}
 use Rattle.resource_profile.proofs.Keeping.{read-timeline}
 use Rattle.resource_profile.proofs.profile.Profile.free_over.Goals as goal
 

@@ -1,4 +1,4 @@
-use Rattle.std.proofs.Common.{◌≡◌, ◌+◌, ◌-◌, ◌*◌, ◌≤◌, ◌<◌, ◌^◌, length, get_or, vec_len, vec_capacity, slice_set, arith, refl, sym, ◌∙◌}
+use Rattle.std.proofs.Common.{◌≡◌, ◌+◌, ◌*◌, ◌≤◌, ◌<◌, length, vec_len, vec_capacity, slice_set, arith, ◌∙◌}
 use Rattle.std.proofs.lemmas.List.{get_or-set_same}
 use Rattle.resource_profile.specs.Timelines.{IsTimeline, StaysAsItWas}
 use Rattle.resource_profile.proofs.Keeping.{read-timeline, can-take, here-add, kept-add, kept-reserve, stays, IsAdded}

@@ -1,4 +1,4 @@
-use Rattle.std.proofs.Common.{◌≡◌, ℕ, ◌≤◌, Option, Some, None, IfSome, IfNone, All, List}
+use Rattle.std.proofs.Common.{ℕ, ◌≤◌, Option, Some, None, IfSome, IfNone, All, List}
 use Rattle.resource_profile.specs.declared.Hold.{Hold}
 use Rattle.resource_profile.specs.Profiles.{IsNextEnd}
 use Rattle.resource_profile.specs.Ends.{IsNextOf}

@@ -1,7 +1,6 @@
 use Rattle.std.proofs.Common.{◌≡◌, ◌++◌, ◌∷◌, ◌+◌, ◌<◌, length, get_or, take, drop, List, ap, sym, ◌∙◌, add-one, drop-cons}
 use Rattle.std.proofs.lemmas.List.{take-append-drop}
 use Rattle.resource_profile.specs.declared.Hold.{Hold}
-use Rattle.resource_profile.specs.Profiles.{AreWithin}
 use Rattle.resource_profile.proofs.Rooms.{HasFree-from_within}
 use Rattle.resource_profile.proofs.profile.Profile.with_holds.Goals as goal
 
