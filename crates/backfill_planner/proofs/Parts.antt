@@ -138,27 +138,31 @@ plan-ids base ranked now =
         let there = each k (f d) (omega (arith, below, length-map xs f)) in
         rw (get_or-map f xs k d (f d) below) at there
 
--- and rise as they do
-plan_beside-rising : (base : BaseView) (now : ℕ) (holds : List Hold) (ranked : List PlanJob) → AllPairs (λ (one other : PlanJob). one.id < other.id) ranked → AllPairs (λ (one other : Placed). one.id < other.id) (plan_beside base now holds ranked)
+-- and stand to each other as they do
+plan_beside-pairs : (R : ℕ → ℕ → Type 0) (base : BaseView) (now : ℕ) (holds : List Hold) (ranked : List PlanJob) → AllPairs (λ (one other : PlanJob). R one.id other.id) ranked → AllPairs (λ (one other : Placed). R one.id other.id) (plan_beside base now holds ranked)
 unfolding plan_beside
-plan_beside-rising base now holds [] rising = λ i j d low high. absurd (omega (arith, high))
-plan_beside-rising base now holds (job ∷ later) rising =
+plan_beside-pairs R base now holds [] pairs = λ i j d low high. absurd (omega (arith, high))
+plan_beside-pairs R base now holds (job ∷ later) pairs =
     let placed = placed_of base.rooms holds job now base.horizon in
-    let R : PlanJob → PlanJob → Type 0 = λ one other. one.id < other.id in
-    placed-first job.id placed (plan_beside base now (holds ++ holds_of job placed) later)
+    let P : PlanJob → PlanJob → Type 0 = λ one other. R one.id other.id in
+    placed-first R job.id placed (plan_beside base now (holds ++ holds_of job placed) later)
     (if_placed (λ one. one.id ≡ job.id) placed (λ one is. (placed-is base.rooms holds job now base.horizon one is).id))
-    (plan_beside-all (λ other. job.id < other.id) (λ other. job.id < other.id) base now (holds ++ holds_of job placed) later (λ beside other one below is. rw is.id below) (pairs-head R job later rising))
-    (plan_beside-rising base now (holds ++ holds_of job placed) later (pairs-tail R job later rising))
+    (plan_beside-all (λ other. R job.id other.id) (λ other. R job.id other.id) base now (holds ++ holds_of job placed) later (λ beside other one below is. rw is.id below) (pairs-head P job later pairs))
+    (plan_beside-pairs R base now (holds ++ holds_of job placed) later (pairs-tail P job later pairs))
   where
-    placed-first : (id : ℕ) (placed : Option Placed) (later : List Placed) → IfSome placed (λ one. one.id ≡ id) → All (λ other. id < other.id) later → AllPairs (λ (one other : Placed). one.id < other.id) later
-        → AllPairs (λ (one other : Placed). one.id < other.id) (option_to_list placed ++ later)
-    placed-first id None later is above others = others
-    placed-first id (Some placed) later is above others =
-        AllPairs-cons (λ (one other : Placed). one.id < other.id) placed later (All-weaker (λ other. id < other.id) (λ other. placed.id < other.id) (λ other below. omega (arith, is, below)) later above) others
+    placed-first : (R : ℕ → ℕ → Type 0) (id : ℕ) (placed : Option Placed) (later : List Placed) → IfSome placed (λ one. one.id ≡ id) → All (λ other. R id other.id) later → AllPairs (λ (one other : Placed). R one.id other.id) later
+        → AllPairs (λ (one other : Placed). R one.id other.id) (option_to_list placed ++ later)
+    placed-first R id None later is first others = others
+    placed-first R id (Some placed) later is first others =
+        AllPairs-cons (λ (one other : Placed). R one.id other.id) placed later (All-weaker (λ other. R id other.id) (λ other. R placed.id other.id) (λ other so. rw is so) later first) others
 
 pub plan-rising : (base : BaseView) (ranked : List PlanJob) (now : ℕ) → AllPairs (λ (one other : PlanJob). one.id < other.id) ranked → AllPairs (λ (one other : Placed). one.id < other.id) (plan_of base ranked now)
 unfolding plan_of
-plan-rising base ranked now rising = plan_beside-rising base now base.holds ranked rising
+plan-rising base ranked now rising = plan_beside-pairs (λ one other. one < other) base now base.holds ranked rising
+
+pub plan-apart : (base : BaseView) (ranked : List PlanJob) (now : ℕ) → AllPairs (λ (one other : PlanJob). one.id ≢ other.id) ranked → AllPairs (λ (one other : Placed). one.id ≢ other.id) (plan_of base ranked now)
+unfolding plan_of
+plan-apart base ranked now apart = plan_beside-pairs (λ one other. one ≢ other) base now base.holds ranked apart
 
 -- each begins from now to the horizon
 pub plan-starts : (base : BaseView) (ranked : List PlanJob) (now : ℕ) → All (λ (placed : Placed). (now ≤ placed.start) × (placed.start ≤ base.horizon)) (plan_of base ranked now)

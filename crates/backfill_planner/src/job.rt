@@ -60,7 +60,7 @@ pub struct PlanJob {
 
 impl PlanJob {
     /// It does nothing: its contract tells what the type keeps of every job, which the laws of plans ask for.
-    pub fn recall(&self)
+    pub fn tell_plannable(&self)
         ensures { IsPlannable self.now }
     {
         let _ = self.nodes.as_slice();

@@ -1,5 +1,5 @@
 // What holds of every plan. Each law is the contract of a function that does nothing.
-ghost use Rattle.std.specs.Prelude.{◌≡◌, ℕ, ◌≤◌, ◌<◌, List, ◌++◌, length, take, map, Some, None, All, AllPairs, Contains};
+ghost use Rattle.std.specs.Prelude.{◌≡◌, ◌≢◌, ℕ, ◌≤◌, List, ◌++◌, length, take, map, Some, None, All, AllPairs, Contains};
 ghost use Rattle.resource_profile.specs.declared.NodeRoom.{NodeRoom};
 ghost use Rattle.resource_profile.specs.declared.Hold.{Hold};
 ghost use Rattle.resource_profile.specs.Profiles.{AreWithin};
@@ -26,14 +26,14 @@ pub fn lower_jobs_change_nothing()
         ≡ take (length (plan_of base (take first ranked) now)) (plan_of base ranked now) }
 {}
 
-/// Each placement is of a ranked job, and begins from now to the horizon; where the ranked ids rise, so do those of the
+/// Each placement is of a ranked job, and begins from now to the horizon; where the ranked ids differ, so do those of the
 /// placements.
 pub fn placements_are_of_ranked_jobs()
     ensures ids { (base : BaseView) (ranked : List PlanJob) (now : ℕ)
         → All (λ (placed : Placed). Contains (map (λ (job : PlanJob). job.id) ranked) placed.id) (plan_of base ranked now) }
-    ensures rising { (base : BaseView) (ranked : List PlanJob) (now : ℕ)
-        → AllPairs (λ (one other : PlanJob). one.id < other.id) ranked
-        → AllPairs (λ (one other : Placed). one.id < other.id) (plan_of base ranked now) }
+    ensures apart { (base : BaseView) (ranked : List PlanJob) (now : ℕ)
+        → AllPairs (λ (one other : PlanJob). one.id ≢ other.id) ranked
+        → AllPairs (λ (one other : Placed). one.id ≢ other.id) (plan_of base ranked now) }
     ensures starts { (base : BaseView) (ranked : List PlanJob) (now : ℕ)
         → All (λ (placed : Placed). (now ≤ placed.start) × (placed.start ≤ base.horizon)) (plan_of base ranked now) }
 {}

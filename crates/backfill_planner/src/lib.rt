@@ -12,8 +12,11 @@ use std::fmt;
 mod base;
 mod job;
 pub mod laws;
+mod lesser;
 mod placing;
 mod planned;
+mod seen;
+mod sweep;
 
 pub use base::Base;
 pub use job::{NodeList, PlanJob};
@@ -84,6 +87,3 @@ impl From<resource_profile::Memory> for Memory {
         Memory
     }
 }
-
-#[cfg(test)]
-mod tests;

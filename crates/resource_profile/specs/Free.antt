@@ -1,5 +1,5 @@
 -- What a node has free at a moment, and the least that it has free over a window.
-use Rattle.std.specs.Prelude.{◌≡◌, ℕ, ◌+◌, ◌-◌, ◌≤◌, ◌<◌, min, zero, suc, Bool, false, ◌&&◌, nat_eq, nat_le, nat_lt, if◌then◌else◌, List, slice_index_or, sum_by}
+use Rattle.std.specs.Prelude.{ℕ, ◌+◌, ◌-◌, min, zero, suc, Bool, false, ◌&&◌, nat_eq, nat_le, nat_lt, if◌then◌else◌, List, slice_index_or, sum_by}
 use Rattle.resource_profile.specs.declared.NodeRoom.{NodeRoom}
 use Rattle.resource_profile.specs.declared.Hold.{Hold}
 
@@ -33,11 +33,3 @@ least_after free from (suc more) = min (free from) (least_after free (from + 1) 
 -- the least over every second of the window, which has one at least
 abbrev pub least_over : (ℕ → ℕ) → ℕ → ℕ → ℕ
 least_over free from until = least_after free from (until - from - 1)
-
--- the most that is held over the window: it is held at some second of it, and no more is at any
-pub record IsMostOver (held : ℕ → ℕ) (from until most : ℕ) : Type 0 where
-  pub above : (moment : ℕ) → from ≤ moment → moment < until → held moment ≤ most
-  pub at : ℕ
-  pub low : from ≤ at
-  pub high : at < until
-  pub reached : held at ≡ most
