@@ -1,9 +1,9 @@
 // A link in memory, for tests.
 ghost use Rattle.std.specs.Prelude.{◌≡◌, [], ◌↔◌, ◌≤◌, ◌<◌, ◌++◌, length, take, drop, min, Contains, IfOk, OnOk, OnErr, IsErr, Some, refl};
 ghost use Rattle.std.specs.Io.KnownBytes.{ReadConsumes, WriteAppends};
-ghost use Rattle.slurm_io.specs.Faults.{CountsFault};
+ghost use Rattle.slurm_io.specs.Faults.{CountsFault, next_count};
 ghost use Rattle.slurm_io.specs.Kept.{nowhere};
-ghost use Rattle.slurm_io.specs.MemLink.{MemLinkState, next_count, read_count, after_read, after_read_fault, after_write, after_write_fault};
+ghost use Rattle.slurm_io.specs.MemLink.{MemLinkState, read_count, after_read, after_read_fault, after_write, after_write_fault};
 
 use crate::copy::copy_front;
 use crate::{Failed, Link, Sink, Source};
@@ -178,6 +178,15 @@ impl Sink for MemLink {
 }
 
 impl Link for MemLink {
+    ghost wire = { λ link. record {
+      left = Some link.left;
+      taken = Some link.taken;
+      reads = link.read_faults;
+      writes = link.write_faults;
+    } };
+
+    ghost wire_tells = { λ link. refl };
+
     ghost places = { λ link. nowhere };
 
     ghost reads_keep = { λ link. refl };

@@ -72,6 +72,10 @@ impl Sink for MemSure {
 }
 
 impl Link for MemSure {
+    ghost wire = { λ link. record { left = Some link; taken = None; reads = 0; writes = 0 } };
+
+    ghost wire_tells = { λ link. refl };
+
     ghost places = { λ link. nowhere };
 
     ghost reads_keep = { λ link. refl };

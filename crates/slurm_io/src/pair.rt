@@ -53,6 +53,15 @@ impl<S: Source, K: Sink> Sink for Pair<S, K> {
 }
 
 impl<S: Source, K: Sink> Link for Pair<S, K> {
+    ghost wire = { λ pair. record {
+      left = S.left pair.source;
+      taken = K.taken pair.sink;
+      reads = S.read_faults pair.source;
+      writes = K.write_faults pair.sink;
+    } };
+
+    ghost wire_tells = { λ pair. refl };
+
     ghost places = { λ pair. joined (S.kept_by_reads pair.source) (K.kept_by_writes pair.sink) };
 
     ghost reads_keep = { λ pair. refl };

@@ -1,7 +1,7 @@
 // What no clause says: that calls succeed, at concrete types and through the bounds.
 ghost use Rattle.std.specs.Prelude.{◌≡◌, ◌<◌, ℕ, List, OnOk, IsErrOf};
 ghost use Rattle.std.specs.Io.KnownBytes.{Appends, Consumes, IsAtEnd};
-ghost use Rattle.slurm_io.specs.Faults.{Rose};
+ghost use Rattle.slurm_io.specs.Faults.{CountsOne};
 
 use crate::{
     Failed, Link, MemLink, MemSure, Pair, ReaderSource, Sink, Source, WriterSink, write_all,
@@ -23,8 +23,8 @@ enum Stop {
 fn echo<L: Link>(link: &mut L) -> Result<(), Stop>
     ensures copied { OnOk result ((all : List ℕ) × Consumes (L.left link.old) (L.left link.new) all × Appends (L.taken link.old) (L.taken link.new) all) }
     ensures end { OnOk result (IsAtEnd (L.left link.new)) }
-    ensures read { IsErrOf result Stop.Read → Rose (L.read_faults link.old) (L.read_faults link.new) }
-    ensures write { IsErrOf result Stop.Write → Rose (L.write_faults link.old) (L.write_faults link.new) }
+    ensures read { IsErrOf result Stop.Read → CountsOne (L.read_faults link.old) (L.read_faults link.new) }
+    ensures write { IsErrOf result Stop.Write → CountsOne (L.write_faults link.old) (L.write_faults link.new) }
     ensures places { L.places link.new ≡ L.places link.old }
 {
     let mut buffer = [0; 8];
@@ -44,7 +44,7 @@ fn echo<L: Link>(link: &mut L) -> Result<(), Stop>
 /// The same from a source to a sink that are lent.
 fn copy<S: Source, K: Sink>(source: &mut S, sink: &mut K) -> Result<(), Stop>
     ensures copied { OnOk result ((all : List ℕ) × Consumes (S.left source.old) (S.left source.new) all × Appends (K.taken sink.old) (K.taken sink.new) all) }
-    ensures read { IsErrOf result Stop.Read → Rose (S.read_faults source.old) (S.read_faults source.new) }
+    ensures read { IsErrOf result Stop.Read → CountsOne (S.read_faults source.old) (S.read_faults source.new) }
 {
     echo(&mut Pair::new(&mut *source, &mut *sink))
 }
