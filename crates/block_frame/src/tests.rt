@@ -1,5 +1,5 @@
 // That calls succeed, on rows of the grammar and its edges.
-use crate::{Blocks, Line, Next};
+use crate::{Blocks, Form, Line, Next};
 use std::test::Fail;
 
 const SUBMISSION: &[u8] = b"100 alice sbatch -n 4 -t 10\n";
@@ -13,7 +13,7 @@ fn check_text(
     want: (&[u8], Option<u64>),
 ) -> Result<(), Fail> {
     let alloc = rt.alloc();
-    let mut blocks = Blocks::new(alloc)?;
+    let mut blocks = Blocks::new(alloc, Form::Plain)?;
     let mut headers = Vec::new(alloc);
     let mut bad = None;
     for bytes in text.chunks(piece.max(1)) {
@@ -58,7 +58,7 @@ fn texts_are_cut(rt: HostRuntime) -> Result<(), Fail> {
 fn headers_have_a_greatest_length(rt: HostRuntime) -> Result<(), Fail> {
     let alloc = rt.alloc();
     for (len, want) in [(8192, false), (8193, true)] {
-        let mut blocks = Blocks::new(alloc)?;
+        let mut blocks = Blocks::new(alloc, Form::Plain)?;
         blocks.feed(vec![in alloc; b'x'; len]?.as_slice())?;
         let bad = matches!(blocks.next_block()?, Next::Bad { place: 0 });
         blocks.feed(b"\n")?;
