@@ -15,6 +15,3 @@ pub use laws::{
     nothing_is_partial, spellings_join, texts_are_cut,
 };
 pub use line::Line;
-
-#[cfg(test)]
-mod tests;

@@ -8,6 +8,3 @@ mod rows;
 mod script;
 
 pub use program::run;
-
-#[cfg(test)]
-mod tests;
