@@ -1,5 +1,5 @@
 -- What a book of its own makes of a desk.
-use Rattle.std.proofs.Common.{◌≡◌, ℕ, ◌≤◌, List, [], ◌∷◌, ◌++◌, length, take, drop, refl, sym, ap, ◌∙◌, subst, arith, length-append, inl, inr, if◌then◌else◌, Ok, Err, Result, IfOk, OnErr}
+use Rattle.std.proofs.Common.{◌≡◌, ℕ, true, false, ◌≤◌, List, [], ◌∷◌, ◌++◌, length, take, drop, refl, sym, ap, ◌∙◌, subst, arith, length-append, inl, inr, if◌then◌else◌, Ok, Err, Result, IfOk, OnErr}
 use Rattle.std.proofs.Math.Seq.{take-append_seam}
 use Rattle.std.proofs.lemmas.Bool.{cases_Bool, true≢false}
 use Rattle.std.proofs.lemmas.List.{append-nil, take_all, take-append-le, take-append-drop, drop-append-le}
@@ -37,7 +37,9 @@ goes_nowhere desk = ([], rw (append-nil desk.since, append-nil desk.mine) refl)
 
 -- the book after a call, and its entries
 same_book : (old new : History) (entries : List Entry) → new.opening ≡ old.opening → new.entries ≡ entries → new ≡ record old { entries = entries }
-same_book old new entries opening all = cc (opening, all)
+same_book old new entries opening all =
+    let make : State → List Entry → History = λ o es. record { opening = o; entries = es } in
+    ap (λ o. make o new.entries) opening ∙ ap (make old.opening) all
 
 pub own_goes_on : {E : Type 0} (result : Result Answer E) (before : ℕ) (entry : Entry) (old new : History) → before ≤ length old.entries → entry.session ≡ 0
     → new.opening ≡ old.opening
