@@ -8,14 +8,13 @@ use Rattle.ctl_core.specs.State.{State}
 use Rattle.ctl_core.specs.Step.{reply_of, is_entered}
 use Rattle.ctl_desk.specs.declared.entry.Answer.{Answer}
 use Rattle.ctl_desk.specs.declared.entry.Entry.{Entry}
-use Rattle.ctl_desk.specs.Desk.{Sight, GoesOn, IsAnswered, seen, later, state_at}
+use Rattle.ctl_desk.specs.Desk.{Sight, GoesOn, IsAnswered, seen, later, sight_of, state_at}
 use Rattle.ctl_desk.specs.History.{History, after_all, entry_of}
 use Rattle.ctl_desk.proofs.Entering.{where_true, where_false}
 
 -- a desk that was made at a book of so many entries
 abbrev pub at_book : ℕ → History → Sight
-at_book before h =
-    record { opening = h.opening; number = 0; before = take before h.entries; since = drop before h.entries; mine = drop before h.entries }
+at_book before h = sight_of (record { opening = h.opening; before = take before h.entries; since = drop before h.entries })
 
 -- it has seen all entries
 pub all_seen : (before : ℕ) (h : History) → seen (at_book before h) ≡ h.entries

@@ -46,3 +46,13 @@ pub record IsAnswered (desk desk' : Sight) (now : ℕ) (user : List ℕ) (reques
       → let entry = entry_of (state_at desk.opening (seen desk') answer.place) desk.number now user request in
       (seen desk' ≡ take answer.place (seen desk') ++ entry ∷ []) × (desk'.mine ≡ desk.mine ++ entry ∷ [])
   pub other : is_entered answer.reply ≡ false → (answer.place ≡ length (seen desk')) × (desk'.mine ≡ desk.mine)
+
+-- A desk that nobody else's entries come to: the state before the first entry, the entries that there were when it was
+-- made, and its own since.
+pub record Seat : Type 0 where
+  pub opening : State
+  pub before : List Entry
+  pub since : List Entry
+
+abbrev pub sight_of : Seat → Sight
+sight_of seat = record { opening = seat.opening; number = 0; before = seat.before; since = seat.since; mine = seat.since }

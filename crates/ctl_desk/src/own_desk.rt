@@ -22,16 +22,14 @@ pub struct OwnDesk {
 
 impl Model for OwnDesk {
     ghost use Rattle.std.specs.Prelude.{◌≤◌, length, take, drop};
-    ghost use Rattle.ctl_desk.specs.Desk.{Sight};
+    ghost use Rattle.ctl_desk.specs.Desk.{Seat};
 
-    ghost Value = { Sight };
+    ghost Value = { Seat };
 
     ghost view = { λ d. record {
       opening = d.book.opening;
-      number = 0;
       before = take d.before d.book.entries;
       since = drop d.before d.book.entries;
-      mine = drop d.before d.book.entries;
     } };
 
     ghost invariant = { λ d. d.before ≤ length d.book.entries };
@@ -39,14 +37,16 @@ impl Model for OwnDesk {
 
 /// A desk at this book.
 pub fn own_desk(book: Book) -> OwnDesk
-    ensures { result ≡ record { opening = book.opening; number = 0; before = book.entries; since = []; mine = [] } }
+    ensures { result ≡ record { opening = book.opening; before = book.entries; since = [] } }
 {
     let before = book.len();
     OwnDesk { book, before }
 }
 
 impl Desk for OwnDesk {
-    ghost sight = { λ d. d };
+    ghost use Rattle.ctl_desk.specs.Desk.{sight_of};
+
+    ghost sight = { sight_of };
 
     fn ask(&mut self, now: u64, user: &Name, request: Request) -> Result<Answer, Memory> {
         self.book.ask(0, now, user, request)
