@@ -6,6 +6,8 @@ use Rattle.std.specs.Str.{bytes_eq}
 use Rattle.slurm_io.specs.Wire.{Wire}
 use Rattle.ctl_session.specs.declared.session.How.{How}
 use Rattle.ctl_session.specs.declared.session.How.TheVariants.{Truncated, Bad}
+use Rattle.slurm_top.specs.declared.program.WordsFault.{WordsFault}
+use Rattle.slurm_top.specs.declared.program.WordsFault.TheVariants.{NotText, Memory}
 use Rattle.slurm_top.specs.Cluster.{built_in_opening}
 use Rattle.slurm_top.specs.Script.{IsScript}
 
@@ -21,6 +23,11 @@ CountsNone before after = (after ≡ before) × (before < 2 ^ 64 - 1)
 -- the statuses that the program ends with
 abbrev pub is_status : ℕ → Bool
 is_status status = list_any (λ s. s == status) (0 ∷ 2 ∷ 5 ∷ 6 ∷ 7 ∷ 8 ∷ 9 ∷ [])
+
+-- the status where the words are not at hand
+abbrev pub status_without_words : WordsFault → ℕ
+status_without_words NotText = 2
+status_without_words Memory = 8
 
 -- the line that is written to errors beside a status; beside 7 the place follows
 abbrev pub error_line : ℕ → List ℕ

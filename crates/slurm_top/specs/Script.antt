@@ -1,5 +1,5 @@
 -- What a script is answered, and how its run ends.
-use Rattle.std.specs.Prelude.{◌≡◌, ◌≢◌, ℕ, ◌<◌, ◌≤◌, List, [], ◌∷◌, ◌++◌, length, map, take}
+use Rattle.std.specs.Prelude.{◌≡◌, ◌≢◌, ℕ, ◌+◌, ◌<◌, ◌≤◌, List, [], ◌∷◌, ◌++◌, length, map, take}
 use Rattle.std.specs.Io.KnownBytes.{Appends, Consumes, IsAtEnd}
 use Rattle.slurm_io.specs.Faults.{CountsOne}
 use Rattle.slurm_io.specs.Wire.{Wire}
@@ -67,12 +67,12 @@ IsEndOf s old new read Memory =
     × ((n : ℕ) × (n ≤ most_blocks) × Appends old.taken new.taken (told_all s (asked_first n read)))
 
 -- The run of a script from a state on: what was read is no longer left, and the end is one of these. So many of its
--- blocks were worked; what was written is a beginning of what they are told, and each state that they led through is
--- sound: no processor was held twice, and no memory that there isn't.
+-- blocks were worked; what was written is a beginning of what they are told, and each state that they led to is sound:
+-- in none is a processor held twice, or more memory held than there is.
 pub record IsScript (s : State) (old new : Wire) (how : How) : Type 0 where
   pub read : List ℕ
   pub worked : ℕ
   pub consumed : Consumes old.left new.left read
   pub end : IsEndOf s old new read how
   pub written : (n : ℕ) × Appends old.taken new.taken (take n (told_all s (asked_first worked read)))
-  pub sound : (n : ℕ) → n ≤ worked → IsSound (state_behind_all s (asked_first n read))
+  pub sound : (n : ℕ) → n < worked → IsSound (state_behind_all s (asked_first (n + 1) read))

@@ -27,6 +27,22 @@ pub fn tell<E: Sink>(errors: &mut E, line: &[u8])
     let _ = write_all(errors, line);
 }
 
+// The line that tells a place.
+fn line_of_place(room: Vec<u8>, place: u64) -> Vec<u8>
+    requires empty { room.items ≡ [] }
+    requires room { 69 ≤ vec_capacity room }
+    ensures { result.items ≡ place_line place }
+{
+    let mut line = room;
+    let mut buffer = Buffer::new();
+    line.extend_from_slice(b"slurm: error: block at byte ")
+        .unwrap();
+    line.extend_from_slice(buffer.format(place).as_bytes())
+        .unwrap();
+    line.push(b'\n').unwrap();
+    line
+}
+
 /// Says that no block begins at a byte, or that the one there doesn't end.
 pub fn tell_place<E: Sink>(errors: &mut E, room: Vec<u8>, place: u64)
     requires empty { room.items ≡ [] }
@@ -34,10 +50,6 @@ pub fn tell_place<E: Sink>(errors: &mut E, room: Vec<u8>, place: u64)
     ensures { Tells (E.taken errors.old) (E.taken errors.new) (E.write_faults errors.old) (E.write_faults errors.new)
         (place_line place) }
 {
-    let mut line = room;
-    let mut buffer = Buffer::new();
-    line.extend_from_slice(b"slurm: error: block at byte ").unwrap();
-    line.extend_from_slice(buffer.format(place).as_bytes()).unwrap();
-    line.push(b'\n').unwrap();
+    let line = line_of_place(room, place);
     tell(errors, line.as_slice());
 }

@@ -8,10 +8,10 @@ ghost use Rattle.ctl_session.specs.declared.session.How.{How};
 ghost use Rattle.ctl_session.specs.Session.{most_blocks};
 ghost use Rattle.slurm_io.specs.Wire.{Wire};
 ghost use Rattle.slurm_top.specs.Script.{IsScript};
-ghost use Rattle.slurm_top.specs.Run.{is_script_call, error_line, place_line, is_status, CountsNone, Ran, RanUpTo, Tells};
+ghost use Rattle.slurm_top.specs.Run.{is_script_call, error_line, place_line, is_status, status_without_words, CountsNone, Ran, RanUpTo, Tells};
 
 use crate::errors::{room_for_line, tell, tell_place};
-use crate::script::run_script;
+use crate::script::{a_script_may_end_unread, run_script};
 use block_frame::{
     bad_texts_stay, blocks_are_cut_once, blocks_go_first, kinds_are_apart, nothing_is_partial,
     texts_are_cut,
@@ -45,8 +45,36 @@ fn whole_inputs_are_answered()
     nothing_is_partial();
 }
 
+/// Why the words behind the program's name are not at hand.
+#[derive(Clone, Copy, Debug, PartialEq, Eq)]
+pub enum WordsFault {
+    /// A word is not UTF-8.
+    NotText,
+    Memory,
+}
+
+/// What the program does where its words are not at hand, and the status that it ends with: that of words that are off,
+/// or of want of memory.
+pub fn run_without_words<E: Sink>(errors: &mut E, fault: WordsFault) -> u8
+    ensures status { result ≡ status_without_words fault }
+    ensures errors { Tells (E.taken errors.old) (E.taken errors.new)
+        (E.write_faults errors.old) (E.write_faults errors.new) (error_line result) }
+{
+    match fault {
+        WordsFault::NotText => {
+            tell(errors, b"slurm: error: usage\n");
+            2
+        }
+        WordsFault::Memory => {
+            tell(errors, b"slurm: error: memory\n");
+            8
+        }
+    }
+}
+
 /// What the program does with the words behind its name, and the status that it ends with. With `--script` it answers
 /// the blocks of the link's input on its output, by a controller of the built-in cluster.
+#[tactic(auto, using(crate::proofs::Lines::tells_nothing))]
 pub fn run<L: Link, E: Sink>(alloc: Global, words: &[String], link: &mut L, errors: &mut E) -> u8
     // The words are off, exactly there, and nothing is read or written but a line of errors.
     ensures usage { (result ≡ 2) ↔ (is_script_call (map string_bytes words.now) ≡ false) }
@@ -81,15 +109,12 @@ pub fn run<L: Link, E: Sink>(alloc: Global, words: &[String], link: &mut L, erro
     }
     whole_inputs_are_answered();
     let Ok(room) = room_for_line(alloc) else {
-        nothing_was_run(link);
+        a_script_may_end_unread();
         tell(errors, b"slurm: error: memory\n");
         return 8;
     };
     match run_script(alloc, link) {
-        How::Closed => {
-            tell(errors, b"");
-            0
-        }
+        How::Closed => 0,
         How::Truncated { place } | How::Bad { place } => {
             tell_place(errors, room, place);
             7
