@@ -107,10 +107,10 @@ script_begins opening e others cut few told =
     let begun = told_begins opening (map meaning_of (e.blocks ++ e.worked)) (map meaning_of kept.0) in (
       begun.0,
       ap (λ bs. told_all opening (map meaning_of (take most_blocks bs))) cut
-      ∙ ap (λ bs. told_all opening (map meaning_of bs)) kept.1
-      ∙ ap (told_all opening) (map-append meaning_of (e.blocks ++ e.worked) kept.0)
-      ∙ begun.1
-      ∙ ap (λ l. l ++ begun.0) (sym told.all),
+          ∙ ap (λ bs. told_all opening (map meaning_of bs)) kept.1
+          ∙ ap (told_all opening) (map-append meaning_of (e.blocks ++ e.worked) kept.0)
+          ∙ begun.1
+          ∙ ap (λ l. l ++ begun.0) (sym told.all),
     )
 
 -- a rest that no block begins is all that follows the blocks of what was read
@@ -220,9 +220,9 @@ script_of_session opening old new seat ended e alike laws served =
       written = (
         length (replies e.answers) + sent.0,
         let front : take (length (replies e.answers) + sent.0) (replies e.answers ++ replies e.last) ≡ replies e.answers ++ take sent.0 (replies e.last) =
-        ap (take (length (replies e.answers) + sent.0)) (sym (append-nil (replies e.answers ++ replies e.last)))
-        ∙ take_past (replies e.answers) (replies e.last) [] sent.0 sent.1 in
-        rw (asked, ← told.all, front) sent.2,
+            ap (take (length (replies e.answers) + sent.0)) (sym (append-nil (replies e.answers ++ replies e.last)))
+            ∙ take_past (replies e.answers) (replies e.last) [] sent.0 sent.1 in
+            rw (asked, ← told.all, front) sent.2,
       );
       sound = λ n below. rw (asked_up_to (n + 1) (read_by e) worked begun.0 begun.1 (omega (arith, below)), ← map_take meaning_of (n + 1) worked) (told.sound (n + 1));
     }
