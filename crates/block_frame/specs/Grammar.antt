@@ -67,7 +67,8 @@ first_block Plain text =
 unfoldable pub blocks_within : Form → ℕ → List ℕ → List Block
 blocks_within form zero text = []
 blocks_within form (suc n) text =
-    option_map_or (λ block. block ∷ blocks_within form n (drop (length (spelled form block)) text)) (first_block form text) []
+    option_map_or (λ block. block ∷ blocks_within form n (drop (length (spelled form block)) text))
+    (first_block form text) []
 
 -- the whole blocks that a text begins with
 unfoldable pub blocks_of : Form → List ℕ → List Block

@@ -5,7 +5,8 @@ use Rattle.block_frame.specs.declared.block.Next.TheVariants.{Whole, NotYet, Bad
 use Rattle.block_frame.specs.declared.form.Form.{Form}
 use Rattle.block_frame.specs.Grammar.{IsBlock, IsPartial, IsBad, spelled}
 
--- the form of the blocks, how many bytes those took that were handed out, and the bytes that were fed and not handed out
+-- the form of the blocks, how many bytes those took that were handed out, and the bytes that were fed and not handed
+-- out
 pub record BlocksState : Type 0 where
   pub form : Form
   pub place : ℕ

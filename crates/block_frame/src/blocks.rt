@@ -14,8 +14,8 @@ use std::marker::Model;
 
 const MAX_HEADER: usize = 8192;
 
-/// A reader of blocks, in whatever pieces the bytes come. Each byte is looked at once. Contracts see it as its form, the
-/// place up to which it has handed out blocks, and the bytes that are pending.
+/// A reader of blocks, in whatever pieces the bytes come. Each byte is looked at once. Contracts see it as its form,
+/// the place up to which it has handed out blocks, and the bytes that are pending.
 #[derive(Drop)]
 pub struct Blocks {
     alloc: Global,

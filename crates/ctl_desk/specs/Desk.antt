@@ -8,7 +8,8 @@ use Rattle.ctl_desk.specs.declared.entry.Answer.{Answer}
 use Rattle.ctl_desk.specs.History.{History, after_all, entry_of, of_session}
 
 -- A desk at a moment: the state before the first entry of the history, the number that the entries of this desk bear,
--- the entries that there were when the desk was made, those that it has seen come since, and those that were made at it.
+-- the entries that there were when the desk was made, those that it has seen come since, and those that were made at
+-- it.
 pub record Sight : Type 0 where
   pub opening : State
   pub number : ℕ
@@ -38,7 +39,8 @@ state_at opening entries place = after_all opening (take place entries)
 
 -- The answer is the one-thread controller's at its place, which is none of those seen before. An accepted request is
 -- entered there, as the last entry seen; any other answer is given at the end of what is seen.
-pub record IsAnswered (desk desk' : Sight) (now : ℕ) (user : List ℕ) (request : Request) (answer : Answer) : Type 0 where
+pub record IsAnswered (desk desk' : Sight) (now : ℕ) (user : List ℕ) (request : Request) (answer : Answer)
+    : Type 0 where
   pub from : length (seen desk) ≤ answer.place
   pub within : answer.place ≤ length (seen desk')
   pub reply : answer.reply ≡ reply_of (state_at desk.opening (seen desk') answer.place) now user request

@@ -12,7 +12,8 @@ use slurm_text::memory_error::Memory;
 use slurm_text::name::Name;
 use slurm_text::plain::request::Request;
 
-/// Where one session asks the controller. The history may have entries of other sessions, and more of them at each call.
+/// Where one session asks the controller. The history may have entries of other sessions, and more of them at each
+/// call.
 pub trait Desk {
     /// The desk as it last looked at the history.
     ghost sight: { Self → Sight };

@@ -1,20 +1,17 @@
 -- What a desk's answer is to a session.
-use Rattle.std.proofs.Common.{◌≡◌, ◌≢◌, ℕ, zero, suc, ◌+◌, ◌≤◌, true, false, List, [], ◌∷◌, ◌++◌, length, take, slice_get, Option, Some, None, refl, sym, ap, ◌∙◌, subst, arith, length-append, append_assoc, inl, inr, All, Result, Ok, Err, OnErr}
+use Rattle.std.proofs.Common.{◌≡◌, ℕ, ◌+◌, true, false, List, [], ◌∷◌, ◌++◌, length, take, slice_get, Some, None, refl, sym, ap, ◌∙◌, arith, length-append, append_assoc, inl, inr, All, Result, Ok, Err, OnErr}
 use Rattle.std.proofs.lemmas.Bool.{cases_Bool}
 use Rattle.std.proofs.lemmas.List.{append_cancel_left, append-nil, length-take-le}
 use Rattle.std.proofs.lemmas.List.Elements.{All-cons, All-nil}
-use Rattle.std.specs.Option.{option_to_list}
 use Rattle.command_words.specs.declared.header.Asked.{Asked}
 use Rattle.ctl_core.specs.State.{State}
 use Rattle.ctl_core.specs.Step.{reply_of, is_entered}
-use Rattle.ctl_desk.specs.declared.entry.Entry.{Entry}
 use Rattle.ctl_desk.specs.declared.entry.Answer.{Answer}
-use Rattle.ctl_desk.specs.Desk.{Sight, GoesOn, IsAnswered, seen, later, state_at}
+use Rattle.ctl_desk.specs.Desk.{Sight, GoesOn, IsAnswered, seen, state_at}
 use Rattle.ctl_desk.specs.History.{entry_of, of_session}
 use Rattle.slurm_print.specs.Text.{text_of, not_built_text}
-use Rattle.ctl_session.specs.declared.meaning.Meaning.{Meaning}
 use Rattle.ctl_session.specs.declared.meaning.Meaning.TheVariants.{Asks, NotBuilt}
-use Rattle.ctl_session.specs.Answers.{Answered, IsAnswerIn, Answers, Rise, behind, entries}
+use Rattle.ctl_session.specs.Answers.{Answered, IsAnswerIn, Answers}
 use Rattle.ctl_session.specs.Meaning.{entry_made}
 use Rattle.ctl_session.specs.Turn.{AnswersOne}
 

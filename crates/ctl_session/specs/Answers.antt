@@ -1,5 +1,5 @@
 -- What a session's blocks are answered.
-use Rattle.std.specs.Prelude.{◌≡◌, ℕ, ◌+◌, ◌≤◌, Option, Some, List, [], ◌∷◌, ◌++◌, length, slice_get, map, All}
+use Rattle.std.specs.Prelude.{◌≡◌, ℕ, ◌+◌, ◌≤◌, Option, Some, List, [], ◌∷◌, length, slice_get, map, All}
 use Rattle.std.specs.List.{flat_map}
 use Rattle.std.specs.Option.{option_to_list}
 use Rattle.ctl_core.specs.State.{State}
@@ -9,8 +9,8 @@ use Rattle.ctl_desk.specs.History.{of_session}
 use Rattle.ctl_session.specs.declared.meaning.Meaning.{Meaning}
 use Rattle.ctl_session.specs.Meaning.{told, entry_made}
 
--- A block that was answered: what it asked, the place of the history at which it was answered, the text that it was told,
--- and the entry that it made there, if any.
+-- A block that was answered: what it asked, the place of the history at which it was answered, the text that it was
+-- told, and the entry that it made there, if any.
 pub record Answered : Type 0 where
   pub meaning : Meaning
   pub place : ℕ
@@ -40,13 +40,15 @@ entries answers = flat_map (λ answer. option_to_list answer.entry) answers
 abbrev pub behind : Answered → ℕ
 behind answer = answer.place + length (option_to_list answer.entry)
 
--- The places rise: the first answer is at `low` or later, each other one behind the one before, and all are up to `high`.
+-- The places rise: the first answer is at `low` or later, each other one behind the one before, and all are up to
+-- `high`.
 abbrev pub Rise : ℕ → List Answered → ℕ → Type 0
 Rise low [] high = low ≤ high
 Rise low (answer ∷ answers) high = (low ≤ answer.place) × Rise (behind answer) answers high
 
--- A desk gave these answers, in turn: each is the controller's at its place, the places rise from what the desk had seen
--- before to what it has seen now, and the entries that came in between and bear its number are those of the answers.
+-- A desk gave these answers, in turn: each is the controller's at its place, the places rise from what the desk had
+-- seen before to what it has seen now, and the entries that came in between and bear its number are those of the
+-- answers.
 pub record Answers (desk desk' : Sight) (answers : List Answered) : Type 0 where
   pub since : List Entry
   pub goes_on : desk' ≡ later desk since

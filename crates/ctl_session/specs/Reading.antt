@@ -40,8 +40,10 @@ pub record TakesNone (old new : Wire) (blocks blocks' : BlocksState) : Type 0 wh
 abbrev pub Brings : Wire → Wire → BlocksState → BlocksState → Brought → Type 0
 Brings old new blocks blocks' brought.Some =
     (takes : TakesNone old new blocks blocks') × (0 < length takes.read) × (new.reads ≡ old.reads)
-Brings old new blocks blocks' brought.End = Keeps old.left new.left × IsAtEnd new.left × (blocks' ≡ blocks) × (new.reads ≡ old.reads)
-Brings old new blocks blocks' brought.ReadFault = Keeps old.left new.left × (blocks' ≡ blocks) × CountsOne old.reads new.reads
+Brings old new blocks blocks' brought.End =
+    Keeps old.left new.left × IsAtEnd new.left × (blocks' ≡ blocks) × (new.reads ≡ old.reads)
+Brings old new blocks blocks' brought.ReadFault =
+    Keeps old.left new.left × (blocks' ≡ blocks) × CountsOne old.reads new.reads
 Brings old new blocks blocks' brought.Memory =
     ((read : List ℕ) × Consumes old.left new.left read) × (blocks' ≡ blocks) × (new.reads ≡ old.reads)
 
@@ -49,9 +51,12 @@ Brings old new blocks blocks' brought.Memory =
 abbrev pub IsFound : Wire → Wire → BlocksState → BlocksState → Found → Type 0
 IsFound old new blocks blocks' (found.Whole block) = TakesBlock old new blocks blocks' block × (new.reads ≡ old.reads)
 IsFound old new blocks blocks' found.End =
-    TakesNone old new blocks blocks' × (new.reads ≡ old.reads) × IsAtEnd new.left × IsPartial blocks'.form blocks'.pending
+    TakesNone old new blocks blocks' × (new.reads ≡ old.reads) × IsAtEnd new.left
+    × IsPartial blocks'.form blocks'.pending
 IsFound old new blocks blocks' (found.Bad place) =
-    TakesNone old new blocks blocks' × (new.reads ≡ old.reads) × IsBad blocks'.form blocks'.pending × (place ≡ blocks'.place)
+    TakesNone old new blocks blocks' × (new.reads ≡ old.reads)
+    × IsBad blocks'.form blocks'.pending × (place ≡ blocks'.place)
 IsFound old new blocks blocks' found.ReadFault =
     TakesNone old new blocks blocks' × CountsOne old.reads new.reads × IsPartial blocks'.form blocks'.pending
-IsFound old new blocks blocks' found.Memory = ((read : List ℕ) × Consumes old.left new.left read) × (new.reads ≡ old.reads)
+IsFound old new blocks blocks' found.Memory =
+    ((read : List ℕ) × Consumes old.left new.left read) × (new.reads ≡ old.reads)

@@ -19,7 +19,8 @@ unfoldable pub most_blocks : ℕ
 most_blocks = 1048576
 
 -- What a session leaves: the bytes that were read, as the blocks that were answered whole and a rest; at most one block
--- more, with which the rest begins and which was worked, without a whole answer; and the answers to the ones and the other.
+-- more, with which the rest begins and which was worked, without a whole answer; and the answers to the ones and the
+-- other.
 pub record Ending : Type 0 where
   pub blocks : List Block
   pub rest : List ℕ
@@ -48,24 +49,30 @@ IsCause form old new e (Truncated place) =
     × (place ≡ rest_place form e) × (length e.blocks < most_blocks)
 -- what follows the blocks can't begin one
 IsCause form old new e (Bad place) =
-    IsWhole old new e × (new.reads ≡ old.reads) × IsBad form e.rest × (place ≡ rest_place form e) × (length e.blocks < most_blocks)
+    IsWhole old new e × (new.reads ≡ old.reads) × IsBad form e.rest
+    × (place ≡ rest_place form e) × (length e.blocks < most_blocks)
 -- as many blocks as one session answers, and more bytes
-IsCause form old new e Spent = IsWhole old new e × (new.reads ≡ old.reads) × (length e.blocks ≡ most_blocks) × (e.rest ≢ [])
+IsCause form old new e Spent =
+    IsWhole old new e × (new.reads ≡ old.reads) × (length e.blocks ≡ most_blocks) × (e.rest ≢ [])
 -- a read failed; each whole block of what was read is answered
 IsCause form old new e ReadFault = IsWhole old new e × CountsOne old.reads new.reads × IsPartial form e.rest
 -- a write failed within the last answer
 IsCause form old new e WriteFault =
     (new.reads ≡ old.reads) × CountsOne old.writes new.writes
-    × ((sent : ℕ) × (sent < length (replies e.last)) × Appends old.taken new.taken (replies e.answers ++ take sent (replies e.last)))
+    × ((sent : ℕ) × (sent < length (replies e.last))
+    × Appends old.taken new.taken (replies e.answers ++ take sent (replies e.last)))
 -- memory was wanting, before a last answer was begun
-IsCause form old new e Memory = (new.reads ≡ old.reads) × (new.writes ≡ old.writes) × Appends old.taken new.taken (replies e.answers)
+IsCause form old new e Memory =
+    (new.reads ≡ old.reads) × (new.writes ≡ old.writes) × Appends old.taken new.taken (replies e.answers)
 
--- A session was served, from what a desk had seen to what it has seen now, which is a history that the controller keeps.
+-- A session was served, from what a desk had seen to what it has seen now, which is a history that the controller
+-- keeps.
 pub record IsServed (form : Form) (old new : Wire) (desk desk' : Sight) (ended : Ended) (e : Ending) : Type 0 where
   pub consumed : Consumes old.left new.left (spelled_all form e.blocks ++ e.rest)
   pub blocks : All (IsBlock form) e.blocks
   pub one_more : (e.worked ≡ [])
-      ⊎ ((block : Block) × (more : List ℕ) × (e.worked ≡ block ∷ []) × IsBlock form block × (e.rest ≡ spelled form block ++ more))
+      ⊎ ((block : Block) × (more : List ℕ) × (e.worked ≡ block ∷ []) × IsBlock form block
+      × (e.rest ≡ spelled form block ++ more))
   pub bounded : length (e.blocks ++ e.worked) ≤ most_blocks
   pub answered : ended.answered ≡ length e.blocks
   pub asked : meanings e.answers ≡ map meaning_of e.blocks

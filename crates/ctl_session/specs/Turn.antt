@@ -31,7 +31,8 @@ AnswersBlock meaning old new desk desk' (Ok done) =
 AnswersBlock meaning old new desk desk' (Err fault.Write) =
     ReadsStay old new × CountsOne old.writes new.writes
     × ((one : AnswersOne meaning desk desk') × AppendsFront old.taken new.taken one.answer.reply)
-AnswersBlock meaning old new desk desk' (Err fault.Memory) = (new ≡ old) × (Answers desk desk' [] ⊎ AnswersOne meaning desk desk')
+AnswersBlock meaning old new desk desk' (Err fault.Memory) =
+    (new ≡ old) × (Answers desk desk' [] ⊎ AnswersOne meaning desk desk')
 
 -- a block was read, and answered by the desk
 pub record WorksBlock (old new : Wire) (desk desk' : Sight) (blocks blocks' : BlocksState) : Type 0 where
@@ -56,21 +57,25 @@ IsTurn old new desk desk' blocks blocks' (Some (how.Truncated place)) =
     IsQuiet old new desk desk' blocks blocks' × (new.reads ≡ old.reads) × IsAtEnd new.left
     × IsPartial blocks'.form blocks'.pending × (blocks'.pending ≢ []) × (place ≡ blocks'.place)
 IsTurn old new desk desk' blocks blocks' (Some (how.Bad place)) =
-    IsQuiet old new desk desk' blocks blocks' × (new.reads ≡ old.reads) × IsBad blocks'.form blocks'.pending × (place ≡ blocks'.place)
+    IsQuiet old new desk desk' blocks blocks' × (new.reads ≡ old.reads)
+    × IsBad blocks'.form blocks'.pending × (place ≡ blocks'.place)
 IsTurn old new desk desk' blocks blocks' (Some how.Spent) = ⊥
 IsTurn old new desk desk' blocks blocks' (Some how.ReadFault) =
     IsQuiet old new desk desk' blocks blocks' × CountsOne old.reads new.reads × IsPartial blocks'.form blocks'.pending
 IsTurn old new desk desk' blocks blocks' (Some how.WriteFault) =
     (works : WorksBlock old new desk desk' blocks blocks')
-    × AppendsFront old.taken new.taken works.one.answer.reply × (new.reads ≡ old.reads) × CountsOne old.writes new.writes
+    × AppendsFront old.taken new.taken works.one.answer.reply
+    × (new.reads ≡ old.reads) × CountsOne old.writes new.writes
 IsTurn old new desk desk' blocks blocks' (Some how.Memory) =
     WritesStay old new × (new.reads ≡ old.reads)
-    × (((read : List ℕ) × Consumes old.left new.left read × Answers desk desk' []) ⊎ WorksBlock old new desk desk' blocks blocks')
+    × (((read : List ℕ) × Consumes old.left new.left read × Answers desk desk' [])
+    ⊎ WorksBlock old new desk desk' blocks blocks')
 
 -- After the last block that a session may answer: more bytes, the end of the input, or a read that failed.
 abbrev pub IsLastLook : Wire → Wire → List ℕ → How → Type 0
 IsLastLook old new pending how.Spent =
-    (read : List ℕ) × Consumes old.left new.left read × (pending ++ read ≢ []) × WritesStay old new × (new.reads ≡ old.reads)
+    (read : List ℕ) × Consumes old.left new.left read × (pending ++ read ≢ [])
+    × WritesStay old new × (new.reads ≡ old.reads)
 IsLastLook old new pending how.Closed =
     Keeps old.left new.left × IsAtEnd new.left × (pending ≡ []) × WritesStay old new × (new.reads ≡ old.reads)
 IsLastLook old new pending how.ReadFault =

@@ -42,7 +42,8 @@ fn read_more<L: Link>(link: &mut L, blocks: &mut Blocks, buffer: &mut [u8]) -> B
     }
 }
 
-/// Reads until a block is whole. Each turn reads one byte at least, and less than a whole block has 8,192 bytes at most.
+/// Reads until a block is whole. Each turn reads one byte at least, and less than a whole block has 8,192 bytes at
+/// most.
 pub fn next_whole<L: Link>(link: &mut L, blocks: &mut Blocks, buffer: &mut [u8]) -> Found
     requires { 0 < length buffer.old }
     ensures found { IsFound (L.wire link.old) (L.wire link.new) blocks.old blocks.new result }

@@ -90,7 +90,8 @@ fn last_look<L: Link>(link: &mut L, blocks: &Blocks, buffer: &mut [u8]) -> How
     }
 }
 
-/// The end of a session at this desk. The history is then one that the controller keeps, as the desk says with its length.
+/// The end of a session at this desk. The history is then one that the controller keeps, as the desk says with its
+/// length.
 fn finished<D: Desk>(desk: &D, how: How, answered: u64) -> Ended
     ensures ending { result ≡ record { how = how; answered = answered } }
     ensures history { IsHistory (history_of (D.sight desk.now)) }

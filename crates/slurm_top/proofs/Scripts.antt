@@ -1,16 +1,15 @@
 -- A session at a desk of its own is the run of a script.
-use Rattle.std.proofs.Common.{◌≡◌, ◌⊎◌, ℕ, zero, suc, ◌+◌, ◌<◌, ◌≤◌, List, [], ◌∷◌, ◌++◌, length, take, map, inl, inr, refl, sym, ap, ◌∙◌, subst, arith, length-append, append_assoc, add-zero, All}
-use Rattle.std.proofs.lemmas.List.{append-nil, take_all, take-append-le, map-append, length-map}
+use Rattle.std.proofs.Common.{◌≡◌, ◌⊎◌, ℕ, zero, suc, ◌+◌, ◌≤◌, List, [], ◌∷◌, ◌++◌, length, take, map, inl, inr, refl, sym, ap, ◌∙◌, subst, arith, length-append, append_assoc, add-zero, All}
+use Rattle.std.proofs.lemmas.List.{append-nil, take_all, take-append-le, map-append}
 use Rattle.std.proofs.lemmas.List.Concat.{flat_map-append}
 use Rattle.std.specs.Io.KnownBytes.{Appends}
 use Rattle.slurm_io.specs.Wire.{Wire}
 use Rattle.block_frame.specs.declared.block.Block.{Block}
 use Rattle.block_frame.specs.declared.form.Form.TheVariants.{Plain}
-use Rattle.block_frame.specs.Grammar.{IsBlock, IsPartial, IsBad, spelled_all, blocks_of, rest_of}
+use Rattle.block_frame.specs.Grammar.{IsBlock, IsPartial, IsBad, blocks_of, rest_of}
 use Rattle.ctl_core.specs.State.{State}
 use Rattle.ctl_core.specs.Soundness.{IsSound}
-use Rattle.ctl_desk.specs.declared.entry.Entry.{Entry}
-use Rattle.ctl_desk.specs.Desk.{Seat, Sight, sight_of, state_at}
+use Rattle.ctl_desk.specs.Desk.{Seat, Sight, sight_of}
 use Rattle.ctl_desk.specs.History.{StaysSound, of_session}
 use Rattle.ctl_session.specs.declared.meaning.Meaning.{Meaning}
 use Rattle.ctl_session.specs.declared.session.How.{How}
@@ -19,7 +18,7 @@ use Rattle.ctl_session.specs.declared.session.Ended.{Ended}
 use Rattle.ctl_session.specs.Answers.{Answered, Answers, entries, meanings, replies}
 use Rattle.ctl_session.specs.Meaning.{meaning_of, told, state_behind}
 use Rattle.ctl_session.specs.Session.{Ending, IsServed, IsWhole, IsCause, most_blocks}
-use Rattle.slurm_top.specs.Script.{told_all, state_behind_all, asked_first, script_of, IsWritten, IsEndOf, IsScript}
+use Rattle.slurm_top.specs.Script.{told_all, state_behind_all, script_of, IsWritten, IsEndOf, IsScript}
 use Rattle.slurm_top.proofs.Blocks.{Laws, read_by, OneMore, worked_first, asked_up_to, asked_all}
 use Rattle.slurm_top.proofs.Telling.{RaisedAlike, Alone, told_first, leads_soundly}
 

@@ -1,7 +1,6 @@
 -- The answers of a desk that nobody else asks.
-use Rattle.std.proofs.Common.{◌≡◌, ℕ, zero, suc, ◌+◌, ◌≤◌, true, false, List, [], ◌∷◌, ◌++◌, Option, None, Some, length, take, map, get_or, slice_get, inl, inr, refl, sym, ap, ◌∙◌, subst, arith, length-append, append_assoc, add-zero, All}
+use Rattle.std.proofs.Common.{◌≡◌, ℕ, zero, suc, ◌+◌, ◌≤◌, true, false, List, [], ◌∷◌, ◌++◌, Option, None, Some, length, take, slice_get, inl, inr, refl, ap, ◌∙◌, subst, arith, length-append, add-zero, All}
 use Rattle.std.proofs.lemmas.Bool.{cases_Bool}
-use Rattle.std.proofs.lemmas.List.{append-nil}
 use Rattle.std.proofs.lemmas.List.Elements.{All-head, All-tail}
 use Rattle.std.specs.Option.{option_to_list}
 use Rattle.slurm_text.specs.declared.plain.request.Request.{Request}

@@ -43,8 +43,8 @@ error_line status =
 abbrev pub place_line : ℕ → List ℕ
 place_line place = codes "slurm: error: block at byte " ++ decimal place ++ codes "\n"
 
--- What errors took is a beginning of a line, whatever fails, and all of it where no write fails: what was taken, and how
--- many writes failed, before and after.
+-- What errors took is a beginning of a line, whatever fails, and all of it where no write fails: what was taken, and
+-- how many writes failed, before and after.
 pub record Tells (taken taken' : Option (List ℕ)) (faults faults' : ℕ) (line : List ℕ) : Type 0 where
   pub begun : (n : ℕ) × Appends taken taken' (take n line)
   pub whole : CountsNone faults faults' → Appends taken taken' line

@@ -44,7 +44,8 @@ IsEndOf s old new read Closed =
     × (length (blocks_of Plain read) ≤ most_blocks)
 -- the input ended within a block
 IsEndOf s old new read (Truncated place) =
-    IsWritten s old new read × (new.reads ≡ old.reads) × IsAtEnd new.left × IsPartial Plain (rest_of Plain read) × (rest_of Plain read ≢ [])
+    IsWritten s old new read × (new.reads ≡ old.reads) × IsAtEnd new.left
+    × IsPartial Plain (rest_of Plain read) × (rest_of Plain read ≢ [])
     × (place ≡ length (spelled_all Plain (blocks_of Plain read))) × (length (blocks_of Plain read) < most_blocks)
 -- what follows the blocks is none
 IsEndOf s old new read (Bad place) =

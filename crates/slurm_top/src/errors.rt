@@ -22,7 +22,8 @@ pub fn room_for_line(alloc: Global) -> Result<Vec<u8>, Memory>
 
 /// Writes a line in one piece, and passes over a fault: the status says what went wrong before.
 pub fn tell<E: Sink>(errors: &mut E, line: &[u8])
-    ensures { Tells (E.taken errors.old) (E.taken errors.new) (E.write_faults errors.old) (E.write_faults errors.new) line.now }
+    ensures { Tells (E.taken errors.old) (E.taken errors.new) (E.write_faults errors.old) (E.write_faults errors.new)
+        line.now }
 {
     let _ = write_all(errors, line);
 }

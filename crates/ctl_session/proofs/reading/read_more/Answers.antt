@@ -1,4 +1,4 @@
-use Rattle.std.proofs.Common.{◌≡◌, ◌++◌, take, ap, ◌∙◌, arith, length-take}
+use Rattle.std.proofs.Common.{◌++◌, take, ap, ◌∙◌, arith, length-take}
 use Rattle.block_frame.specs.State.{BlocksState}
 use Rattle.ctl_session.proofs.reading.read_more.Goals as goal
 
