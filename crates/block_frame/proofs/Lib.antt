@@ -1,2 +1,4 @@
 pub mod Lines
+pub mod Plain
+pub mod Owing
 pub mod Cutting

@@ -1,10 +1,10 @@
 -- Where the first LF of a text stands.
-use Rattle.std.proofs.Common.{◌≡◌, ◌≢◌, ℕ, ◌+◌, ◌-◌, ◌<◌, ◌≤◌, Option, Some, None, unwrap_or, List, ◌∷◌, ◌++◌, length, take, drop, get_or, All, true, false, arith, sym, ap, ◌∙◌, refl, inl, inr}
+use Rattle.std.proofs.Common.{◌≡◌, ◌≢◌, ℕ, ◌+◌, ◌-◌, ◌<◌, ◌≤◌, Option, Some, None, unwrap_or, List, ◌∷◌, ◌++◌, length, take, drop, take_at, get_or, All, true, false, arith, sym, ap, ◌∙◌, refl, inl, inr}
 use Rattle.std.specs.List.{position_or_len}
 use Rattle.memchr.specs.Find.{IsFirstByte, is_byte}
 use Rattle.std.proofs.lemmas.Bool.{cases_lt, eqb-true, eqb-false, false_from_ne_true}
 use Rattle.std.proofs.lemmas.Bool.Decides.{eqb_tells}
-use Rattle.std.proofs.lemmas.List.{get_or-take, get_or_append_left, get_or_at, length-append, length-take, length-drop, get_or-drop}
+use Rattle.std.proofs.lemmas.List.{take-append-drop, take-append-le, get_or-take, get_or_append_left, get_or_at, length-append, length-take, length-drop, get_or-drop}
 use Rattle.std.proofs.lemmas.List.Folds.{prefix_len-append}
 use Rattle.std.proofs.lemmas.List.Sums.{position_or_len_is, fails_before_first, passes_at_first, split_at_first, prefix_len-le-length}
 use Rattle.block_frame.specs.Grammar.{is_line_feed}
@@ -86,3 +86,9 @@ line_found text searched (Some n) s (before, at) =
     (omega arith)
     (none_so_far text searched n s before.before)
     (λ l. sym (ap is_line_feed (get_or-drop searched text n 0)) ∙ at))
+
+-- of two ways to cut a text, the shorter front is the front of the longer
+pub front_of : (us vs xs ys : List ℕ) → us ++ vs ≡ xs ++ ys → length us ≤ length xs → xs ≡ us ++ drop (length us) xs
+front_of us vs xs ys e l =
+    let front : us ≡ take (length us) xs = sym (take_at us vs (length us) refl) ∙ ap (take (length us)) e ∙ take-append-le (length us) xs ys l in
+    sym (take-append-drop (length us) xs) ∙ ap (λ t. t ++ drop (length us) xs) (sym front)

@@ -1,43 +1,53 @@
--- How requests lie in a text: as blocks, one after the other, each a header line ended by LF.
+-- How requests lie in a text: as blocks, one after the other. A form says how a block is spelled.
 use Rattle.std.specs.Prelude.{◌≡◌, ◌≢◌, ◌==◌, ◌&&◌, ℕ, zero, suc, ◌<◌, ◌≤◌, Bool, nat_lt, nat_le, if◌then◌else◌, List, [], ◌∷◌, ◌++◌, length, drop, All, Option, Some, None}
 use Rattle.std.specs.List.{position_or_len, before_first}
 use Rattle.std.specs.Option.{option_map_or}
 use Rattle.block_frame.specs.declared.block.Block.{Block}
+use Rattle.block_frame.specs.declared.form.Form.{Form}
+use Rattle.block_frame.specs.declared.form.Form.TheVariants.{Plain}
 
 -- a header has 1 to 8,192 bytes, and no LF (10) is among them
-pub record IsBlock (block : Block) : Type 0 where
-  pub one_line : All (λ byte. byte ≢ 10) block.header
-  pub not_empty : 0 < length block.header
-  pub fits : length block.header ≤ 8192
+pub record IsHeader (header : List ℕ) : Type 0 where
+  pub one_line : All (λ byte. byte ≢ 10) header
+  pub not_empty : 0 < length header
+  pub fits : length header ≤ 8192
 
--- the bytes of a block
-abbrev pub spelled : Block → List ℕ
-spelled block = block.header ++ 10 ∷ []
+-- what each form asks of a block
+abbrev pub IsBlock : Form → Block → Type 0
+IsBlock Plain block = IsHeader block.header
+
+-- the bytes of a block: the plain form ends the header by LF
+abbrev pub spelled : Form → Block → List ℕ
+spelled Plain block = block.header ++ 10 ∷ []
+
+-- no block of any form has more bytes
+abbrev pub longest_block : ℕ
+longest_block = 8193
 
 -- the bytes of blocks that follow one another
-abbrev pub spelled_all : List Block → List ℕ
-spelled_all [] = []
-spelled_all (block ∷ blocks) = spelled block ++ spelled_all blocks
+abbrev pub spelled_all : Form → List Block → List ℕ
+spelled_all form [] = []
+spelled_all form (block ∷ blocks) = spelled form block ++ spelled_all form blocks
 
 -- a block, and what follows it
-pub record BeginsWithBlock (text : List ℕ) : Type 0 where
+pub record BeginsWithBlock (form : Form) (text : List ℕ) : Type 0 where
   pub block : Block
   pub more : List ℕ
-  pub is_block : IsBlock block
-  pub cut : text ≡ spelled block ++ more
+  pub is_block : IsBlock form block
+  pub cut : text ≡ spelled form block ++ more
 
 -- a proper prefix of a block; the empty text is one
-pub record IsPartial (text : List ℕ) : Type 0 where
+pub record IsPartial (form : Form) (text : List ℕ) : Type 0 where
   pub block : Block
   pub more : List ℕ
-  pub is_block : IsBlock block
-  pub cut : spelled block ≡ text ++ more
+  pub is_block : IsBlock form block
+  pub cut : spelled form block ≡ text ++ more
   pub proper : 0 < length more
 
 -- no text that begins so is blocks, whatever follows
-pub record IsBad (text : List ℕ) : Type 0 where
-  pub not_partial : ¬ IsPartial text
-  pub no_block : ¬ BeginsWithBlock text
+pub record IsBad (form : Form) (text : List ℕ) : Type 0 where
+  pub not_partial : ¬ IsPartial form text
+  pub no_block : ¬ BeginsWithBlock form text
 
 abbrev pub is_line_feed : ℕ → Bool
 is_line_feed byte = byte == 10
@@ -46,23 +56,24 @@ is_line_feed byte = byte == 10
 abbrev pub is_header_len : ℕ → ℕ → Bool
 is_header_len line text = nat_lt 0 line && nat_le line 8192 && nat_lt line text
 
--- the block that a text begins with: its first line, if that is a header and is ended
-unfoldable pub first_block : List ℕ → Option Block
-first_block text =
+-- the block that a text begins with: in the plain form its first line, if that is a header and is ended
+unfoldable pub first_block : Form → List ℕ → Option Block
+first_block Plain text =
     if is_header_len (position_or_len is_line_feed text) (length text)
     then Some (record { header = before_first is_line_feed text })
     else None
 
 -- the blocks that a text begins with, n of them at the most
-unfoldable pub blocks_within : ℕ → List ℕ → List Block
-blocks_within zero text = []
-blocks_within (suc n) text =
-    option_map_or (λ block. block ∷ blocks_within n (drop (length (spelled block)) text)) (first_block text) []
+unfoldable pub blocks_within : Form → ℕ → List ℕ → List Block
+blocks_within form zero text = []
+blocks_within form (suc n) text =
+    option_map_or (λ block. block ∷ blocks_within form n (drop (length (spelled form block)) text))
+    (first_block form text) []
 
 -- the whole blocks that a text begins with
-unfoldable pub blocks_of : List ℕ → List Block
-blocks_of text = blocks_within (length text) text
+unfoldable pub blocks_of : Form → List ℕ → List Block
+blocks_of form text = blocks_within form (length text) text
 
 -- what follows them
-unfoldable pub rest_of : List ℕ → List ℕ
-rest_of text = drop (length (spelled_all (blocks_of text))) text
+unfoldable pub rest_of : Form → List ℕ → List ℕ
+rest_of form text = drop (length (spelled_all form (blocks_of form text))) text

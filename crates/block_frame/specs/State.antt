@@ -2,10 +2,13 @@
 use Rattle.std.specs.Prelude.{◌≡◌, ℕ, ◌+◌, ◌-◌, ◌^◌, min, List, ◌++◌, length}
 use Rattle.block_frame.specs.declared.block.Next.{Next}
 use Rattle.block_frame.specs.declared.block.Next.TheVariants.{Whole, NotYet, Bad}
+use Rattle.block_frame.specs.declared.form.Form.{Form}
 use Rattle.block_frame.specs.Grammar.{IsBlock, IsPartial, IsBad, spelled}
 
--- how many bytes the blocks that were handed out took, and the bytes that were fed and not handed out
+-- the form of the blocks, how many bytes those took that were handed out, and the bytes that were fed and not handed
+-- out
 pub record BlocksState : Type 0 where
+  pub form : Form
   pub place : ℕ
   pub pending : List ℕ
 
@@ -16,6 +19,7 @@ place_after place count = min (place + count) (2 ^ 64 - 1)
 -- what the next block of a reader is, and what it leaves
 abbrev pub IsNext : BlocksState → Next → BlocksState → Type 0
 IsNext old (Whole block) new =
-    IsBlock block × (old.pending ≡ spelled block ++ new.pending) × (new.place ≡ place_after old.place (length (spelled block)))
-IsNext old NotYet new = IsPartial old.pending × (new ≡ old)
-IsNext old (Bad place) new = IsBad old.pending × (place ≡ old.place) × (new ≡ old)
+    IsBlock old.form block × (old.pending ≡ spelled old.form block ++ new.pending)
+    × (new.form ≡ old.form) × (new.place ≡ place_after old.place (length (spelled old.form block)))
+IsNext old NotYet new = IsPartial old.form old.pending × (new ≡ old)
+IsNext old (Bad place) new = IsBad old.form old.pending × (place ≡ old.place) × (new ≡ old)

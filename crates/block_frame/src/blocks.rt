@@ -3,8 +3,9 @@ ghost use Rattle.std.specs.Prelude.{◌≡◌, ◌==◌, ◌++◌, ◌≤◌, []
 ghost use Rattle.std.specs.List.{position_or_len};
 ghost use Rattle.block_frame.specs.Grammar.{is_line_feed};
 ghost use Rattle.block_frame.specs.State.{BlocksState, IsNext};
+ghost use Rattle.block_frame.specs.declared.form.Form.TheVariants.{Plain};
 
-use crate::{Block, Line, Next};
+use crate::{Block, Form, Line, Next};
 use bytes::BytesMut;
 use memchr::memchr;
 use slurm_text::memory_error::Memory;
@@ -13,11 +14,12 @@ use std::marker::Model;
 
 const MAX_HEADER: usize = 8192;
 
-/// A reader of blocks, in whatever pieces the bytes come. Each byte is looked at once. Contracts see it as the place
-/// up to which it has handed out blocks, and the bytes that are pending.
+/// A reader of blocks, in whatever pieces the bytes come. Each byte is looked at once. Contracts see it as its form,
+/// the place up to which it has handed out blocks, and the bytes that are pending.
 #[derive(Drop)]
 pub struct Blocks {
     alloc: Global,
+    form: Form,
     pending: BytesMut,
     // So many of the pending bytes are known to be no LF.
     searched: usize,
@@ -27,18 +29,23 @@ pub struct Blocks {
 impl Model for Blocks {
     ghost Value = { BlocksState };
 
-    ghost view = { λ blocks. record { place = blocks.place; pending = blocks.pending.items } };
+    ghost view = { λ blocks. record {
+      form = blocks.form;
+      place = blocks.place;
+      pending = blocks.pending.items;
+    } };
 
     ghost invariant = { λ blocks. blocks.searched ≤ position_or_len is_line_feed blocks.pending.items };
 }
 
 impl Blocks {
     /// A reader at the first byte of a stream, with room for a block.
-    pub fn new(alloc: Global) -> Result<Blocks, Memory>
-        ensures { IfOk result (λ blocks. blocks ≡ record { place = 0; pending = [] }) }
+    pub fn new(alloc: Global, form: Form) -> Result<Blocks, Memory>
+        ensures { IfOk result (λ blocks. blocks ≡ record { form = form; place = 0; pending = [] }) }
     {
         Ok(Blocks {
             alloc,
+            form,
             pending: BytesMut::with_capacity(alloc, MAX_HEADER + 1)?,
             searched: 0,
             place: 0,
@@ -57,6 +64,17 @@ impl Blocks {
 
     /// What the pending bytes begin with; a whole block is handed out.
     pub fn next_block(&mut self) -> Result<Next, Memory>
+        ensures ok { IfOk result (λ next. IsNext self.old next self.new) }
+        ensures err { OnErr result (self.new ≡ self.old) }
+    {
+        match self.form {
+            Form::Plain => self.next_line(),
+        }
+    }
+
+    // What the pending bytes begin with in the plain form.
+    fn next_line(&mut self) -> Result<Next, Memory>
+        requires { self.old.form ≡ Plain }
         ensures ok { IfOk result (λ next. IsNext self.old next self.new) }
         ensures err { OnErr result (self.new ≡ self.old) }
     {

@@ -1,44 +1,61 @@
-// What holds of every text and its blocks. Each law is the contract of a function that does nothing.
-ghost use Rattle.std.specs.Prelude.{◌≡◌, ◌⊎◌, ℕ, List, [], ◌++◌, All};
+// What holds of every text and its blocks, in each form. Each law is the contract of a function that does nothing.
+ghost use Rattle.std.specs.Prelude.{◌≡◌, ◌⊎◌, ◌<◌, ◌≤◌, ℕ, List, [], ◌++◌, length, All};
 ghost use Rattle.block_frame.specs.declared.block.Block.{Block};
-ghost use Rattle.block_frame.specs.Grammar.{IsBlock, IsPartial, IsBad, BeginsWithBlock, spelled_all, blocks_of, rest_of};
+ghost use Rattle.block_frame.specs.declared.form.Form.{Form};
+ghost use Rattle.block_frame.specs.Grammar.{IsBlock, IsPartial, IsBad, BeginsWithBlock, spelled, spelled_all, blocks_of, rest_of, longest_block};
 
 /// Every text is its blocks and a rest, which is a proper prefix of a block or bad.
 pub fn texts_are_cut()
-    ensures { (text : List ℕ)
-        → (text ≡ spelled_all (blocks_of text) ++ rest_of text)
-        × All IsBlock (blocks_of text)
-        × (IsPartial (rest_of text) ⊎ IsBad (rest_of text)) }
+    ensures { (form : Form) (text : List ℕ)
+        → (text ≡ spelled_all form (blocks_of form text) ++ rest_of form text)
+        × All (IsBlock form) (blocks_of form text)
+        × (IsPartial form (rest_of form text) ⊎ IsBad form (rest_of form text)) }
 {}
 
 /// It is so in one way only, however the text came: no block is a proper prefix of another.
 pub fn blocks_are_cut_once()
-    ensures { (blocks : List Block) (rest : List ℕ)
-        → All IsBlock blocks
-        → IsPartial rest ⊎ IsBad rest
-        → (blocks_of (spelled_all blocks ++ rest) ≡ blocks) × (rest_of (spelled_all blocks ++ rest) ≡ rest) }
+    ensures { (form : Form) (blocks : List Block) (rest : List ℕ)
+        → All (IsBlock form) blocks
+        → IsPartial form rest ⊎ IsBad form rest
+        → (blocks_of form (spelled_all form blocks ++ rest) ≡ blocks)
+        × (rest_of form (spelled_all form blocks ++ rest) ≡ rest) }
 {}
 
 /// Blocks that stand at the front of a text are its first ones, and leave its rest as it is.
 pub fn blocks_go_first()
-    ensures { (blocks : List Block) (text : List ℕ)
-        → All IsBlock blocks
-        → (blocks_of (spelled_all blocks ++ text) ≡ blocks ++ blocks_of text)
-        × (rest_of (spelled_all blocks ++ text) ≡ rest_of text) }
+    ensures { (form : Form) (blocks : List Block) (text : List ℕ)
+        → All (IsBlock form) blocks
+        → (blocks_of form (spelled_all form blocks ++ text) ≡ blocks ++ blocks_of form text)
+        × (rest_of form (spelled_all form blocks ++ text) ≡ rest_of form text) }
 {}
 
 /// A text that begins with a block is no proper prefix of one, and neither is bad.
 pub fn kinds_are_apart()
-    ensures partial { (text : List ℕ) → IsPartial text → (¬ BeginsWithBlock text) × (¬ IsBad text) }
-    ensures bad { (text : List ℕ) → IsBad text → (¬ BeginsWithBlock text) × (¬ IsPartial text) }
+    ensures partial { (form : Form) (text : List ℕ)
+        → IsPartial form text → (¬ BeginsWithBlock form text) × (¬ IsBad form text) }
+    ensures bad { (form : Form) (text : List ℕ)
+        → IsBad form text → (¬ BeginsWithBlock form text) × (¬ IsPartial form text) }
 {}
 
 /// Nothing at all is a proper prefix of a block.
 pub fn nothing_is_partial()
-    ensures { IsPartial [] }
+    ensures { (form : Form) → IsPartial form [] }
 {}
 
 /// What is bad stays bad, whatever follows.
 pub fn bad_texts_stay()
-    ensures { (text more : List ℕ) → IsBad text → IsBad (text ++ more) }
+    ensures { (form : Form) (text more : List ℕ) → IsBad form text → IsBad form (text ++ more) }
+{}
+
+/// A block has so many bytes at the most, and its proper prefixes have fewer.
+pub fn blocks_are_short()
+    ensures whole { (form : Form) (block : Block)
+        → IsBlock form block → length (spelled form block) ≤ longest_block }
+    ensures partial { (form : Form) (text : List ℕ) → IsPartial form text → length text < longest_block }
+{}
+
+/// The bytes of blocks are joined as the blocks are.
+pub fn spellings_join()
+    ensures { (form : Form) (blocks others : List Block)
+        → spelled_all form (blocks ++ others) ≡ spelled_all form blocks ++ spelled_all form others }
 {}

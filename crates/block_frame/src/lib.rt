@@ -3,16 +3,15 @@
 
 mod block;
 mod blocks;
+mod form;
 mod laws;
 mod line;
 
 pub use block::{Block, Next};
 pub use blocks::Blocks;
+pub use form::Form;
 pub use laws::{
-    bad_texts_stay, blocks_are_cut_once, blocks_go_first, kinds_are_apart, nothing_is_partial,
-    texts_are_cut,
+    bad_texts_stay, blocks_are_cut_once, blocks_are_short, blocks_go_first, kinds_are_apart,
+    nothing_is_partial, spellings_join, texts_are_cut,
 };
 pub use line::Line;
-
-#[cfg(test)]
-mod tests;

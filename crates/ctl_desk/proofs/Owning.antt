@@ -1,84 +1,117 @@
 -- What a book of its own makes of a desk.
-use Rattle.std.proofs.Common.{◌≡◌, ℕ, ◌≤◌, List, [], ◌∷◌, ◌++◌, length, take, drop, refl, sym, ap, ◌∙◌, subst, arith, length-append, inl, inr, if◌then◌else◌, Ok, Err, Result, IfOk, OnErr}
+use Rattle.std.proofs.Common.{◌≡◌, ℕ, true, false, ◌≤◌, List, [], ◌∷◌, ◌++◌, length, take, drop, refl, sym, ap, ◌∙◌, subst, arith, length-append, inl, inr, if◌then◌else◌, Ok, Err, Result, IfOk, OnErr}
 use Rattle.std.proofs.Math.Seq.{take-append_seam}
 use Rattle.std.proofs.lemmas.Bool.{cases_Bool, true≢false}
-use Rattle.std.proofs.lemmas.List.{append-nil, take_all, drop-append-le}
+use Rattle.std.proofs.lemmas.List.{append-nil, take_all, take-append-le, take-append-drop, drop-append-le}
 use Rattle.slurm_text.specs.declared.plain.request.Request.{Request}
 use Rattle.ctl_core.specs.State.{State}
 use Rattle.ctl_core.specs.Step.{reply_of, is_entered}
 use Rattle.ctl_desk.specs.declared.entry.Answer.{Answer}
 use Rattle.ctl_desk.specs.declared.entry.Entry.{Entry}
-use Rattle.ctl_desk.specs.Desk.{GoesOn, IsAnswered, state_at}
+use Rattle.ctl_desk.specs.Desk.{Sight, GoesOn, IsAnswered, seen, later, sight_of, state_at}
 use Rattle.ctl_desk.specs.History.{History, after_all, entry_of}
 use Rattle.ctl_desk.proofs.Entering.{where_true, where_false}
 
--- what was seen grew by nothing, or by one entry
-goes_nowhere : (before : ℕ) (old new : List Entry) → new ≡ old → GoesOn 0 old new (drop before old) (drop before new)
-goes_nowhere before old new same =
-    record { more = []; seen_grows = same ∙ sym (append-nil old); mine_grows = ap (λ l. drop before l) same ∙ sym (append-nil (drop before old)) }
+-- a desk that was made at a book of so many entries
+abbrev pub at_book : ℕ → History → Sight
+at_book before h = sight_of (record { opening = h.opening; before = take before h.entries; since = drop before h.entries })
 
-goes_on_one : (before : ℕ) (entry : Entry) (old new : List Entry) → before ≤ length old → entry.session ≡ 0 → new ≡ old ++ entry ∷ []
-    → GoesOn 0 old new (drop before old) (drop before new)
-goes_on_one before entry old new below own grown =
-    record {
-      more = entry ∷ [];
-      seen_grows = grown;
-      mine_grows = ap (λ l. drop before l) grown ∙ drop-append-le before old (entry ∷ []) below ∙ rw own refl;
-    }
+-- it has seen all entries
+pub all_seen : (before : ℕ) (h : History) → seen (at_book before h) ≡ h.entries
+all_seen before h = take-append-drop before h.entries
+
+-- the book with one entry more, and with the same entries
+abbrev grown : History → Entry → History
+grown h entry = record h { entries = h.entries ++ entry ∷ [] }
+
+-- one entry more
+goes_on_one : (before : ℕ) (entry : Entry) (h : History) → before ≤ length h.entries → entry.session ≡ 0
+    → at_book before (grown h entry) ≡ later (at_book before h) (entry ∷ [])
+goes_on_one before entry h below own =
+    let since : drop before (h.entries ++ entry ∷ []) ≡ drop before h.entries ++ entry ∷ [] = drop-append-le before h.entries (entry ∷ []) below in
+    rw (take-append-le before h.entries (entry ∷ []) below, since, own) refl
+
+goes_nowhere : (desk : Sight) → GoesOn desk desk
+goes_nowhere desk = ([], rw (append-nil desk.since, append-nil desk.mine) refl)
+
+-- the book after a call, and its entries
+same_book : (old new : History) (entries : List Entry) → new.opening ≡ old.opening → new.entries ≡ entries → new ≡ record old { entries = entries }
+same_book old new entries opening all =
+    let make : State → List Entry → History = λ o es. record { opening = o; entries = es } in
+    ap (λ o. make o new.entries) opening ∙ ap (make old.opening) all
 
 pub own_goes_on : {E : Type 0} (result : Result Answer E) (before : ℕ) (entry : Entry) (old new : History) → before ≤ length old.entries → entry.session ≡ 0
+    → new.opening ≡ old.opening
     → IfOk result (λ answer. new.entries ≡ (if is_entered answer.reply then old.entries ++ entry ∷ [] else old.entries))
     → OnErr result (new ≡ old)
-    → GoesOn 0 old.entries new.entries (drop before old.entries) (drop before new.entries)
-own_goes_on (Ok answer) before entry old new below own entered stays =
-    elim (cases_Bool (is_entered answer.reply)) [
-      | inl accepts ↦ goes_on_one before entry old.entries new.entries below own (where_true (is_entered answer.reply) (old.entries ++ entry ∷ []) old.entries new.entries entered accepts)
-      | inr refuses ↦ goes_nowhere before old.entries new.entries (where_false (is_entered answer.reply) (old.entries ++ entry ∷ []) old.entries new.entries entered refuses)
-    ]
-own_goes_on (Err e) before entry old new below own entered stays = goes_nowhere before old.entries new.entries (ap (λ (h : History). h.entries) stays)
-
--- the answer of a book is one at its end
-answered : (opening : State) (now : ℕ) (user : List ℕ) (request : Request) (answer : Answer) (before : ℕ) (old new : List Entry) → before ≤ length old
-    → answer.reply ≡ reply_of (after_all opening old) now user request
-    → answer.place ≡ length old
-    → new ≡ (if is_entered answer.reply then old ++ entry_of (after_all opening old) 0 now user request ∷ [] else old)
-    → IsAnswered opening 0 now user request answer old new (drop before old) (drop before new)
-answered opening now user request answer before old new below reply place entered =
-    let s = after_all opening old in
-    let entry = entry_of s 0 now user request in
-    let grown = old ++ entry ∷ [] in
-    let told = λ (seen : List Entry). IsAnswered opening 0 now user request answer old seen (drop before old) (drop before seen) in
-    let decided = λ (at : State). answer.reply ≡ reply_of at now user request in
+    → GoesOn (at_book before old) (at_book before new)
+own_goes_on (Ok answer) before entry old new below own opening entered stays =
     elim (cases_Bool (is_entered answer.reply)) [
       | inl accepts ↦
-          let front : take answer.place grown ≡ old = ap (λ n. take n grown) place ∙ take-append_seam old (entry ∷ []) in
-          let there : s ≡ state_at opening grown answer.place = ap (λ l. after_all opening l) (sym front) in
-          let entry_at = λ (at : State). (grown ≡ take answer.place grown ++ entry_of at 0 now user request ∷ []) × (drop before grown ≡ drop before old ++ entry_of at 0 now user request ∷ []) in
-          subst told (sym (where_true (is_entered answer.reply) grown old new entered accepts)) (record {
-            from = omega (arith, place);
-            within = omega (arith, place, length-append old (entry ∷ []));
-            reply = subst decided there reply;
-            accepted = λ _. subst entry_at there (ap (λ l. l ++ entry ∷ []) (sym front), drop-append-le before old (entry ∷ []) below);
-            other = λ no_entry. absurd (true≢false (sym accepts ∙ no_entry));
-          })
+          let all = where_true (is_entered answer.reply) (old.entries ++ entry ∷ []) old.entries new.entries entered accepts in
+          (entry ∷ [], ap (at_book before) (same_book old new (old.entries ++ entry ∷ []) opening all) ∙ goes_on_one before entry old below own)
       | inr refuses ↦
-          let front : take answer.place old ≡ old = take_all answer.place old (omega (arith, place)) in
-          let there : s ≡ state_at opening old answer.place = ap (λ l. after_all opening l) (sym front) in
-          subst told (sym (where_false (is_entered answer.reply) grown old new entered refuses)) (record {
-            from = omega (arith, place);
-            within = omega (arith, place);
-            reply = subst decided there reply;
-            accepted = λ an_entry. absurd (true≢false (sym an_entry ∙ refuses));
-            other = λ _. (place, refl);
-          })
+          let all = where_false (is_entered answer.reply) (old.entries ++ entry ∷ []) old.entries new.entries entered refuses in
+          subst (λ (h : History). GoesOn (at_book before old) (at_book before h)) (sym (same_book old new old.entries opening all)) (goes_nowhere (at_book before old))
     ]
+own_goes_on (Err e) before entry old new below own opening entered stays =
+    subst (λ (h : History). GoesOn (at_book before old) (at_book before h)) (sym stays) (goes_nowhere (at_book before old))
+
+-- the answer of a book that entered the request
+answered_entered : (now : ℕ) (user : List ℕ) (request : Request) (answer : Answer) (before : ℕ) (h : History) → before ≤ length h.entries
+    → let s = after_all h.opening h.entries in
+    let entry = entry_of s 0 now user request in
+    answer.reply ≡ reply_of s now user request → answer.place ≡ length h.entries → is_entered answer.reply ≡ true
+    → IsAnswered (at_book before h) (at_book before (grown h entry)) now user request answer
+answered_entered now user request answer before h below reply place accepts =
+    let old = h.entries in
+    let s = after_all h.opening old in
+    let entry = entry_of s 0 now user request in
+    let more = old ++ entry ∷ [] in
+    let front : take answer.place more ≡ old = ap (λ n. take n more) place ∙ take-append_seam old (entry ∷ []) in
+    let there : s ≡ state_at h.opening more answer.place = ap (λ l. after_all h.opening l) (sym front) in
+    let entry_at = λ (at : State). (more ≡ take answer.place more ++ entry_of at 0 now user request ∷ []) × (drop before more ≡ drop before old ++ entry_of at 0 now user request ∷ []) in
+    let seen_then : seen (at_book before (grown h entry)) ≡ more = all_seen before (grown h entry) in
+    record {
+      from = rw (all_seen before h) (omega (arith, place));
+      within = rw seen_then (omega (arith, place, length-append old (entry ∷ [])));
+      reply = rw seen_then (subst (λ (at : State). answer.reply ≡ reply_of at now user request) there reply);
+      accepted = λ _. rw seen_then (subst entry_at there (ap (λ l. l ++ entry ∷ []) (sym front), drop-append-le before old (entry ∷ []) below));
+      other = λ no_entry. absurd (true≢false (sym accepts ∙ no_entry));
+    }
+
+-- the answer of a book that entered nothing
+answered_idle : (now : ℕ) (user : List ℕ) (request : Request) (answer : Answer) (before : ℕ) (h : History)
+    → answer.reply ≡ reply_of (after_all h.opening h.entries) now user request → answer.place ≡ length h.entries → is_entered answer.reply ≡ false
+    → IsAnswered (at_book before h) (at_book before h) now user request answer
+answered_idle now user request answer before h reply place refuses =
+    let all = all_seen before h in
+    let front : take answer.place h.entries ≡ h.entries = take_all answer.place h.entries (omega (arith, place)) in
+    let there : after_all h.opening h.entries ≡ state_at h.opening h.entries answer.place = ap (λ l. after_all h.opening l) (sym front) in
+    record {
+      from = rw all (omega (arith, place));
+      within = rw all (omega (arith, place));
+      reply = rw all (subst (λ (at : State). answer.reply ≡ reply_of at now user request) there reply);
+      accepted = λ an_entry. absurd (true≢false (sym an_entry ∙ refuses));
+      other = λ _. (rw all place, refl);
+    }
 
 pub own_answered : {E : Type 0} (result : Result Answer E) (now : ℕ) (user : List ℕ) (request : Request) (before : ℕ) (old new : History) → before ≤ length old.entries
+    → new.opening ≡ old.opening
     → let s = after_all old.opening old.entries in
     IfOk result (λ answer. answer.reply ≡ reply_of s now user request)
     → IfOk result (λ answer. answer.place ≡ length old.entries)
     → IfOk result (λ answer. new.entries ≡ (if is_entered answer.reply then old.entries ++ entry_of s 0 now user request ∷ [] else old.entries))
-    → IfOk result (λ answer. IsAnswered old.opening 0 now user request answer old.entries new.entries (drop before old.entries) (drop before new.entries))
-own_answered (Ok answer) now user request before old new below reply place entered =
-    answered old.opening now user request answer before old.entries new.entries below reply place entered
-own_answered (Err e) now user request before old new below reply place entered = tt
+    → IfOk result (λ answer. IsAnswered (at_book before old) (at_book before new) now user request answer)
+own_answered (Ok answer) now user request before old new below opening reply place entered =
+    let entry = entry_of (after_all old.opening old.entries) 0 now user request in
+    let told = λ (h : History). IsAnswered (at_book before old) (at_book before h) now user request answer in
+    elim (cases_Bool (is_entered answer.reply)) [
+      | inl accepts ↦
+          let all = where_true (is_entered answer.reply) (old.entries ++ entry ∷ []) old.entries new.entries entered accepts in
+          subst told (sym (same_book old new (old.entries ++ entry ∷ []) opening all)) (answered_entered now user request answer before old below reply place accepts)
+      | inr refuses ↦
+          let all = where_false (is_entered answer.reply) (old.entries ++ entry ∷ []) old.entries new.entries entered refuses in
+          subst told (sym (same_book old new old.entries opening all)) (answered_idle now user request answer before old reply place refuses)
+    ]
+own_answered (Err e) now user request before old new below opening reply place entered = tt

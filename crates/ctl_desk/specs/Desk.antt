@@ -1,4 +1,4 @@
--- What a call at a desk does to the history that the desk has seen.
+-- A desk as contracts see it, and what a call at it does to the history that it has seen.
 use Rattle.std.specs.Prelude.{◌≡◌, ℕ, ◌≤◌, true, false, List, [], ◌∷◌, ◌++◌, length, take}
 use Rattle.slurm_text.specs.declared.plain.request.Request.{Request}
 use Rattle.ctl_core.specs.State.{State}
@@ -7,28 +7,54 @@ use Rattle.ctl_desk.specs.declared.entry.Entry.{Entry}
 use Rattle.ctl_desk.specs.declared.entry.Answer.{Answer}
 use Rattle.ctl_desk.specs.History.{History, after_all, entry_of, of_session}
 
--- A desk goes on: what it has seen grows, and what it made grows by the new entries that bear its number.
-pub record GoesOn (number : ℕ) (seen seen' mine mine' : List Entry) : Type 0 where
-  pub more : List Entry
-  pub seen_grows : seen' ≡ seen ++ more
-  pub mine_grows : mine' ≡ mine ++ of_session number more
+-- A desk at a moment: the state before the first entry of the history, the number that the entries of this desk bear,
+-- the entries that there were when the desk was made, those that it has seen come since, and those that were made at
+-- it.
+pub record Sight : Type 0 where
+  pub opening : State
+  pub number : ℕ
+  pub before : List Entry
+  pub since : List Entry
+  pub mine : List Entry
+
+-- all entries that the desk has seen
+abbrev pub seen : Sight → List Entry
+seen desk = desk.before ++ desk.since
+
+-- the history that it has seen
+abbrev pub history_of : Sight → History
+history_of desk = record { opening = desk.opening; entries = seen desk }
+
+-- the desk when it has seen more come, of which those that bear its number were made at it
+abbrev pub later : Sight → List Entry → Sight
+later desk more = record desk { since = desk.since ++ more; mine = desk.mine ++ of_session desk.number more }
+
+-- A desk goes on: what it has seen grows.
+abbrev pub GoesOn : Sight → Sight → Type 0
+GoesOn desk desk' = (more : List Entry) × (desk' ≡ later desk more)
 
 -- the state at a place of the history
 abbrev pub state_at : State → List Entry → ℕ → State
-state_at opening seen place = after_all opening (take place seen)
+state_at opening entries place = after_all opening (take place entries)
 
 -- The answer is the one-thread controller's at its place, which is none of those seen before. An accepted request is
 -- entered there, as the last entry seen; any other answer is given at the end of what is seen.
-pub record IsAnswered (opening : State) (number now : ℕ) (user : List ℕ) (request : Request) (answer : Answer) (seen seen' mine mine' : List Entry) : Type 0 where
-  pub from : length seen ≤ answer.place
-  pub within : answer.place ≤ length seen'
-  pub reply : answer.reply ≡ reply_of (state_at opening seen' answer.place) now user request
+pub record IsAnswered (desk desk' : Sight) (now : ℕ) (user : List ℕ) (request : Request) (answer : Answer)
+    : Type 0 where
+  pub from : length (seen desk) ≤ answer.place
+  pub within : answer.place ≤ length (seen desk')
+  pub reply : answer.reply ≡ reply_of (state_at desk.opening (seen desk') answer.place) now user request
   pub accepted : is_entered answer.reply ≡ true
-      → let entry = entry_of (state_at opening seen' answer.place) number now user request in
-      (seen' ≡ take answer.place seen' ++ entry ∷ []) × (mine' ≡ mine ++ entry ∷ [])
-  pub other : is_entered answer.reply ≡ false → (answer.place ≡ length seen') × (mine' ≡ mine)
+      → let entry = entry_of (state_at desk.opening (seen desk') answer.place) desk.number now user request in
+      (seen desk' ≡ take answer.place (seen desk') ++ entry ∷ []) × (desk'.mine ≡ desk.mine ++ entry ∷ [])
+  pub other : is_entered answer.reply ≡ false → (answer.place ≡ length (seen desk')) × (desk'.mine ≡ desk.mine)
 
--- a history, and how many entries it had when a desk was made at it
+-- A desk that nobody else's entries come to: the state before the first entry, the entries that there were when it was
+-- made, and its own since.
 pub record Seat : Type 0 where
-  pub history : History
-  pub before : ℕ
+  pub opening : State
+  pub before : List Entry
+  pub since : List Entry
+
+abbrev pub sight_of : Seat → Sight
+sight_of seat = record { opening = seat.opening; number = 0; before = seat.before; since = seat.since; mine = seat.since }

@@ -4,4 +4,5 @@
 pub mod book;
 pub mod desk;
 pub mod entry;
+pub mod laws;
 pub mod own_desk;

@@ -1,7 +1,6 @@
 //! The desk of a single thread.
 
-ghost use Rattle.std.specs.Prelude.{◌≡◌, ◌≤◌, [], length};
-ghost use Rattle.ctl_desk.specs.History.{History};
+ghost use Rattle.std.specs.Prelude.{◌≡◌, []};
 
 use crate::book::Book;
 use crate::desk::Desk;
@@ -13,7 +12,7 @@ use slurm_text::name::Name;
 use slurm_text::plain::request::Request;
 use std::marker::Model;
 
-/// A desk that owns the book. Its entries bear the number 0.
+/// A desk that owns the book. Its entries bear the number 0, and all that come since it was made are its own.
 #[derive(Drop)]
 pub struct OwnDesk {
     book: Book,
@@ -22,37 +21,32 @@ pub struct OwnDesk {
 }
 
 impl Model for OwnDesk {
-    ghost use Rattle.std.specs.Prelude.{◌≤◌, length};
+    ghost use Rattle.std.specs.Prelude.{◌≤◌, length, take, drop};
     ghost use Rattle.ctl_desk.specs.Desk.{Seat};
 
     ghost Value = { Seat };
 
-    ghost view = { λ d. record { history = d.book; before = d.before } };
+    ghost view = { λ d. record {
+      opening = d.book.opening;
+      before = take d.before d.book.entries;
+      since = drop d.before d.book.entries;
+    } };
 
     ghost invariant = { λ d. d.before ≤ length d.book.entries };
 }
 
 /// A desk at this book.
 pub fn own_desk(book: Book) -> OwnDesk
-    ensures history { result.history ≡ book }
-    ensures before { result.before ≡ length book.entries }
+    ensures { result ≡ record { opening = book.opening; before = book.entries; since = [] } }
 {
     let before = book.len();
     OwnDesk { book, before }
 }
 
 impl Desk for OwnDesk {
-    ghost use Rattle.std.specs.Prelude.{drop};
+    ghost use Rattle.ctl_desk.specs.Desk.{sight_of};
 
-    ghost opening = { λ d. d.history.opening };
-
-    ghost number = { λ _. 0 };
-
-    ghost start = { λ d. d.before };
-
-    ghost seen = { λ d. d.history.entries };
-
-    ghost mine = { λ d. drop d.before d.history.entries };
+    ghost sight = { sight_of };
 
     fn ask(&mut self, now: u64, user: &Name, request: Request) -> Result<Answer, Memory> {
         self.book.ask(0, now, user, request)

@@ -1,3 +1,4 @@
+pub mod Joining
 pub mod Serving
 pub mod Turning
 pub mod Working

@@ -1,15 +1,19 @@
--- What a desk's answer makes of a block.
-use Rattle.std.proofs.Common.{◌≡◌, ℕ, ◌+◌, List, [], ◌∷◌, ◌++◌, length, take, slice_get, Some, refl, sym, ap, ◌∙◌, arith, length-append}
+-- What a desk's answer is to a session.
+use Rattle.std.proofs.Common.{◌≡◌, ℕ, ◌+◌, true, false, List, [], ◌∷◌, ◌++◌, length, take, slice_get, Some, None, refl, sym, ap, ◌∙◌, arith, length-append, append_assoc, inl, inr, All, Result, Ok, Err, OnErr}
+use Rattle.std.proofs.lemmas.Bool.{cases_Bool}
 use Rattle.std.proofs.lemmas.List.{append_cancel_left, append-nil, length-take-le}
+use Rattle.std.proofs.lemmas.List.Elements.{All-cons, All-nil}
 use Rattle.command_words.specs.declared.header.Asked.{Asked}
 use Rattle.ctl_core.specs.State.{State}
-use Rattle.ctl_core.specs.Step.{is_entered}
-use Rattle.ctl_desk.specs.declared.entry.Entry.{Entry}
+use Rattle.ctl_core.specs.Step.{reply_of, is_entered}
 use Rattle.ctl_desk.specs.declared.entry.Answer.{Answer}
-use Rattle.ctl_desk.specs.Desk.{GoesOn, IsAnswered, state_at}
+use Rattle.ctl_desk.specs.Desk.{Sight, GoesOn, IsAnswered, seen, state_at}
 use Rattle.ctl_desk.specs.History.{entry_of, of_session}
-use Rattle.slurm_print.specs.Text.{text_of}
-use Rattle.ctl_session.specs.Reply.{IsWorked}
+use Rattle.slurm_print.specs.Text.{text_of, not_built_text}
+use Rattle.ctl_session.specs.declared.meaning.Meaning.TheVariants.{Asks, NotBuilt}
+use Rattle.ctl_session.specs.Answers.{Answered, IsAnswerIn, Answers}
+use Rattle.ctl_session.specs.Meaning.{entry_made}
+use Rattle.ctl_session.specs.Turn.{AnswersOne}
 
 slice_get_seam : {X : Type 0} (xs : List X) (x : X) → slice_get (xs ++ x ∷ []) (length xs) ≡ Some x
 slice_get_seam [] x = refl
@@ -23,37 +27,128 @@ slice_get_last xs front x n whole long = rw (whole, ← long) (slice_get_seam fr
 same_growth : {X : Type 0} (old new xs ys : List X) → new ≡ old ++ xs → new ≡ old ++ ys → xs ≡ ys
 same_growth old new xs ys p q = append_cancel_left old xs ys (sym p ∙ q)
 
-pub worked_from_answer : (opening : State) (number : ℕ) (seen seen' mine mine' : List Entry) (asked : Asked) (answer : Answer)
-    → GoesOn number seen seen' mine mine'
-    → IsAnswered opening number asked.moment asked.user asked.request answer seen seen' mine mine'
-    → (made : List Entry) × IsWorked opening number seen seen' mine mine' (Some asked) made (text_of asked.request answer.reply)
-worked_from_answer opening number seen seen' mine mine' asked answer goes answered =
-    let s = state_at opening seen' answer.place in
-    let entry = entry_of s number asked.moment asked.user asked.request in
-    let front : length (take answer.place seen') ≡ answer.place = length-take-le answer.place seen' answered.within in (
-      of_session number goes.more,
+some_is : {X : Type 0} (x y : X) → Some x ≡ Some y → x ≡ y
+some_is x y e = cc
+
+none_is_some : {X : Type 0} (x : X) → None ≡ Some x → ⊥
+none_is_some x e = cc
+
+entered_made : (s : State) (number : ℕ) (asked : Asked) → is_entered (reply_of s asked.moment asked.user asked.request) ≡ true
+    → entry_made s number (Asks asked) ≡ Some (entry_of s number asked.moment asked.user asked.request)
+entered_made s number asked accepts = rw accepts refl
+
+none_made : (s : State) (number : ℕ) (asked : Asked) → is_entered (reply_of s asked.moment asked.user asked.request) ≡ false
+    → entry_made s number (Asks asked) ≡ None
+none_made s number asked refuses = rw refuses refl
+
+-- a fact that needs no error
+pub on_err : {T E : Type 0} (result : Result T E) (P : Type 0) → P → OnErr result P
+on_err (Ok x) P p = tt
+on_err (Err e) P p = p
+
+all_one : (P : Answered → Type 0) (a : Answered) → P a → All P (a ∷ [])
+all_one P a p = All-cons P a [] p (All-nil P)
+
+-- the answer to a request that was accepted
+entered_one : (desk desk' : Sight) (asked : Asked) (answer : Answer) → GoesOn desk desk' → IsAnswered desk desk' asked.moment asked.user asked.request answer
+    → is_entered answer.reply ≡ true
+    → (one : AnswersOne (Asks asked) desk desk') × (text_of asked.request answer.reply ≡ one.answer.reply)
+entered_one desk desk' asked answer goes answered accepts =
+    let s = state_at desk.opening (seen desk') answer.place in
+    let entry = entry_of s desk.number asked.moment asked.user asked.request in
+    let both = answered.accepted accepts in
+    let front : length (take answer.place (seen desk')) ≡ answer.place = length-take-le answer.place (seen desk') answered.within in
+    let long : length (seen desk') ≡ answer.place + 1 = ap length both.0 ∙ length-append (take answer.place (seen desk')) (entry ∷ []) ∙ ap (λ n. n + 1) front in
+    let a : Answered = record { meaning = Asks asked; place = answer.place; reply = text_of asked.request answer.reply; entry = Some entry } in
+    let mine : desk'.mine ≡ desk.mine ++ of_session desk.number goes.0 = ap (λ (d : Sight). d.mine) goes.1 in (
       record {
-        more = goes.more;
-        seen_grows = goes.seen_grows;
-        made_of = refl;
-        mine_grows = goes.mine_grows;
-        reply = (
-          answer.place,
-          record {
-            from = answered.from;
+        answer = a;
+        means = refl;
+        answers = record {
+          since = goes.0;
+          goes_on = goes.1;
+          own = same_growth desk.mine desk'.mine (entry ∷ []) (of_session desk.number goes.0) both.1 mine;
+          each = all_one (IsAnswerIn desk.opening desk.number (seen desk')) a (record {
             within = answered.within;
-            told_is = ap (text_of asked.request) answered.reply;
-            accepted = λ yes.
-                let both = answered.accepted (ap is_entered answered.reply ∙ yes) in
-                let long : length seen' ≡ answer.place + 1 = ap length both.0 ∙ length-append (take answer.place seen') (entry ∷ []) ∙ omega (arith, front) in (
-                  slice_get_last seen' (take answer.place seen') entry answer.place both.0 front,
-                  same_growth mine mine' (of_session number goes.more) (entry ∷ []) goes.mine_grows both.1,
-                  omega arith,
-                );
-            other = λ no.
-                let both = answered.other (ap is_entered answered.reply ∙ no) in
-                (same_growth mine mine' (of_session number goes.more) [] goes.mine_grows (both.1 ∙ sym (append-nil mine)), omega arith);
-          },
-        );
+            reply = ap (text_of asked.request) answered.reply;
+            entry = sym (entered_made s desk.number asked (sym (ap is_entered answered.reply) ∙ accepts));
+            stands = λ e is. slice_get_last (seen desk') (take answer.place (seen desk')) entry answer.place both.0 front ∙ is;
+          });
+          rise = (answered.from, omega (arith, long));
+        };
       },
+      refl,
     )
+
+-- and to any other
+idle_one : (desk desk' : Sight) (asked : Asked) (answer : Answer) → GoesOn desk desk' → IsAnswered desk desk' asked.moment asked.user asked.request answer
+    → is_entered answer.reply ≡ false
+    → (one : AnswersOne (Asks asked) desk desk') × (text_of asked.request answer.reply ≡ one.answer.reply)
+idle_one desk desk' asked answer goes answered refuses =
+    let s = state_at desk.opening (seen desk') answer.place in
+    let both = answered.other refuses in
+    let a : Answered = record { meaning = Asks asked; place = answer.place; reply = text_of asked.request answer.reply; entry = None } in
+    let mine : desk'.mine ≡ desk.mine ++ of_session desk.number goes.0 = ap (λ (d : Sight). d.mine) goes.1 in (
+      record {
+        answer = a;
+        means = refl;
+        answers = record {
+          since = goes.0;
+          goes_on = goes.1;
+          own = same_growth desk.mine desk'.mine [] (of_session desk.number goes.0) (both.1 ∙ sym (append-nil desk.mine)) mine;
+          each = all_one (IsAnswerIn desk.opening desk.number (seen desk')) a (record {
+            within = answered.within;
+            reply = ap (text_of asked.request) answered.reply;
+            entry = sym (none_made s desk.number asked (sym (ap is_entered answered.reply) ∙ refuses));
+            stands = λ e is. absurd (none_is_some e is);
+          });
+          rise = (answered.from, omega (arith, answered.within));
+        };
+      },
+      refl,
+    )
+
+-- what a desk answered what was asked
+pub answered_one : (desk desk' : Sight) (asked : Asked) (answer : Answer) → GoesOn desk desk' → IsAnswered desk desk' asked.moment asked.user asked.request answer
+    → (one : AnswersOne (Asks asked) desk desk') × (text_of asked.request answer.reply ≡ one.answer.reply)
+answered_one desk desk' asked answer goes answered =
+    elim (cases_Bool (is_entered answer.reply)) [
+      | inl accepts ↦ entered_one desk desk' asked answer goes answered accepts
+      | inr refuses ↦ idle_one desk desk' asked answer goes answered refuses
+    ]
+
+-- a desk that was not asked answers by the line of what is not built
+pub not_built_one : (desk : Sight) → (one : AnswersOne NotBuilt desk desk) × (not_built_text ≡ one.answer.reply)
+not_built_one desk =
+    let a : Answered = record { meaning = NotBuilt; place = length (seen desk); reply = not_built_text; entry = None } in (
+      record {
+        answer = a;
+        means = refl;
+        answers = record {
+          since = [];
+          goes_on = rw (append-nil desk.since, append-nil desk.mine) refl;
+          own = refl;
+          each = all_one (IsAnswerIn desk.opening desk.number (seen desk)) a (record {
+            within = omega arith;
+            reply = refl;
+            entry = refl;
+            stands = λ e is. absurd (none_is_some e is);
+          });
+          rise = (omega arith, omega arith);
+        };
+      },
+      refl,
+    )
+
+-- a desk that went on and made nothing
+pub nothing_made : (desk desk' : Sight) → GoesOn desk desk' → desk'.mine ≡ desk.mine → Answers desk desk' []
+nothing_made desk desk' goes mine =
+    let same : desk'.mine ≡ desk.mine ++ of_session desk.number goes.0 = ap (λ (d : Sight). d.mine) goes.1 in
+    let long : seen desk' ≡ seen desk ++ goes.0 = ap seen goes.1 ∙ sym (append_assoc desk.before desk.since goes.0) in
+    record {
+      since = goes.0;
+      goes_on = goes.1;
+      own = same_growth desk.mine desk'.mine [] (of_session desk.number goes.0) (mine ∙ sym (append-nil desk.mine)) same;
+      each = All-nil (IsAnswerIn desk.opening desk.number (seen desk'));
+      rise = omega (arith, ap length long ∙ length-append (seen desk) goes.0);
+    }

@@ -1,4 +1,5 @@
+pub mod Answers
+pub mod Meaning
 pub mod Reading
-pub mod Reply
 pub mod Session
 pub mod Turn

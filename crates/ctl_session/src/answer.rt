@@ -1,14 +1,16 @@
 //! The answer to one block.
 
-ghost use Rattle.std.specs.Prelude.{◌≡◌, ◌⊎◌, ℕ, List, Option, Some, None, IfOk, OnErr};
-ghost use Rattle.command_words.specs.Header.{asked_by, words_of};
-ghost use Rattle.ctl_desk.specs.declared.entry.Entry.{Entry};
+ghost use Rattle.std.specs.Prelude.{◌≡◌, ◌⊎◌, [], IfOk, OnErr};
 ghost use Rattle.ctl_desk.specs.Desk.{GoesOn, IsAnswered};
-ghost use Rattle.ctl_session.specs.Reply.{IsWorked};
-ghost use Rattle.ctl_session.specs.Turn.{AnswersBlock};
+ghost use Rattle.ctl_session.specs.declared.meaning.Meaning.TheVariants.{Asks};
+ghost use Rattle.ctl_session.specs.Answers.{Answers};
+ghost use Rattle.ctl_session.specs.Meaning.{meaning_of};
+ghost use Rattle.ctl_session.specs.Turn.{AnswersBlock, AnswersOne};
 
+use crate::meaning::{Meaning, read_meaning};
 use crate::outside::write_text;
-use command_words::header::{Asked, read_header};
+use block_frame::Block;
+use command_words::header::Asked;
 use ctl_desk::desk::Desk;
 use ctl_desk::entry::Answer;
 use resource_profile::{Plain, Steps};
@@ -20,13 +22,10 @@ use std::alloc::Global;
 
 /// Asks what a header asked. After want of memory nothing of it is entered.
 fn decide<D: Desk>(desk: &mut D, steps: &mut Steps<Plain>, asked: &Asked) -> Result<Answer, Memory>
-    ensures opening { D.opening desk.new ≡ D.opening desk.old }
-    ensures number { D.number desk.new ≡ D.number desk.old }
-    ensures start { D.start desk.new ≡ D.start desk.old }
-    ensures goes_on { GoesOn (D.number desk.old) (D.seen desk.old) (D.seen desk.new) (D.mine desk.old) (D.mine desk.new) }
-    ensures answered { IfOk result (λ answer. IsAnswered (D.opening desk.old) (D.number desk.old) asked.now.moment asked.now.user asked.now.request answer
-        (D.seen desk.old) (D.seen desk.new) (D.mine desk.old) (D.mine desk.new)) }
-    ensures err { OnErr result (D.mine desk.new ≡ D.mine desk.old) }
+    ensures goes_on { GoesOn (D.sight desk.old) (D.sight desk.new) }
+    ensures answered { IfOk result (λ answer. IsAnswered (D.sight desk.old) (D.sight desk.new)
+        asked.now.moment asked.now.user asked.now.request answer) }
+    ensures err { OnErr result ((D.sight desk.new).mine ≡ (D.sight desk.old).mine) }
 {
     match &asked.request {
         Request::Pass => desk.pass(asked.moment, &asked.user, None, steps),
@@ -45,15 +44,10 @@ fn ask<D: Desk>(
     steps: &mut Steps<Plain>,
     asked: &Asked,
 ) -> Result<Vec<u8>, Memory>
-    ensures opening { D.opening desk.new ≡ D.opening desk.old }
-    ensures number { D.number desk.new ≡ D.number desk.old }
-    ensures start { D.start desk.new ≡ D.start desk.old }
-    ensures goes_on { GoesOn (D.number desk.old) (D.seen desk.old) (D.seen desk.new) (D.mine desk.old) (D.mine desk.new) }
-    ensures worked { IfOk result (λ told. (made : List Entry) × IsWorked (D.opening desk.old) (D.number desk.old)
-        (D.seen desk.old) (D.seen desk.new) (D.mine desk.old) (D.mine desk.new) (Some asked.now) made told.items) }
-    ensures err { OnErr result ((D.mine desk.new ≡ D.mine desk.old)
-        ⊎ ((made : List Entry) × (told : List ℕ) × IsWorked (D.opening desk.old) (D.number desk.old)
-        (D.seen desk.old) (D.seen desk.new) (D.mine desk.old) (D.mine desk.new) (Some asked.now) made told)) }
+    ensures ok { IfOk result (λ told. (one : AnswersOne (Asks asked.now) (D.sight desk.old) (D.sight desk.new))
+        × (told.items ≡ one.answer.reply)) }
+    ensures err { OnErr result (Answers (D.sight desk.old) (D.sight desk.new) []
+        ⊎ AnswersOne (Asks asked.now) (D.sight desk.old) (D.sight desk.new)) }
 {
     let answer = decide(desk, steps, asked)?;
     match text(alloc, &asked.request, &answer.reply) {
@@ -62,26 +56,21 @@ fn ask<D: Desk>(
     }
 }
 
-/// The text that answers a block with this header. After want of memory its request may have been worked all the same.
-pub fn reply_to<D: Desk>(
+/// The text that answers a block. After want of memory its request may have been worked all the same.
+fn reply_to<D: Desk>(
     alloc: Global,
     desk: &mut D,
     steps: &mut Steps<Plain>,
-    header: &[u8],
+    block: &Block,
 ) -> Result<Vec<u8>, Memory>
-    ensures opening { D.opening desk.new ≡ D.opening desk.old }
-    ensures number { D.number desk.new ≡ D.number desk.old }
-    ensures start { D.start desk.new ≡ D.start desk.old }
-    ensures goes_on { GoesOn (D.number desk.old) (D.seen desk.old) (D.seen desk.new) (D.mine desk.old) (D.mine desk.new) }
-    ensures worked { IfOk result (λ told. (made : List Entry) × IsWorked (D.opening desk.old) (D.number desk.old)
-        (D.seen desk.old) (D.seen desk.new) (D.mine desk.old) (D.mine desk.new) (asked_by (words_of header.now)) made told.items) }
-    ensures err { OnErr result ((D.mine desk.new ≡ D.mine desk.old)
-        ⊎ ((made : List Entry) × (told : List ℕ) × IsWorked (D.opening desk.old) (D.number desk.old)
-        (D.seen desk.old) (D.seen desk.new) (D.mine desk.old) (D.mine desk.new) (asked_by (words_of header.now)) made told)) }
+    ensures ok { IfOk result (λ told. (one : AnswersOne (meaning_of block.now) (D.sight desk.old) (D.sight desk.new))
+        × (told.items ≡ one.answer.reply)) }
+    ensures err { OnErr result (Answers (D.sight desk.old) (D.sight desk.new) []
+        ⊎ AnswersOne (meaning_of block.now) (D.sight desk.old) (D.sight desk.new)) }
 {
-    match read_header(alloc, header)? {
-        Some(asked) => ask(alloc, desk, steps, &asked),
-        None => {
+    match read_meaning(alloc, block)? {
+        Meaning::Asks(asked) => ask(alloc, desk, steps, &asked),
+        Meaning::NotBuilt => {
             let told = Vec::from_slice(alloc, not_built())?;
             Ok(told)
         }
@@ -95,24 +84,18 @@ pub enum Fault {
     Memory,
 }
 
-/// Works the block with this header, and writes its answer.
+/// Works a block, and writes its answer.
 pub fn answer_block<L: Link, D: Desk>(
     alloc: Global,
     link: &mut L,
     desk: &mut D,
     steps: &mut Steps<Plain>,
-    header: &[u8],
+    block: &Block,
 ) -> Result<(), Fault>
-    ensures opening { D.opening desk.new ≡ D.opening desk.old }
-    ensures number { D.number desk.new ≡ D.number desk.old }
-    ensures start { D.start desk.new ≡ D.start desk.old }
-    ensures places { L.places link.new ≡ L.places link.old }
-    ensures answers { AnswersBlock (D.opening desk.old) (D.number desk.old) (asked_by (words_of header.now))
-        (record { left = L.left link.old; taken = L.taken link.old; reads = L.read_faults link.old; writes = L.write_faults link.old })
-        (record { left = L.left link.new; taken = L.taken link.new; reads = L.read_faults link.new; writes = L.write_faults link.new })
-        (record { seen = D.seen desk.old; mine = D.mine desk.old }) (record { seen = D.seen desk.new; mine = D.mine desk.new }) result }
+    ensures { AnswersBlock (meaning_of block.now) (L.wire link.old) (L.wire link.new)
+        (D.sight desk.old) (D.sight desk.new) result }
 {
-    match reply_to(alloc, desk, steps, header) {
+    match reply_to(alloc, desk, steps, block) {
         Err(Memory) => Err(Fault::Memory),
         Ok(told) => match write_text(link, told.as_slice()) {
             Ok(()) => Ok(()),

@@ -2,6 +2,7 @@
 #![tactic(auto)]
 
 mod answer;
+mod meaning;
 mod outside;
 mod reading;
 mod session;

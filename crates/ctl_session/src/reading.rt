@@ -1,11 +1,10 @@
 //! The next whole block of a link.
 
-ghost use Rattle.std.specs.Prelude.{◌≡◌, ◌++◌, ◌<◌, ◌≤◌, ℕ, List, length};
-ghost use Rattle.std.specs.Io.KnownBytes.{Consumes};
-ghost use Rattle.ctl_session.specs.Reading.{Brings, IsFound};
+ghost use Rattle.std.specs.Prelude.{◌<◌, length};
+ghost use Rattle.ctl_session.specs.Reading.{Brings, IsFound, WritesStay};
 
 use crate::outside::read_some;
-use block_frame::{Block, Blocks, Next};
+use block_frame::{Block, Blocks, Next, blocks_are_short};
 use slurm_io::{Failed, Link};
 
 /// What the next block of a link is.
@@ -30,10 +29,8 @@ enum Brought {
 
 fn read_more<L: Link>(link: &mut L, blocks: &mut Blocks, buffer: &mut [u8]) -> Brought
     requires { 0 < length buffer.old }
-    ensures brings { Brings (L.left link.old) (L.left link.new) (L.read_faults link.old) (L.read_faults link.new) blocks.old blocks.new result }
-    ensures taken { L.taken link.new ≡ L.taken link.old }
-    ensures write_faults { L.write_faults link.new ≡ L.write_faults link.old }
-    ensures places { L.places link.new ≡ L.places link.old }
+    ensures brings { Brings (L.wire link.old) (L.wire link.new) blocks.old blocks.new result }
+    ensures writes { WritesStay (L.wire link.old) (L.wire link.new) }
 {
     match read_some(link, buffer) {
         Err(Failed) => Brought::ReadFault,
@@ -45,14 +42,14 @@ fn read_more<L: Link>(link: &mut L, blocks: &mut Blocks, buffer: &mut [u8]) -> B
     }
 }
 
-/// Reads until a block is whole. Each turn reads one byte at least, and less than a whole block has 8,192 bytes at most.
+/// Reads until a block is whole. Each turn reads one byte at least, and less than a whole block has 8,192 bytes at
+/// most.
 pub fn next_whole<L: Link>(link: &mut L, blocks: &mut Blocks, buffer: &mut [u8]) -> Found
     requires { 0 < length buffer.old }
-    ensures found { IsFound (L.left link.old) (L.left link.new) (L.read_faults link.old) (L.read_faults link.new) blocks.old blocks.new result }
-    ensures taken { L.taken link.new ≡ L.taken link.old }
-    ensures write_faults { L.write_faults link.new ≡ L.write_faults link.old }
-    ensures places { L.places link.new ≡ L.places link.old }
+    ensures found { IsFound (L.wire link.old) (L.wire link.new) blocks.old blocks.new result }
+    ensures writes { WritesStay (L.wire link.old) (L.wire link.new) }
 {
+    blocks_are_short();
     loop {
         match blocks.next_block() {
             Err(_) => return Found::Memory,

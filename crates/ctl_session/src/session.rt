@@ -1,6 +1,7 @@
 //! A session over a link.
 
 ghost use Rattle.std.specs.Prelude.{◌≡◌, ◌<◌, length};
+ghost use Rattle.ctl_desk.specs.Desk.{history_of};
 ghost use Rattle.ctl_desk.specs.History.{IsHistory};
 ghost use Rattle.ctl_session.specs.Session.{Ending, IsServed};
 ghost use Rattle.ctl_session.specs.Turn.{IsTurn, IsLastLook};
@@ -8,7 +9,7 @@ ghost use Rattle.ctl_session.specs.Turn.{IsTurn, IsLastLook};
 use crate::answer::{Fault, answer_block};
 use crate::outside::read_some;
 use crate::reading::{Found, next_whole};
-use block_frame::Blocks;
+use block_frame::{Blocks, Form, blocks_are_short, nothing_is_partial, spellings_join};
 use ctl_desk::desk::Desk;
 use resource_profile::{Plain, Steps};
 use slurm_io::{Failed, Link};
@@ -54,14 +55,7 @@ fn turn<L: Link, D: Desk>(
     buffer: &mut [u8],
 ) -> Option<How>
     requires { 0 < length buffer.old }
-    ensures opening { D.opening desk.new ≡ D.opening desk.old }
-    ensures number { D.number desk.new ≡ D.number desk.old }
-    ensures start { D.start desk.new ≡ D.start desk.old }
-    ensures places { L.places link.new ≡ L.places link.old }
-    ensures turns { IsTurn (D.opening desk.old) (D.number desk.old)
-        (record { left = L.left link.old; taken = L.taken link.old; reads = L.read_faults link.old; writes = L.write_faults link.old })
-        (record { left = L.left link.new; taken = L.taken link.new; reads = L.read_faults link.new; writes = L.write_faults link.new })
-        (record { seen = D.seen desk.old; mine = D.mine desk.old }) (record { seen = D.seen desk.new; mine = D.mine desk.new })
+    ensures { IsTurn (L.wire link.old) (L.wire link.new) (D.sight desk.old) (D.sight desk.new)
         blocks.old blocks.new result }
 {
     let block = match next_whole(link, blocks, buffer) {
@@ -74,7 +68,7 @@ fn turn<L: Link, D: Desk>(
         Found::ReadFault => return Some(How::ReadFault),
         Found::Memory => return Some(How::Memory),
     };
-    match answer_block(alloc, link, desk, steps, block.header.as_bytes()) {
+    match answer_block(alloc, link, desk, steps, &block) {
         Ok(()) => None,
         Err(Fault::Write) => Some(How::WriteFault),
         Err(Fault::Memory) => Some(How::Memory),
@@ -84,11 +78,7 @@ fn turn<L: Link, D: Desk>(
 /// Why a session ends that has answered as many blocks as it may.
 fn last_look<L: Link>(link: &mut L, blocks: &Blocks, buffer: &mut [u8]) -> How
     requires { 0 < length buffer.old }
-    ensures looks { IsLastLook
-        (record { left = L.left link.old; taken = L.taken link.old; reads = L.read_faults link.old; writes = L.write_faults link.old })
-        (record { left = L.left link.new; taken = L.taken link.new; reads = L.read_faults link.new; writes = L.write_faults link.new })
-        blocks.now.pending result }
-    ensures places { L.places link.new ≡ L.places link.old }
+    ensures { IsLastLook (L.wire link.old) (L.wire link.new) blocks.now.pending result }
 {
     if !blocks.is_empty() {
         return How::Spent;
@@ -100,34 +90,32 @@ fn last_look<L: Link>(link: &mut L, blocks: &Blocks, buffer: &mut [u8]) -> How
     }
 }
 
-/// The end of a session at this desk. The history is then one that the controller keeps, as the desk says with its length.
+/// The end of a session at this desk. The history is then one that the controller keeps, as the desk says with its
+/// length.
 fn finished<D: Desk>(desk: &D, how: How, answered: u64) -> Ended
     ensures ending { result ≡ record { how = how; answered = answered } }
-    ensures history { IsHistory (record { opening = D.opening desk.now; entries = D.seen desk.now }) }
+    ensures history { IsHistory (history_of (D.sight desk.now)) }
 {
     let _ = desk.seen_len();
     Ended { how, answered }
 }
 
-/// Answers the blocks of a link, one after another, until the input ends or one of the other ends comes. The blocks that
-/// it answers are the first ones of what it reads, in whatever pieces that comes.
+/// Answers the blocks of a link, which are spelled in this form, one after another, until the input ends or one of the
+/// other ends comes. The blocks that it answers are the first ones of what it reads, in whatever pieces that comes.
 pub fn serve_link<L: Link, D: Desk>(
     alloc: Global,
+    form: Form,
     link: &mut L,
     desk: &mut D,
     steps: &mut Steps<Plain>,
 ) -> Ended
-    ensures opening { D.opening desk.new ≡ D.opening desk.old }
-    ensures number { D.number desk.new ≡ D.number desk.old }
-    ensures start { D.start desk.new ≡ D.start desk.old }
-    ensures places { L.places link.new ≡ L.places link.old }
-    ensures served { (e : Ending) × IsServed (D.number desk.old) (D.opening desk.old)
-        (record { left = L.left link.old; taken = L.taken link.old; reads = L.read_faults link.old; writes = L.write_faults link.old })
-        (record { left = L.left link.new; taken = L.taken link.new; reads = L.read_faults link.new; writes = L.write_faults link.new })
-        (record { seen = D.seen desk.old; mine = D.mine desk.old }) (record { seen = D.seen desk.new; mine = D.mine desk.new })
-        result e }
+    ensures { (e : Ending) × IsServed form (L.wire link.old) (L.wire link.new)
+        (D.sight desk.old) (D.sight desk.new) result e }
 {
-    let Ok(mut blocks) = Blocks::new(alloc) else {
+    blocks_are_short();
+    nothing_is_partial();
+    spellings_join();
+    let Ok(mut blocks) = Blocks::new(alloc, form) else {
         return finished(desk, How::Memory, 0);
     };
     let mut buffer = [0; BUFFER_LEN];

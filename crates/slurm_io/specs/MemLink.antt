@@ -1,5 +1,6 @@
 -- A link in memory, as contracts see it, and what its calls make of it.
-use Rattle.std.specs.Prelude.{ℕ, ◌+◌, ◌-◌, ◌^◌, List, ◌++◌, min, length, drop}
+use Rattle.std.specs.Prelude.{ℕ, List, ◌++◌, min, length, drop}
+use Rattle.slurm_io.specs.Faults.{next_count}
 
 -- What is left to read and what was taken, how many bytes one call moves at the most, and of the reads and of the
 -- writes the numbers of those that are to fail, how many there were, and how many failed.
@@ -13,10 +14,6 @@ pub record MemLinkState : Type 0 where
   pub writes : ℕ
   pub read_faults : ℕ
   pub write_faults : ℕ
-
--- the count after the next one, where it isn't the greatest that there is
-abbrev pub next_count : ℕ → ℕ
-next_count n = min (n + 1) (2 ^ 64 - 1)
 
 -- how many bytes a read into a buffer of this length gives
 abbrev pub read_count : MemLinkState → ℕ → ℕ

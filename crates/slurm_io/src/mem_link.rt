@@ -1,9 +1,8 @@
 // A link in memory, for tests.
 ghost use Rattle.std.specs.Prelude.{◌≡◌, [], ◌↔◌, ◌≤◌, ◌<◌, ◌++◌, length, take, drop, min, Contains, IfOk, OnOk, OnErr, IsErr, Some, refl};
 ghost use Rattle.std.specs.Io.KnownBytes.{ReadConsumes, WriteAppends};
-ghost use Rattle.slurm_io.specs.Faults.{CountsFault};
-ghost use Rattle.slurm_io.specs.Kept.{nowhere};
-ghost use Rattle.slurm_io.specs.MemLink.{MemLinkState, next_count, read_count, after_read, after_read_fault, after_write, after_write_fault};
+ghost use Rattle.slurm_io.specs.Faults.{CountsFault, next_count};
+ghost use Rattle.slurm_io.specs.MemLink.{MemLinkState, read_count, after_read, after_read_fault, after_write, after_write_fault};
 
 use crate::copy::copy_front;
 use crate::{Failed, Link, Sink, Source};
@@ -114,7 +113,7 @@ impl Source for MemLink {
 
     ghost read_faults = { λ link. link.read_faults };
 
-    ghost kept_by_reads = { λ link. record { bytes = Some link.taken; faults = link.write_faults; places = nowhere } };
+    ghost kept_by_reads = { λ link. record { bytes = Some link.taken; faults = link.write_faults } };
 
     fn read(&mut self, into: &mut [u8]) -> Result<usize, Failed>
         ensures bound { IfOk result (λ n. n ≤ length into.new) }
@@ -146,7 +145,7 @@ impl Sink for MemLink {
 
     ghost write_faults = { λ link. link.write_faults };
 
-    ghost kept_by_writes = { λ link. record { bytes = Some link.left; faults = link.read_faults; places = nowhere } };
+    ghost kept_by_writes = { λ link. record { bytes = Some link.left; faults = link.read_faults } };
 
     /// Want of memory is a failed write.
     fn write(&mut self, piece: &[u8]) -> Result<usize, Failed>
@@ -178,7 +177,14 @@ impl Sink for MemLink {
 }
 
 impl Link for MemLink {
-    ghost places = { λ link. nowhere };
+    ghost wire = { λ link. record {
+      left = Some link.left;
+      taken = Some link.taken;
+      reads = link.read_faults;
+      writes = link.write_faults;
+    } };
+
+    ghost wire_tells = { λ link. refl };
 
     ghost reads_keep = { λ link. refl };
 

@@ -2,7 +2,7 @@
 ghost use Rattle.std.specs.Prelude.{◌≡◌, ◌<◌, ◌≤◌, List, ℕ, length, drop, min, Some, None, Ok, IfOk, refl};
 ghost use Rattle.std.specs.Io.KnownBytes.{ReadConsumes, WriteAppends};
 ghost use Rattle.slurm_io.specs.Faults.{CountsFault};
-ghost use Rattle.slurm_io.specs.Kept.{nowhere, nothing_beside};
+ghost use Rattle.slurm_io.specs.Kept.{nothing_beside};
 
 use crate::copy::copy_front;
 use crate::{Failed, Link, Sink, Source};
@@ -57,7 +57,7 @@ impl Sink for MemSure {
 
     ghost write_faults = { λ link. 0 };
 
-    ghost kept_by_writes = { λ link. record { bytes = Some link; faults = 0; places = nowhere } };
+    ghost kept_by_writes = { λ link. record { bytes = Some link; faults = 0 } };
 
     fn write(&mut self, piece: &[u8]) -> Result<usize, Failed>
         ensures bound { IfOk result (λ n. n ≤ length piece.now) }
@@ -72,7 +72,9 @@ impl Sink for MemSure {
 }
 
 impl Link for MemSure {
-    ghost places = { λ link. nowhere };
+    ghost wire = { λ link. record { left = Some link; taken = None; reads = 0; writes = 0 } };
+
+    ghost wire_tells = { λ link. refl };
 
     ghost reads_keep = { λ link. refl };
 

@@ -1,6 +1,5 @@
 // A link made of a source and a sink.
 ghost use Rattle.std.specs.Prelude.{◌≡◌, refl};
-ghost use Rattle.slurm_io.specs.Kept.{joined};
 
 use crate::{Failed, Link, Sink, Source};
 
@@ -28,7 +27,6 @@ impl<S: Source, K: Sink> Source for Pair<S, K> {
     ghost kept_by_reads = { λ pair. record {
       bytes = K.taken pair.sink;
       faults = K.write_faults pair.sink;
-      places = joined (S.kept_by_reads pair.source) (K.kept_by_writes pair.sink);
     } };
 
     fn read(&mut self, into: &mut [u8]) -> Result<usize, Failed> {
@@ -44,7 +42,6 @@ impl<S: Source, K: Sink> Sink for Pair<S, K> {
     ghost kept_by_writes = { λ pair. record {
       bytes = S.left pair.source;
       faults = S.read_faults pair.source;
-      places = joined (S.kept_by_reads pair.source) (K.kept_by_writes pair.sink);
     } };
 
     fn write(&mut self, piece: &[u8]) -> Result<usize, Failed> {
@@ -53,7 +50,14 @@ impl<S: Source, K: Sink> Sink for Pair<S, K> {
 }
 
 impl<S: Source, K: Sink> Link for Pair<S, K> {
-    ghost places = { λ pair. joined (S.kept_by_reads pair.source) (K.kept_by_writes pair.sink) };
+    ghost wire = { λ pair. record {
+      left = S.left pair.source;
+      taken = K.taken pair.sink;
+      reads = S.read_faults pair.source;
+      writes = K.write_faults pair.sink;
+    } };
+
+    ghost wire_tells = { λ pair. refl };
 
     ghost reads_keep = { λ pair. refl };
 

@@ -3,7 +3,7 @@ ghost use Rattle.std.specs.Prelude.{◌≡◌, ℕ, ◌<◌, ◌≤◌, List, le
 ghost use Rattle.std.specs.Io.KnownBytes.{Appends, WriteAppends};
 ghost use Rattle.slurm_io.specs.Bytes.{AppendsFront};
 ghost use Rattle.slurm_io.specs.Faults.{CountsFault};
-ghost use Rattle.slurm_io.specs.Kept.{Kept, nothing_beside, at_place};
+ghost use Rattle.slurm_io.specs.Kept.{Kept, nothing_beside};
 
 use crate::Failed;
 
@@ -33,7 +33,7 @@ impl<K: Sink> Sink for &mut K {
 
     ghost write_faults = { λ sink. K.write_faults sink.now };
 
-    ghost kept_by_writes = { λ sink. at_place sink.ghost_name (K.kept_by_writes sink.now) };
+    ghost kept_by_writes = { λ sink. K.kept_by_writes sink.now };
 
     fn write(&mut self, piece: &[u8]) -> Result<usize, Failed> {
         Sink::write(&mut **self, piece)

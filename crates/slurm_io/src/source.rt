@@ -2,7 +2,7 @@
 ghost use Rattle.std.specs.Prelude.{◌≡◌, ℕ, ◌≤◌, List, length, Option, IfOk};
 ghost use Rattle.std.specs.Io.KnownBytes.{ReadConsumes};
 ghost use Rattle.slurm_io.specs.Faults.{CountsFault};
-ghost use Rattle.slurm_io.specs.Kept.{Kept, nothing_beside, at_place};
+ghost use Rattle.slurm_io.specs.Kept.{Kept, nothing_beside};
 
 /// A read or a write that failed. The object that it failed on has counted it.
 #[derive(Clone, Copy, Debug, PartialEq, Eq)]
@@ -33,7 +33,7 @@ impl<S: Source> Source for &mut S {
 
     ghost read_faults = { λ source. S.read_faults source.now };
 
-    ghost kept_by_reads = { λ source. at_place source.ghost_name (S.kept_by_reads source.now) };
+    ghost kept_by_reads = { λ source. S.kept_by_reads source.now };
 
     fn read(&mut self, into: &mut [u8]) -> Result<usize, Failed> {
         Source::read(&mut **self, into)

@@ -1,2 +1,5 @@
+pub mod Blocks
 pub mod Completeness
+pub mod Lines
 pub mod Scripts
+pub mod Telling

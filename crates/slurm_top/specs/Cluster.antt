@@ -8,7 +8,12 @@ use Rattle.ctl_core.specs.State.{State, opening}
 
 -- ended jobs are kept for five minutes; starts are planned a day ahead; a processor comes with 1,000 megabytes
 unfoldable pub built_in_settings : Settings
-built_in_settings = record { min_job_age = 300; slurm_user = codes "root"; bf_window = 1440; mem_default = Some (PerCpu 1000) }
+built_in_settings = record {
+  min_job_age = 300;
+  slurm_user = codes "root";
+  bf_window = 1440;
+  mem_default = Some (PerCpu 1000);
+}
 
 unfoldable pub built_in_conf : ConfView
 built_in_conf = record {
@@ -19,7 +24,10 @@ built_in_conf = record {
 
 unfoldable pub built_in_assocs : AssocFile
 built_in_assocs = record {
-  assocs = record { name = codes "acct"; user = false } ∷ record { name = codes "alice"; user = true } ∷ record { name = codes "bob"; user = true } ∷ [];
+  assocs = record { name = codes "acct"; user = false }
+      ∷ record { name = codes "alice"; user = true }
+      ∷ record { name = codes "bob"; user = true }
+      ∷ [];
 }
 
 -- the state before any request

@@ -1,10 +1,13 @@
--- What the program's words ask.
-use Rattle.std.specs.Prelude.{◌≡◌, ◌⊎◌, ℕ, ◌-◌, ◌^◌, ◌<◌, ◌==◌, if◌then◌else◌, Bool, ◌&&◌, false, Option, List, [], ◌∷◌, ◌++◌, codes, decimal}
+-- What the program's words ask, and what it tells of a run.
+use Rattle.std.specs.Prelude.{◌≡◌, ◌⊎◌, ℕ, ◌-◌, ◌^◌, ◌<◌, ◌==◌, if◌then◌else◌, Bool, ◌&&◌, false, Option, List, [], ◌∷◌, ◌++◌, take, codes, decimal}
 use Rattle.std.specs.Io.KnownBytes.{Appends}
 use Rattle.std.specs.List.{list_any}
 use Rattle.std.specs.Str.{bytes_eq}
+use Rattle.slurm_io.specs.Wire.{Wire}
 use Rattle.ctl_session.specs.declared.session.How.{How}
 use Rattle.ctl_session.specs.declared.session.How.TheVariants.{Truncated, Bad}
+use Rattle.slurm_top.specs.declared.program.WordsFault.{WordsFault}
+use Rattle.slurm_top.specs.declared.program.WordsFault.TheVariants.{NotText, Memory}
 use Rattle.slurm_top.specs.Cluster.{built_in_opening}
 use Rattle.slurm_top.specs.Script.{IsScript}
 
@@ -21,6 +24,11 @@ CountsNone before after = (after ≡ before) × (before < 2 ^ 64 - 1)
 abbrev pub is_status : ℕ → Bool
 is_status status = list_any (λ s. s == status) (0 ∷ 2 ∷ 5 ∷ 6 ∷ 7 ∷ 8 ∷ 9 ∷ [])
 
+-- the status where the words are not at hand
+abbrev pub status_without_words : WordsFault → ℕ
+status_without_words NotText = 2
+status_without_words Memory = 8
+
 -- the line that is written to errors beside a status; beside 7 the place follows
 abbrev pub error_line : ℕ → List ℕ
 error_line status =
@@ -31,18 +39,20 @@ error_line status =
     if status == 9 then codes "slurm: error: spent\n" else
     []
 
--- A script was run on the built-in cluster, and ended so: what was left and taken and how many faults there were, before and after.
-abbrev pub Ran : How → Option (List ℕ) → Option (List ℕ) → ℕ → ℕ → Option (List ℕ) → Option (List ℕ) → ℕ → ℕ → Type 0
-Ran how left taken reads writes left' taken' reads' writes' =
-    IsScript built_in_opening (record { left = left; taken = taken; reads = reads; writes = writes })
-    (record { left = left'; taken = taken'; reads = reads'; writes = writes' }) how
+-- the line beside 7
+abbrev pub place_line : ℕ → List ℕ
+place_line place = codes "slurm: error: block at byte " ++ decimal place ++ codes "\n"
 
--- The script was run up to this byte: the input ended within the block there, or none can begin there.
-abbrev pub RanUpTo : ℕ → Option (List ℕ) → Option (List ℕ) → ℕ → ℕ → Option (List ℕ) → Option (List ℕ) → ℕ → ℕ → Type 0
-RanUpTo place left taken reads writes left' taken' reads' writes' =
-    Ran (Truncated place) left taken reads writes left' taken' reads' writes' ⊎ Ran (Bad place) left taken reads writes left' taken' reads' writes'
+-- What errors took is a beginning of a line, whatever fails, and all of it where no write fails: what was taken, and
+-- how many writes failed, before and after.
+pub record Tells (taken taken' : Option (List ℕ)) (faults faults' : ℕ) (line : List ℕ) : Type 0 where
+  pub begun : (n : ℕ) × Appends taken taken' (take n line)
+  pub whole : CountsNone faults faults' → Appends taken taken' line
 
--- errors tell the place, where their writing doesn't fail
-abbrev pub TellsWhere : Option (List ℕ) → ℕ → Option (List ℕ) → ℕ → ℕ → Type 0
-TellsWhere taken faults taken' faults' place =
-    CountsNone faults faults' → Appends taken taken' (codes "slurm: error: block at byte " ++ decimal place ++ codes "\n")
+-- a script was run on the built-in cluster, and ended so
+abbrev pub Ran : How → Wire → Wire → Type 0
+Ran how old new = IsScript built_in_opening old new how
+
+-- the script was run up to this byte: the input ended within the block there, or none can begin there
+abbrev pub RanUpTo : ℕ → Wire → Wire → Type 0
+RanUpTo place old new = Ran (Truncated place) old new ⊎ Ran (Bad place) old new

@@ -92,7 +92,7 @@ fn built_in_controller(alloc: Global) -> Result<Ctl, Memory>
 
 /// A desk of its own at the controller of the built-in cluster, before any request.
 pub fn built_in_desk(alloc: Global) -> Result<OwnDesk, Memory>
-    ensures { IfOk result (λ desk. desk ≡ record { history = record { opening = built_in_opening; entries = [] }; before = 0 }) }
+    ensures { IfOk result (λ desk. desk ≡ record { opening = built_in_opening; before = []; since = [] }) }
 {
     let ctl = built_in_controller(alloc)?;
     let opening = built_in_controller(alloc)?;

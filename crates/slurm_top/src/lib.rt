@@ -2,12 +2,10 @@
 #![tactic(auto)]
 
 mod cluster;
+mod errors;
 mod program;
 #[cfg(test)]
 mod rows;
 mod script;
 
-pub use program::run;
-
-#[cfg(test)]
-mod tests;
+pub use program::{WordsFault, run, run_without_words};

@@ -6,8 +6,10 @@ use Rattle.ctl_desk.proofs.own_desk.OwnDeskDesk.ask.Goals as goal
 pub returns-clause-goes_on : goal.returns-clause-goes_on
 returns-clause-goes_on c =
     let h = c.self.inside.book in
-    rw (← c.self.view_is) (own_goes_on _ c.self.inside.before (entry_of (after_all h.opening h.entries) 0 c.args.now c.args.user.now c.args.request) h c.ask.new.self c.self.invariant refl c.ask.ensures.entries c.ask.ensures.err)
+    let entry = entry_of (after_all h.opening h.entries) 0 c.args.now c.args.user.now c.args.request in
+    rw (← c.self.view_is) (own_goes_on _ c.self.inside.before entry h c.ask.new.self c.self.invariant refl c.ask.ensures.opening c.ask.ensures.entries c.ask.ensures.err)
 
 pub returns-clause-answered : goal.returns-clause-answered
 returns-clause-answered c =
-    rw (← c.self.view_is) (own_answered _ c.args.now c.args.user.now c.args.request c.self.inside.before c.self.inside.book c.ask.new.self c.self.invariant c.ask.ensures.reply c.ask.ensures.place c.ask.ensures.entries)
+    let called = c.ask.ensures in
+    rw (← c.self.view_is) (own_answered _ c.args.now c.args.user.now c.args.request c.self.inside.before c.self.inside.book c.ask.new.self c.self.invariant called.opening called.reply called.place called.entries)

@@ -7,8 +7,10 @@ use Rattle.ctl_desk.proofs.own_desk.OwnDeskDesk.pass.Goals as goal
 pub returns-clause-goes_on : goal.returns-clause-goes_on
 returns-clause-goes_on c =
     let h = c.self.inside.book in
-    rw (← c.self.view_is) (own_goes_on _ c.self.inside.before (entry_of (after_all h.opening h.entries) 0 c.args.now c.args.user.now Pass) h c.pass.new.self c.self.invariant refl c.pass.ensures.entries c.pass.ensures.err)
+    let entry = entry_of (after_all h.opening h.entries) 0 c.args.now c.args.user.now Pass in
+    rw (← c.self.view_is) (own_goes_on _ c.self.inside.before entry h c.pass.new.self c.self.invariant refl c.pass.ensures.opening c.pass.ensures.entries c.pass.ensures.err)
 
 pub returns-clause-answered : goal.returns-clause-answered
 returns-clause-answered c =
-    rw (← c.self.view_is) (own_answered _ c.args.now c.args.user.now Pass c.self.inside.before c.self.inside.book c.pass.new.self c.self.invariant c.pass.ensures.reply c.pass.ensures.place c.pass.ensures.entries)
+    let called = c.pass.ensures in
+    rw (← c.self.view_is) (own_answered _ c.args.now c.args.user.now Pass c.self.inside.before c.self.inside.book c.pass.new.self c.self.invariant called.opening called.reply called.place called.entries)
