@@ -13,6 +13,3 @@ pub use laws::{
     texts_are_cut,
 };
 pub use line::Line;
-
-#[cfg(test)]
-mod tests;

@@ -17,6 +17,3 @@ pub use pair::Pair;
 pub use sink::{Sink, write_all};
 pub use source::{Failed, Source};
 pub use system::{ReaderSource, WriterSink};
-
-#[cfg(test)]
-mod tests;

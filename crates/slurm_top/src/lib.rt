@@ -3,11 +3,6 @@
 
 mod cluster;
 mod program;
-#[cfg(test)]
-mod rows;
 mod script;
 
 pub use program::run;
-
-#[cfg(test)]
-mod tests;

@@ -5,6 +5,9 @@ use slurm_text::memory_error::Memory;
 use std::alloc::{AllocError, AllocFailed, Global};
 use std::fmt::Display;
 
+/// No argument is longer.
+pub const LONGEST: usize = 1_000_000;
+
 /// Why a line has no answer.
 #[derive(Clone, Copy)]
 pub enum Unanswered {

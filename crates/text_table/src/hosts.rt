@@ -1,6 +1,6 @@
 // Host expressions.
 
-use crate::answer::{Unanswered, refused, taken};
+use crate::answer::{LONGEST, Unanswered, refused, taken};
 use slurm_text::folding::fold_hosts;
 use slurm_text::hosts::{HostRefusal, expand_hosts};
 use slurm_text::name::Name;
@@ -24,6 +24,9 @@ fn listed(alloc: Global, names: &[Name]) -> Result<Vec<u8>, Unanswered> {
 }
 
 pub fn expand(alloc: Global, text: &[u8]) -> Result<Vec<u8>, Unanswered> {
+    if text.len() > LONGEST {
+        return Err(Unanswered::Arguments);
+    }
     match expand_hosts(alloc, text) {
         Ok(names) => listed(alloc, names.as_slice()),
         Err(refusal) => refused_hosts(alloc, refusal),
@@ -32,6 +35,9 @@ pub fn expand(alloc: Global, text: &[u8]) -> Result<Vec<u8>, Unanswered> {
 
 /// How many names there are.
 pub fn count(alloc: Global, text: &[u8]) -> Result<Vec<u8>, Unanswered> {
+    if text.len() > LONGEST {
+        return Err(Unanswered::Arguments);
+    }
     match expand_hosts(alloc, text) {
         Ok(names) => taken(alloc, &names.len()),
         Err(refusal) => refused_hosts(alloc, refusal),
@@ -40,6 +46,9 @@ pub fn count(alloc: Global, text: &[u8]) -> Result<Vec<u8>, Unanswered> {
 
 /// The names of the text, folded.
 pub fn fold(alloc: Global, text: &[u8]) -> Result<Vec<u8>, Unanswered> {
+    if text.len() > LONGEST {
+        return Err(Unanswered::Arguments);
+    }
     match expand_hosts(alloc, text) {
         Ok(names) => Ok(fold_hosts(alloc, names.as_slice())?),
         Err(refusal) => refused_hosts(alloc, refusal),

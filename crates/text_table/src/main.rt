@@ -3,8 +3,13 @@
 
 mod answer;
 mod blocks;
+mod fields;
 mod headers;
 mod hosts;
+mod picks;
+mod plans;
+mod profiles;
+mod rows;
 mod table;
 mod texts;
 mod times;

@@ -1,7 +1,7 @@
 // The lines of a table, one after another.
 
 use crate::answer::Unanswered;
-use crate::{blocks, headers, hosts, texts, times, words};
+use crate::{blocks, headers, hosts, picks, plans, profiles, rows, texts, times, words};
 use percent_encoding::{AsciiSet, CONTROLS, percent_decode, percent_encode};
 use std::alloc::{AllocError, Global};
 
@@ -9,17 +9,23 @@ fn escaped() -> AsciiSet {
     CONTROLS.add(b'%').add(b'|')
 }
 
-fn fields(alloc: Global, text: &str) -> Result<Vec<Vec<u8>>, AllocError> {
-    let mut fields = Vec::new(alloc);
+// The arguments of a line.
+fn arguments(alloc: Global, text: &str) -> Result<Vec<Vec<u8>>, AllocError> {
+    let mut arguments = Vec::new(alloc);
     for field in text.split('|') {
         let mut bytes = Vec::new(alloc);
         percent_decode(field.as_bytes()).append_to(&mut bytes)?;
-        fields.push(bytes)?;
+        arguments.push(bytes)?;
     }
-    Ok(fields)
+    Ok(arguments)
 }
 
-fn answer(alloc: Global, function: &str, arguments: &[Vec<u8>]) -> Result<Vec<u8>, Unanswered> {
+// The functions of small texts.
+fn text_answer(
+    alloc: Global,
+    function: &str,
+    arguments: &[&[u8]],
+) -> Result<Vec<u8>, Unanswered> {
     match (function, arguments) {
         ("name", [text]) => texts::name(alloc, text),
         ("job_name", [text]) => texts::job_name(alloc, text),
@@ -36,15 +42,34 @@ fn answer(alloc: Global, function: &str, arguments: &[Vec<u8>]) -> Result<Vec<u8
         ("elapsed", [seconds]) => times::elapsed(alloc, seconds),
         ("compare", [a, b, c, d]) => times::compare(alloc, a, b, c, d),
         ("scaled", [weight, num, den]) => times::scaled(alloc, weight, num, den),
+        _ => Err(Unanswered::Arguments),
+    }
+}
+
+fn answer(alloc: Global, function: &str, arguments: &[&[u8]]) -> Result<Vec<u8>, Unanswered> {
+    match (function, arguments) {
         ("cut", [piece, text]) => blocks::cut(alloc, piece, text),
         ("header", [text]) => headers::header(alloc, text),
-        _ => Err(Unanswered::Arguments),
+        ("row", [columns, job]) => rows::row(alloc, columns, job),
+        ("pick", [places, tasks, least, most, required]) => {
+            picks::pick(alloc, places, tasks, least, most, required)
+        }
+        ("plan", [rooms, horizon, now, jobs]) => plans::plan(alloc, rooms, horizon, now, jobs),
+        ("free", [rooms, holds, node, from, until]) => {
+            profiles::free(alloc, rooms, holds, node, from, until)
+        }
+        ("rise", [rooms, holds, after]) => profiles::rise(alloc, rooms, holds, after),
+        _ => text_answer(alloc, function, arguments),
     }
 }
 
 fn push_answer(alloc: Global, out: &mut String, line: &str) -> Result<(), AllocError> {
     let (function, rest) = line.split_once('|').unwrap_or((line, ""));
-    let arguments = fields(alloc, rest)?;
+    let owned = arguments(alloc, rest)?;
+    let mut arguments = Vec::new(alloc);
+    for argument in &owned {
+        arguments.push(argument.as_slice())?;
+    }
     out.push_str(line)?;
     match answer(alloc, function, arguments.as_slice()) {
         Ok(text) => {

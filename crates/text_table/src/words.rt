@@ -1,6 +1,6 @@
 // Words of a line, as a shell reads and writes them.
 
-use crate::answer::{Unanswered, refused};
+use crate::answer::{LONGEST, Unanswered, refused};
 use slurm_text::words::{Words, WordsRefusal, quote_words, split_words, words_of};
 use std::alloc::Global;
 
@@ -23,6 +23,9 @@ fn bracketed(alloc: Global, words: &Words) -> Result<Vec<u8>, Unanswered> {
 }
 
 pub fn split(alloc: Global, line: &[u8]) -> Result<Vec<u8>, Unanswered> {
+    if line.len() > LONGEST {
+        return Err(Unanswered::Arguments);
+    }
     match split_words(alloc, line) {
         Ok(words) => bracketed(alloc, &words),
         Err(refusal) => refused_words(alloc, refusal),
@@ -44,6 +47,9 @@ fn list_of(alloc: Global, list: &[u8]) -> Result<Vec<String>, Unanswered> {
 /// The line that the words, each ended by `;`, are quoted as.
 pub fn quote(alloc: Global, list: &[u8]) -> Result<Vec<u8>, Unanswered> {
     let list = list_of(alloc, list)?;
+    if list.len() > LONGEST {
+        return Err(Unanswered::Arguments);
+    }
     match words_of(alloc, list.as_slice()) {
         Ok(words) => Ok(quote_words(alloc, &words)?),
         Err(refusal) => refused_words(alloc, refusal),

@@ -8,7 +8,7 @@ use Rattle.command_words.specs.Sbatch.{tasks_by, limit_by, one_by, two_by, size_
 use Rattle.ctl_session.specs.Session.{most_blocks}
 use Rattle.slurm_top.specs.Cluster.{built_in_settings, built_in_conf, built_in_assocs, built_in_opening}
 use Rattle.slurm_top.specs.Script.{script_of}
-use Rattle.slurm_top.proofs.rows.other_headers.Goals as goal
+use Rattle.worked_rows.proofs.scripts.other_headers.Goals as goal
 
 pub returns-clause-long_moment : goal.returns-clause-long_moment
 unfolding script_of most_blocks built_in_opening built_in_conf built_in_settings built_in_assocs first_block blocks_within blocks_of is_name number_within asked_by request_by tasks_by limit_by one_by two_by size_by

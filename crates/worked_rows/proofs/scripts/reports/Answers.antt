@@ -10,7 +10,7 @@ use Rattle.ctl_core.specs.Reporting.{in_order, orders_of}
 use Rattle.ctl_session.specs.Session.{most_blocks}
 use Rattle.slurm_top.specs.Cluster.{built_in_settings, built_in_conf, built_in_assocs, built_in_opening}
 use Rattle.slurm_top.specs.Script.{script_of}
-use Rattle.slurm_top.proofs.rows.reports.Goals as goal
+use Rattle.worked_rows.proofs.scripts.reports.Goals as goal
 
 pub returns-clause-denied : goal.returns-clause-denied
 unfolding script_of most_blocks built_in_opening built_in_conf built_in_settings built_in_assocs first_block blocks_within blocks_of is_name number_within asked_by request_by report_by listed_by listed_of start_of done_of in_order orders_of digits

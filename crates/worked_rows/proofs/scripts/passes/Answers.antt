@@ -16,7 +16,7 @@ use Rattle.ctl_core.specs.Passing.{ready_jobs, base_of, ranked, placements, star
 use Rattle.ctl_session.specs.Session.{most_blocks}
 use Rattle.slurm_top.specs.Cluster.{built_in_settings, built_in_conf, built_in_assocs, built_in_opening}
 use Rattle.slurm_top.specs.Script.{script_of}
-use Rattle.slurm_top.proofs.rows.passes.Goals as goal
+use Rattle.worked_rows.proofs.scripts.passes.Goals as goal
 
 pub returns-clause-denied : goal.returns-clause-denied
 unfolding script_of most_blocks built_in_opening built_in_conf built_in_settings built_in_assocs first_block blocks_within blocks_of is_name number_within asked_by request_by tasks_by limit_by one_by two_by size_by is_placeable plan_job placed_of first_second placement_at capacities least_after numbers_from filled_sets sets fits chosen digits ready_jobs base_of ranked placements starting waiting begin_all is_idle plan_of plan_beside times_held free_ids
