@@ -9,11 +9,7 @@ use slurm_text::plain::report::Report;
 use slurm_text::plain::request::Request;
 use std::alloc::Global;
 
-fn push_limit(
-    alloc: Global,
-    out: &mut Vec<u8>,
-    limit: Option<Limit>,
-) -> Result<(), Unanswered> {
+fn push_limit(alloc: Global, out: &mut Vec<u8>, limit: &Option<Limit>) -> Result<(), Unanswered> {
     match limit {
         None => push(alloc, out, &"none"),
         Some(Limit::Unlimited) => push(alloc, out, &"unlimited"),
@@ -27,7 +23,7 @@ fn push_job(alloc: Global, out: &mut Vec<u8>, desc: &JobDesc) -> Result<(), Unan
     out.extend_from_slice(desc.name.as_bytes())?;
     let tasks = desc.tasks.get();
     push(alloc, out, &format_args!(" {tasks} "))?;
-    push_limit(alloc, out, desc.limit)?;
+    push_limit(alloc, out, &desc.limit)?;
     let (run, exit) = (desc.run.get(), desc.exit.get());
     push(alloc, out, &format_args!(" {run} {exit}"))
 }
@@ -64,7 +60,14 @@ fn push_request(alloc: Global, out: &mut Vec<u8>, request: &Request) -> Result<(
 
 /// `MOMENT USER` and the request.
 pub fn header(alloc: Global, text: &[u8]) -> Result<Vec<u8>, Unanswered> {
-    let Some(Asked { moment, user, request }) = read_header(alloc, text)? else {
+    let Some(
+        Asked {
+            moment,
+            user,
+            request,
+        },
+    ) = read_header(alloc, text)?
+    else {
         return taken(alloc, &"no form");
     };
     let mut out = Vec::new(alloc);

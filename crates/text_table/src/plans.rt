@@ -102,8 +102,19 @@ fn job(alloc: Global, text: &[u8], count: usize) -> Result<PlanJob, Unanswered>
     ensures { IfOk result (λ job. All (λ node. node < count) job.nodes) }
 {
     let words = parts(alloc, text, b'/')?;
-    let [id, tasks, least, most, required, per_task, per_node, mem, room, places, limit] =
-        *words.as_slice()
+    let [
+        id,
+        tasks,
+        least,
+        most,
+        required,
+        per_task,
+        per_node,
+        mem,
+        room,
+        places,
+        limit,
+    ] = *words.as_slice()
     else {
         return Err(Unanswered::Arguments);
     };
@@ -137,7 +148,11 @@ fn planned_text(alloc: Global, planned: &Planned) -> Result<Vec<u8>, Unanswered>
         push(alloc, &mut out, &format_args!("{id}@{start} "))?;
         for share in placed.parts.as_slice() {
             let (node, tasks, cpus, mem) = (share.node, share.tasks, share.cpus, share.mem);
-            push(alloc, &mut out, &format_args!("{node}:{tasks}/{cpus}/{mem} "))?;
+            push(
+                alloc,
+                &mut out,
+                &format_args!("{node}:{tasks}/{cpus}/{mem} "),
+            )?;
         }
     }
     Ok(out)

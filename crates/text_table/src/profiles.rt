@@ -76,7 +76,12 @@ pub fn free(
 }
 
 /// The next end of a hold that is later than a second.
-pub fn rise(alloc: Global, rooms: &[u8], holds: &[u8], after: &[u8]) -> Result<Vec<u8>, Unanswered> {
+pub fn rise(
+    alloc: Global,
+    rooms: &[u8],
+    holds: &[u8],
+    after: &[u8],
+) -> Result<Vec<u8>, Unanswered> {
     let profile = held(alloc, rooms, holds)?;
     match profile.next_rise(number(after)?) {
         Some(end) => taken(alloc, &end),

@@ -70,7 +70,17 @@ fn node_names(alloc: Global, text: &[u8]) -> Result<Items<Name>, Unanswered> {
 // `ID/NAME/USER/PARTITION/STATE/SECONDS/NODES/NAMES/START`.
 fn job_row(alloc: Global, job: &[u8]) -> Result<JobRow, Unanswered> {
     let words = parts(alloc, job, b'/')?;
-    let [id, name, user, partition, state_word, seconds, nodes, names, second] = *words.as_slice()
+    let [
+        id,
+        name,
+        user,
+        partition,
+        state_word,
+        seconds,
+        nodes,
+        names,
+        second,
+    ] = *words.as_slice()
     else {
         return Err(Unanswered::Arguments);
     };

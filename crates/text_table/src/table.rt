@@ -21,11 +21,7 @@ fn arguments(alloc: Global, text: &str) -> Result<Vec<Vec<u8>>, AllocError> {
 }
 
 // The functions of small texts.
-fn text_answer(
-    alloc: Global,
-    function: &str,
-    arguments: &[&[u8]],
-) -> Result<Vec<u8>, Unanswered> {
+fn text_answer(alloc: Global, function: &str, arguments: &[&[u8]]) -> Result<Vec<u8>, Unanswered> {
     match (function, arguments) {
         ("name", [text]) => texts::name(alloc, text),
         ("job_name", [text]) => texts::job_name(alloc, text),

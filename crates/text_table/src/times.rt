@@ -9,7 +9,7 @@ use std::cmp::Ordering;
 
 /// A limit in minutes.
 pub fn limit(alloc: Global, text: &[u8]) -> Result<Vec<u8>, Unanswered> {
-    match parse_limit(text) {
+    match &parse_limit(text) {
         Ok(Limit::Unlimited) => taken(alloc, &"unlimited"),
         Ok(Limit::Minutes(minutes)) => taken(alloc, &minutes.get()),
         Err(BadTime) => taken(alloc, &"refused"),
@@ -56,12 +56,7 @@ pub fn compare(
     }
 }
 
-pub fn scaled(
-    alloc: Global,
-    weight: &[u8],
-    num: &[u8],
-    den: &[u8],
-) -> Result<Vec<u8>, Unanswered> {
+pub fn scaled(alloc: Global, weight: &[u8], num: &[u8], den: &[u8]) -> Result<Vec<u8>, Unanswered> {
     let (num, den) = (number(num)?, number(den)?);
     let Ok(weight) = u32::try_from(number(weight)?) else {
         return Err(Unanswered::Arguments);
