@@ -24,7 +24,7 @@ pub fn narrow_number(text: &[u8]) -> Result<u32, Unanswered> {
 pub fn narrow_numbers(alloc: Global, text: &[u8], mark: u8) -> Result<Vec<u32>, Unanswered> {
     let mut numbers = Vec::new(alloc);
     if !text.is_empty() {
-        for part in text.split(|byte| *byte == mark) {
+        for part in &parts(alloc, text, mark)? {
             numbers.push(narrow_number(part)?)?;
         }
     }

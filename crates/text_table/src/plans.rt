@@ -14,7 +14,7 @@ use std::alloc::Global;
 /// Nodes of so many processors and megabytes each, as `4/4000,1/8000`.
 pub fn rooms(alloc: Global, text: &[u8]) -> Result<Vec<NodeRoom>, Unanswered> {
     let mut rooms = Vec::new(alloc);
-    for room in text.split(|byte| *byte == b',') {
+    for room in &parts(alloc, text, b',')? {
         let sizes = parts(alloc, room, b'/')?;
         let [cpus, mem] = sizes.as_slice() else {
             return Err(Unanswered::Arguments);
@@ -33,9 +33,6 @@ fn nodes(alloc: Global, text: &[u8], count: usize) -> Result<NodeList, Unanswere
     ensures { IfOk result (All (λ node. node < count)) }
 {
     let numbers = narrow_numbers(alloc, text, b'+')?;
-    if numbers.iter().any(|node| *node as usize >= count) {
-        return Err(Unanswered::Arguments);
-    }
     match *numbers.as_slice() {
         [one] if (one as usize) < count => Ok(NodeList::from_vec(Vec::from_slice(alloc, &[one])?)),
         [one, two] if one < two && (two as usize) < count => {
@@ -134,7 +131,7 @@ fn jobs(alloc: Global, text: &[u8], count: usize) -> Result<Vec<PlanJob>, Unansw
     ensures { IfOk result (λ jobs. All (λ (job : PlanJob). All (λ node. node < count) job.nodes) jobs.items) }
 {
     let mut jobs = Vec::new(alloc);
-    for text in text.split(|byte| *byte == b',') {
+    for text in &parts(alloc, text, b',')? {
         jobs.push(job(alloc, text, count)?)?;
     }
     Ok(jobs)
@@ -178,7 +175,9 @@ pub fn plan(
         horizon,
     };
     let mut steps = start();
-    let planned = plan_jobs(alloc, base, ranked, now, &mut steps).map_err(|_| Unanswered::Memory)?;
+    let Ok(planned) = plan_jobs(alloc, base, ranked, now, &mut steps) else {
+        return Err(Unanswered::Memory);
+    };
     let mut out = planned_text(alloc, &planned)?;
     let count = steps.count();
     push(alloc, &mut out, &format_args!("in {count}"))?;

@@ -48,7 +48,7 @@ fn held(alloc: Global, rooms_text: &[u8], holds: &[u8]) -> Result<Profile, Unans
         return Err(Unanswered::Memory);
     };
     if !holds.is_empty() {
-        for text in holds.split(|byte| *byte == b',') {
+        for text in &parts(alloc, holds, b',')? {
             let _ = try_hold(&mut profile, &hold(alloc, text)?, rooms.len())?;
         }
     }

@@ -1,6 +1,7 @@
 // Words of a line, as a shell reads and writes them.
 
 use crate::answer::{LONGEST, Unanswered, refused};
+use crate::fields::parts;
 use slurm_text::words::{Words, WordsRefusal, quote_words, split_words, words_of};
 use std::alloc::Global;
 
@@ -32,11 +33,15 @@ pub fn split(alloc: Global, line: &[u8]) -> Result<Vec<u8>, Unanswered> {
     }
 }
 
-// The texts that end with `;`.
+// The texts, each of which ends with `;`.
 fn list_of(alloc: Global, list: &[u8]) -> Result<Vec<String>, Unanswered> {
     let mut texts = Vec::new(alloc);
-    for text in list.split_inclusive(|byte| *byte == b';') {
-        let Ok(text) = str::from_utf8(text.strip_suffix(b";").unwrap_or(text)) else {
+    let list = parts(alloc, list, b';')?;
+    let Some((_, ended)) = list.split_last() else {
+        return Ok(texts);
+    };
+    for text in ended {
+        let Ok(text) = str::from_utf8(text) else {
             return Err(Unanswered::Arguments);
         };
         texts.push(String::from_str(alloc, text)?)?;
