@@ -1,5 +1,5 @@
 // Plans of ranked jobs on nodes that nobody holds.
-ghost use Rattle.std.specs.Prelude.{◌≡◌, ◌<◌, ◌^◌, length, All, IfOk};
+ghost use Rattle.std.specs.Prelude.{◌<◌, All, IfOk};
 ghost use Rattle.backfill_planner.specs.declared.job.PlanJob.{PlanJob};
 
 use crate::answer::{Unanswered, number, push};

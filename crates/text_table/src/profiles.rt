@@ -1,10 +1,10 @@
 // Holds on the rooms of nodes.
-ghost use Rattle.std.specs.Prelude.{◌≡◌, ◌≤◌, ◌<◌, length, IfOk};
+ghost use Rattle.std.specs.Prelude.{◌≡◌};
 
 use crate::answer::{Unanswered, number, push, taken};
 use crate::fields::{narrow_number, parts};
 use crate::plans::rooms;
-use resource_profile::{Hold, Profile};
+use resource_profile::{Hold, NodeRoom, Profile};
 use std::alloc::Global;
 
 // `NODE/FROM/UNTIL/CPUS/MEM`.
@@ -23,11 +23,11 @@ fn hold(alloc: Global, text: &[u8]) -> Result<Hold, Unanswered> {
 }
 
 // Adds the hold where so much is free.
-fn try_hold(profile: &mut Profile, hold: &Hold, count: usize) -> Result<bool, Unanswered>
-    requires { count ≡ length profile.old.rooms }
+fn try_hold(profile: &mut Profile, rooms: &[NodeRoom], hold: &Hold) -> Result<bool, Unanswered>
+    requires { profile.old.rooms ≡ rooms.now }
     ensures { profile.new.rooms ≡ profile.old.rooms }
 {
-    if hold.until <= hold.from || hold.node as usize >= count {
+    if hold.until <= hold.from || hold.node as usize >= rooms.len() {
         return Ok(false);
     }
     let (cpus, mem) = profile.free_min(hold.node, hold.from, hold.until);
@@ -44,12 +44,13 @@ fn try_hold(profile: &mut Profile, hold: &Hold, count: usize) -> Result<bool, Un
 // The rooms with those of the holds that have room, one after another.
 fn held(alloc: Global, rooms_text: &[u8], holds: &[u8]) -> Result<Profile, Unanswered> {
     let rooms = rooms(alloc, rooms_text)?;
-    let Ok(mut profile) = Profile::new(alloc, rooms.as_slice()) else {
+    let rooms = rooms.as_slice();
+    let Ok(mut profile) = Profile::new(alloc, rooms) else {
         return Err(Unanswered::Memory);
     };
     if !holds.is_empty() {
         for text in &parts(alloc, holds, b',')? {
-            let _ = try_hold(&mut profile, &hold(alloc, text)?, rooms.len())?;
+            let _ = try_hold(&mut profile, rooms, &hold(alloc, text)?)?;
         }
     }
     Ok(profile)
