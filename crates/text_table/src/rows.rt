@@ -101,13 +101,14 @@ fn job_row(alloc: Global, job: &[u8]) -> Result<JobRow, Unanswered> {
 
 /// What `squeue -h` shows of one job, or `squeue -h --start` where `columns` is `starts`.
 pub fn row(alloc: Global, columns: &[u8], job: &[u8]) -> Result<Vec<u8>, Unanswered> {
-    let row = Row::Job(job_row(alloc, job)?);
+    let mut rows = Vec::new(alloc);
+    rows.push(Row::Job(job_row(alloc, job)?))?;
     let request = Request::Show(Query::Squeue {
         titles: false,
         starts: columns == b"starts".as_slice(),
     });
     let reply = Reply::Shown(View {
-        rows: Items::from_vec(vec![in alloc; row]?),
+        rows: Items::from_vec(rows),
     });
     Ok(text(alloc, &request, &reply)?)
 }

@@ -9,7 +9,8 @@ use slurm_text::name::{JobName, Name, NameRefusal};
 use std::alloc::Global;
 
 fn quoted(alloc: Global, text: &[u8]) -> Result<Vec<u8>, Unanswered> {
-    let mut out = vec![in alloc; b'"']?;
+    let mut out = Vec::new(alloc);
+    out.push(b'"')?;
     out.extend_from_slice(text)?;
     out.push(b'"')?;
     Ok(out)
