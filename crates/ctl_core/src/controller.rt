@@ -185,6 +185,3 @@ fn assoc_records(alloc: Global, confs: Vec<AssocConf>) -> Result<Vec<AssocRecord
             .collect(alloc)?,
     )
 }
-
-#[cfg(test)]
-mod tests;
