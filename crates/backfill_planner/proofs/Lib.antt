@@ -11,3 +11,4 @@ pub mod LeastSecond
 pub mod Parts
 pub mod Within
 pub mod Starts
+pub mod Sweeping

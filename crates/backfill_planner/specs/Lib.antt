@@ -2,3 +2,4 @@ pub mod Bases
 pub mod Giving
 pub mod Plans
 pub mod Placements
+pub mod Sweeps

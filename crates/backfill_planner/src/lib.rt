@@ -14,6 +14,7 @@ mod job;
 pub mod laws;
 mod placing;
 mod planned;
+mod sweep;
 
 pub use base::Base;
 pub use job::{NodeList, PlanJob};
@@ -84,6 +85,3 @@ impl From<resource_profile::Memory> for Memory {
         Memory
     }
 }
-
-#[cfg(test)]
-mod tests;

@@ -5,10 +5,13 @@ ghost use Rattle.resource_profile.specs.declared.Hold.{Hold};
 ghost use Rattle.node_pick.specs.declared.Dealt.{Dealt};
 ghost use Rattle.backfill_planner.specs.Giving;
 ghost use Rattle.backfill_planner.specs.Plans;
+ghost use Rattle.backfill_planner.specs.Sweeps.{IsSwept};
 
 use crate::base::Base;
 use crate::job::PlanJob;
+use crate::sweep::Sweep;
 use crate::{Memory, Placed, Share};
+use node_pick::laws::fitting_sets_are_within;
 use node_pick::{Dealt, pick};
 use resource_profile::{NodeRoom, Profile, Steps};
 use slurm_text::items::Items;
@@ -31,8 +34,10 @@ pub(crate) fn window_end(job: &PlanJob, start: u64) -> u64
 }
 
 // How many tasks of the job a node with this room can give where so much of it is free.
-fn tasks_given(job: &PlanJob, room: &NodeRoom, cpus: u32, mem: u64) -> u32
-    ensures { result ≡ Giving.tasks_given job.now room.now cpus mem }
+#[tactic(auto, using(crate::proofs::Takes::tasks_fit))]
+pub(crate) fn tasks_given(job: &PlanJob, room: &NodeRoom, cpus: u32, mem: u64) -> u32
+    ensures tasks { result ≡ Giving.tasks_given job.now room.now cpus mem }
+    ensures small { result * job.now.cpus_per_task < 2 ^ 32 }
 {
     if !room.usable || job.exclusive && (cpus != room.cpus || mem != room.mem) {
         return 0;
@@ -45,35 +50,6 @@ fn tasks_given(job: &PlanJob, room: &NodeRoom, cpus: u32, mem: u64) -> u32
         MemAsk::PerCpu(asked) => most.min(mem / (asked.get() * per_task)),
     };
     tasks as u32
-}
-
-// What each of the job's nodes can give over its window that begins at `start`.
-#[tactic(auto, unfolding(crate::specs::Giving::capacities))]
-fn fill_capacities(
-    profile: &Profile,
-    rooms: &[NodeRoom],
-    job: &PlanJob,
-    start: u64,
-    out: &mut Vec<u32>,
-) -> Result<(), Memory>
-    requires rooms { profile.now.rooms ≡ rooms.now }
-    requires nodes { All (λ node. node < length rooms.now) job.now.nodes }
-    requires start { start ≤ 250002592000 }
-    ensures window { start < Giving.window_end job.now start }
-    ensures once { AllPairs (λ one other. one ≢ other) job.now.nodes }
-    ensures within { OnOk result (All (λ tasks. tasks * job.now.cpus_per_task < 2 ^ 32) out.new.items) }
-    ensures capacities { OnOk result (out.new.items ≡ Giving.capacities rooms.now profile.now.holds job.now start) }
-{
-    let end = window_end(job, start);
-    let nodes = job.nodes.as_slice();
-    out.clear();
-    out.reserve(nodes.len())?;
-    for node in nodes {
-        let (cpus, mem) = profile.free_min(*node, start, end);
-        let tasks = tasks_given(job, &rooms[*node as usize], cpus, mem);
-        out.push(tasks).unwrap();
-    }
-    Ok(())
 }
 
 // The job's part on the node at a place of its list.
@@ -127,27 +103,36 @@ fn shares(
     Ok(shares)
 }
 
-// The placement of the job at this second, or none where no set fits. What `caps` and `dealt` had before goes.
+// The placement of the job at this second, or none where no set fits. The sweep goes on to the second. What `dealt` had
+// before goes.
 fn placement_at(
     alloc: Global,
     profile: &Profile,
     rooms: &[NodeRoom],
     job: &PlanJob,
     start: u64,
-    caps: &mut Vec<u32>,
+    sweep: &mut Sweep,
     dealt: &mut Vec<Dealt>,
 ) -> Result<Option<Placed>, Memory>
     requires rooms { profile.now.rooms ≡ rooms.now }
     requires nodes { All (λ node. node < length rooms.now) job.now.nodes }
     requires start { start ≤ 250002592000 }
+    requires swept { IsSwept rooms.now profile.now.holds job.now sweep.old }
+    requires order { sweep.old.second ≤ start }
+    ensures swept { IsSwept rooms.now profile.now.holds job.now sweep.new }
+    ensures second { sweep.new.second ≡ start }
     ensures window { start < Giving.window_end job.now start }
     ensures start { IfOk result (λ placed. IfSome placed (λ placed. placed.start ≡ start)) }
     ensures free { IfOk result (λ placed. All (HasFree rooms.now profile.now.holds) (Plans.holds_of job.now placed)) }
     ensures apart { IfOk result (λ placed. AllPairs (λ (one other : Hold). one.node ≢ other.node) (Plans.holds_of job.now placed)) }
     ensures placement { IfOk result (λ placed. placed ≡ Plans.placement_at rooms.now profile.now.holds job.now start) }
 {
-    fill_capacities(profile, rooms, job, start, caps)?;
-    if !pick(alloc, caps, &job.need, dealt)? {
+    sweep.go_to(profile, rooms, job, start);
+    fitting_sets_are_within();
+    if sweep.total < u64::from(job.need.tasks) {
+        return Ok(None);
+    }
+    if !pick(alloc, &sweep.caps, &job.need, dealt)? {
         return Ok(None);
     }
     let parts = shares(alloc, rooms, job, dealt)?;
@@ -159,8 +144,8 @@ fn placement_at(
 }
 
 /// Where and when the job begins at the earliest, from the second `lo` to `hi`, beside the profile's holds. It counts one
-/// step. None exactly where no set fits at any of these seconds. It tries `lo` and the ends of holds after it, since
-/// nothing comes to fit between these.
+/// step. None exactly where no set fits at any of these seconds. It tries `lo` and the ends of holds after it, and from one
+/// second to the next counts anew only what the nodes give that may have changed.
 pub fn place<L>(
     alloc: Global,
     profile: &Profile,
@@ -181,11 +166,14 @@ pub fn place<L>(
 {
     steps.tick();
     let rooms = base.rooms.as_slice();
-    let mut caps = Vec::new(alloc);
+    if hi < lo {
+        return Ok(None);
+    }
+    let mut sweep = Sweep::new(alloc, profile, rooms, job, lo)?;
     let mut dealt = Vec::new(alloc);
     let mut start = lo;
     while start <= hi {
-        let placed = placement_at(alloc, profile, rooms, job, start, &mut caps, &mut dealt)?;
+        let placed = placement_at(alloc, profile, rooms, job, start, &mut sweep, &mut dealt)?;
         if placed.is_some() {
             return Ok(placed);
         }

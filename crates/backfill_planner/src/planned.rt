@@ -83,14 +83,13 @@ fn hold(profile: &mut Profile, job: &PlanJob, placed: &Placed) -> Result<(), Mem
 {
     let until = window_end(job, placed.start);
     for share in placed.parts.as_slice() {
-        profile.reserve(1)?;
-        profile.add_hold(&Hold {
+        profile.hold(&Hold {
             node: share.node,
             from: placed.start,
             until,
             cpus: share.cpus,
             mem: share.mem,
-        });
+        })?;
     }
     Ok(())
 }

@@ -6,3 +6,4 @@ pub mod Filling
 pub mod Shares
 pub mod Walk
 pub mod Choosing
+pub mod Lesser

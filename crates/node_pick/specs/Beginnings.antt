@@ -1,4 +1,4 @@
--- Beginnings of a set, and which sets they leave.
+-- Beginnings of a set, and which sets they leave. Of the proof alone: what the loops of the choice keep.
 use Rattle.std.specs.Prelude.{◌≡◌, ℕ, ◌≤◌, ◌<◌, ◌⊎◌, List, [], ◌∷◌, ◌++◌, length, All, Contains}
 use Rattle.node_pick.specs.declared.Need.{Need}
 use Rattle.node_pick.specs.Sets.{capacity, IsRisingFrom, Fits}

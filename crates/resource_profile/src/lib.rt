@@ -5,9 +5,13 @@ use std::alloc::AllocError;
 use std::error::Error;
 use std::fmt;
 
+mod ends;
+mod levels;
 mod profile;
 mod steps;
+mod timeline;
 
+pub use levels::{Amount, Window};
 pub use profile::Profile;
 pub use steps::{Plain, Steps, start};
 
@@ -47,6 +51,3 @@ impl From<AllocError> for Memory {
         Memory
     }
 }
-
-#[cfg(test)]
-mod tests;

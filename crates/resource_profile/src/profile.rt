@@ -1,65 +1,83 @@
-ghost use Rattle.std.specs.Prelude.{◌≡◌, ℕ, ◌+◌, ◌-◌, ◌^◌, ◌≤◌, ◌<◌, [], ◌∷◌, length, IfOk, OnOk, OnErr, IfSome, IfNone, All, Contains};
+ghost use Rattle.std.specs.Prelude.{◌≡◌, ◌≢◌, ℕ, ◌+◌, ◌*◌, ◌^◌, ◌≤◌, ◌<◌, [], ◌∷◌, ◌++◌, length, slice_index_or, vec_len, vec_capacity, IfOk, OnOk, OnErr, IfSome, IfNone, All, Contains};
 ghost use Rattle.std.specs.List.Sorted.{IsPermutation};
-ghost use Rattle.resource_profile.specs.Free.{held_cpus, held_mem, free_cpus, free_mem, least_over, IsMostOver};
+ghost use Rattle.resource_profile.specs.Free.{free_cpus, free_mem, least_over};
 ghost use Rattle.resource_profile.specs.Profiles.{AreWithin, HasFree, IsNextEnd};
+ghost use Rattle.resource_profile.specs.Windows.{free_of, IsSteady};
+ghost use Rattle.resource_profile.specs.Timelines.{IsTimeline, StaysAsItWas};
+ghost use Rattle.resource_profile.specs.declared.timeline.Timeline.{Timeline as OneTimeline};
 
+use crate::ends::{add_end, drop_end, next_end};
+use crate::levels::{Window, least_free};
+use crate::timeline::Timeline;
 use crate::{Hold, Memory, NodeRoom};
 use std::alloc::Global;
 use std::marker::Model;
 
-/// The rooms of the nodes and the holds on them.
+/// The rooms of the nodes and the holds on them. Beside the list of the holds it keeps what each node has free over time,
+/// and the ends of the holds in order.
 #[derive(Drop)]
 pub struct Profile {
     rooms: Vec<NodeRoom>,
     holds: Vec<Hold>,
+    // The ends of the holds, upwards.
+    ends: Vec<u64>,
+    // One for each room.
+    timelines: Vec<Timeline>,
+    // How many holds can be added without taking memory.
+    room_for: u32,
 }
 
 impl Model for Profile {
-    ghost use Rattle.std.specs.Prelude.{◌-◌, vec_len, vec_capacity};
-    ghost use Rattle.resource_profile.specs.Profiles.{ProfileView, AreWithin};
+    ghost use Rattle.std.specs.Prelude.{◌+◌, ◌≤◌, vec_len, vec_capacity};
+    ghost use Rattle.resource_profile.specs.Profiles.{ProfileView};
+    ghost use Rattle.resource_profile.specs.Timelines.{AreKept};
 
     ghost Value = { ProfileView };
 
-    ghost view = { λ profile. record { rooms = profile.rooms.items; holds = profile.holds.items; spare = vec_capacity profile.holds - vec_len profile.holds } };
+    ghost view = { λ profile. record { rooms = profile.rooms.items; holds = profile.holds.items; spare = profile.room_for } };
 
-    ghost invariant = { λ profile. AreWithin profile.rooms.items profile.holds.items };
+    ghost invariant = { λ profile. AreKept profile.rooms.items profile.holds.items profile.ends.items profile.timelines.items profile.room_for
+        × (vec_len profile.holds + profile.room_for ≤ vec_capacity profile.holds)
+        × (vec_len profile.ends + profile.room_for ≤ vec_capacity profile.ends) };
 }
 
-// What is held of the node at the moment.
-fn held_at(holds: &[Hold], node: u32, moment: u64) -> (u32, u64)
-    requires cpus { held_cpus holds.now node moment < 2 ^ 32 }
-    requires mem { held_mem holds.now node moment < 2 ^ 64 }
-    ensures cpus { result.0 ≡ held_cpus holds.now node moment }
-    ensures mem { result.1 ≡ held_mem holds.now node moment }
+// A timeline for each of the rooms, with no holds.
+fn fresh(alloc: Global, rooms: &[NodeRoom]) -> Result<Vec<Timeline>, Memory>
+    ensures long { IfOk result (λ timelines. length timelines.items ≡ length rooms.now) }
+    ensures each { IfOk result (λ timelines. (node : ℕ) (d : OneTimeline) → node < length rooms.now → IsTimeline rooms.now [] node 0 (slice_index_or timelines.items node d)) }
 {
-    let mut cpus = 0;
-    let mut mem = 0;
-    for hold in holds {
-        if hold.node == node && hold.from <= moment && moment < hold.until {
-            cpus += hold.cpus;
-            mem += hold.mem;
-        }
+    let mut timelines = Vec::with_capacity(alloc, rooms.len())?;
+    for room in rooms {
+        let timeline = Timeline::new(alloc, room)?;
+        timelines.push(timeline).unwrap();
     }
-    (cpus, mem)
+    Ok(timelines)
 }
 
-// The most that is held of the node over the window.
-fn most_held(holds: &[Hold], node: u32, from: u64, until: u64) -> (u32, u64)
-    requires window { from < until }
-    requires cpus { (moment : ℕ) → held_cpus holds.now node moment < 2 ^ 32 }
-    requires mem { (moment : ℕ) → held_mem holds.now node moment < 2 ^ 64 }
-    ensures cpus { IsMostOver (λ moment. held_cpus holds.now node moment) from until result.0 }
-    ensures mem { IsMostOver (λ moment. held_mem holds.now node moment) from until result.1 }
+// Makes place on each node for so many more holds.
+fn reserve_each(timelines: &mut Vec<Timeline>, count: u32) -> Result<(), Memory>
+    requires holds { All (λ (timeline : OneTimeline). 2 * timeline.holds < 2 ^ 64) timelines.old.items }
+    ensures long { length timelines.new.items ≡ length timelines.old.items }
+    ensures each { (node : ℕ) (d : OneTimeline) → node < length timelines.old.items → StaysAsItWas (slice_index_or timelines.old.items node d) (slice_index_or timelines.new.items node d) }
+    ensures room { OnOk result (All (λ (timeline : OneTimeline). vec_len timeline.levels + (2 * timeline.holds + 4 * count) ≤ vec_capacity timeline.levels) timelines.new.items) }
 {
-    let (mut cpus, mut mem) = held_at(holds, node, from);
-    for hold in holds {
-        if hold.node == node && from < hold.from && hold.from < until {
-            let held = held_at(holds, node, hold.from);
-            cpus = cpus.max(held.0);
-            mem = mem.max(held.1);
-        }
+    for i in 0..timelines.len() {
+        timelines[i].reserve(u64::from(count))?;
     }
-    (cpus, mem)
+    Ok(())
+}
+
+// The place of a hold among the holds.
+fn place_of(holds: &[Hold], hold: &Hold) -> usize
+    requires { Contains holds.now hold.now }
+    ensures inside { result < length holds.now }
+    ensures is { slice_index_or holds.now result hold.now ≡ hold.now }
+{
+    let mut place = 0;
+    while holds[place] != *hold {
+        place += 1;
+    }
+    place
 }
 
 impl Profile {
@@ -68,9 +86,13 @@ impl Profile {
         ensures rooms { IfOk result (λ profile. profile.rooms ≡ rooms.now) }
         ensures holds { IfOk result (λ profile. profile.holds ≡ []) }
     {
+        let timelines = fresh(alloc, rooms)?;
         Ok(Profile {
             rooms: Vec::from_slice(alloc, rooms)?,
             holds: Vec::new(alloc),
+            ends: Vec::new(alloc),
+            timelines,
+            room_for: 0,
         })
     }
 
@@ -80,20 +102,45 @@ impl Profile {
         ensures rooms { IfOk result (λ profile. profile.rooms ≡ rooms.now) }
         ensures holds { IfOk result (λ profile. profile.holds ≡ holds.now) }
     {
-        Ok(Profile {
-            rooms: Vec::from_slice(alloc, rooms)?,
-            holds: Vec::from_slice(alloc, holds)?,
-        })
+        let mut profile = Profile::new(alloc, rooms)?;
+        for hold in holds {
+            profile.hold(hold)?;
+        }
+        Ok(profile)
     }
 
-    /// Makes `spare` at least `count`. Rooms and holds stay.
+    /// Makes `spare` at least `count`. Rooms and holds stay. It takes memory on each node for so many holds.
     pub fn reserve(&mut self, count: u32) -> Result<(), Memory>
         ensures rooms { self.new.rooms ≡ self.old.rooms }
         ensures holds { self.new.holds ≡ self.old.holds }
         ensures spare { OnOk result (count ≤ self.new.spare) }
         ensures kept { self.old.spare ≤ self.new.spare }
     {
+        if count <= self.room_for {
+            return Ok(());
+        }
         self.holds.reserve(count as usize)?;
+        self.ends.reserve(count as usize)?;
+        reserve_each(&mut self.timelines, count)?;
+        self.room_for = count;
+        Ok(())
+    }
+
+    /// Adds the hold behind the others, and takes the memory that it needs. Where that is wanting, all stays as it was.
+    pub fn hold(&mut self, hold: &Hold) -> Result<(), Memory>
+        requires { HasFree self.old.rooms self.old.holds hold.now }
+        ensures rooms { self.new.rooms ≡ self.old.rooms }
+        ensures holds { OnOk result (self.new.holds ≡ self.old.holds ++ hold.now ∷ []) }
+        ensures err { OnErr result (self.new.holds ≡ self.old.holds) }
+        ensures spare { self.new.spare ≡ self.old.spare }
+    {
+        let more = u64::from(self.room_for) + 1;
+        self.holds.reserve(more as usize)?;
+        self.ends.reserve(more as usize)?;
+        self.timelines[hold.node as usize].reserve(more)?;
+        self.holds.push(*hold).unwrap();
+        add_end(&mut self.ends, hold.until);
+        self.timelines[hold.node as usize].add(hold);
         Ok(())
     }
 
@@ -106,47 +153,62 @@ impl Profile {
         ensures spare { self.old.spare ≤ self.new.spare + 1 }
     {
         self.holds.push(*hold).unwrap();
+        add_end(&mut self.ends, hold.until);
+        self.timelines[hold.node as usize].add(hold);
+        self.room_for -= 1;
     }
 
-    /// Drops one hold that equals this one. The order of the holds is left open. O(n) for n holds.
+    /// Drops one hold that equals this one. The order of the holds is left open. It looks for the hold along the list.
     pub fn drop_hold(&mut self, hold: &Hold)
         requires { Contains self.old.holds hold.now }
         ensures rooms { self.new.rooms ≡ self.old.rooms }
         ensures holds { IsPermutation self.old.holds (hold.now ∷ self.new.holds) }
         ensures spare { self.old.spare ≤ self.new.spare }
     {
-        let mut place = 0;
-        while self.holds[place] != *hold {
-            place += 1;
-        }
+        let room = self.rooms[hold.node as usize];
+        let place = place_of(&self.holds, hold);
         let _ = self.holds.swap_remove(place);
+        drop_end(&mut self.ends, hold.until);
+        self.timelines[hold.node as usize].drop_hold(hold, room);
+    }
+
+    /// The holds in some order. At no second do those of a node pass its room.
+    pub fn holds(&self) -> &[Hold]
+        ensures holds { result.now ≡ self.now.holds }
+        ensures within { AreWithin self.now.rooms result.now }
+    {
+        self.holds.as_slice()
+    }
+
+    /// What the node has free over the window, and how far the window may move with nothing changed. Logarithmic in the
+    /// holds of the node, and linear in those that begin or end within the window.
+    pub fn free_over(&self, node: u32, from: u64, until: u64) -> Window
+        requires node { node < length self.now.rooms }
+        requires window { from < until }
+        ensures { IsSteady (λ moment. free_of self.now.rooms self.now.holds node moment) from until result }
+    {
+        least_free(&self.timelines[node as usize].levels, from, until)
     }
 
     /// The least processors and the least megabytes that the node has free over every second of the window; none where
-    /// there is no such node. O(n m) for n holds, of which m on this node begin within the window.
+    /// there is no such node.
     pub fn free_min(&self, node: u32, from: u64, until: u64) -> (u32, u64)
         requires { from < until }
         ensures cpus { result.0 ≡ least_over (λ moment. free_cpus self.now.rooms self.now.holds node moment) from until }
         ensures mem { result.1 ≡ least_over (λ moment. free_mem self.now.rooms self.now.holds node moment) from until }
     {
-        let Some(room) = self.rooms.get(node as usize).copied() else {
+        if node as usize >= self.rooms.len() {
             return (0, 0);
-        };
-        let (cpus, mem) = most_held(&self.holds, node, from, until);
-        (room.cpus - cpus, room.mem - mem)
+        }
+        let window = self.free_over(node, from, until);
+        (window.free.cpus, window.free.mem)
     }
 
-    /// The least end of a hold that is later than `after`. O(n) for n holds.
+    /// The least end of a hold that is later than `after`. Logarithmic in the holds.
     pub fn next_rise(&self, after: u64) -> Option<u64>
         ensures some { IfSome result (IsNextEnd self.now.holds after) }
         ensures none { IfNone result (All (λ hold. hold.until ≤ after) self.now.holds) }
     {
-        let mut next: Option<u64> = None;
-        for hold in &self.holds {
-            if after < hold.until && next.is_none_or(|end| hold.until < end) {
-                next = Some(hold.until);
-            }
-        }
-        next
+        next_end(&self.ends, after)
     }
 }

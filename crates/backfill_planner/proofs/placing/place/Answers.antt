@@ -36,9 +36,16 @@ loop-start-preserved g c =
       none_placed = NonePlaced-more c.args.base.now.rooms c.args.profile.now.holds c.args.job.now c.args.lo c.args.hi c.loop-start.start c.in-Some.rise c.in_ok-placed.placed
           c.loop-start.invariant.none_placed is nothing c.placement_at.ensures.window c.requires.last (NoneEnds-before c.args.profile.now.holds c.loop-start.start c.in-Some.rise next);
       from = omega (arith, c.loop-start.invariant.from, next.later);
+      swept = rw rooms_are at c.placement_at.ensures.swept;
+      order = omega (arith, c.placement_at.ensures.second, next.later);
     }
 
 pub returns-clause-placed : goal.returns-clause-placed
 returns-clause-placed g c =
     placed-none c.args.base.now.rooms c.args.profile.now.holds c.args.job.now c.args.lo c.args.hi c.loop-start.start
     c.loop-start-test.false c.loop-start.invariant.none_placed
+
+pub returns-then-hi-lo-clause-placed : goal.returns-then-hi-lo-clause-placed
+returns-then-hi-lo-clause-placed g c =
+    placed-none c.args.base.now.rooms c.args.profile.now.holds c.args.job.now c.args.lo c.args.hi (c.args.hi + 1) (omega arith)
+    (λ second low high below. absurd (omega (arith, low, high, c.if-hi-lo.true)))

@@ -4,9 +4,9 @@ use Rattle.backfill_planner.specs.Bases.{BaseView}
 use Rattle.std.proofs.lemmas.Grind.{common_steps}
 use Rattle.std.proofs.lemmas.List.{take_all}
 use Rattle.std.proofs.lemmas.List.Elements.{All-nil, All-more}
-use Rattle.resource_profile.specs.Profiles.{AreWithin}
+use Rattle.resource_profile.specs.Profiles.{AreWithin, HasFree}
 use Rattle.backfill_planner.specs.Placements.{IsPlannable}
-use Rattle.backfill_planner.specs.Plans.{placed_of, plan_beside, plan_of}
+use Rattle.backfill_planner.specs.Plans.{placed_of, holds_of, plan_beside, plan_of}
 use Rattle.backfill_planner.proofs.Stepping.{step-some, step-none, ticked-more, start-whole, end-whole, next-job}
 use Rattle.backfill_planner.proofs.Parts.{plan-parts}
 use Rattle.backfill_planner.proofs.Within.{plan-within}
@@ -68,6 +68,11 @@ loop-job-preserved g c =
             steps = ticks;
           }
     ]
+
+pub hold-requires-clause-free : goal.hold-requires-clause-free
+hold-requires-clause-free g c =
+    let free : All (HasFree c.args.base.rooms c.loop-job.profile.holds) (holds_of c.job-item.result (Some c.in-Some.placed)) = rw c.in-Some.is at c.in_ok-placed.ensures.free in
+    rw c.loop-job.invariant.rooms free
 
 pub invariant_of-result : goal.invariant_of-result
 invariant_of-result g c =

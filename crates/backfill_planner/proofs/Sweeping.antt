@@ -1,0 +1,133 @@
+-- What a node gives stays while its window's bounds meet no change.
+use Rattle.std.proofs.Common.{◌≡◌, ◌≢◌, ℕ, ◌+◌, ◌-◌, ◌*◌, ◌^◌, ◌≤◌, ◌<◌, min, List, [], ◌∷◌, ◌++◌, length, map, get_or, take, sum, sum_by, All, set, slice_set, arith, refl, sym, ap, ◌∙◌, inl, inr, Option, Some, None}
+use Rattle.std.specs.Prelude.{option_map, unwrap_or}
+use Rattle.std.proofs.Common.{suc-mul}
+use Rattle.std.proofs.lemmas.Bool.{cases_lt, cases_eq}
+use Rattle.std.proofs.lemmas.List.{get_or-set_same, get_or-set_other, length-set, get_or_push, get_or_append_left}
+use Rattle.std.proofs.lemmas.List.Elements.{All-head, All-tail}
+use Rattle.std.proofs.lemmas.List.Sums.{sum_by-cons}
+use Rattle.std.proofs.lemmas.Nat.{mul-le}
+use Rattle.std.proofs.lemmas.Grind.{same_number_lists}
+use Rattle.resource_profile.specs.declared.NodeRoom.{NodeRoom}
+use Rattle.resource_profile.specs.declared.Hold.{Hold}
+use Rattle.resource_profile.specs.declared.levels.Window.{Window}
+use Rattle.resource_profile.specs.Free.{room_at, free_cpus, free_mem, least_over}
+use Rattle.resource_profile.specs.Windows.{free_of, IsSteady}
+use Rattle.node_pick.specs.Sets.{capacity}
+use Rattle.backfill_planner.specs.declared.job.PlanJob.{PlanJob}
+use Rattle.backfill_planner.specs.declared.sweep.Sweep.{Sweep}
+use Rattle.backfill_planner.specs.Giving.{window_end, tasks_given, give, capacities}
+use Rattle.backfill_planner.specs.Sweeps.{GivesUntil, IsSwept}
+use Rattle.backfill_planner.proofs.Holding.{capacity-give}
+use Rattle.backfill_planner.proofs.Dealing.{length-capacities}
+
+-- the window of the job that begins at a later second ends where the same is free
+pub record IsInReach (job : PlanJob) (from until begins_before ends_up_to : ℕ) : Type 0 where
+  pub later : from < until
+  pub begins : until ≤ begins_before
+  pub no_earlier : (second : ℕ) → from ≤ second → window_end job from ≤ window_end job second
+  pub no_later : (second : ℕ) → second < until → window_end job second ≤ ends_up_to
+  pub window : (second : ℕ) → second ≤ 250002592000 → second < window_end job second
+
+pub gives-until : (rooms : List NodeRoom) (holds : List Hold) (job : PlanJob) (from node tasks until : ℕ) (window : Window) → tasks ≡ tasks_given job (room_at rooms node) window.free.cpus window.free.mem → IsSteady (λ moment. free_of rooms holds node moment) from (window_end job from) window → IsInReach job from until window.begins_before window.ends_up_to → GivesUntil rooms holds job from node tasks until
+gives-until rooms holds job from node tasks until window tasks_is steady reach = record {
+  later = reach.later;
+  same = λ second low high last.
+      let early : second < window.begins_before = omega (arith, high, reach.begins) in
+      let cpus = steady.cpus second (window_end job second) low early (reach.no_earlier second low) (reach.no_later second high) (reach.window second last) in
+      let mem = steady.mem second (window_end job second) low early (reach.no_earlier second low) (reach.no_later second high) (reach.window second last) in
+      let least_mem = least_over (λ m. free_mem rooms holds node m) second (window_end job second) in
+      ap (λ n. tasks_given job (room_at rooms node) n least_mem) (sym cpus) ∙ ap (λ n. tasks_given job (room_at rooms node) window.free.cpus n) (sym mem) ∙ sym tasks_is;
+}
+
+pub in-reach-some : (job : PlanJob) (from seconds begins_before ends_up_to : ℕ) → job.seconds ≡ Some seconds → 1 ≤ seconds → from < begins_before → from + seconds ≤ ends_up_to → IsInReach job from (min begins_before (ends_up_to - (seconds - 1))) begins_before ends_up_to
+in-reach-some job from seconds begins_before ends_up_to is some begins ends =
+    let end_of : (second : ℕ) → window_end job second ≡ second + seconds = λ second. rw is refl in
+    record {
+      later = omega (arith, begins, ends, some);
+      begins = omega arith;
+      no_earlier = λ second low. omega (arith, end_of from, end_of second, low);
+      no_later = λ second high. omega (arith, end_of second, high, some, ends);
+      window = λ second last. omega (arith, end_of second, some);
+    }
+
+pub in-reach-none : (job : PlanJob) (from begins_before ends_up_to : ℕ) → job.seconds ≡ None → from < begins_before → 1000000000000 ≤ ends_up_to → IsInReach job from begins_before begins_before ends_up_to
+in-reach-none job from begins_before ends_up_to is begins ends =
+    let end_of : (second : ℕ) → window_end job second ≡ 1000000000000 = λ second. rw is refl in
+    record {
+      later = begins;
+      begins = omega arith;
+      no_earlier = λ second low. omega (arith, end_of from, end_of second);
+      no_later = λ second high. omega (arith, end_of second, ends);
+      window = λ second last. omega (arith, end_of second, last);
+    }
+
+pub gives-later : (rooms : List NodeRoom) (holds : List Hold) (job : PlanJob) (from later node tasks until : ℕ) → from ≤ later → later < until → GivesUntil rooms holds job from node tasks until → GivesUntil rooms holds job later node tasks until
+gives-later rooms holds job from later node tasks until order before gives = record {
+  later = before;
+  same = λ second low high last. gives.same second (omega (arith, order, low)) high last;
+}
+
+-- what is kept is what each node can give
+pub swept-capacities : (rooms : List NodeRoom) (holds : List Hold) (job : PlanJob) (second : ℕ) (caps untils : List ℕ) → length caps ≡ length job.nodes → ((i : ℕ) → i < length job.nodes → GivesUntil rooms holds job second (get_or job.nodes i 0) (get_or caps i 0) (get_or untils i 0)) → second ≤ 250002592000 → caps ≡ capacities rooms holds job second
+swept-capacities rooms holds job second caps untils long each last =
+    same_number_lists caps (capacities rooms holds job second) (long ∙ sym (length-capacities rooms holds job second)) (λ k inside.
+      let here : k < length job.nodes = omega (arith, inside, long) in
+      let gives = each k here in
+      sym (capacity-give rooms holds job second k here ∙ gives.same second (omega arith) gives.later last))
+
+-- one node is counted anew
+pub gives-set : (rooms : List NodeRoom) (holds : List Hold) (job : PlanJob) (second node i tasks until : ℕ) (caps untils : List ℕ) → i < length caps → i < length untils → GivesUntil rooms holds job second node tasks until → GivesUntil rooms holds job second node (get_or (slice_set caps i tasks) i 0) (get_or (slice_set untils i until) i 0)
+gives-set rooms holds job second node i tasks until caps untils caps_in untils_in gives =
+    rw (get_or-set_same caps i tasks 0 caps_in, get_or-set_same untils i until 0 untils_in) gives
+
+pub gives-other : (rooms : List NodeRoom) (holds : List Hold) (job : PlanJob) (second node i k tasks until : ℕ) (caps untils : List ℕ) → k ≢ i → GivesUntil rooms holds job second node (get_or caps k 0) (get_or untils k 0) → GivesUntil rooms holds job second node (get_or (slice_set caps i tasks) k 0) (get_or (slice_set untils i until) k 0)
+gives-other rooms holds job second node i k tasks until caps untils apart gives =
+    rw (get_or-set_other caps i k tasks 0 apart, get_or-set_other untils i k until 0 apart) gives
+
+pub small-set : (caps : List ℕ) (i tasks each bound : ℕ) → All (λ n. n * each < bound) caps → tasks * each < bound → All (λ n. n * each < bound) (slice_set caps i tasks)
+small-set caps i tasks each bound small here k d inside =
+    let k_in : k < length caps = omega (arith, inside, length-set caps i tasks) in
+    elim (cases_eq k i) [
+      | inl at ↦
+          let e : k ≡ i = at in
+          rw (e, get_or-set_same caps i tasks d (omega (arith, k_in, e))) here
+      | inr apart ↦ rw (get_or-set_other caps i k tasks d apart) (small k d k_in)
+    ]
+
+-- so many numbers below a bound
+pub sum-bound : (xs : List ℕ) (bound : ℕ) → All (λ x. x ≤ bound) xs → sum xs ≤ length xs * bound
+sum-bound [] bound each = omega arith
+sum-bound (x ∷ xs) bound each =
+    let rest = sum-bound xs bound (All-tail (λ n. n ≤ bound) x xs each) in
+    let here = All-head (λ n. n ≤ bound) x xs each in
+    let whole : sum (x ∷ xs) ≡ x + sum xs = sum_by-cons (λ n. n) x xs in
+    omega (arith, rest, here, whole, suc-mul (length xs) bound)
+
+-- the steps of the first walk
+pub gives-push : (rooms : List NodeRoom) (holds : List Hold) (job : PlanJob) (second count tasks until node : ℕ) (nodes caps untils : List ℕ) → length caps ≡ count → length untils ≡ count → get_or nodes count 0 ≡ node
+    → ((i : ℕ) → i < count → GivesUntil rooms holds job second (get_or nodes i 0) (get_or caps i 0) (get_or untils i 0)) → GivesUntil rooms holds job second node tasks until
+    → (i : ℕ) → i < count + 1 → GivesUntil rooms holds job second (get_or nodes i 0) (get_or (caps ++ tasks ∷ []) i 0) (get_or (untils ++ until ∷ []) i 0)
+gives-push rooms holds job second count tasks until node nodes caps untils long until_long there each here i below = elim (cases_eq i count) [
+  | inl at ↦
+      let e : i ≡ count = at in
+      let last : get_or (caps ++ tasks ∷ []) count 0 ≡ tasks = get_or_push caps tasks 0 count long in
+      let until_last : get_or (untils ++ until ∷ []) count 0 ≡ until = get_or_push untils until 0 count until_long in
+      rw (e, there, last, until_last) here
+  | inr apart ↦
+      let low : i < count = omega arith in
+      rw (get_or_append_left caps (tasks ∷ []) 0 i (omega (arith, low, long)), get_or_append_left untils (until ∷ []) 0 i (omega (arith, low, until_long))) (each i low)
+]
+
+pub end-some : (job : PlanJob) (second seconds : ℕ) → job.seconds ≡ Some seconds → window_end job second ≡ second + seconds
+end-some job second seconds is = rw is refl
+
+pub end-none : (job : PlanJob) (second : ℕ) → job.seconds ≡ None → window_end job second ≡ 1000000000000
+end-none job second is = rw is refl
+
+-- what few numbers of a word's half give together leaves room for one more
+pub total-room : (caps : List ℕ) (total each : ℕ) → length caps < 2 ^ 32 → All (λ n. n * each < 2 ^ 32) caps → 1 ≤ each → total ≡ sum caps → total + 2 ^ 32 ≤ 2 ^ 64
+total-room caps total each few small some total_is =
+    let bound = sum-bound caps (2 ^ 32 - 1) (λ k d inside. omega (arith, small k d inside, mul-le (get_or caps k d) 1 (get_or caps k d) each (omega arith) some)) in
+    let most = mul-le (length caps) (2 ^ 32 - 1) (2 ^ 32 - 1) (2 ^ 32 - 1) (omega (arith, few)) (omega arith) in
+    omega (arith, bound, most, total_is)
