@@ -9,7 +9,7 @@ use std::alloc::Global;
 fn refused_hosts(alloc: Global, refusal: HostRefusal) -> Result<Vec<u8>, Unanswered> {
     match refusal {
         HostRefusal::Memory => Err(Unanswered::Memory),
-        HostRefusal::BadHosts { .. } => refused(alloc, &refusal),
+        _ => refused(alloc, &refusal),
     }
 }
 
@@ -27,18 +27,18 @@ pub fn expand(alloc: Global, text: &[u8]) -> Result<Vec<u8>, Unanswered> {
     if text.len() > LONGEST {
         return Err(Unanswered::Arguments);
     }
-    match expand_hosts(alloc, text) {
+    match expand_hosts(alloc, text, usize::MAX) {
         Ok(names) => listed(alloc, names.as_slice()),
         Err(refusal) => refused_hosts(alloc, refusal),
     }
 }
 
-/// How many names there are.
-pub fn count(alloc: Global, text: &[u8]) -> Result<Vec<u8>, Unanswered> {
+/// How many names there are, of no more than so many.
+pub fn count(alloc: Global, text: &[u8], most: u64) -> Result<Vec<u8>, Unanswered> {
     if text.len() > LONGEST {
         return Err(Unanswered::Arguments);
     }
-    match expand_hosts(alloc, text) {
+    match expand_hosts(alloc, text, most as usize) {
         Ok(names) => taken(alloc, &names.len()),
         Err(refusal) => refused_hosts(alloc, refusal),
     }
@@ -49,7 +49,7 @@ pub fn fold(alloc: Global, text: &[u8]) -> Result<Vec<u8>, Unanswered> {
     if text.len() > LONGEST {
         return Err(Unanswered::Arguments);
     }
-    match expand_hosts(alloc, text) {
+    match expand_hosts(alloc, text, usize::MAX) {
         Ok(names) => Ok(fold_hosts(alloc, names.as_slice())?),
         Err(refusal) => refused_hosts(alloc, refusal),
     }

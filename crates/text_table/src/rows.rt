@@ -61,7 +61,7 @@ fn node_names(alloc: Global, text: &[u8]) -> Result<Items<Name>, Unanswered> {
     if text.len() > LONGEST {
         return Err(Unanswered::Arguments);
     }
-    match expand_hosts(alloc, text) {
+    match expand_hosts(alloc, text, usize::MAX) {
         Ok(names) => Ok(Items::from_vec(names)),
         Err(_) => Err(Unanswered::Arguments),
     }

@@ -1,6 +1,6 @@
 // The lines of a table, one after another.
 
-use crate::answer::Unanswered;
+use crate::answer::{Unanswered, number};
 use crate::{blocks, headers, hosts, picks, plans, profiles, rows, texts, times, words};
 use percent_encoding::{AsciiSet, CONTROLS, percent_decode, percent_encode};
 use std::alloc::{AllocError, Global};
@@ -30,7 +30,8 @@ fn text_answer(alloc: Global, function: &str, arguments: &[&[u8]]) -> Result<Vec
         ("moment", [text, now]) => texts::moment(alloc, text, now),
         ("print_moment", [moment]) => texts::print_moment(alloc, moment),
         ("expand", [text]) => hosts::expand(alloc, text),
-        ("count", [text]) => hosts::count(alloc, text),
+        ("count", [text]) => hosts::count(alloc, text, u64::MAX),
+        ("count", [text, most]) => hosts::count(alloc, text, number(most)?),
         ("fold", [text]) => hosts::fold(alloc, text),
         ("split", [line]) => words::split(alloc, line),
         ("quote", [list]) => words::quote(alloc, list),

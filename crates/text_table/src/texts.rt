@@ -2,9 +2,9 @@
 
 use crate::answer::{Unanswered, number as argument, refused, taken};
 use slurm_text::digits::parse_number;
-use slurm_text::memory::{BadMem, parse_mem};
+use slurm_text::memory::parse_mem;
 use slurm_text::moment;
-use slurm_text::moment::{BadMoment, parse_moment};
+use slurm_text::moment::parse_moment;
 use slurm_text::name::{JobName, Name, NameRefusal};
 use std::alloc::Global;
 
@@ -53,14 +53,14 @@ pub fn number(
 pub fn memory(alloc: Global, text: &[u8]) -> Result<Vec<u8>, Unanswered> {
     match parse_mem(text) {
         Ok(megabytes) => taken(alloc, &megabytes),
-        Err(BadMem) => taken(alloc, &"refused"),
+        Err(refusal) => refused(alloc, &refusal),
     }
 }
 
 pub fn moment(alloc: Global, text: &[u8], now: &[u8]) -> Result<Vec<u8>, Unanswered> {
     match parse_moment(text, argument(now)?) {
         Ok(moment) => taken(alloc, &moment),
-        Err(BadMoment) => taken(alloc, &"refused"),
+        Err(refusal) => refused(alloc, &refusal),
     }
 }
 

@@ -8,7 +8,7 @@ use std::alloc::Global;
 fn refused_words(alloc: Global, refusal: WordsRefusal) -> Result<Vec<u8>, Unanswered> {
     match refusal {
         WordsRefusal::Memory => Err(Unanswered::Memory),
-        WordsRefusal::BadWords { .. } => refused(alloc, &refusal),
+        _ => refused(alloc, &refusal),
     }
 }
 
