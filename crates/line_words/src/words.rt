@@ -1,10 +1,12 @@
+//! Words of a line.
+
 ghost use Rattle.std.specs.Prelude.{ℕ, ◌≡◌, ◌↔◌, ◌<◌, ◌^◌, ◌∷◌, [], ◌++◌, if◌then◌else◌, length, map, position, not, is_ok, IfOk, IfSome, OnOk, IsErrOf, IsTrue, Some, None, slice_get, option_copied, string_bytes};
 ghost use Rattle.std.specs.List.{list_all};
 ghost use Rattle.line_words.specs.Words.{mode_after, mode_outside, written, ends_word, opens, may_end, open_place, words_in, first_bad, first_bad_word, quoted, quoted_words, is_word_byte, is_bare, is_bare_byte, double_quoted, are_words};
 
 use small_texts::memory_error;
 use small_texts::memory_error::Memory;
-use std::alloc::{AllocError, Global};
+use std::alloc::{AllocError, AllocFailed, Global};
 use std::error::Error;
 use std::marker::Model;
 use std::{fmt, mem};
@@ -29,14 +31,23 @@ impl Model for Words {
 /// Why a line or a list gave no words.
 #[derive(Clone, Copy, Debug, PartialEq, Eq)]
 pub enum WordsRefusal {
+    /// The line has a bad byte at this place, counted in bytes from 0, or a quote or backslash there that stays open.
     BadWords { place: u32 },
+    /// The text at this place of the list, counted from 0, has a byte that no word may have.
+    BadWord { place: u32 },
     Memory,
 }
 
 impl fmt::Display for WordsRefusal {
+    ghost use Rattle.std.specs.Prelude.{Some};
+    ghost use Rattle.line_words.specs.Refusals.{words_message};
+
+    ghost output = { λ refusal. Some (words_message refusal) };
+
     fn fmt<W: fmt::Write>(&self, f: &mut fmt::Formatter<W>) -> fmt::Result {
         match self {
-            WordsRefusal::BadWords { place } => write!(f, "no words at {place}"),
+            WordsRefusal::BadWords { place } => write!(f, "bad words at byte {place}"),
+            WordsRefusal::BadWord { place } => write!(f, "bad byte in word {place}"),
             WordsRefusal::Memory => write!(f, "out of memory"),
         }
     }
@@ -51,6 +62,17 @@ impl From<AllocError> for WordsRefusal {
     ghost from_gives = { λ _ e. e ≡ Memory };
 
     fn from(_error: AllocError) -> WordsRefusal {
+        WordsRefusal::Memory
+    }
+}
+
+impl<T: Drop> From<AllocFailed<T>> for WordsRefusal {
+    ghost use Rattle.std.specs.Prelude.{◌≡◌};
+    ghost use Rattle.line_words.specs.declared.words.WordsRefusal.TheVariants.{Memory};
+
+    ghost from_gives = { λ _ e. e ≡ Memory };
+
+    fn from(_error: AllocFailed<T>) -> WordsRefusal {
         WordsRefusal::Memory
     }
 }
@@ -266,8 +288,7 @@ fn split(alloc: Global, line: &[u8]) -> Result<Vec<Vec<u8>>, Memory>
     Ok(words)
 }
 
-/// Splits a line at blanks and tabs, with quotes `'` and `"` and backslashes as in a shell. The place of `BadWords`
-/// counts bytes from 0 (own).
+/// Splits a line at blanks and tabs, with quotes `'` and `"` and backslashes as in a shell (own).
 #[tactic(auto, using(crate::proofs::WordLemmas::words_in_good))]
 pub fn split_words(alloc: Global, line: &[u8]) -> Result<Words, WordsRefusal>
     requires { length line.now < 2 ^ 32 }
@@ -310,17 +331,17 @@ fn copies(alloc: Global, list: &[String]) -> Result<Vec<Vec<u8>>, AllocError>
     Ok(words)
 }
 
-/// Takes each text as one word. The place of `BadWords` counts texts from 0 (own).
+/// Takes each text as one word.
 #[tactic(auto, using(crate::proofs::WordLemmas::bad_words))]
 pub fn words_of(alloc: Global, list: &[String]) -> Result<Words, WordsRefusal>
     requires { length list.now < 2 ^ 32 }
     ensures value { IfOk result (λ words. words ≡ map string_bytes list.now) }
     ensures good { OnOk result (first_bad_word (map string_bytes list.now) ≡ None) }
-    ensures refused { (p : ℕ) → IsErrOf result (WordsRefusal.BadWords p)
+    ensures refused { (p : ℕ) → IsErrOf result (WordsRefusal.BadWord p)
         ↔ (first_bad_word (map string_bytes list.now) ≡ Some p) }
 {
     match first_bad_word(list) {
-        Some(place) => Err(WordsRefusal::BadWords {
+        Some(place) => Err(WordsRefusal::BadWord {
             place: place as u32,
         }),
         None => {
