@@ -12,3 +12,4 @@ pub mod Parts
 pub mod Within
 pub mod Starts
 pub mod Sweeping
+pub mod Lessening

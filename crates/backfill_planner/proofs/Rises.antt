@@ -22,7 +22,7 @@ use Rattle.backfill_planner.specs.declared.job.PlanJob.{PlanJob}
 use Rattle.backfill_planner.specs.Giving.{window_end, tasks_by_mem, may_have, tasks_given, give, capacities}
 use Rattle.backfill_planner.specs.Plans.{shares_of, placement_at}
 
-quotient-more : (less more part : ℕ) → less ≤ more → less / part ≤ more / part
+pub quotient-more : (less more part : ℕ) → less ≤ more → less / part ≤ more / part
 quotient-more less more part grows = elim (cases_lt 0 part) [
   | inl some ↦ le-div (less / part) more part some (omega (arith, div-mul-le_self less part, grows))
   | inr none ↦
@@ -47,7 +47,7 @@ by_mem-more (PerNode asked) cpus_per_task room mem more most more_most grows wit
 by_mem-more (PerCpu asked) cpus_per_task room mem more most more_most grows within higher =
     omega (arith, higher, quotient-more mem more (asked * cpus_per_task) grows)
 
-tasks-more : (job : PlanJob) (room : NodeRoom) (cpus mem more_cpus more_mem : ℕ) → cpus ≤ more_cpus → more_cpus ≤ room.cpus → mem ≤ more_mem → more_mem ≤ room.mem → tasks_given job room cpus mem ≤ tasks_given job room more_cpus more_mem
+pub tasks-more : (job : PlanJob) (room : NodeRoom) (cpus mem more_cpus more_mem : ℕ) → cpus ≤ more_cpus → more_cpus ≤ room.cpus → mem ≤ more_mem → more_mem ≤ room.mem → tasks_given job room cpus mem ≤ tasks_given job room more_cpus more_mem
 tasks-more job room cpus mem more_cpus more_mem cpus_grow cpus_within mem_grows mem_within = elim (cases_Bool (may_have job room cpus mem)) [
   | inr may_not ↦ rw may_not (omega arith)
   | inl may ↦
@@ -123,7 +123,7 @@ give-more rooms holds job moment node quiet window next =
     (least-more (λ m. free_mem rooms holds node m) moment (window_end job moment) (window_end job (moment + 1)) window (window-later job moment) next (omega (arith, held-kept (λ (hold : Hold). hold.mem) node moment holds quiet)))
     (least-within (λ m. free_mem rooms holds node m) (room_at rooms node).mem moment (window_end job moment) window (λ m. omega arith))
 
-map-more : (f g : ℕ → ℕ) (xs : List ℕ) (i : ℕ) → ((x : ℕ) → f x ≤ g x) → get_or (map f xs) i 0 ≤ get_or (map g xs) i 0
+pub map-more : (f g : ℕ → ℕ) (xs : List ℕ) (i : ℕ) → ((x : ℕ) → f x ≤ g x) → get_or (map f xs) i 0 ≤ get_or (map g xs) i 0
 map-more f g [] i more = omega arith
 map-more f g (x ∷ xs) zero more = more x
 map-more f g (x ∷ xs) (suc i) more = map-more f g xs i more
@@ -134,7 +134,7 @@ capacity-more rooms holds job moment place quiet window next =
     map-more (λ node. give rooms holds job (moment + 1) node) (λ node. give rooms holds job moment node) job.nodes place (λ node. give-more rooms holds job moment node quiet window next)
 
 -- a set that fits fits where no node gives less
-fits-more : (caps more : List ℕ) (need : Need) (set : List ℕ) → ((place : ℕ) → capacity caps place ≤ capacity more place) → Fits caps need set → Fits more need set
+pub fits-more : (caps more : List ℕ) (need : Need) (set : List ℕ) → ((place : ℕ) → capacity caps place ≤ capacity more place) → Fits caps need set → Fits more need set
 fits-more caps more need set grows fits = record {
   rising = fits.rising;
   required = fits.required;
@@ -145,7 +145,7 @@ fits-more caps more need set grows fits = record {
   at_most = fits.at_most;
 }
 
-none-chosen : (found : Option (List ℕ)) (make : List ℕ → Placed) → option_map make found ≡ None → found ≡ None
+pub none-chosen : (found : Option (List ℕ)) (make : List ℕ → Placed) → option_map make found ≡ None → found ≡ None
 none-chosen None make nothing = refl
 none-chosen (Some set) make nothing = cc
 

@@ -3,3 +3,5 @@ pub mod Giving
 pub mod Plans
 pub mod Placements
 pub mod Sweeps
+pub mod Lesser
+pub mod Searches

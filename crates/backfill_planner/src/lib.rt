@@ -12,8 +12,10 @@ use std::fmt;
 mod base;
 mod job;
 pub mod laws;
+mod lesser;
 mod placing;
 mod planned;
+mod seen;
 mod sweep;
 
 pub use base::Base;

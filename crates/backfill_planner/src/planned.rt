@@ -1,4 +1,4 @@
-ghost use Rattle.std.specs.Prelude.{◌≡◌, ◌≢◌, ◌≤◌, ◌<◌, ◌++◌, length, Some, IfOk, OnOk, All, AllPairs};
+ghost use Rattle.std.specs.Prelude.{◌≡◌, ◌≢◌, ◌≤◌, ◌<◌, ◌++◌, length, Some, slice_index_or, IfOk, OnOk, OnErr, IfSome, All, AllPairs};
 ghost use Rattle.std.specs.List.Sorted.{IsPermutation};
 ghost use Rattle.resource_profile.specs.Counts.{ticked};
 ghost use Rattle.resource_profile.specs.Profiles.{AreWithin, HasFree};
@@ -6,11 +6,13 @@ ghost use Rattle.resource_profile.specs.declared.Hold.{Hold};
 ghost use Rattle.backfill_planner.specs.declared.Placed.{Placed};
 ghost use Rattle.backfill_planner.specs.declared.job.PlanJob.{PlanJob};
 ghost use Rattle.backfill_planner.specs.Placements.{IsPlannable, AreParts, StartsFit};
-ghost use Rattle.backfill_planner.specs.Plans.{holds_of, plan_of, plan_holds_of};
+ghost use Rattle.backfill_planner.specs.Plans.{holds_of, placed_of, plan_of, plan_holds_of};
+ghost use Rattle.backfill_planner.specs.Searches.{IsSeen};
 
 use crate::base::Base;
 use crate::job::PlanJob;
 use crate::placing::{place, window_end};
+use crate::seen::{Searches, Seen};
 use crate::{Memory, Placed};
 use resource_profile::{Hold, Profile, Steps};
 use std::alloc::Global;
@@ -94,6 +96,43 @@ fn hold(profile: &mut Profile, job: &PlanJob, placed: &Placed) -> Result<(), Mem
     Ok(())
 }
 
+// The placement of a job of the list, by the place of it there. It begins where a search for a job that asks no more has
+// shown that none fits before.
+fn search<L>(
+    alloc: Global,
+    profile: &Profile,
+    base: &Base,
+    ranked: &[PlanJob],
+    index: usize,
+    now: u64,
+    searches: &mut Searches,
+    steps: &mut Steps<L>,
+) -> Result<Option<Placed>, Memory>
+    requires rooms { profile.now.rooms ≡ base.now.rooms }
+    requires inside { index < length ranked.now }
+    requires nodes { All (λ (job : PlanJob). All (λ node. node < length base.now.rooms) job.nodes) ranked.now }
+    requires seen { All (IsSeen base.now.rooms profile.now.holds ranked.now now) searches.old.seen.items }
+    ensures start { IfOk result (λ placed. IfSome placed (λ placed. placed.start ≤ 250002592000)) }
+    ensures free { IfOk result (λ placed. (d : PlanJob) → All (HasFree base.now.rooms profile.now.holds) (holds_of (slice_index_or ranked.now index d) placed)) }
+    ensures apart { IfOk result (λ placed. (d : PlanJob) → AllPairs (λ (one other : Hold). one.node ≢ other.node) (holds_of (slice_index_or ranked.now index d) placed)) }
+    ensures placed { IfOk result (λ placed. (d : PlanJob) → placed ≡ placed_of base.now.rooms profile.now.holds (slice_index_or ranked.now index d) now base.now.horizon) }
+    ensures seen { OnOk result (All (IsSeen base.now.rooms profile.now.holds ranked.now now) searches.new.seen.items) }
+    ensures steps { steps.new ≡ ticked steps.old 1 }
+{
+    let job = &ranked[index];
+    let lo = searches.bound(ranked, job, now);
+    let placed = place(alloc, profile, base, job, lo, base.horizon, steps)?;
+    let bound = match &placed {
+        Some(placed) => placed.start,
+        None => base.horizon + 1,
+    };
+    searches.add(Seen {
+        place: index,
+        bound,
+    })?;
+    Ok(placed)
+}
+
 /// The plan of the ranked jobs at this moment: each, the highest first, begins at the least second from `now` to the
 /// horizon at which some set of its nodes fits, beside the base's holds and what the jobs above it hold. So at no second
 /// is more held than there is, and what begins now fits beside what the base holds. It counts a step for each job.
@@ -114,13 +153,24 @@ pub fn plan<L>(
 {
     let mut profile = Profile::with_holds(alloc, base.rooms.as_slice(), base.holds.as_slice())?;
     let mut placements = Vec::with_capacity(alloc, ranked.len())?;
-    let horizon = base.horizon;
+    let mut searches = Searches::new(alloc)?;
+    let mut index = 0;
     for job in &ranked {
         job.recall();
-        if let Some(placed) = place(alloc, &profile, &base, job, now, horizon, steps)? {
+        if let Some(placed) = search(
+            alloc,
+            &profile,
+            &base,
+            ranked.as_slice(),
+            index,
+            now,
+            &mut searches,
+            steps,
+        )? {
             hold(&mut profile, job, &placed)?;
             placements.push(placed).unwrap();
         }
+        index += 1;
     }
     Ok(Planned {
         base,

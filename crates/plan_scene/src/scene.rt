@@ -142,7 +142,7 @@ pub(crate) fn make(alloc: Global, size: &Size) -> Result<Scene>
         base: Base {
             rooms: Items::from_vec(rooms),
             holds: Items::from_vec(holds),
-            horizon: 60 * u64::from(size.window),
+            horizon: (60 * u64::from(size.window)).min(250002592000),
         },
         ranked,
     })

@@ -6,7 +6,9 @@ use Rattle.std.proofs.lemmas.List.{take_all}
 use Rattle.std.proofs.lemmas.List.Elements.{All-nil, All-more}
 use Rattle.resource_profile.specs.Profiles.{AreWithin, HasFree}
 use Rattle.backfill_planner.specs.Placements.{IsPlannable}
+use Rattle.backfill_planner.specs.Searches.{IsSeen}
 use Rattle.backfill_planner.specs.Plans.{placed_of, holds_of, plan_beside, plan_of}
+use Rattle.backfill_planner.proofs.Lessening.{seen-held}
 use Rattle.backfill_planner.proofs.Stepping.{step-some, step-none, ticked-more, start-whole, end-whole, next-job}
 use Rattle.backfill_planner.proofs.Parts.{plan-parts}
 use Rattle.backfill_planner.proofs.Within.{plan-within}
@@ -24,6 +26,8 @@ loop-job-init g c =
       jobs = All-nil IsPlannable;
       count = grind (arith, common_steps);
       room = grind (arith, common_steps);
+      index = refl;
+      seen = rw c.in_ok-searches.ensures (All-nil (IsSeen c.args.base.rooms c.in_ok-profile.profile.holds c.args.ranked.items c.args.now));
       steps = refl;
     }
 
@@ -40,10 +44,11 @@ loop-job-preserved g c =
     let next = next-job ranked i job below job_is in
     let jobs : All IsPlannable (take (i + 1) ranked) = All-more IsPlannable ranked i job below c.loop-job.invariant.jobs (rw (← job_is) c.recall.ensures) in
     let whole : done ++ plan_beside c.args.base c.args.now c.loop-job.profile.holds (job ∷ later) ≡ all = rw next at c.loop-job.invariant.so_far in
-    let horizon_is : c.base.inside.horizon ≡ c.args.base.horizon = ap (λ (b : BaseView). b.horizon) c.base.view_is in
-    let placed_is : c.in_ok-placed.field-0 ≡ placed_of c.args.base.rooms c.loop-job.profile.holds job c.args.now c.args.base.horizon = rw horizon_is at c.in_ok-placed.ensures.placed in
-    let ticks : c.place.new.steps ≡ ticked c.args.steps.now (i + 1) = (rw c.loop-job.invariant.steps at c.place.ensures.steps) ∙ ticked-more c.args.steps.now i in
-    elim c.match-branch-4.branch [
+    let placed_is : c.in_ok-placed.field-0 ≡ placed_of c.args.base.rooms c.loop-job.profile.holds job c.args.now c.args.base.horizon =
+    rw (c.as_slice-in-loop-job.ensures.value, c.loop-job.invariant.index, ← job_is) at (c.in_ok-placed.ensures.placed job) in
+    let seen : All (IsSeen c.args.base.rooms c.loop-job.profile.holds ranked c.args.now) c.search.new.searches.seen.items = rw c.as_slice-in-loop-job.ensures.value at c.in_ok-placed.ensures.seen in
+    let ticks : c.search.new.steps ≡ ticked c.args.steps.now (i + 1) = (rw c.loop-job.invariant.steps at c.search.ensures.steps) ∙ ticked-more c.args.steps.now i in
+    elim c.match-branch-5.branch [
       | in-Some+in_ok-hold w ↦
           let is : Some w.in-Some.placed ≡ placed_of c.args.base.rooms c.loop-job.profile.holds job c.args.now c.args.base.horizon = sym w.in-Some.is ∙ placed_is in
           let pushed : w.push.new.self.items ≡ done ++ w.in-Some.placed ∷ [] = rw w.unwrap.ensures at w.push.ensures.items in
@@ -55,6 +60,8 @@ loop-job-preserved g c =
             jobs = jobs;
             count = rw w.placements-is (omega (arith, longer, c.loop-job.invariant.count));
             room = rw w.placements-is (omega (arith, w.push.ensures.capacity, c.loop-job.invariant.room));
+            index = omega (arith, c.loop-job.invariant.index);
+            seen = rw w.profile-is (seen-held c.args.base.rooms c.loop-job.profile.holds _ w.hold.new.profile.holds ranked c.args.now c.search.new.searches.seen.items w.in_ok-hold.ensures.holds seen);
             steps = ticks;
           }
       | in_default w ↦
@@ -65,14 +72,28 @@ loop-job-preserved g c =
             jobs = jobs;
             count = rw w.placements-is (omega (arith, c.loop-job.invariant.count));
             room = rw w.placements-is c.loop-job.invariant.room;
+            index = omega (arith, c.loop-job.invariant.index);
+            seen = rw w.profile-is seen;
             steps = ticks;
           }
     ]
 
 pub hold-requires-clause-free : goal.hold-requires-clause-free
 hold-requires-clause-free g c =
-    let free : All (HasFree c.args.base.rooms c.loop-job.profile.holds) (holds_of c.job-item.result (Some c.in-Some.placed)) = rw c.in-Some.is at c.in_ok-placed.ensures.free in
+    let ranked = c.args.ranked.items in
+    let job = c.job-item.result in
+    let job_is : job ≡ get_or ranked c.loop-job.job-index job = rw c.deref-job-items.ensures.value at c.job-item.is in
+    let there : get_or c.as_slice-in-loop-job.result.now c.loop-job.index job ≡ job = rw (c.as_slice-in-loop-job.ensures.value, c.loop-job.invariant.index) (sym job_is) in
+    let free : All (HasFree c.args.base.rooms c.loop-job.profile.holds) (holds_of job (Some c.in-Some.placed)) = rw (there, c.in-Some.is) at (c.in_ok-placed.ensures.free job) in
     rw c.loop-job.invariant.rooms free
+
+pub hold-requires-clause-apart : goal.hold-requires-clause-apart
+hold-requires-clause-apart g c =
+    let ranked = c.args.ranked.items in
+    let job = c.job-item.result in
+    let job_is : job ≡ get_or ranked c.loop-job.job-index job = rw c.deref-job-items.ensures.value at c.job-item.is in
+    let there : get_or c.as_slice-in-loop-job.result.now c.loop-job.index job ≡ job = rw (c.as_slice-in-loop-job.ensures.value, c.loop-job.invariant.index) (sym job_is) in
+    rw (there, c.in-Some.is) at (c.in_ok-placed.ensures.apart job)
 
 pub invariant_of-result : goal.invariant_of-result
 invariant_of-result g c =

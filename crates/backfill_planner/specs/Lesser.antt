@@ -1,0 +1,33 @@
+-- When one job asks no more than another one, and what is known of the seconds before a start.
+use Rattle.std.specs.Prelude.{◌≡◌, ℕ, ◌≤◌, ◌<◌, List, None}
+use Rattle.resource_profile.specs.declared.NodeRoom.{NodeRoom}
+use Rattle.resource_profile.specs.declared.Hold.{Hold}
+use Rattle.node_pick.specs.Sets.{AsksNoMore}
+use Rattle.slurm_text.specs.declared.plain.mem_ask.MemAsk.{MemAsk}
+use Rattle.slurm_text.specs.declared.plain.mem_ask.MemAsk.TheVariants.{All, PerNode, PerCpu}
+use Rattle.backfill_planner.specs.declared.job.PlanJob.{PlanJob}
+use Rattle.backfill_planner.specs.Giving.{window_end}
+use Rattle.backfill_planner.specs.Plans.{placement_at}
+
+-- the memory that one asks for is of the other's kind, and no more
+abbrev pub IsNoMoreMem : MemAsk → MemAsk → Type 0
+IsNoMoreMem All All = Unit {0}
+IsNoMoreMem (PerNode lesser) (PerNode asked) = lesser ≤ asked
+IsNoMoreMem (PerCpu lesser) (PerCpu asked) = (1 ≤ lesser) × (lesser ≤ asked)
+IsNoMoreMem _ _ = ⊥
+
+-- of the same nodes it asks for no more tasks, processors, megabytes and seconds
+pub record IsLesser (lesser job : PlanJob) : Type 0 where
+  pub need : AsksNoMore lesser.need job.need
+  pub nodes : lesser.nodes ≡ job.nodes
+  pub some_cpus : 1 ≤ lesser.cpus_per_task
+  pub cpus : lesser.cpus_per_task ≤ job.cpus_per_task
+  pub per_node : job.per_node ≤ lesser.per_node
+  pub exclusive : lesser.exclusive ≡ job.exclusive
+  pub mem : IsNoMoreMem lesser.mem_ask job.mem_ask
+  pub window : (second : ℕ) → second ≤ 250002592000 → second < window_end lesser second
+  pub no_longer : (second : ℕ) → second ≤ 250002592000 → window_end lesser second ≤ window_end job second
+
+-- at no second from `now` on and before `bound` some set fits
+abbrev pub NoneBefore : List NodeRoom → List Hold → PlanJob → ℕ → ℕ → Type 0
+NoneBefore rooms holds job now bound = (second : ℕ) → now ≤ second → second < bound → second ≤ 250002592000 → placement_at rooms holds job second ≡ None

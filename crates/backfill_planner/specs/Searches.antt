@@ -1,0 +1,12 @@
+-- What a plan keeps in mind of its searches. Of the proof alone: no public call speaks of it.
+use Rattle.std.specs.Prelude.{ℕ, ◌<◌, List, length, slice_index_or}
+use Rattle.resource_profile.specs.declared.NodeRoom.{NodeRoom}
+use Rattle.resource_profile.specs.declared.Hold.{Hold}
+use Rattle.backfill_planner.specs.declared.job.PlanJob.{PlanJob}
+use Rattle.backfill_planner.specs.declared.seen.Seen.{Seen}
+use Rattle.backfill_planner.specs.Lesser.{NoneBefore}
+
+-- before the bound no set fits of the job that was searched for
+pub record IsSeen (rooms : List NodeRoom) (holds : List Hold) (ranked : List PlanJob) (now : ℕ) (seen : Seen) : Type 0 where
+  pub there : seen.place < length ranked
+  pub none : (d : PlanJob) → NoneBefore rooms holds (slice_index_or ranked seen.place d) now seen.bound

@@ -1,0 +1,67 @@
+ghost use Rattle.std.specs.Prelude.{◌≡◌, ◌≤◌, IfSome, unwrap_or};
+ghost use Rattle.std.specs.Bool.{OnTrue};
+ghost use Rattle.node_pick.specs.Sets.{AsksNoMore};
+ghost use Rattle.backfill_planner.specs.Lesser.{IsNoMoreMem, IsLesser};
+
+use crate::job::PlanJob;
+use node_pick::Need;
+use slurm_text::plain::mem_ask::MemAsk;
+
+// Whether one need asks no more than the other.
+fn asks_no_more(lesser: &Need, need: &Need) -> bool
+    ensures { OnTrue result (AsksNoMore lesser.now need.now) }
+{
+    lesser.tasks <= need.tasks
+        && lesser.least <= need.least
+        && need.most <= lesser.most
+        && lesser.required <= need.required
+        && lesser.least <= lesser.tasks
+        && lesser.required <= lesser.tasks
+}
+
+// Whether the memory that one asks for is of the other's kind, and no more.
+fn is_no_more_mem(lesser: &MemAsk, asked: &MemAsk) -> bool
+    ensures { OnTrue result (IsNoMoreMem lesser.now asked.now) }
+{
+    match *lesser {
+        MemAsk::All => matches!(*asked, MemAsk::All),
+        MemAsk::PerNode(less) => match *asked {
+            MemAsk::PerNode(more) => less.get() <= more.get(),
+            _ => false,
+        },
+        MemAsk::PerCpu(less) => match *asked {
+            MemAsk::PerCpu(more) => less.get() <= more.get(),
+            _ => false,
+        },
+    }
+}
+
+// How long the job's window is; without a limit it ends after all moments.
+fn window_length(job: &PlanJob) -> u64
+    ensures length { result ≡ unwrap_or job.now.seconds 1000000000000 }
+    ensures range { IfSome job.now.seconds (λ seconds. (1 ≤ seconds) × (seconds ≤ 3153600000)) }
+{
+    match job.seconds {
+        Some(seconds) => seconds.get(),
+        None => 1000000000000,
+    }
+}
+
+/// Whether of the same nodes one job asks for no more tasks, processors, megabytes and seconds than the other.
+pub(crate) fn is_lesser(lesser: &PlanJob, job: &PlanJob) -> bool
+    ensures { OnTrue result (IsLesser lesser.now job.now) }
+{
+    if lesser.exclusive != job.exclusive || job.per_node > lesser.per_node {
+        return false;
+    }
+    if lesser.cpus_per_task.get() > job.cpus_per_task.get() {
+        return false;
+    }
+    if window_length(lesser) > window_length(job) {
+        return false;
+    }
+    if !asks_no_more(&lesser.need, &job.need) || !is_no_more_mem(&lesser.mem_ask, &job.mem_ask) {
+        return false;
+    }
+    lesser.nodes.as_slice() == job.nodes.as_slice()
+}

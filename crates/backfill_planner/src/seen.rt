@@ -1,0 +1,81 @@
+ghost use Rattle.std.specs.Prelude.{◌≡◌, ℕ, ◌≤◌, ◌<◌, List, [], length, IfOk, All};
+ghost use Rattle.resource_profile.specs.declared.NodeRoom.{NodeRoom as Room};
+ghost use Rattle.resource_profile.specs.declared.Hold.{Hold};
+ghost use Rattle.backfill_planner.specs.Lesser.{NoneBefore};
+ghost use Rattle.backfill_planner.specs.Searches.{IsSeen};
+ghost use Rattle.backfill_planner.specs.declared.seen.Seen.{Seen as OneSeen};
+ghost use Rattle.backfill_planner.specs.declared.job.PlanJob.{PlanJob as AJob};
+
+use crate::Memory;
+use crate::job::PlanJob;
+use crate::lesser::is_lesser;
+use std::alloc::Global;
+
+// How many searches are kept in mind.
+const MOST: usize = 64;
+
+// A job that was searched for, by its place in the list, and the second before which none of its sets fits.
+#[derive(Clone, Copy)]
+pub(crate) struct Seen {
+    pub(crate) place: usize,
+    pub(crate) bound: u64,
+}
+
+// The last searches that told most.
+#[derive(Drop)]
+pub(crate) struct Searches {
+    seen: Vec<Seen>,
+}
+
+impl Searches {
+    pub(crate) fn new(alloc: Global) -> Result<Self, Memory>
+        ensures { IfOk result (λ searches. searches.seen.items ≡ []) }
+    {
+        Ok(Searches {
+            seen: Vec::with_capacity(alloc, MOST)?,
+        })
+    }
+
+    // A second, `now` or a later one, before which no set of the job fits, since none did of a job that asks no more.
+    pub(crate) fn bound(&self, ranked: &[PlanJob], job: &PlanJob, now: u64) -> u64
+        requires { All (λ (one : OneSeen). one.place < length ranked.now) self.now.seen.items }
+        ensures from { now ≤ result }
+        ensures none { (rooms : List Room) (holds : List Hold) → All (IsSeen rooms holds ranked.now now) self.now.seen.items → NoneBefore rooms holds job.now now result }
+    {
+        let mut bound = now;
+        for one in self.seen.as_slice() {
+            if one.bound > bound && is_lesser(&ranked[one.place], job) {
+                bound = one.bound;
+            }
+        }
+        bound
+    }
+
+    // Keeps one search more in mind. Where there are many, the one goes that tells least.
+    pub(crate) fn add(&mut self, one: Seen) -> Result<(), Memory>
+        ensures { (rooms : List Room) (holds : List Hold) (ranked : List AJob) (now : ℕ) → All (IsSeen rooms holds ranked now) self.old.seen.items → IsSeen rooms holds ranked now one → All (IsSeen rooms holds ranked now) self.new.seen.items }
+    {
+        if self.seen.len() < MOST {
+            self.seen.reserve(1)?;
+            self.seen.push(one).unwrap();
+            return Ok(());
+        }
+        let place = self.least();
+        self.seen[place] = one;
+        Ok(())
+    }
+
+    // The place of the least bound.
+    fn least(&self) -> usize
+        requires { 0 < length self.now.seen.items }
+        ensures { result < length self.now.seen.items }
+    {
+        let mut least = 0;
+        for place in 1..self.seen.len() {
+            if self.seen[place].bound < self.seen[least].bound {
+                least = place;
+            }
+        }
+        least
+    }
+}
