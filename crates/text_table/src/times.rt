@@ -1,9 +1,9 @@
 // Time limits, lengths of time, fractions and shares.
 ghost use Rattle.std.specs.Prelude.{◌<◌, ◌^◌, IfOk};
 
-use crate::answer::{Unanswered, number, taken};
+use crate::answer::{Unanswered, number, refused, taken};
 use slurm_num::plain::Limit;
-use slurm_num::{BadTime, Ratio, parse_limit, print_elapsed};
+use slurm_num::{Ratio, parse_limit, print_elapsed};
 use std::alloc::Global;
 use std::cmp::Ordering;
 
@@ -12,7 +12,7 @@ pub fn limit(alloc: Global, text: &[u8]) -> Result<Vec<u8>, Unanswered> {
     match &parse_limit(text) {
         Ok(Limit::Unlimited) => taken(alloc, &"unlimited"),
         Ok(Limit::Minutes(minutes)) => taken(alloc, &minutes.get()),
-        Err(BadTime) => taken(alloc, &"refused"),
+        Err(refusal) => refused(alloc, refusal),
     }
 }
 
