@@ -6,5 +6,3 @@ pub mod header;
 mod report;
 mod sbatch;
 mod squeue;
-#[cfg(test)]
-mod tests;

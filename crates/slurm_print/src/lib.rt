@@ -7,6 +7,4 @@ mod orders;
 mod ranges;
 mod refusal;
 mod squeue;
-#[cfg(test)]
-mod tests;
 pub mod text;

@@ -4,8 +4,6 @@
 mod cluster;
 mod errors;
 mod program;
-#[cfg(test)]
-mod rows;
 mod script;
 
 pub use program::{WordsFault, run, run_without_words};

@@ -1,7 +1,0 @@
-use Rattle.std.proofs.Common.{◌≡◌, ◌++◌, map, take, drop}
-use Rattle.ctl_core.specs.Passing.{timed_out}
-use Rattle.ctl_core.proofs.controller.passing.ends.time_out.Given as goal
-
--- the jobs so far are seen to, and the others are as they were
-abbrev pub invariant-loop-job : goal.invariant-loop-job
-invariant-loop-job l = l.jobs ≡ map (timed_out l.now) (take l.job-index l.initial.jobs) ++ drop l.job-index l.initial.jobs

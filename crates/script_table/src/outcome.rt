@@ -1,0 +1,63 @@
+// What a run of the program comes to.
+ghost use Rattle.std.specs.Prelude.{◌<◌};
+
+use crate::case::Case;
+use slurm_io::{MemLink, Pair};
+use slurm_top::run;
+use std::alloc::{AllocError, Global};
+
+/// What a run ended with, what it wrote and what it told.
+#[derive(Drop)]
+pub struct Outcome {
+    pub status: u8,
+    pub output: Vec<u8>,
+    pub errors: Vec<u8>,
+}
+
+impl Outcome {
+    /// Whether both runs came to the same.
+    pub fn is(&self, other: &Outcome) -> bool {
+        self.status == other.status
+            && self.output.as_slice() == other.output.as_slice()
+            && self.errors.as_slice() == other.errors.as_slice()
+    }
+}
+
+fn words_of(alloc: Global, text: &str) -> Result<Vec<String>, AllocError> {
+    let mut words = Vec::new(alloc);
+    for word in text.split_whitespace() {
+        words.push(String::from_str(alloc, word)?)?;
+    }
+    Ok(words)
+}
+
+// What is no number is passed over.
+fn numbers_of(alloc: Global, text: &str) -> Result<Vec<u64>, AllocError> {
+    let mut numbers = Vec::new(alloc);
+    for word in text.split_whitespace() {
+        if let Ok(number) = word.parse::<u64>() {
+            numbers.push(number)?;
+        }
+    }
+    Ok(numbers)
+}
+
+/// Runs the case with at most so many bytes a call.
+pub fn outcome_of(alloc: Global, case: &Case<'_>, most: u32) -> Result<Outcome, AllocError>
+    requires { 0 < most }
+{
+    let words = words_of(alloc, case.words)?;
+    let bytes = Vec::from_slice(alloc, case.input.as_slice())?;
+    let reads = numbers_of(alloc, case.failing_reads)?;
+    let writes = numbers_of(alloc, case.failing_writes)?;
+    let input = MemLink::new(alloc, bytes, most, reads, Vec::new(alloc));
+    let output = MemLink::new(alloc, Vec::new(alloc), most, Vec::new(alloc), writes);
+    let mut link = Pair::new(input, output);
+    let mut errors = MemLink::new(alloc, Vec::new(alloc), 64, Vec::new(alloc), Vec::new(alloc));
+    let status = run(alloc, words.as_slice(), &mut link, &mut errors);
+    Ok(Outcome {
+        status,
+        output: Vec::from_slice(alloc, link.sink.taken())?,
+        errors: Vec::from_slice(alloc, errors.taken())?,
+    })
+}

@@ -1,0 +1,46 @@
+// The blocks of a text, fed in pieces.
+
+use crate::answer::{Unanswered, number, push};
+use block_frame::{Blocks, Form, Next};
+use std::alloc::Global;
+
+// Puts the headers of the blocks that are whole behind the answer, in brackets. Where a block is bad, its place.
+fn take_blocks(
+    blocks: &mut Blocks,
+    out: &mut Vec<u8>,
+    most: usize,
+) -> Result<Option<u64>, Unanswered> {
+    for _ in 0..most {
+        match blocks.next_block()? {
+            Next::NotYet => return Ok(None),
+            Next::Bad { place } => return Ok(Some(place)),
+            Next::Whole(block) => {
+                out.push(b'[')?;
+                out.extend_from_slice(block.header.as_bytes())?;
+                out.push(b']')?;
+            }
+        }
+    }
+    Ok(None)
+}
+
+/// The headers of the blocks, and up to which byte they go, or at which one a bad block begins.
+pub fn cut(alloc: Global, piece: &[u8], text: &[u8]) -> Result<Vec<u8>, Unanswered> {
+    let piece = number(piece)?.max(1) as usize;
+    let mut out = Vec::new(alloc);
+    let mut blocks = Blocks::new(alloc, Form::Plain)?;
+    for bytes in text.chunks(piece) {
+        blocks.feed(bytes)?;
+        if let Some(place) = take_blocks(&mut blocks, &mut out, text.len())? {
+            push(alloc, &mut out, &" bad at ")?;
+            push(alloc, &mut out, &place)?;
+            return Ok(out);
+        }
+    }
+    push(alloc, &mut out, &" up to ")?;
+    push(alloc, &mut out, &blocks.place())?;
+    if !blocks.is_empty() {
+        push(alloc, &mut out, &" and more")?;
+    }
+    Ok(out)
+}

@@ -1,0 +1,56 @@
+// Host expressions.
+
+use crate::answer::{LONGEST, Unanswered, refused, taken};
+use slurm_text::folding::fold_hosts;
+use slurm_text::hosts::{HostRefusal, expand_hosts};
+use slurm_text::name::Name;
+use std::alloc::Global;
+
+fn refused_hosts(alloc: Global, refusal: HostRefusal) -> Result<Vec<u8>, Unanswered> {
+    match refusal {
+        HostRefusal::Memory => Err(Unanswered::Memory),
+        _ => refused(alloc, &refusal),
+    }
+}
+
+// The names, each followed by a blank.
+fn listed(alloc: Global, names: &[Name]) -> Result<Vec<u8>, Unanswered> {
+    let mut out = Vec::new(alloc);
+    for name in names {
+        out.extend_from_slice(name.as_bytes())?;
+        out.push(b' ')?;
+    }
+    Ok(out)
+}
+
+pub fn expand(alloc: Global, text: &[u8]) -> Result<Vec<u8>, Unanswered> {
+    if text.len() > LONGEST {
+        return Err(Unanswered::Arguments);
+    }
+    match expand_hosts(alloc, text, usize::MAX) {
+        Ok(names) => listed(alloc, names.as_slice()),
+        Err(refusal) => refused_hosts(alloc, refusal),
+    }
+}
+
+/// How many names there are, of no more than so many.
+pub fn count(alloc: Global, text: &[u8], most: u64) -> Result<Vec<u8>, Unanswered> {
+    if text.len() > LONGEST {
+        return Err(Unanswered::Arguments);
+    }
+    match expand_hosts(alloc, text, most as usize) {
+        Ok(names) => taken(alloc, &names.len()),
+        Err(refusal) => refused_hosts(alloc, refusal),
+    }
+}
+
+/// The names of the text, folded.
+pub fn fold(alloc: Global, text: &[u8]) -> Result<Vec<u8>, Unanswered> {
+    if text.len() > LONGEST {
+        return Err(Unanswered::Arguments);
+    }
+    match expand_hosts(alloc, text, usize::MAX) {
+        Ok(names) => Ok(fold_hosts(alloc, names.as_slice())?),
+        Err(refusal) => refused_hosts(alloc, refusal),
+    }
+}
