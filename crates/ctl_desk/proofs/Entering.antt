@@ -3,9 +3,10 @@ use Rattle.std.proofs.Common.{◌≡◌, ℕ, List, [], ◌∷◌, ◌++◌, len
 use Rattle.std.proofs.lemmas.Bool.{cases_lt, cases_Bool, true≢false, false≢true}
 use Rattle.std.proofs.lemmas.List.{take-append-le, take_all}
 use Rattle.slurm_text.specs.declared.plain.request.Request.{Request}
-use Rattle.ctl_core.specs.State.{State}
-use Rattle.ctl_core.specs.Soundness.{IsSound}
-use Rattle.ctl_core.specs.Step.{state_after, effect, reply_of, raised, is_entered}
+use Rattle.ctl_state.specs.State.{State}
+use Rattle.ctl_state.specs.Soundness.{IsSound}
+use Rattle.ctl_state.specs.Verdicts.{stamped, left_by}
+use Rattle.ctl_core.specs.Step.{state_after, verdict_of, reply_of, raised, is_entered}
 use Rattle.ctl_core.specs.declared.reply.Decided.{Decided}
 use Rattle.ctl_desk.specs.declared.entry.Entry.{Entry}
 use Rattle.ctl_desk.specs.History.{after_all, IsStep, IsLegal, StaysSound, History, IsHistory, entry_of}
@@ -87,5 +88,5 @@ IsHistory-decided h session now user request decided s t entries alike history p
           made.sound.1)
       | inr refuses ↦
           subst keeps (sym (where_false (is_entered decided.reply) (h.entries ++ entry ∷ []) h.entries entries entered refuses))
-          (history, where_false (is_entered (reply_of s now user request)) (effect s (raised s now) user request) s t made.after (sym (ap is_entered made.reply) ∙ refuses) ∙ present)
+          (history, where_false (is_entered (reply_of s now user request)) (stamped (raised s now) (left_by s (verdict_of s now user request))) s t made.after (sym (ap is_entered made.reply) ∙ refuses) ∙ present)
     ]

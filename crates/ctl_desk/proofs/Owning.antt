@@ -1,11 +1,13 @@
 -- What a book of its own makes of a desk.
-use Rattle.std.proofs.Common.{◌≡◌, ℕ, true, false, ◌≤◌, List, [], ◌∷◌, ◌++◌, length, take, drop, refl, sym, ap, ◌∙◌, subst, arith, length-append, inl, inr, if◌then◌else◌, Ok, Err, Result, IfOk, OnErr}
+use Rattle.std.proofs.Common.{◌≡◌, ℕ, Bool, true, false, ◌≤◌, List, [], ◌∷◌, ◌++◌, length, take, drop, refl, sym, ap, ◌∙◌, subst, arith, length-append, inl, inr, if◌then◌else◌, Ok, Err, Result, IfOk, OnOk, OnErr}
 use Rattle.std.proofs.Math.Seq.{take-append_seam}
 use Rattle.std.proofs.lemmas.Bool.{cases_Bool, true≢false}
 use Rattle.std.proofs.lemmas.List.{append-nil, take_all, take-append-le, take-append-drop, drop-append-le}
 use Rattle.slurm_text.specs.declared.plain.request.Request.{Request}
-use Rattle.ctl_core.specs.State.{State}
-use Rattle.ctl_core.specs.Step.{reply_of, is_entered}
+use Rattle.ctl_state.specs.State.{State}
+use Rattle.resource_profile.specs.Counts.{ticked}
+use Rattle.slurm_text.specs.declared.plain.request.Request.TheVariants.{Pass}
+use Rattle.ctl_core.specs.Step.{reply_of, is_entered, steps_of}
 use Rattle.ctl_desk.specs.declared.entry.Answer.{Answer}
 use Rattle.ctl_desk.specs.declared.entry.Entry.{Entry}
 use Rattle.ctl_desk.specs.Desk.{Sight, GoesOn, IsAnswered, seen, later, sight_of, state_at}
@@ -115,3 +117,23 @@ own_answered (Ok answer) now user request before old new below opening reply pla
           subst told (sym (same_book old new old.entries opening all)) (answered_idle now user request answer before old reply place refuses)
     ]
 own_answered (Err e) now user request before old new below opening reply place entered = tt
+
+-- the entries before an answer's place are those that there were
+before-place : (entered : Bool) (place : ℕ) (old new : List Entry) (entry : Entry) → place ≡ length old → new ≡ (if entered then old ++ entry ∷ [] else old) → take place new ≡ old
+before-place true place old new entry at all = rw (all, at) (take-append_seam old (entry ∷ []))
+before-place false place old new entry at all = rw all (take_all place old (omega (arith, at)))
+
+-- a pass counts the jobs that are planned at its place
+pub own_counted : {E : Type 0} (result : Result Answer E) (now : ℕ) (user : List ℕ) (before counted counted' : ℕ) (old new : History)
+    → let s = after_all old.opening old.entries in
+    IfOk result (λ answer. answer.place ≡ length old.entries)
+    → IfOk result (λ answer. new.entries ≡ (if is_entered answer.reply then old.entries ++ entry_of s 0 now user Pass ∷ [] else old.entries))
+    → OnOk result (counted' ≡ ticked counted (steps_of s now user))
+    → IfOk result (λ answer. counted' ≡ ticked counted (steps_of (state_at old.opening (seen (at_book before new)) answer.place) now user))
+own_counted (Ok answer) now user before counted counted' old new place entered counts =
+    let s = after_all old.opening old.entries in
+    let front = before-place (is_entered answer.reply) answer.place old.entries new.entries (entry_of s 0 now user Pass) place entered in
+    let there : state_at old.opening (seen (at_book before new)) answer.place ≡ s =
+    ap (λ es. after_all old.opening (take answer.place es)) (all_seen before new) ∙ ap (after_all old.opening) front in
+    counts ∙ ap (λ at. ticked counted (steps_of at now user)) (sym there)
+own_counted (Err e) now user before counted counted' old new place entered counts = tt

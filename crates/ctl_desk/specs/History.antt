@@ -1,8 +1,8 @@
 -- The history: the accepted requests, in order.
 use Rattle.std.specs.Prelude.{◌≡◌, ℕ, ◌≤◌, true, ◌==◌, List, [], ◌∷◌, take, filter}
 use Rattle.slurm_text.specs.declared.plain.request.Request.{Request}
-use Rattle.ctl_core.specs.State.{State}
-use Rattle.ctl_core.specs.Soundness.{IsSound}
+use Rattle.ctl_state.specs.State.{State}
+use Rattle.ctl_state.specs.Soundness.{IsSound}
 use Rattle.ctl_core.specs.Step.{reply_of, state_after, is_entered, raised}
 use Rattle.ctl_desk.specs.declared.entry.Entry.{Entry}
 

@@ -1,9 +1,10 @@
 //! The book: the controller with its history.
 
-ghost use Rattle.std.specs.Prelude.{◌≡◌, ◌<◌, ◌++◌, ◌∷◌, [], IfOk, OnErr, if◌then◌else◌, length, Some, None, vec_len, vec_capacity};
+ghost use Rattle.std.specs.Prelude.{◌≡◌, ◌<◌, ◌++◌, ◌∷◌, [], IfOk, OnOk, OnErr, if◌then◌else◌, length, Some, None, vec_len, vec_capacity};
 ghost use Rattle.slurm_text.specs.declared.plain.request.Request.TheVariants.{Pass};
-ghost use Rattle.ctl_core.specs.Soundness.{IsSound};
-ghost use Rattle.ctl_core.specs.Step.{reply_of, is_entered};
+ghost use Rattle.resource_profile.specs.Counts.{ticked};
+ghost use Rattle.ctl_state.specs.Soundness.{IsSound};
+ghost use Rattle.ctl_core.specs.Step.{reply_of, is_entered, steps_of};
 ghost use Rattle.ctl_desk.specs.History.{entry_of, present, IsHistory};
 
 use crate::entry::{Answer, Entry};
@@ -32,18 +33,18 @@ impl Model for Book {
 
     ghost Value = { History };
 
-    ghost view = { λ b. record { opening = b.opening; entries = b.entries.items } };
+    ghost view = { λ b. record { opening = b.opening.state; entries = b.entries.items } };
 
-    ghost invariant = { λ b. IsHistory (record { opening = b.opening; entries = b.entries.items })
-        × (b.ctl ≡ after_all b.opening b.entries.items) };
+    ghost invariant = { λ b. IsHistory (record { opening = b.opening.state; entries = b.entries.items })
+        × (b.ctl.state ≡ after_all b.opening.state b.entries.items) };
 }
 
 impl Book {
     /// A book without entries. The caller makes the controller twice.
     pub fn new(alloc: Global, ctl: Ctl, opening: Ctl) -> Book
-        requires same { ctl ≡ opening }
-        requires sound { IsSound opening }
-        ensures opening { result.opening ≡ opening }
+        requires same { ctl.state ≡ opening.state }
+        requires sound { IsSound opening.state }
+        ensures opening { result.opening ≡ opening.state }
         ensures entries { result.entries ≡ [] }
     {
         Book {
@@ -101,6 +102,7 @@ impl Book {
             else self.old.entries)) }
         ensures opening { self.new.opening ≡ self.old.opening }
         ensures err { OnErr result (self.new ≡ self.old) }
+        ensures steps { OnOk result (steps.new ≡ ticked steps.old (steps_of (present self.old) now user.now)) }
     {
         raised_moments_decide_alike();
         self.entries.reserve(1)?;

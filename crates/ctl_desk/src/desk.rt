@@ -2,7 +2,9 @@
 
 ghost use Rattle.std.specs.Prelude.{◌≡◌, length, IfOk, OnErr};
 ghost use Rattle.slurm_text.specs.declared.plain.request.Request.TheVariants.{Pass};
-ghost use Rattle.ctl_desk.specs.Desk.{Sight, GoesOn, IsAnswered, seen, history_of};
+ghost use Rattle.resource_profile.specs.Counts.{ticked};
+ghost use Rattle.ctl_core.specs.Step.{steps_of};
+ghost use Rattle.ctl_desk.specs.Desk.{Sight, GoesOn, IsAnswered, seen, history_of, state_at};
 ghost use Rattle.ctl_desk.specs.History.{IsHistory};
 
 use crate::entry::Answer;
@@ -25,7 +27,8 @@ pub trait Desk {
             IsAnswered (sight self.old) (sight self.new) now user.now request answer) }
         ensures err { OnErr result ((sight self.new).mine ≡ (sight self.old).mine) };
 
-    /// Makes a pass for a user at a moment, whatever plan is at hand. After want of memory nothing of it is entered.
+    /// Makes a pass for a user at a moment, whatever plan is at hand. After want of memory nothing of it is entered. Where it is
+    /// answered it counts a step for each job that it plans at its place.
     fn pass(
         &mut self,
         now: u64,
@@ -36,7 +39,9 @@ pub trait Desk {
         ensures goes_on { GoesOn (sight self.old) (sight self.new) }
         ensures answered { IfOk result (λ answer.
             IsAnswered (sight self.old) (sight self.new) now user.now Pass answer) }
-        ensures err { OnErr result ((sight self.new).mine ≡ (sight self.old).mine) };
+        ensures err { OnErr result ((sight self.new).mine ≡ (sight self.old).mine) }
+        ensures steps { IfOk result (λ answer. steps.new ≡ ticked steps.old
+            (steps_of (state_at (sight self.old).opening (seen (sight self.new)) answer.place) now user.now)) };
 
     /// How many entries the desk has seen.
     fn seen_len(&self) -> u64

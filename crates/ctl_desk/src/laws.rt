@@ -1,7 +1,7 @@
 //! What holds of every history. Each law is the contract of a function that does nothing.
 
 ghost use Rattle.std.specs.Prelude.{ℕ, List, take};
-ghost use Rattle.ctl_core.specs.State.{State};
+ghost use Rattle.ctl_state.specs.State.{State};
 ghost use Rattle.ctl_desk.specs.declared.entry.Entry.{Entry};
 ghost use Rattle.ctl_desk.specs.History.{IsLegal};
 

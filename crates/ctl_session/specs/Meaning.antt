@@ -3,7 +3,7 @@ use Rattle.std.specs.Prelude.{ℕ, if◌then◌else◌, Option, Some, None, List
 use Rattle.block_frame.specs.declared.block.Block.{Block}
 use Rattle.command_words.specs.declared.header.Asked.{Asked}
 use Rattle.command_words.specs.Header.{asked_by, words_of}
-use Rattle.ctl_core.specs.State.{State}
+use Rattle.ctl_state.specs.State.{State}
 use Rattle.ctl_core.specs.Step.{reply_of, state_after, is_entered}
 use Rattle.ctl_desk.specs.declared.entry.Entry.{Entry}
 use Rattle.ctl_desk.specs.History.{entry_of}

@@ -6,7 +6,7 @@ use Rattle.std.specs.Io.KnownBytes.{Consumes, IsAtEnd}
 use Rattle.block_frame.specs.declared.block.Block.{Block}
 use Rattle.block_frame.specs.declared.form.Form.TheVariants.{Plain}
 use Rattle.block_frame.specs.Grammar.{IsBlock, IsPartial, IsBad, BeginsWithBlock, spelled_all, blocks_of, rest_of}
-use Rattle.ctl_core.specs.State.{State}
+use Rattle.ctl_state.specs.State.{State}
 use Rattle.ctl_session.specs.declared.session.How.{How}
 use Rattle.ctl_session.specs.declared.session.How.TheVariants as how
 use Rattle.slurm_io.specs.Wire.{Wire}

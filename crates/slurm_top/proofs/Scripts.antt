@@ -7,8 +7,8 @@ use Rattle.slurm_io.specs.Wire.{Wire}
 use Rattle.block_frame.specs.declared.block.Block.{Block}
 use Rattle.block_frame.specs.declared.form.Form.TheVariants.{Plain}
 use Rattle.block_frame.specs.Grammar.{IsBlock, IsPartial, IsBad, blocks_of, rest_of}
-use Rattle.ctl_core.specs.State.{State}
-use Rattle.ctl_core.specs.Soundness.{IsSound}
+use Rattle.ctl_state.specs.State.{State}
+use Rattle.ctl_state.specs.Soundness.{IsSound}
 use Rattle.ctl_desk.specs.Desk.{Seat, Sight, sight_of}
 use Rattle.ctl_desk.specs.History.{StaysSound, of_session}
 use Rattle.ctl_session.specs.declared.meaning.Meaning.{Meaning}

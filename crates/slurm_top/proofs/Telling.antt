@@ -5,8 +5,8 @@ use Rattle.std.proofs.lemmas.List.Elements.{All-head, All-tail}
 use Rattle.std.specs.Option.{option_to_list}
 use Rattle.slurm_text.specs.declared.plain.request.Request.{Request}
 use Rattle.command_words.specs.declared.header.Asked.{Asked}
-use Rattle.ctl_core.specs.State.{State}
-use Rattle.ctl_core.specs.Soundness.{IsSound}
+use Rattle.ctl_state.specs.State.{State}
+use Rattle.ctl_state.specs.Soundness.{IsSound}
 use Rattle.ctl_core.specs.Step.{reply_of, state_after, is_entered, raised}
 use Rattle.ctl_desk.specs.declared.entry.Entry.{Entry}
 use Rattle.ctl_desk.specs.Desk.{state_at}

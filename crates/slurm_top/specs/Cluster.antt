@@ -4,7 +4,7 @@ use Rattle.slurm_text.specs.declared.plain.conf.AssocFile.{AssocFile}
 use Rattle.slurm_text.specs.declared.plain.conf.Settings.{Settings}
 use Rattle.slurm_text.specs.declared.plain.mem_ask.MemAsk.TheVariants.{PerCpu}
 use Rattle.slurm_text.specs.Confs.{ConfView}
-use Rattle.ctl_core.specs.State.{State, opening}
+use Rattle.ctl_state.specs.State.{State, opening}
 
 -- ended jobs are kept for five minutes; starts are planned a day ahead; a processor comes with 1,000 megabytes
 unfoldable pub built_in_settings : Settings

@@ -5,8 +5,8 @@ use Rattle.slurm_io.specs.Faults.{CountsOne}
 use Rattle.slurm_io.specs.Wire.{Wire}
 use Rattle.block_frame.specs.declared.form.Form.TheVariants.{Plain}
 use Rattle.block_frame.specs.Grammar.{IsPartial, IsBad, spelled_all, blocks_of, rest_of}
-use Rattle.ctl_core.specs.State.{State}
-use Rattle.ctl_core.specs.Soundness.{IsSound}
+use Rattle.ctl_state.specs.State.{State}
+use Rattle.ctl_state.specs.Soundness.{IsSound}
 use Rattle.ctl_session.specs.declared.meaning.Meaning.{Meaning}
 use Rattle.ctl_session.specs.declared.session.How.{How}
 use Rattle.ctl_session.specs.declared.session.How.TheVariants.{Closed, Truncated, Bad, Spent, ReadFault, WriteFault, Memory}

@@ -1,7 +1,7 @@
 //! The built-in cluster.
 
 ghost use Rattle.std.specs.Prelude.{◌≡◌, [], IfOk};
-ghost use Rattle.ctl_core.specs.Soundness.{IsSound};
+ghost use Rattle.ctl_state.specs.Soundness.{IsSound};
 ghost use Rattle.slurm_top.specs.Cluster.{built_in_settings, built_in_conf, built_in_assocs, built_in_opening};
 
 use ctl_core::controller::Ctl;
@@ -82,8 +82,8 @@ fn name(alloc: Global, text: &[u8]) -> Result<Name, Memory>
 
 #[tactic(auto, unfolding(crate::specs::Cluster::built_in_opening))]
 fn built_in_controller(alloc: Global) -> Result<Ctl, Memory>
-    ensures opening { IfOk result (λ ctl. ctl ≡ built_in_opening) }
-    ensures sound { IfOk result IsSound }
+    ensures opening { IfOk result (λ ctl. ctl.state ≡ built_in_opening) }
+    ensures sound { IfOk result (λ ctl. IsSound ctl.state) }
 {
     let conf = built_in_conf(alloc)?;
     let assocs = built_in_assocs(alloc)?;

@@ -3,7 +3,7 @@
 ghost use Rattle.std.specs.Prelude.{◌≡◌, ◌≢◌, ◌⊎◌, ◌↔◌, ◌≤◌, ℕ, List, Some, [], true, false, IsTrue, length, map, string_bytes, if◌then◌else◌};
 ghost use Rattle.block_frame.specs.declared.form.Form.TheVariants.{Plain};
 ghost use Rattle.block_frame.specs.Grammar.{blocks_of, rest_of};
-ghost use Rattle.ctl_core.specs.State.{State};
+ghost use Rattle.ctl_state.specs.State.{State};
 ghost use Rattle.ctl_session.specs.declared.session.How.{How};
 ghost use Rattle.ctl_session.specs.Session.{most_blocks};
 ghost use Rattle.slurm_io.specs.Wire.{Wire};

@@ -1,6 +1,6 @@
 //! A script from a link's input to its output.
 
-ghost use Rattle.ctl_core.specs.State.{State};
+ghost use Rattle.ctl_state.specs.State.{State};
 ghost use Rattle.ctl_session.specs.declared.session.How.{How};
 ghost use Rattle.slurm_io.specs.Wire.{Wire};
 ghost use Rattle.slurm_top.specs.Cluster.{built_in_opening};

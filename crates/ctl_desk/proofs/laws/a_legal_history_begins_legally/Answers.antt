@@ -1,5 +1,5 @@
 use Rattle.std.proofs.Common.{ℕ, zero, suc, List, [], ◌∷◌, take}
-use Rattle.ctl_core.specs.State.{State}
+use Rattle.ctl_state.specs.State.{State}
 use Rattle.ctl_core.specs.Step.{state_after}
 use Rattle.ctl_desk.specs.declared.entry.Entry.{Entry}
 use Rattle.ctl_desk.specs.History.{IsLegal}

@@ -11,7 +11,9 @@ use Rattle.resource_profile.specs.Free.{least_after}
 use Rattle.node_pick.specs.Choosing.{numbers_from, filled_sets, sets, fits, chosen}
 use Rattle.backfill_planner.specs.Giving.{capacities}
 use Rattle.backfill_planner.specs.Plans.{placement_at, first_second, placed_of}
-use Rattle.ctl_core.specs.Submission.{plan_job, is_placeable}
+use Rattle.ctl_state.specs.Planning.{plan_job}
+use Rattle.ctl_core.specs.Submission.{is_placeable}
+use Rattle.ctl_pass.specs.Readiness.{candidates}
 use Rattle.ctl_core.specs.Showing.{highest, names_of, row_of, view_of}
 use Rattle.slurm_print.specs.Field.{field, cell}
 use Rattle.ctl_session.specs.Session.{most_blocks}
@@ -20,9 +22,9 @@ use Rattle.slurm_top.specs.Script.{script_of}
 use Rattle.worked_rows.proofs.scripts.queries.Goals as goal
 
 pub returns-clause-nothing : goal.returns-clause-nothing
-unfolding script_of most_blocks built_in_opening built_in_conf built_in_settings built_in_assocs first_block blocks_within blocks_of is_name number_within asked_by request_by tasks_by limit_by one_by two_by size_by is_placeable plan_job placed_of first_second placement_at capacities least_after numbers_from filled_sets sets fits chosen digits squeue_by highest names_of row_of view_of field cell
+unfolding script_of most_blocks built_in_opening built_in_conf built_in_settings built_in_assocs first_block blocks_within blocks_of is_name number_within asked_by request_by tasks_by limit_by one_by two_by size_by is_placeable plan_job placed_of first_second placement_at capacities least_after numbers_from filled_sets sets fits chosen digits squeue_by highest candidates names_of row_of view_of field cell
 returns-clause-nothing c = refl
 
 pub returns-clause-waiting : goal.returns-clause-waiting
-unfolding script_of most_blocks built_in_opening built_in_conf built_in_settings built_in_assocs first_block blocks_within blocks_of is_name number_within asked_by request_by tasks_by limit_by one_by two_by size_by is_placeable plan_job placed_of first_second placement_at capacities least_after numbers_from filled_sets sets fits chosen digits squeue_by highest names_of row_of view_of field cell
+unfolding script_of most_blocks built_in_opening built_in_conf built_in_settings built_in_assocs first_block blocks_within blocks_of is_name number_within asked_by request_by tasks_by limit_by one_by two_by size_by is_placeable plan_job placed_of first_second placement_at capacities least_after numbers_from filled_sets sets fits chosen digits squeue_by highest candidates names_of row_of view_of field cell
 returns-clause-waiting c = refl

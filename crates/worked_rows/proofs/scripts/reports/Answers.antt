@@ -6,7 +6,7 @@ use Rattle.slurm_text.specs.Name.{is_name}
 use Rattle.slurm_text.specs.Digits.{number_within}
 use Rattle.command_words.specs.Header.{asked_by, request_by}
 use Rattle.command_words.specs.Report.{report_by, listed_by, listed_of, start_of, done_of}
-use Rattle.ctl_core.specs.Reporting.{in_order, orders_of}
+use Rattle.ctl_report.specs.Ordering.{in_order, orders_of}
 use Rattle.ctl_session.specs.Session.{most_blocks}
 use Rattle.slurm_top.specs.Cluster.{built_in_settings, built_in_conf, built_in_assocs, built_in_opening}
 use Rattle.slurm_top.specs.Script.{script_of}

@@ -10,7 +10,8 @@ use Rattle.resource_profile.specs.Free.{least_after}
 use Rattle.node_pick.specs.Choosing.{numbers_from, filled_sets, sets, fits, chosen}
 use Rattle.backfill_planner.specs.Giving.{capacities}
 use Rattle.backfill_planner.specs.Plans.{placement_at, first_second, placed_of}
-use Rattle.ctl_core.specs.Submission.{plan_job, is_placeable}
+use Rattle.ctl_state.specs.Planning.{plan_job}
+use Rattle.ctl_core.specs.Submission.{is_placeable}
 use Rattle.ctl_session.specs.Session.{most_blocks}
 use Rattle.slurm_top.specs.Cluster.{built_in_settings, built_in_conf, built_in_assocs, built_in_opening}
 use Rattle.slurm_top.specs.Script.{script_of}

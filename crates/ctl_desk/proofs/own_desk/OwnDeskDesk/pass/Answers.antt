@@ -1,7 +1,7 @@
 use Rattle.slurm_text.specs.declared.plain.request.Request.TheVariants.{Pass}
 use Rattle.std.proofs.Common.{refl}
 use Rattle.ctl_desk.specs.History.{entry_of, after_all}
-use Rattle.ctl_desk.proofs.Owning.{own_goes_on, own_answered}
+use Rattle.ctl_desk.proofs.Owning.{own_goes_on, own_answered, own_counted}
 use Rattle.ctl_desk.proofs.own_desk.OwnDeskDesk.pass.Goals as goal
 
 pub returns-clause-goes_on : goal.returns-clause-goes_on
@@ -14,3 +14,8 @@ pub returns-clause-answered : goal.returns-clause-answered
 returns-clause-answered c =
     let called = c.pass.ensures in
     rw (← c.self.view_is) (own_answered _ c.args.now c.args.user.now Pass c.self.inside.before c.self.inside.book c.pass.new.self c.self.invariant called.opening called.reply called.place called.entries)
+
+pub returns-clause-steps : goal.returns-clause-steps
+returns-clause-steps c =
+    let called = c.pass.ensures in
+    rw (← c.self.view_is) (own_counted _ c.args.now c.args.user.now c.self.inside.before _ _ c.self.inside.book c.pass.new.self called.place called.entries called.steps)
