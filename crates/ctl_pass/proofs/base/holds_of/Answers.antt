@@ -1,6 +1,6 @@
 use Rattle.std.proofs.Common.{◌≡◌, true, false, append-nil, refl, sym, ◌∙◌}
 use Rattle.ctl_pass.specs.Limits.{is_old}
-use Rattle.ctl_pass.proofs.ReadyJobs.{left-more}
+use Rattle.ctl_pass.proofs.Ready.{left-more}
 use Rattle.ctl_pass.proofs.base.holds_of.Goals as goal
 use Rattle.ctl_pass.proofs.base.holds_of.Goals.{then-not-is_old+in_ok-push_holds, else-not-is_old}
 

@@ -1,6 +1,6 @@
 use Rattle.std.proofs.Common.{◌≡◌, length, arith}
 use Rattle.ctl_state.specs.State.{state_of}
-use Rattle.ctl_pass.proofs.Plans.{ranked-is}
+use Rattle.ctl_pass.proofs.Passes.{ranked-is}
 use Rattle.ctl_pass.proofs.base.rank.Goals as goal
 
 pub returns-clause-ranked : goal.returns-clause-ranked

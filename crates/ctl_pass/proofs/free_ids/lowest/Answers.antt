@@ -1,6 +1,6 @@
 use Rattle.std.proofs.Common.{◌≡◌, ◌<◌, ◌≤◌, ℕ, Bool, true, false, not, length, ap, arith}
 use Rattle.ctl_pass.specs.HeldIds.{is_held}
-use Rattle.ctl_pass.proofs.HeldBits.{lowest-more, lowest-fails, lowest-full, lowest-rise, lowest-below}
+use Rattle.ctl_pass.proofs.Held.{lowest-more, lowest-fails, lowest-full, lowest-rise, lowest-below}
 use Rattle.ctl_pass.proofs.free_ids.lowest.Goals as goal
 use Rattle.ctl_pass.proofs.free_ids.lowest.Goals.{then-not-held-first+then-len-count+in_ok-push, else-not-held-first, else-not-held-first-via-then-not-held-first+else-len-count, else-not-held-first-via-else-not-held-first}
 

@@ -1,7 +1,7 @@
 use Rattle.ctl_pass.specs.Readiness.{placements}
-use Rattle.ctl_pass.proofs.Readied.{ReadyLaws, readied}
-use Rattle.ctl_pass.proofs.Soundly.{StartLaws, sound-started}
-use Rattle.ctl_pass.proofs.Fitting.{PlanLaws, can-start_ready}
+use Rattle.ctl_pass.proofs.Ready.{ReadyLaws, readied}
+use Rattle.ctl_pass.proofs.Starting.{StartLaws, sound-started}
+use Rattle.ctl_pass.proofs.Passes.{PlanLaws, can-start_ready}
 use Rattle.ctl_pass.proofs.laws.a_pass_keeps_all_sound.Goals as goal
 
 pub returns : goal.returns

@@ -1,8 +1,7 @@
 use Rattle.ctl_pass.specs.Readiness.{placements}
-use Rattle.ctl_pass.proofs.Readied.{ReadyLaws, readied}
-use Rattle.ctl_pass.proofs.Soundly.{StartLaws}
-use Rattle.ctl_pass.proofs.Given.{all-given}
-use Rattle.ctl_pass.proofs.Fitting.{PlanLaws, can-start_ready}
+use Rattle.ctl_pass.proofs.Ready.{ReadyLaws, readied}
+use Rattle.ctl_pass.proofs.Starting.{StartLaws, all-given}
+use Rattle.ctl_pass.proofs.Passes.{PlanLaws, can-start_ready}
 use Rattle.ctl_pass.proofs.laws.starts_get_all_they_planned.Goals as goal
 
 pub returns : goal.returns

@@ -1,4 +1,4 @@
-use Rattle.ctl_pass.proofs.Readied.{ReadyLaws, sound-readied}
+use Rattle.ctl_pass.proofs.Ready.{ReadyLaws, sound-readied}
 use Rattle.ctl_pass.proofs.laws.what_a_pass_plans_is_sound.Goals as goal
 
 pub returns : goal.returns

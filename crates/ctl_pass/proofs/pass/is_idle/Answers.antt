@@ -1,6 +1,6 @@
 use Rattle.std.proofs.Common.{◌∙◌}
 use Rattle.ctl_state.specs.State.{state_of}
-use Rattle.ctl_pass.proofs.Plans.{idle-is}
+use Rattle.ctl_pass.proofs.Passes.{idle-is}
 use Rattle.ctl_pass.proofs.pass.is_idle.Goals as goal
 
 pub returns : goal.returns

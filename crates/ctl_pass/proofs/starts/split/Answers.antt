@@ -3,7 +3,7 @@ use Rattle.backfill_planner.specs.declared.Placed.{Placed}
 use Rattle.ctl_state.specs.Planning.{room_of}
 use Rattle.ctl_state.specs.State.{state_of}
 use Rattle.ctl_pass.specs.Readiness.{ready, placements}
-use Rattle.ctl_pass.proofs.Beginning.{stays-later}
+use Rattle.ctl_pass.proofs.Starting.{stays-later}
 use Rattle.ctl_pass.proofs.starts.split.Goals as goal
 
 pub returns-clause-stays : goal.returns-clause-stays

@@ -4,8 +4,8 @@ use Rattle.ctl_state.specs.Planning.{room_of}
 use Rattle.ctl_state.specs.State.{state_of}
 use Rattle.ctl_pass.specs.Readiness.{ready, placements}
 use Rattle.ctl_pass.specs.Starting.{started}
-use Rattle.ctl_pass.proofs.Beginning.{none-starts}
-use Rattle.ctl_pass.proofs.Plans.{can-begin-ready}
+use Rattle.ctl_pass.proofs.Starting.{none-starts}
+use Rattle.ctl_pass.proofs.Passes.{can-begin-ready}
 use Rattle.ctl_pass.proofs.starts.starts_of.Goals as goal
 
 pub returns-then-not-any_starts : goal.returns-then-not-any_starts

@@ -1,25 +1,83 @@
--- Bits of processors that stand in parts: those that a part adds, and the processors that are free by them.
-use Rattle.std.proofs.Common.{◌≡◌, ◌≢◌, ℕ, ◌+◌, ◌<◌, ◌≤◌, Bool, true, false, ◌||◌, not, cond, eqb, List, [], ◌∷◌, ◌++◌, map, take, length, get_or, filter, count_by, zero, suc, All, AllPairs, arith, refl, ap, sym, ◌∙◌, inl, inr}
-use Rattle.std.specs.List.{list_any, range_with_len}
-use Rattle.std.proofs.lemmas.Bool.{cases_Bool, ne_eqb, and_left}
-use Rattle.std.proofs.lemmas.List.{get_or-take, get_or_default, length-take, length-append, map-id, take_all, take-append-le, append-nil}
+-- What parts hold of a node's processors, counted and as bits, and what is free.
+use Rattle.std.proofs.Common.{◌≡◌, ℕ, ◌+◌, ◌≤◌, ◌<◌, Bool, true, cond, eqb, List, length, filter, sum_by, All, AllPairs, refl, arith, inl, inr, ◌≢◌, false, ◌||◌, not, [], ◌∷◌, ◌++◌, map, take, get_or}
+use Rattle.std.proofs.Common.{count_by, zero, suc, ap, sym, ◌∙◌}
+use Rattle.std.specs.List.{range_with_len, list_any}
+use Rattle.std.proofs.lemmas.Bool.{cases_Bool, eqb-true, eqb-false, ne_eqb, and_left}
 use Rattle.std.proofs.lemmas.List.Sums.{length-filter}
-use Rattle.std.proofs.lemmas.List.Folds.{list_any-append, list_any_none}
-use Rattle.std.proofs.lemmas.List.Elements.{All-head, All-tail, All-map, All-take, All-filter, All-weaker, filter-append}
+use Rattle.std.proofs.lemmas.List.FromFn.{length-range_with_len, map-range_with_len_more}
+use Rattle.std.proofs.lemmas.List.Elements.{All-filter, All-weaker, filter_passes, All-head, All-tail, All-map, All-take, filter-append}
 use Rattle.std.proofs.lemmas.List.Kept.{AllPairs-filter}
-use Rattle.std.proofs.lemmas.List.FromFn.{map-range_with_len_more}
 use Rattle.resource_profile.specs.declared.NodeRoom.{NodeRoom}
-use Rattle.backfill_planner.specs.declared.Share.{Share}
 use Rattle.ctl_state.specs.declared.record.Part.{Part}
+use Rattle.ctl_state.specs.Holding.{cpus_of, is_on, has_cpu, times_held, free_ids, IsPartOf, parts_of}
+use Rattle.ctl_pass.proofs.Lists.{sum_by-same, sum_by-none, sum_by-ones, sum_by-add, sum_by-swap, range-rises, range-below, range-rising, pairs-take, filter-same}
+use Rattle.std.proofs.lemmas.List.{get_or-take, get_or_default, length-take, length-append, map-id, take_all, take-append-le, append-nil}
+use Rattle.std.proofs.lemmas.List.Folds.{list_any-append, list_any_none}
+use Rattle.backfill_planner.specs.declared.Share.{Share}
 use Rattle.ctl_state.specs.declared.record.NodeRecord.{NodeRecord}
 use Rattle.ctl_state.specs.declared.record.JobRecord.{JobRecord}
-use Rattle.ctl_state.specs.Holding.{cpus_of, has_cpu, times_held, free_ids, parts_of}
 use Rattle.ctl_state.specs.Planning.{room_of}
 use Rattle.ctl_state.specs.Soundness.{IsNode}
 use Rattle.ctl_pass.specs.HeldIds.{is_held, ShowsParts, AddsParts, part_by}
 use Rattle.ctl_pass.specs.Starting.{part_of}
-use Rattle.ctl_pass.proofs.Tallies.{pairs-take, range-rises, range-below}
-use Rattle.ctl_pass.proofs.Lists.{filter-same}
+
+-- how many processors of the node the parts hold, each as often as it stands in them; and how many one part has
+pub cpus_held : List NodeRoom → List Part → ℕ → ℕ
+cpus_held rooms parts node = sum_by (λ cpu. times_held parts node cpu) (range_with_len 0 (cpus_of rooms node))
+
+abbrev pub cpus_in : ℕ → Part → ℕ
+cpus_in node part = cond (is_on node part) (length part.cpus) 0
+
+pub held-counted : (rooms : List NodeRoom) (parts : List Part) (node : ℕ) → All (IsPartOf rooms) parts → cpus_held rooms parts node ≡ sum_by (cpus_in node) parts
+unfolding cpus_held times_held
+held-counted rooms parts node are =
+    let cpus = range_with_len 0 (cpus_of rooms node) in
+    let has : ℕ → Part → ℕ = λ cpu part. cond (has_cpu node cpu part) 1 0 in
+    let counted = sum_by-same (λ part. sum_by (λ cpu. has cpu part) cpus) (cpus_in node) parts (All-weaker (IsPartOf rooms) (λ part. sum_by (λ cpu. has cpu part) cpus ≡ cpus_in node part) one parts are) in
+    omega (arith, sum_by-swap has cpus parts, counted)
+  where
+    one : (part : Part) → IsPartOf rooms part → sum_by (λ cpu. cond (has_cpu node cpu part) 1 0) (range_with_len 0 (cpus_of rooms node)) ≡ cpus_in node part
+    one part is = elim (cases_Bool (is_on node part)) [
+      | inr off ↦ rw off (sum_by-none (λ cpu. 0) (range_with_len 0 (cpus_of rooms node)) (λ k d below. refl))
+      | inl on ↦ rw on (range-rising part.cpus (cpus_of rooms node) is.rising (rw (← eqb-true part.node node on) is.cpus))
+    ]
+
+-- what is held grows by what more parts have
+pub held-grown : (rooms : List NodeRoom) (before more after : List Part) (node : ℕ) → ((cpu : ℕ) → times_held after node cpu ≡ times_held before node cpu + times_held more node cpu)
+    → cpus_held rooms after node ≡ cpus_held rooms before node + cpus_held rooms more node
+unfolding cpus_held
+held-grown rooms before more after node grows =
+    let cpus = range_with_len 0 (cpus_of rooms node) in
+    let each = sum_by-same (λ cpu. times_held after node cpu) (λ cpu. times_held before node cpu + times_held more node cpu) cpus (λ k d below. grows _) in
+    omega (arith, each, sum_by-add (λ cpu. times_held before node cpu) (λ cpu. times_held more node cpu) cpus)
+
+-- each processor of a node is free or in a part
+pub free-counted : (rooms : List NodeRoom) (parts : List Part) (node : ℕ) → ((cpu : ℕ) → times_held parts node cpu ≤ 1) → length (free_ids rooms parts node) + cpus_held rooms parts node ≡ cpus_of rooms node
+unfolding cpus_held free_ids
+free-counted rooms parts node once =
+    let cpus = range_with_len 0 (cpus_of rooms node) in
+    let is_free : ℕ → Bool = λ cpu. eqb (times_held parts node cpu) 0 in
+    let split = sum_by-add (λ cpu. cond (is_free cpu) 1 0) (λ cpu. times_held parts node cpu) cpus in
+    let each = sum_by-same (λ cpu. cond (is_free cpu) 1 0 + times_held parts node cpu) (λ cpu. 1) cpus (λ k d below. one_of _ (once _)) in
+    omega (arith, split, each, sum_by-ones cpus, length-range_with_len 0 (cpus_of rooms node), length-filter is_free cpus)
+  where
+    one_of : (times : ℕ) → times ≤ 1 → cond (eqb times 0) 1 0 + times ≡ 1
+    one_of times few = elim (cases_Bool (eqb times 0)) [
+      | inl free ↦ rw free (omega (arith, eqb-true times 0 free))
+      | inr taken ↦ rw taken (omega (arith, few, eqb-false times 0 taken))
+    ]
+
+-- the free processors rise, are the node's, and stand in no part
+pub free-are : (rooms : List NodeRoom) (parts : List Part) (node : ℕ)
+    → AllPairs (λ one other. one < other) (free_ids rooms parts node) × All (λ cpu. cpu < cpus_of rooms node) (free_ids rooms parts node) × All (λ cpu. times_held parts node cpu ≡ 0) (free_ids rooms parts node)
+unfolding free_ids
+free-are rooms parts node =
+    let cpus = range_with_len 0 (cpus_of rooms node) in
+    let is_free : ℕ → Bool = λ cpu. eqb (times_held parts node cpu) 0 in (
+      AllPairs-filter (λ one other. one < other) is_free cpus (range-rises (cpus_of rooms node)),
+      All-filter is_free (λ cpu. cpu < cpus_of rooms node) cpus (range-below (cpus_of rooms node)),
+      All-weaker (λ cpu. is_free cpu ≡ true) (λ cpu. times_held parts node cpu ≡ 0) (λ cpu free. eqb-true (times_held parts node cpu) 0 free) (filter is_free cpus) (filter_passes is_free cpus),
+    )
 
 or_assoc : (a b c : Bool) → ((a || b) || c) ≡ (a || (b || c))
 or_assoc true b c = refl

@@ -1,0 +1,409 @@
+-- The starts of a plan, one after another: what each takes, that all stays sound, and that each job gets what was planned.
+use Rattle.std.proofs.Common.{◌≡◌, ◌≢◌, ℕ, ◌<◌, Bool, true, false, ◌||◌, ◌&&◌, not, eqb, List, [], ◌∷◌, ◌++◌, map, filter, fold, get_or, All, arith, refl, ap, sym, ◌∙◌, append_assoc, inl, inr, ◌+◌}
+use Rattle.std.proofs.Common.{◌≤◌, cond, length, sum_by, AllPairs, Contains, Any}
+use Rattle.std.specs.List.{list_any, AllZip}
+use Rattle.std.proofs.lemmas.Bool.{cases_Bool, cases_eq, eq-eqb, ne_eqb, both_ways, eqb-false}
+use Rattle.std.proofs.lemmas.List.{append-nil, length-take, length-map, length-take-le, get_or-map}
+use Rattle.std.proofs.lemmas.List.Sums.{fold_push, sum_by-cons, sum_by-le-sum_by, get_or-le-sum_by}
+use Rattle.std.proofs.lemmas.List.Folds.{list_any-append}
+use Rattle.std.proofs.lemmas.List.Elements.{All-head, All-tail, All-map, All-weaker, All-cons, All-take, All-nil}
+use Rattle.resource_profile.specs.declared.NodeRoom.{NodeRoom}
+use Rattle.backfill_planner.specs.declared.Placed.{Placed}
+use Rattle.ctl_state.specs.declared.record.Part.{Part}
+use Rattle.ctl_state.specs.declared.record.NodeRecord.{NodeRecord}
+use Rattle.ctl_state.specs.declared.record.JobRecord.{JobRecord}
+use Rattle.ctl_state.specs.Events.{started_as, MayTake}
+use Rattle.ctl_state.specs.Holding.{has_cpu, parts_of, cpus_of, mem_of, mem_in, times_held, mem_held, free_ids, has_members, IsPartOf}
+use Rattle.ctl_state.specs.Planning.{room_of}
+use Rattle.ctl_state.specs.Soundness.{IsNode, HaveRisingIds, IsSound, PlansPending, pending_ids}
+use Rattle.ctl_pass.specs.HeldIds.{AddsParts, part_by}
+use Rattle.ctl_pass.specs.Awaiting.{Awaits, CanBegin}
+use Rattle.ctl_pass.specs.declared.starts.JobStart.{JobStart}
+use Rattle.ctl_pass.specs.Starting.{part_of, start_of, begun, started, IsAsPlanned, HasStarted}
+use Rattle.ctl_pass.proofs.Lists.{pairs-head, pairs-tail, pairs-map, map-same, pairs-take, sum_by-map, Any-kept}
+use Rattle.ctl_pass.proofs.Held.{few-cpus, part-shown, cpus_held, cpus_in, held-counted, held-grown, free-are, free-counted}
+use Rattle.std.proofs.lemmas.List.Kept.{AllPairs-cons}
+use Rattle.backfill_planner.specs.declared.Share.{Share}
+use Rattle.backfill_planner.specs.Plans.{starts_at, cpus_on, mem_on}
+use Rattle.backfill_planner.specs.Placements.{AreParts}
+use Rattle.ctl_state.specs.State.{State}
+use Rattle.ctl_state.specs.Laws.{Taking, TakenTimes, TakenMem, OthersWait, Planning}
+use Rattle.ctl_pass.proofs.Ready.{no-plan}
+use Rattle.ctl_state.specs.JobStates.{is_pending}
+
+-- a start changes no number, and nothing of another job
+started-id : (now id : ℕ) (parts : List Part) (job : JobRecord) → (started_as now id parts job).id ≡ job.id
+started-id now id parts job = elim (cases_Bool (eqb job.id id)) [ inl here ↦ rw here refl | inr other ↦ rw other refl ]
+
+pub rising-begun : (now : ℕ) (jobs : List JobRecord) (start : JobStart) → HaveRisingIds jobs → HaveRisingIds (begun now jobs start)
+rising-begun now jobs start rising =
+    let change = started_as now start.id start.parts in
+    pairs-map (λ (one other : JobRecord). one.id < other.id) change jobs
+    (λ i j d before within. omega (arith, rising i j d before within, started-id now start.id start.parts (get_or jobs i d), started-id now start.id start.parts (get_or jobs j d)))
+
+-- whether a part passes a test: where the jobs with the number held nothing, one of the jobs' or of the new ones does
+any-started : (p : Part → Bool) (now id : ℕ) (parts : List Part) (jobs : List JobRecord) → All (λ (job : JobRecord). job.id ≡ id → job.parts ≡ []) jobs
+    → list_any p (parts_of (map (started_as now id parts) jobs)) ≡ (list_any p (parts_of jobs) || (list_any (λ (job : JobRecord). eqb job.id id) jobs && list_any p parts))
+any-started p now id parts [] empty = refl
+any-started p now id parts (job ∷ jobs) empty =
+    let none : JobRecord → Type 0 = λ one. one.id ≡ id → one.parts ≡ [] in
+    let later = parts_of (map (started_as now id parts) jobs) in
+    let rest = any-started p now id parts jobs (All-tail none job jobs empty) in
+    let found = list_any (λ (one : JobRecord). eqb one.id id) jobs in
+    elim (cases_eq job.id id) [
+      | inl here ↦
+          rw (eq-eqb job.id id here, All-head none job jobs empty here, list_any-append p parts later, rest)
+          (first (list_any p parts) (list_any p (parts_of jobs)) found)
+      | inr other ↦
+          rw (ne_eqb job.id id other, list_any-append p job.parts later, list_any-append p job.parts (parts_of jobs), rest)
+          (others (list_any p job.parts) (list_any p (parts_of jobs)) (found && list_any p parts))
+    ]
+  where
+    first : (new old found : Bool) → (new || (old || (found && new))) ≡ (old || new)
+    first true true found = refl
+    first true false found = refl
+    first false true found = refl
+    first false false true = refl
+    first false false false = refl
+
+    others : (one old more : Bool) → (one || (old || more)) ≡ ((one || old) || more)
+    others true old more = refl
+    others false old more = refl
+
+-- another placement's job is still there, and holds nothing
+awaits-on : (now : ℕ) (jobs : List JobRecord) (start : JobStart) (placed : Placed) → start.id ≢ placed.id → Awaits jobs placed → Awaits (begun now jobs start) placed
+awaits-on now jobs start placed other awaits = record {
+  known = known-on jobs awaits.known;
+  empty = All-map (λ (job : JobRecord). job.id ≡ placed.id → job.parts ≡ []) (started_as now start.id start.parts) jobs
+      (All-weaker (λ (job : JobRecord). job.id ≡ placed.id → job.parts ≡ []) (λ job. (started_as now start.id start.parts job).id ≡ placed.id → (started_as now start.id start.parts job).parts ≡ [])
+      (λ job none. elim (cases_eq job.id start.id) [
+        | inl here ↦ λ same. absurd (other (sym here ∙ sym (started-id now start.id start.parts job) ∙ same))
+        | inr off ↦ let no : eqb job.id start.id ≡ false = ne_eqb job.id start.id off in rw no none
+      ]) jobs awaits.empty);
+}
+  where
+    known-on : (some : List JobRecord) → list_any (λ (job : JobRecord). eqb job.id placed.id) some ≡ true → list_any (λ (job : JobRecord). eqb job.id placed.id) (begun now some start) ≡ true
+    known-on [] known = known
+    known-on (job ∷ some) known =
+        let same = started-id now start.id start.parts job in
+        elim (cases_Bool (eqb job.id placed.id)) [
+          | inl here ↦ rw (same, here) refl
+          | inr off ↦ rw (same, off) (known-on some (rw off at known))
+        ]
+
+-- one placement starts: its parts are those of the definition, and the later ones can start after it
+pub can-begin : (now : ℕ) (nodes : List NodeRecord) (jobs : List JobRecord) (before after : List Bool) (placed : Placed) (later : List Placed) (start : JobStart) → All IsNode nodes
+    → CanBegin jobs before (placed ∷ later) → start ≡ record { id = placed.id; parts = map (part_by (map room_of nodes) before) placed.parts } → AddsParts before start.parts after
+    → (start ≡ start_of (map room_of nodes) jobs placed) × CanBegin (begun now jobs start) after later
+can-begin now nodes jobs before after placed later start each can is adds =
+    let rooms = map room_of nodes in
+    let parts = map-same (part_by rooms before) (part_of rooms jobs) placed.parts (λ k d below. part-shown rooms jobs before (get_or placed.parts k d) (few-cpus nodes (get_or placed.parts k d).node each) can.shown) in
+    let id : start.id ≡ placed.id = ap (λ (one : JobStart). one.id) is in
+    let first = All-head (Awaits jobs) placed later can.awaits in
+    let differs = pairs-head (λ (one other : Placed). one.id ≢ other.id) placed later can.once in (
+      is ∙ ap (λ (some : List Part). record { id = placed.id; parts = some }) parts,
+      record {
+        shown = record {
+          bits = λ node cpu short.
+              let p : Part → Bool = has_cpu node cpu in
+              let empty : All (λ (job : JobRecord). job.id ≡ start.id → job.parts ≡ []) jobs = rw id first.empty in
+              let known : list_any (λ (job : JobRecord). eqb job.id start.id) jobs ≡ true = rw id first.known in
+              adds.bits node cpu short ∙ ap (λ bit. bit || list_any p start.parts) (can.shown.bits node cpu short)
+              ∙ ap (λ bit. list_any p (parts_of jobs) || (bit && list_any p start.parts)) (sym known) ∙ sym (any-started p now start.id start.parts jobs empty);
+        };
+        awaits = λ k d below. awaits-on now jobs start (get_or later k d) (λ same. differs k d below (sym id ∙ same)) (All-tail (Awaits jobs) placed later can.awaits k d below);
+        once = pairs-tail (λ (one other : Placed). one.id ≢ other.id) placed later can.once;
+      },
+    )
+
+pub can-pass : (jobs : List JobRecord) (held : List Bool) (placed : Placed) (later : List Placed) → CanBegin jobs held (placed ∷ later) → CanBegin jobs held later
+can-pass jobs held placed later can = record {
+  shown = can.shown;
+  awaits = All-tail (Awaits jobs) placed later can.awaits;
+  once = pairs-tail (λ (one other : Placed). one.id ≢ other.id) placed later can.once;
+}
+
+-- the starts so far are the first ones, and the later placements can start after them
+pub record AreFirst (now : ℕ) (nodes : List NodeRecord) (jobs : List JobRecord) (held : List Bool) (placements : List Placed) (starts : List JobStart) (all : List JobStart) : Type 0 where
+  pub can : CanBegin (fold (begun now) jobs starts) held placements
+  pub whole : starts ++ (started (map room_of nodes) now (fold (begun now) jobs starts) placements).starts ≡ all
+
+pub first-begun : (now : ℕ) (nodes : List NodeRecord) (jobs : List JobRecord) (before after : List Bool) (placed : Placed) (later : List Placed) (starts all : List JobStart) (start : JobStart) → All IsNode nodes → placed.start ≡ now
+    → start ≡ record { id = placed.id; parts = map (part_by (map room_of nodes) before) placed.parts } → AddsParts before start.parts after
+    → AreFirst now nodes jobs before (placed ∷ later) starts all → AreFirst now nodes jobs after later (starts ++ start ∷ []) all
+unfolding started
+first-begun now nodes jobs before after placed later starts all start each due is adds so_far =
+    let rooms = map room_of nodes in
+    let middle = fold (begun now) jobs starts in
+    let step = can-begin now nodes middle before after placed later start each so_far.can is adds in
+    let jobs_are : fold (begun now) jobs (starts ++ start ∷ []) ≡ begun now middle start = fold_push (begun now) jobs starts start in
+    let opened : (started rooms now middle (placed ∷ later)).starts ≡ start ∷ (started rooms now (begun now middle start) later).starts =
+    rw (eq-eqb placed.start now due) (ap (λ (one : JobStart). one ∷ (started rooms now (begun now middle one) later).starts) (sym step.0)) in
+    record {
+      can = rw jobs_are step.1;
+      whole = rw jobs_are (append_assoc starts (start ∷ []) (started rooms now (begun now middle start) later).starts ∙ ap (λ rest. starts ++ rest) (sym opened) ∙ so_far.whole);
+    }
+
+pub first-passed : (now : ℕ) (nodes : List NodeRecord) (jobs : List JobRecord) (held : List Bool) (placed : Placed) (later : List Placed) (starts all : List JobStart) → placed.start ≢ now
+    → AreFirst now nodes jobs held (placed ∷ later) starts all → AreFirst now nodes jobs held later starts all
+unfolding started
+first-passed now nodes jobs held placed later starts all not_due so_far =
+    let rooms = map room_of nodes in
+    let middle = fold (begun now) jobs starts in
+    let opened : (started rooms now middle (placed ∷ later)).starts ≡ (started rooms now middle later).starts = rw (ne_eqb placed.start now not_due) refl in
+    record {
+      can = can-pass middle held placed later so_far.can;
+      whole = ap (λ rest. starts ++ rest) (sym opened) ∙ so_far.whole;
+    }
+
+pub first-all : (now : ℕ) (nodes : List NodeRecord) (jobs : List JobRecord) (held : List Bool) (starts all : List JobStart) → AreFirst now nodes jobs held [] starts all → starts ≡ all
+unfolding started
+first-all now nodes jobs held starts all so_far = sym (append-nil starts) ∙ so_far.whole
+
+-- none starts where none begins now; those that stay begin later; and the jobs are those that the starts make
+pub none-starts : (rooms : List NodeRoom) (now : ℕ) (jobs : List JobRecord) (placements : List Placed) → list_any (λ (placed : Placed). eqb placed.start now) placements ≡ false → (started rooms now jobs placements).starts ≡ []
+unfolding started
+none-starts rooms now jobs [] none = refl
+none-starts rooms now jobs (placed ∷ later) none = elim (cases_Bool (eqb placed.start now)) [
+  | inl due ↦ absurd (both_ways true (rw due at none) refl)
+  | inr not_due ↦ rw not_due (none-starts rooms now jobs later (rw not_due at none))
+]
+
+pub stays-later : (rooms : List NodeRoom) (now : ℕ) (jobs : List JobRecord) (placements : List Placed) → (started rooms now jobs placements).stays ≡ filter (λ (placed : Placed). not (eqb placed.start now)) placements
+unfolding started
+stays-later rooms now jobs [] = refl
+stays-later rooms now jobs (placed ∷ later) = elim (cases_Bool (eqb placed.start now)) [
+  | inl due ↦ rw due (stays-later rooms now (begun now jobs (start_of rooms jobs placed)) later)
+  | inr not_due ↦ rw not_due (ap (λ rest. placed ∷ rest) (stays-later rooms now jobs later))
+]
+
+pub jobs-begun : (rooms : List NodeRoom) (now : ℕ) (jobs : List JobRecord) (placements : List Placed) → (started rooms now jobs placements).jobs ≡ fold (begun now) jobs (started rooms now jobs placements).starts
+unfolding started
+jobs-begun rooms now jobs [] = refl
+jobs-begun rooms now jobs (placed ∷ later) = elim (cases_Bool (eqb placed.start now)) [
+  | inl due ↦ rw due (jobs-begun rooms now (begun now jobs (start_of rooms jobs placed)) later)
+  | inr not_due ↦ rw not_due (jobs-begun rooms now jobs later)
+]
+
+-- the laws of starts that a pass rests on
+pub record StartLaws : Type 0 where
+  pub taking : Taking
+  pub times : TakenTimes
+  pub mem : TakenMem
+  pub waits : OthersWait
+  pub planned : Planning
+
+-- a placement that can start once it is due
+pub record IsReady (s : State) (placed : Placed) : Type 0 where
+  pub waits : Contains (pending_ids s.jobs) placed.id
+  pub last : placed.start ≤ 250002592000
+  pub some : 1 ≤ length placed.parts
+  pub parts : AreParts (map room_of s.nodes) placed.parts
+
+-- A plan whose due placements can start one after another: the state is sound, no two placements are of one job, and all that
+-- the due ones take fits beside what is held.
+pub record CanStart (s : State) (plan : List Placed) : Type 0 where
+  pub sound : IsSound s
+  pub each : All (IsReady s) plan
+  pub apart : AllPairs (λ (one other : Placed). one.id ≢ other.id) plan
+  pub cpus : (node : ℕ) → cpus_held (map room_of s.nodes) (parts_of s.jobs) node + sum_by (cpus_on node) (starts_at s.moment plan) ≤ cpus_of (map room_of s.nodes) node
+  pub mem : (node : ℕ) → mem_held (parts_of s.jobs) node + sum_by (mem_on node) (starts_at s.moment plan) ≤ mem_of (map room_of s.nodes) node
+
+-- the parts that a placement gets, and the state once it has started
+abbrev pub parts_for : State → Placed → List Part
+parts_for s placed = map (part_of (map room_of s.nodes) s.jobs) placed.parts
+
+abbrev pub after_start : State → Placed → State
+after_start s placed = record s { jobs = begun s.moment s.jobs (start_of (map room_of s.nodes) s.jobs placed); plan = [] }
+
+-- they take no more than was planned
+cpus-taken : (s : State) (placed : Placed) (node : ℕ) → sum_by (cpus_in node) (parts_for s placed) ≤ cpus_on node placed
+cpus-taken s placed node =
+    let rooms = map room_of s.nodes in
+    let part = part_of rooms s.jobs in
+    let amount : Share → ℕ = λ share. cond (eqb share.node node) share.cpus 0 in
+    omega (arith, sum_by-map (cpus_in node) part placed.parts, sum_by-le-sum_by (λ share. cpus_in node (part share)) amount placed.parts less)
+  where
+    less : (share : Share) → cpus_in node (part_of (map room_of s.nodes) s.jobs share) ≤ cond (eqb share.node node) share.cpus 0
+    less share = elim (cases_Bool (eqb share.node node)) [
+      | inl on ↦ rw on (omega (arith, length-take share.cpus (free_ids (map room_of s.nodes) (parts_of s.jobs) share.node)))
+      | inr off ↦ rw off (omega arith)
+    ]
+
+mem-taken : (s : State) (placed : Placed) (node : ℕ) → mem_held (parts_for s placed) node ≡ mem_on node placed
+unfolding mem_held
+mem-taken s placed node = sum_by-map (mem_in node) (part_of (map room_of s.nodes) s.jobs) placed.parts
+
+-- and a placement with memory for it may take them
+may-take : (s : State) (placed : Placed) → IsReady s placed → ((node : ℕ) → mem_held (parts_of s.jobs) node + mem_on node placed ≤ mem_of (map room_of s.nodes) node) → MayTake (map room_of s.nodes) s.jobs placed.id (parts_for s placed)
+may-take s placed ready fits =
+    let rooms = map room_of s.nodes in
+    let held = parts_of s.jobs in
+    let part = part_of rooms s.jobs in
+    let shares = placed.parts in
+    record {
+      waits = ready.waits;
+      some = some shares ready.some;
+      each = All-map (IsPartOf rooms) part shares (λ k d below.
+          let share = get_or shares k d in
+          let free = free-are rooms held share.node in
+          record {
+            node = (ready.parts.each k d below).node;
+            rising = pairs-take (λ one other. one < other) share.cpus (free_ids rooms held share.node) free.0;
+            cpus = All-take (λ cpu. cpu < cpus_of rooms share.node) share.cpus (free_ids rooms held share.node) free.1;
+          });
+      apart = pairs-map (λ (one other : Part). one.node ≢ other.node) part shares ready.parts.apart;
+      unheld = All-map (λ (part : Part). All (λ cpu. times_held held part.node cpu ≡ 0) part.cpus) part shares (λ k d below.
+          let share = get_or shares k d in
+          All-take (λ cpu. times_held held share.node cpu ≡ 0) share.cpus (free_ids rooms held share.node) (free-are rooms held share.node).2);
+      mem = λ node. omega (arith, fits node, mem-taken s placed node);
+    }
+  where
+    some : (shares : List Share) → 1 ≤ length shares → has_members (map (part_of (map room_of s.nodes) s.jobs) shares) ≡ true
+    some [] more = absurd (omega (arith, more))
+    some (share ∷ shares) more = refl
+
+-- what holds of each placement holds of each that stays
+All-stays : (P : Placed → Type 0) (rooms : List NodeRoom) (now : ℕ) (jobs : List JobRecord) (plan : List Placed) → All P plan → All P (started rooms now jobs plan).stays
+unfolding started
+All-stays P rooms now jobs [] each = each
+All-stays P rooms now jobs (placed ∷ later) each =
+    let rest = All-tail P placed later each in
+    elim (cases_Bool (eqb placed.start now)) [
+      | inr after ↦ rw after (All-cons P placed (started rooms now jobs later).stays (All-head P placed later each) (All-stays P rooms now jobs later rest))
+      | inl due ↦ rw due (All-stays P rooms now (begun now jobs (start_of rooms jobs placed)) later rest)
+    ]
+
+-- where the first placement isn't due, the others can start as well
+pub can-later : (s : State) (placed : Placed) (later : List Placed) → CanStart s (placed ∷ later) → eqb placed.start s.moment ≡ false → CanStart s later
+can-later s placed later can other = record {
+  sound = can.sound;
+  each = All-tail (IsReady s) placed later can.each;
+  apart = pairs-tail (λ (one other : Placed). one.id ≢ other.id) placed later can.apart;
+  cpus = λ node. rw other at (can.cpus node);
+  mem = λ node. rw other at (can.mem node);
+}
+
+module _ (laws : StartLaws) where
+  -- where the first placement is due, the others can start after it
+  pub can-begun : (s : State) (placed : Placed) (later : List Placed) → CanStart s (placed ∷ later) → eqb placed.start s.moment ≡ true → CanStart (after_start s placed) later
+  can-begun s placed later can due =
+      let rooms = map room_of s.nodes in
+      let held = parts_of s.jobs in
+      let more = parts_for s placed in
+      let first = All-head (IsReady s) placed later can.each in
+      let rest = All-tail (IsReady s) placed later can.each in
+      let apart = pairs-head (λ (one other : Placed). one.id ≢ other.id) placed later can.apart in
+      let cpus : (node : ℕ) → cpus_held rooms held node + sum_by (cpus_on node) (placed ∷ starts_at s.moment later) ≤ cpus_of rooms node = λ node. rw due at (can.cpus node) in
+      let mem : (node : ℕ) → mem_held held node + sum_by (mem_on node) (placed ∷ starts_at s.moment later) ≤ mem_of rooms node = λ node. rw due at (can.mem node) in
+      let may = may-take s placed first (λ node. omega (arith, mem node, sum_by-cons (mem_on node) placed (starts_at s.moment later))) in
+      record {
+        sound = laws.taking s placed.id more [] can.sound may (no-plan (map (started_as s.moment placed.id more) s.jobs));
+        each = λ k d below. let was = rest k d below in record {
+          waits = laws.waits s.jobs s.moment placed.id (get_or later k d).id more can.sound.rising was.waits (λ same. apart k d below (sym same));
+          last = was.last;
+          some = was.some;
+          parts = was.parts;
+        };
+        apart = pairs-tail (λ (one other : Placed). one.id ≢ other.id) placed later can.apart;
+        cpus = λ node.
+            let grown = held-grown rooms held more (parts_of (after_start s placed).jobs) node (λ cpu. laws.times s s.moment placed.id node cpu more can.sound first.waits) in
+            omega (arith, cpus node, sum_by-cons (cpus_on node) placed (starts_at s.moment later), grown, held-counted rooms more node may.each, cpus-taken s placed node);
+        mem = λ node. omega (arith, mem node, sum_by-cons (mem_on node) placed (starts_at s.moment later), laws.mem s s.moment placed.id node more can.sound first.waits, mem-taken s placed node);
+      }
+
+  -- who isn't named by the plan still waits
+  waits-started : (s : State) (plan : List Placed) (other : ℕ) → CanStart s plan → All (λ (placed : Placed). other ≢ placed.id) plan → Contains (pending_ids s.jobs) other
+      → Contains (pending_ids (started (map room_of s.nodes) s.moment s.jobs plan).jobs) other
+  unfolding started
+  waits-started s [] other can apart waits = waits
+  waits-started s (placed ∷ later) other can apart waits =
+      let rest = All-tail (λ (one : Placed). other ≢ one.id) placed later apart in
+      elim (cases_Bool (eqb placed.start s.moment)) [
+        | inr after ↦ rw after (waits-started s later other (can-later s placed later can after) rest waits)
+        | inl due ↦ rw due (waits-started (after_start s placed) later other (can-begun s placed later can due) rest
+            (laws.waits s.jobs s.moment placed.id other (parts_for s placed) can.sound.rising waits (All-head (λ (one : Placed). other ≢ one.id) placed later apart)))
+      ]
+
+  -- so the starts keep all sound, and what stays of the plan names pending jobs
+  pub sound-started : (s : State) (plan : List Placed) → CanStart s plan
+      → IsSound (record s { jobs = (started (map room_of s.nodes) s.moment s.jobs plan).jobs; plan = (started (map room_of s.nodes) s.moment s.jobs plan).stays })
+  unfolding started
+  sound-started s [] can = laws.planned s [] can.sound (no-plan s.jobs)
+  sound-started s (placed ∷ later) can = elim (cases_Bool (eqb placed.start s.moment)) [
+    | inl due ↦ rw due (sound-started (after_start s placed) later (can-begun s placed later can due))
+    | inr after ↦
+        let rooms = map room_of s.nodes in
+        let rest = started rooms s.moment s.jobs later in
+        let still = can-later s placed later can after in
+        let sound = sound-started s later still in
+        let first = All-head (IsReady s) placed later can.each in
+        let apart = pairs-head (λ (one other : Placed). one.id ≢ other.id) placed later can.apart in
+        let planned : PlansPending rest.jobs (placed ∷ rest.stays) = record {
+          pending = All-cons (λ (one : Placed). Contains (pending_ids rest.jobs) one.id) placed rest.stays (waits-started s later placed.id still apart first.waits) sound.plan.pending;
+          once = AllPairs-cons (λ (one other : Placed). one.id ≢ other.id) placed rest.stays (All-stays (λ (one : Placed). placed.id ≢ one.id) rooms s.moment s.jobs later apart) sound.plan.once;
+          last = All-cons (λ (one : Placed). one.start ≤ 250002592000) placed rest.stays first.last sound.plan.last;
+        } in
+        rw after (laws.planned (record s { jobs = rest.jobs; plan = rest.stays }) (placed ∷ rest.stays) sound planned)
+  ]
+
+-- a share takes no more than its placement, so where that fits the share gets all its processors
+given : (rooms : List NodeRoom) (jobs : List JobRecord) (shares : List Share) → All (λ (share : Share). share.cpus ≤ length (free_ids rooms (parts_of jobs) share.node)) shares → AllZip IsAsPlanned shares (map (part_of rooms jobs) shares)
+given rooms jobs [] fit = tt
+given rooms jobs (share ∷ shares) fit =
+    let fits : Share → Type 0 = λ one. one.cpus ≤ length (free_ids rooms (parts_of jobs) one.node) in
+    (record { node = refl; cpus = length-take-le share.cpus (free_ids rooms (parts_of jobs) share.node) (All-head fits share shares fit); mem = refl }, given rooms jobs shares (All-tail fits share shares fit))
+
+-- the first that starts
+given-first : (s : State) (placed : Placed) (later : List Placed) → CanStart s (placed ∷ later) → eqb placed.start s.moment ≡ true → Any (HasStarted s.moment placed) (after_start s placed).jobs
+given-first s placed later can due =
+    let rooms = map room_of s.nodes in
+    let fits : All (λ (share : Share). share.cpus ≤ length (free_ids rooms (parts_of s.jobs) share.node)) placed.parts = λ k d below.
+    let share = get_or placed.parts k d in
+    let amount : Share → ℕ = λ one. cond (eqb one.node share.node) one.cpus 0 in
+    let whole : amount share ≡ share.cpus = rw (eq-eqb share.node share.node refl) refl in
+    let room = rw due at (can.cpus share.node) in
+    omega (arith, whole, get_or-le-sum_by amount placed.parts k d below, room, sum_by-cons (cpus_on share.node) placed (starts_at s.moment later), free-counted rooms (parts_of s.jobs) share.node (can.sound.held.once share.node)) in
+    by (given rooms s.jobs placed.parts fits) (Any-kept (λ (job : JobRecord). job.id) (λ (job : JobRecord). is_pending job.state) placed.id s.jobs (All-head (IsReady s) placed later can.each).waits)
+  where
+    by : AllZip IsAsPlanned placed.parts (parts_for s placed) → Any (λ (job : JobRecord). (job.id ≡ placed.id) × (is_pending job.state ≡ true)) s.jobs → Any (HasStarted s.moment placed) (after_start s placed).jobs
+    by as_planned (k, job, inside, is, (here, pending)) =
+        let start = started_as s.moment placed.id (parts_for s placed) in
+        let starts : HasStarted s.moment placed (start job) = rw (eq-eqb job.id placed.id here) (record { id = here; state = refl; started = refl; parts = as_planned }) in
+        (k, start job, omega (arith, inside, length-map s.jobs start), get_or-map start s.jobs k job (start job) inside ∙ ap start is, starts)
+
+-- no other start changes it
+stays-given : (rooms : List NodeRoom) (now : ℕ) (jobs : List JobRecord) (placed : Placed) (plan : List Placed) → All (λ (other : Placed). placed.id ≢ other.id) plan → Any (HasStarted now placed) jobs → Any (HasStarted now placed) (started rooms now jobs plan).jobs
+unfolding started
+stays-given rooms now jobs placed [] differ has = has
+stays-given rooms now jobs placed (other ∷ later) differ (k, job, inside, is, has) =
+    let rest = All-tail (λ (one : Placed). placed.id ≢ one.id) other later differ in
+    elim (cases_Bool (eqb other.start now)) [
+      | inr after ↦ rw after (stays-given rooms now jobs placed later rest (k, job, inside, is, has))
+      | inl due ↦
+          let begins = start_of rooms jobs other in
+          let start = started_as now other.id begins.parts in
+          let same : start job ≡ job = rw (ne_eqb job.id other.id (λ equal. All-head (λ (one : Placed). placed.id ≢ one.id) other later differ (sym has.id ∙ equal))) refl in
+          rw due (stays-given rooms now (begun now jobs begins) placed later rest (k, job, omega (arith, inside, length-map jobs start), get_or-map start jobs k job job inside ∙ ap start is ∙ same, has))
+    ]
+
+-- So each placement that is due is of a job that has started with all that was planned for it.
+pub all-given : StartLaws → (s : State) (plan : List Placed) → CanStart s plan
+    → All (λ (placed : Placed). placed.start ≡ s.moment → Any (HasStarted s.moment placed) (started (map room_of s.nodes) s.moment s.jobs plan).jobs) plan
+unfolding started
+all-given laws s [] can = All-nil (λ (placed : Placed). placed.start ≡ s.moment → Any (HasStarted s.moment placed) s.jobs)
+all-given laws s (placed ∷ later) can =
+    let rooms = map room_of s.nodes in
+    let Given : List JobRecord → Placed → Type 0 = λ jobs one. one.start ≡ s.moment → Any (HasStarted s.moment one) jobs in
+    elim (cases_Bool (eqb placed.start s.moment)) [
+      | inr after ↦
+          let jobs = (started rooms s.moment s.jobs later).jobs in
+          let none : Given jobs placed = λ now. absurd (eqb-false placed.start s.moment after now) in
+          rw after (All-cons (Given jobs) placed later none (all-given laws s later (can-later s placed later can after)))
+      | inl due ↦
+          let next = after_start s placed in
+          let jobs = (started rooms s.moment next.jobs later).jobs in
+          let apart = pairs-head (λ (one other : Placed). one.id ≢ other.id) placed later can.apart in
+          let first : Given jobs placed = λ now. stays-given rooms s.moment next.jobs placed later apart (given-first s placed later can due) in
+          rw due (All-cons (Given jobs) placed later first (all-given laws next later (can-begun laws s placed later can due)))
+    ]
