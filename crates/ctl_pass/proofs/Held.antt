@@ -1,6 +1,7 @@
 -- What parts hold of a node's processors, counted and as bits, and what is free.
+use Rattle.std.proofs.lemmas.Bool.Decides.{nat_tests}
 use Rattle.std.proofs.Common.{◌≡◌, ℕ, ◌+◌, ◌≤◌, ◌<◌, Bool, true, cond, eqb, List, length, filter, sum_by, All, AllPairs, refl, arith, inl, inr, ◌≢◌, false, ◌||◌, not, [], ◌∷◌, ◌++◌, map, take, get_or}
-use Rattle.std.proofs.Common.{count_by, zero, suc, ap, sym, ◌∙◌}
+use Rattle.std.proofs.Common.{count_by, zero, suc, ap, sym, ◌∙◌, rules, tests}
 use Rattle.std.specs.List.{range_with_len, list_any}
 use Rattle.std.proofs.lemmas.Bool.{cases_Bool, eqb-true, eqb-false, ne_eqb, and_left}
 use Rattle.std.proofs.lemmas.List.Sums.{length-filter}
@@ -89,13 +90,7 @@ or_none false = refl
 
 -- parts that are held one list after another
 pub adds-then : (before middle after : List Bool) (parts later : List Part) → AddsParts before parts middle → AddsParts middle later after → AddsParts before (parts ++ later) after
-adds-then before middle after parts later one two = record {
-  bits = λ node cpu short.
-      let p : Part → Bool = has_cpu node cpu in
-      two.bits node cpu short ∙ ap (λ bit. bit || list_any p later) (one.bits node cpu short)
-      ∙ or_assoc (is_held before node cpu) (list_any p parts) (list_any p later)
-      ∙ ap (λ bit. is_held before node cpu || bit) (sym (list_any-append p parts later));
-}
+adds-then before middle after parts later one two = record { bits = λ node cpu short. grind (arith, one.bits node cpu short, two.bits node cpu short, list_any-append (has_cpu node cpu) parts later) }
 
 -- the lowest processors that pass a test: one more is looked at
 range-more : (n : ℕ) → range_with_len 0 (n + 1) ≡ range_with_len 0 n ++ n ∷ []
@@ -164,14 +159,8 @@ part-elsewhere rooms before held shares i share within is apart few adds =
 
 -- a count is 0 where none passes
 count-none : {X : Type 0} (p : X → Bool) (xs : List X) → eqb (count_by p xs) 0 ≡ not (list_any p xs)
-count-none p xs = ap (λ count. eqb count 0) (sym (length-filter p xs)) ∙ none-passes p xs
-  where
-    none-passes : {X : Type 0} (p : X → Bool) (xs : List X) → eqb (length (filter p xs)) 0 ≡ not (list_any p xs)
-    none-passes p [] = refl
-    none-passes p (x ∷ xs) = elim (cases_Bool (p x)) [
-      | inl passes ↦ rw passes (ne_eqb (length (x ∷ filter p xs)) 0 (λ same. omega (arith, same)))
-      | inr fails ↦ rw fails (none-passes p xs)
-    ]
+count-none p [] = refl
+count-none p (x ∷ xs) = grind (arith, nat_tests, count-none p xs, length-filter p xs, length-filter p (x ∷ xs))
 
 -- what is free by bits that show the jobs' parts is what is free beside the jobs
 pub part-shown : (rooms : List NodeRoom) (jobs : List JobRecord) (held : List Bool) (share : Share) → cpus_of rooms share.node ≤ 1024 → ShowsParts (parts_of jobs) held → part_by rooms held share ≡ part_of rooms jobs share

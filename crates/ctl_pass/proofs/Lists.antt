@@ -1,6 +1,7 @@
 -- What holds of lists: each two elements, sums, ranges, and steps of loops.
+use Rattle.std.proofs.lemmas.Bool.Decides.{nat_tests}
 use Rattle.std.proofs.Common.{◌≡◌, ◌≢◌, ℕ, zero, suc, ◌+◌, ◌≤◌, ◌<◌, Bool, true, false, cond, eqb, List, [], ◌∷◌, length, map, filter, flat_map, sum_by, take, get_or, All, AllPairs, Any, Contains}
-use Rattle.std.proofs.Common.{arith, refl, inl, inr, ◌&&◌, ◌++◌, drop, set, ap, sym, ◌∙◌, append_assoc}
+use Rattle.std.proofs.Common.{arith, refl, inl, inr, ◌&&◌, ◌++◌, drop, set, ap, sym, ◌∙◌, append_assoc, rules, tests}
 use Rattle.std.specs.List.{list_any, range_with_len, list_all, zip, HoldsAt}
 use Rattle.std.proofs.lemmas.Bool.{cases_Bool, both_ways, eqb-true, eq-eqb, ne_eqb}
 use Rattle.std.proofs.lemmas.List.{get_or-map, length-map, get_or-take, length-take, take-map, take_more, drop_more, map-append}
@@ -104,20 +105,13 @@ range-below count k d inside =
 -- how often a number stands in a range that it is before, or within
 range-before : (x low count : ℕ) → x < low → sum_by (λ number. cond (eqb x number) 1 0) (range_with_len low count) ≡ 0
 range-before x low zero before = refl
-range-before x low (suc count) before =
-    let differs : eqb x low ≡ false = ne_eqb x low (λ same. omega (arith, before, same)) in
-    rw (sum_by-cons (λ number. cond (eqb x number) 1 0) low (range_with_len (low + 1) count), differs) (omega (arith, range-before x (low + 1) count (omega (arith, before))))
+range-before x low (suc count) before = grind (arith, nat_tests, sum_by-cons (λ number. cond (eqb x number) 1 0) low (range_with_len (low + 1) count), range-before x (low + 1) count)
 
 range-within : (x low count : ℕ) → low ≤ x → x < low + count → sum_by (λ number. cond (eqb x number) 1 0) (range_with_len low count) ≡ 1
 range-within x low zero above below = absurd (omega (arith, above, below))
-range-within x low (suc count) above below = elim (cases_Bool (eqb x low)) [
-  | inl here ↦
-      let same = eqb-true x low here in
-      rw (sum_by-cons (λ number. cond (eqb x number) 1 0) low (range_with_len (low + 1) count), here) (omega (arith, range-before x (low + 1) count (omega (arith, same))))
-  | inr later ↦
-      let differs : x ≢ low = λ same. both_ways (eqb x low) later (eq-eqb x low same) in
-      rw (sum_by-cons (λ number. cond (eqb x number) 1 0) low (range_with_len (low + 1) count), later) (omega (arith, range-within x (low + 1) count (omega (arith, above, differs)) (omega (arith, below))))
-]
+range-within x low (suc count) above below =
+    let first = sum_by-cons (λ number. cond (eqb x number) 1 0) low (range_with_len (low + 1) count) in
+    grind (arith, nat_tests, first, range-before x (low + 1) count, range-within x (low + 1) count)
 
 -- the numbers below the bound that stand in a rising list are as many as it has, where all its numbers are below the bound
 pub range-rising : (xs : List ℕ) (bound : ℕ) → AllPairs (λ one other. one < other) xs → All (λ x. x < bound) xs → sum_by (λ number. cond (list_any (λ x. eqb x number) xs) 1 0) (range_with_len 0 bound) ≡ length xs
@@ -179,7 +173,7 @@ next xs i x within is = drop_more xs i x within ∙ ap (λ first. first ∷ drop
 -- a list mapped by functions that agree on it
 pub map-same : {X Y : Type 0} (f g : X → Y) (xs : List X) → All (λ x. f x ≡ g x) xs → map f xs ≡ map g xs
 map-same f g [] same = refl
-map-same f g (x ∷ xs) same = rw (All-head (λ y. f y ≡ g y) x xs same, map-same f g xs (All-tail (λ y. f y ≡ g y) x xs same)) refl
+map-same f g (x ∷ xs) same = grind (arith, map-same f g xs (All-tail (λ y. f y ≡ g y) x xs same), All-head (λ y. f y ≡ g y) x xs same)
 
 pub filter-same : {X : Type 0} (p q : X → Bool) (xs : List X) → All (λ x. p x ≡ q x) xs → filter p xs ≡ filter q xs
 filter-same p q [] same = refl

@@ -1,6 +1,6 @@
 -- A pass: its plan can start, it is idle exactly where it changes nothing, and where the jobs come from that run after it.
 use Rattle.std.proofs.Common.{◌≡◌, ℕ, ◌+◌, ◌≤◌, ◌<◌, Bool, true, false, ◌&&◌, cond, leb, ltb, List, [], ◌∷◌, ◌++◌, length, map, filter, flat_map, sum_by, All, AllPairs, Contains, IfSome, unwrap_or}
-use Rattle.std.proofs.Common.{get_or, refl, ap, arith, ◌*◌, not, eqb, Any, ◌∙◌, inl, inr, ◌⊎◌, sym}
+use Rattle.std.proofs.Common.{get_or, refl, ap, arith, ◌*◌, not, eqb, Any, ◌∙◌, inl, inr, ◌⊎◌, sym, rules, tests}
 use Rattle.std.proofs.lemmas.Bool.{cond_both, and_parts, le-leb, lt-ltb, ltb-true, cases_order, eq-eqb, and_from, cases_Bool, eqb-true, both_ways}
 use Rattle.std.proofs.lemmas.List.{length-map, length-append, get_or_append_left, get_or-append-add, get_or_default}
 use Rattle.std.proofs.lemmas.List.Elements.{All-nil, All-append, All-head, All-tail, All-map, All-filter, All-weaker, All-contains_itself}
@@ -37,7 +37,7 @@ use Rattle.ctl_pass.specs.Passing.{is_idle, IsDecided, outcome, pass_after}
 use Rattle.ctl_pass.specs.declared.pass.Decided.{Decided}
 use Rattle.std.specs.Bool.{Decides}
 use Rattle.std.specs.Cmp.Lexicographic.{pointwise}
-use Rattle.std.proofs.lemmas.Bool.Decides.{Decides-eqb}
+use Rattle.std.proofs.lemmas.Bool.Decides.{Decides-eqb, nat_tests}
 use Rattle.std.proofs.lemmas.Slice.Eq.{slice_eq-Decides}
 use Rattle.backfill_planner.specs.declared.Share.{Share}
 use Rattle.std.specs.Prelude.{count_by}
@@ -329,10 +329,7 @@ ready-same age now (job ∷ jobs) none all =
 none-start : (rooms : List NodeRoom) (now : ℕ) (jobs : List JobRecord) (plan : List Placed) → length (started rooms now jobs plan).starts ≡ 0 → (started rooms now jobs plan).jobs ≡ jobs
 unfolding started
 none-start rooms now jobs [] none = refl
-none-start rooms now jobs (placed ∷ later) none = elim (cases_Bool (eqb placed.start now)) [
-  | inr after ↦ rw after (none-start rooms now jobs later (rw after at none))
-  | inl due ↦ absurd (omega (arith, rw due at none))
-]
+none-start rooms now jobs (placed ∷ later) none = grind (arith, nat_tests, none-start rooms now jobs later)
 
 -- An idle pass changes nothing but the moment.
 pub idle-unchanged : (s : State) (now : ℕ) → is_idle s now ≡ true → pass_after s now ≡ s
@@ -360,14 +357,14 @@ runs job = cond (is_running job.state) 1 0
 left-less : (amount lost : JobRecord → ℕ) (change : JobRecord → JobRecord) (goes : JobRecord → Bool) (jobs : List JobRecord) → ((job : JobRecord) → amount (change job) + lost job ≤ amount job)
     → sum_by amount (those_left change goes jobs) + sum_by lost jobs ≤ sum_by amount jobs
 left-less amount lost change goes [] less = omega arith
-left-less amount lost change goes (job ∷ jobs) less =
-    let rest = left-less amount lost change goes jobs less in
-    let before = sum_by-cons amount job jobs in
-    let without = sum_by-cons lost job jobs in
-    elim (cases_Bool (goes (change job))) [
-      | inl gone ↦ rw gone (omega (arith, rest, before, without, less job))
-      | inr stays ↦ rw stays (omega (arith, rest, before, without, less job, sum_by-cons amount (change job) (those_left change goes jobs)))
-    ]
+left-less amount lost change goes (job ∷ jobs) less = grind (
+  arith,
+  left-less amount lost change goes jobs less,
+  sum_by-cons amount job jobs,
+  sum_by-cons lost job jobs,
+  less job,
+  sum_by-cons amount (change job) (those_left change goes jobs),
+)
 
 -- a start leaves no more that wait, and fewer where its job waited
 waits-begun : (now id : ℕ) (parts : List Part) (job : JobRecord) → waits (started_as now id parts job) ≤ waits job

@@ -1,6 +1,7 @@
 -- What the first steps of a pass leave is sound; what waits and what is held stays the same.
+use Rattle.std.proofs.lemmas.Bool.Decides.{nat_tests}
 use Rattle.std.proofs.Common.{◌≡◌, ℕ, ◌+◌, ◌≤◌, true, false, ◌&&◌, not, eqb, leb, List, [], Contains, unwrap_or, Some, None, get_or, refl, sym, arith, suc, ◌<◌, Bool, cond, ltb, ◌∷◌, ◌++◌, length}
-use Rattle.std.proofs.Common.{map, flat_map, filter, take, All, ap, ◌∙◌, inl, inr}
+use Rattle.std.proofs.Common.{map, flat_map, filter, take, All, ap, ◌∙◌, inl, inr, rules, tests}
 use Rattle.std.proofs.lemmas.Bool.{cond_both, and_parts, cases_Bool, cases_eq, both_ways, leb-true, le-ltb, ne_eqb, eq-eqb}
 use Rattle.std.proofs.lemmas.List.Elements.{All-nil, All-weaker, All-head, All-tail, filter-append}
 use Rattle.slurm_text.specs.declared.plain.state.JobState.{JobState}
@@ -51,10 +52,7 @@ abbrev pub readied : State → ℕ → State
 readied s now = record (ready s now) { plan = []; moment = now }
 
 ended-not_holding : (state : JobState) → is_ended state ≡ true → is_holding state ≡ false
-ended-not_holding Pending ended = refl
-ended-not_holding Running ended = sym ended
-ended-not_holding (Completing final) ended = sym ended
-ended-not_holding (Ended final) ended = refl
+ended-not_holding state ended = search (rules, tests)
 
 -- limits and old records let go: what a pass plans is sound
 pub sound-readied : ReadyLaws → (s : State) (now : ℕ) → IsSound s → s.moment ≤ now → now ≤ last_moment → IsSound (readied s now)
@@ -67,33 +65,17 @@ sound-readied laws s now sound raised in_time =
     lets : (job : JobRecord) → IsKept now job → LetsGo now job (timed_out now job)
     lets job kept = cond_both (is_over now job) (changed (Leave Timeout now None) job) job (LetsGo now job) (λ over. laws.changes now (Leave Timeout now None) job refl refl kept) (λ within. laws.nothing now job kept)
 
-running-not_ended : (state : JobState) → is_running state ≡ true → is_ended state ≡ false
-running-not_ended Running running = refl
-running-not_ended Pending running = refl
-running-not_ended (Completing final) running = refl
-running-not_ended (Ended final) running = sym running
-
-running-not_pending : (state : JobState) → is_running state ≡ true → is_pending state ≡ false
-running-not_pending Running running = refl
-running-not_pending Pending running = sym running
-running-not_pending (Completing final) running = refl
-running-not_pending (Ended final) running = refl
+running-not_ended : (state : JobState) → is_running state ≡ true → (is_ended state ≡ false) × (is_pending state ≡ false)
+running-not_ended state running = search (rules, tests)
 
 ended-others : (state : JobState) → is_ended state ≡ true → (is_pending state ≡ false) × (is_holding state ≡ false)
-ended-others (Ended final) ended = (refl, refl)
-ended-others Pending ended = (sym ended, refl)
-ended-others Running ended = (refl, sym ended)
-ended-others (Completing final) ended = (refl, sym ended)
+ended-others state ended = search (rules, tests)
 
 pub pending-holds_not : (state : JobState) → is_pending state ≡ true → is_holding state ≡ false
-pending-holds_not Pending pending = refl
-pending-holds_not Running pending = sym pending
-pending-holds_not (Completing final) pending = sym pending
-pending-holds_not (Ended final) pending = refl
+pending-holds_not state pending = search (rules, tests)
 
 no_members : {X : Type 0} (xs : List X) → has_members xs ≡ false → xs ≡ []
-no_members [] none = refl
-no_members (x ∷ xs) none = absurd (both_ways true none refl)
+no_members xs none = search (rules, tests)
 
 -- a job that holds nothing has no parts
 pub no_parts : (job : JobRecord) → HasItsParts job → is_holding job.state ≡ false → job.parts ≡ []
@@ -115,7 +97,7 @@ timed_out-holds now job =
 
 timed_out-old : (age now : ℕ) (job : JobRecord) → is_old age now (timed_out now job) ≡ is_old age now job
 timed_out-old age now job =
-    by_limit (λ after. is_old age now after ≡ is_old age now job) now job (λ over running. let lasts = running-not_ended job.state running in rw lasts refl) (λ within. refl)
+    by_limit (λ after. is_old age now after ≡ is_old age now job) now job (λ over running. let lasts = (running-not_ended job.state running).0 in rw lasts refl) (λ within. refl)
 
 old-ended : (age now : ℕ) (job : JobRecord) → is_old age now job ≡ true → is_ended job.state ≡ true
 old-ended age now job old = (and_parts (is_ended job.state) (not (eqb age 0) && leb (unwrap_or job.ended 0 + age) now) old).0
@@ -139,20 +121,7 @@ left-more age now i jobs job within is =
 pub pending-left : (age now : ℕ) (jobs : List JobRecord)
     → filter (λ (job : JobRecord). is_pending job.state) (those_left (timed_out now) (is_old age now) jobs) ≡ filter (λ (job : JobRecord). is_pending job.state) jobs
 pending-left age now [] = refl
-pending-left age now (job ∷ jobs) =
-    let waits : JobRecord → Bool = λ one. is_pending one.state in
-    let rest = pending-left age now jobs in
-    elim (cases_Bool (is_old age now job)) [
-      | inl old ↦
-          let waits_not = (ended-others job.state (old-ended age now job old)).0 in
-          rw (timed_out-old age now job, old, waits_not) rest
-      | inr recent ↦
-          let left = those_left (timed_out now) (is_old age now) jobs in
-          rw (timed_out-old age now job, recent)
-          (by_limit (λ after. filter waits (after ∷ left) ≡ filter waits (job ∷ jobs)) now job
-          (λ over running. let waits_not = running-not_pending job.state running in rw waits_not rest)
-          (λ within. elim (cases_Bool (is_pending job.state)) [ inl pending ↦ rw pending (ap (λ later. job ∷ later) rest) | inr waits_not ↦ rw waits_not rest ]))
-    ]
+pending-left age now (job ∷ jobs) = grind (arith, nat_tests, pending-left age now jobs, timed_out-old age now job, old-ended age now job, ended-others job.state, running-not_ended job.state)
 
 -- nothing is dropped where none is old
 pub length-left : (age now : ℕ) (jobs : List JobRecord) → eqb (length (those_left (timed_out now) (is_old age now) jobs)) (length jobs) ≡ not (list_any (is_old age now) jobs)

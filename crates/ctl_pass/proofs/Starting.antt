@@ -1,6 +1,7 @@
 -- The starts of a plan, one after another: what each takes, that all stays sound, and that each job gets what was planned.
+use Rattle.std.proofs.lemmas.Bool.Decides.{nat_tests}
 use Rattle.std.proofs.Common.{◌≡◌, ◌≢◌, ℕ, ◌<◌, Bool, true, false, ◌||◌, ◌&&◌, not, eqb, List, [], ◌∷◌, ◌++◌, map, filter, fold, get_or, All, arith, refl, ap, sym, ◌∙◌, append_assoc, inl, inr, ◌+◌}
-use Rattle.std.proofs.Common.{◌≤◌, cond, length, sum_by, AllPairs, Contains, Any}
+use Rattle.std.proofs.Common.{◌≤◌, cond, length, sum_by, AllPairs, Contains, Any, rules, tests}
 use Rattle.std.specs.List.{list_any, AllZip}
 use Rattle.std.proofs.lemmas.Bool.{cases_Bool, cases_eq, eq-eqb, ne_eqb, both_ways, eqb-false}
 use Rattle.std.proofs.lemmas.List.{append-nil, length-take, length-map, length-take-le, get_or-map}
@@ -33,7 +34,7 @@ use Rattle.ctl_state.specs.JobStates.{is_pending}
 
 -- a start changes no number, and nothing of another job
 started-id : (now id : ℕ) (parts : List Part) (job : JobRecord) → (started_as now id parts job).id ≡ job.id
-started-id now id parts job = elim (cases_Bool (eqb job.id id)) [ inl here ↦ rw here refl | inr other ↦ rw other refl ]
+started-id now id parts job = grind (arith, nat_tests)
 
 pub rising-begun : (now : ℕ) (jobs : List JobRecord) (start : JobStart) → HaveRisingIds jobs → HaveRisingIds (begun now jobs start)
 rising-begun now jobs start rising =
@@ -164,26 +165,17 @@ first-all now nodes jobs held starts all so_far = sym (append-nil starts) ∙ so
 pub none-starts : (rooms : List NodeRoom) (now : ℕ) (jobs : List JobRecord) (placements : List Placed) → list_any (λ (placed : Placed). eqb placed.start now) placements ≡ false → (started rooms now jobs placements).starts ≡ []
 unfolding started
 none-starts rooms now jobs [] none = refl
-none-starts rooms now jobs (placed ∷ later) none = elim (cases_Bool (eqb placed.start now)) [
-  | inl due ↦ absurd (both_ways true (rw due at none) refl)
-  | inr not_due ↦ rw not_due (none-starts rooms now jobs later (rw not_due at none))
-]
+none-starts rooms now jobs (placed ∷ later) none = grind (arith, nat_tests, none-starts rooms now jobs later)
 
 pub stays-later : (rooms : List NodeRoom) (now : ℕ) (jobs : List JobRecord) (placements : List Placed) → (started rooms now jobs placements).stays ≡ filter (λ (placed : Placed). not (eqb placed.start now)) placements
 unfolding started
 stays-later rooms now jobs [] = refl
-stays-later rooms now jobs (placed ∷ later) = elim (cases_Bool (eqb placed.start now)) [
-  | inl due ↦ rw due (stays-later rooms now (begun now jobs (start_of rooms jobs placed)) later)
-  | inr not_due ↦ rw not_due (ap (λ rest. placed ∷ rest) (stays-later rooms now jobs later))
-]
+stays-later rooms now jobs (placed ∷ later) = grind (arith, nat_tests, stays-later rooms now jobs later, stays-later rooms now (begun now jobs (start_of rooms jobs placed)) later)
 
 pub jobs-begun : (rooms : List NodeRoom) (now : ℕ) (jobs : List JobRecord) (placements : List Placed) → (started rooms now jobs placements).jobs ≡ fold (begun now) jobs (started rooms now jobs placements).starts
 unfolding started
 jobs-begun rooms now jobs [] = refl
-jobs-begun rooms now jobs (placed ∷ later) = elim (cases_Bool (eqb placed.start now)) [
-  | inl due ↦ rw due (jobs-begun rooms now (begun now jobs (start_of rooms jobs placed)) later)
-  | inr not_due ↦ rw not_due (jobs-begun rooms now jobs later)
-]
+jobs-begun rooms now jobs (placed ∷ later) = grind (arith, nat_tests, jobs-begun rooms now jobs later, jobs-begun rooms now (begun now jobs (start_of rooms jobs placed)) later)
 
 -- the laws of starts that a pass rests on
 pub record StartLaws : Type 0 where
