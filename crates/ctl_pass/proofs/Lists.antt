@@ -4,10 +4,10 @@ use Rattle.std.proofs.Common.{◌≡◌, ◌≢◌, ℕ, zero, suc, ◌+◌, ◌
 use Rattle.std.proofs.Common.{arith, refl, inl, inr, ◌&&◌, ◌++◌, drop, set, ap, sym, ◌∙◌, append_assoc, rules, tests}
 use Rattle.std.specs.List.{list_any, range_with_len, list_all, zip, HoldsAt}
 use Rattle.std.proofs.lemmas.Bool.{cases_Bool, both_ways, eqb-true, eq-eqb, ne_eqb}
-use Rattle.std.proofs.lemmas.List.{get_or-map, length-map, get_or-take, length-take, take-map, take_more, drop_more, map-append}
+use Rattle.std.proofs.lemmas.List.{get_or-map, length-map, get_or-take, length-take, take-map, take_more, drop_more, map-append, get_or_default, same_lists, length-set, get_or-set_same, get_or-set_other, get_or_append_left, length-append, get_or-append-add}
 use Rattle.std.proofs.lemmas.List.Sums.{sum_by-cons, sum_by-append}
 use Rattle.std.proofs.lemmas.List.Folds.{fold-map, list_any_none, map_fixed}
-use Rattle.std.proofs.lemmas.List.Elements.{All-head, All-tail, All-weaker, All-nil, All-cons, filter_more}
+use Rattle.std.proofs.lemmas.List.Elements.{All-head, All-tail, All-weaker, All-nil, All-cons, filter_more, All-map, All-filter, All-contains, filter_passes}
 use Rattle.std.proofs.lemmas.List.FromFn.{length-range_with_len, get_or-range_with_len}
 use Rattle.std.specs.Cmp.Lexicographic.{pointwise}
 
@@ -30,17 +30,10 @@ pairs-map R f (x ∷ xs) pairs i j d before below =
 
 -- what stands among the numbers of the elements that pass is the number of one that passes
 pub Any-kept : {X : Type 0} (f : X → ℕ) (p : X → Bool) (y : ℕ) (xs : List X) → Contains (map f (filter p xs)) y → Any (λ x. (f x ≡ y) × (p x ≡ true)) xs
-Any-kept f p y [] has = absurd (omega (arith, has.1))
-Any-kept f p y (x ∷ xs) has =
-    let rest = λ (kept : Contains (map f (filter p xs)) y). later (Any-kept f p y xs kept) in
-    elim (cases_Bool (p x)) [ inl passes ↦ first rest passes (rw passes at has) | inr fails ↦ rest (rw fails at has) ]
-  where
-    later : Any (λ z. (f z ≡ y) × (p z ≡ true)) xs → Any (λ z. (f z ≡ y) × (p z ≡ true)) (x ∷ xs)
-    later (k, z, inside, is, both) = (suc k, z, omega (arith, inside), is, both)
-
-    first : (Contains (map f (filter p xs)) y → Any (λ z. (f z ≡ y) × (p z ≡ true)) (x ∷ xs)) → p x ≡ true → Contains (map f (x ∷ filter p xs)) y → Any (λ z. (f z ≡ y) × (p z ≡ true)) (x ∷ xs)
-    first rest passes (zero, inside, is) = (0, x, omega arith, refl, (is, passes))
-    first rest passes (suc k, inside, is) = rest (k, omega (arith, inside), is)
+Any-kept f p y xs has =
+    let Found : ℕ → Type 0 = λ z. Any (λ x. (f x ≡ z) × (p x ≡ true)) xs in
+    let each : All (λ x. p x ≡ true → Found (f x)) xs = λ k d below passes. (k, get_or xs k d, below, get_or_default xs k (get_or xs k d) d below, (refl, passes)) in
+    All-contains Found (map f (filter p xs)) y (All-map Found f (filter p xs) (λ k d below. All-filter p (λ x. p x ≡ true → Found (f x)) xs each k d below (filter_passes p xs k d below))) has
 
 -- larger terms have larger sums, and one more at one place a larger one
 pub sum_by-larger : {X : Type 0} (f g : X → ℕ) (xs : List X) → All (λ x. f x ≤ g x) xs → sum_by f xs ≤ sum_by g xs
@@ -119,32 +112,23 @@ range-rising [] bound rising below = sum_by-none (λ number. 0) (range_with_len 
 range-rising (x ∷ xs) bound rising below =
     let rest = range-rising xs bound (pairs-tail (λ one other. one < other) x xs rising) (All-tail (λ y. y < bound) x xs below) in
     let first = range-within x 0 bound (omega arith) (omega (arith, All-head (λ y. y < bound) x xs below)) in
-    let above = pairs-head (λ one other. one < other) x xs rising in
     let split = sum_by-add (λ number. cond (eqb x number) 1 0) (λ number. cond (list_any (λ y. eqb y number) xs) 1 0) (range_with_len 0 bound) in
     let each = sum_by-same (λ number. cond (list_any (λ y. eqb y number) (x ∷ xs)) 1 0) (λ number. cond (eqb x number) 1 0 + cond (list_any (λ y. eqb y number) xs) 1 0) (range_with_len 0 bound)
-    (λ k d inside. counts x xs _ above) in
+    (λ k d inside. counts x xs _ (pairs-head (λ one other. one < other) x xs rising)) in
     omega (arith, rest, first, split, each)
   where
     counts : (x : ℕ) (xs : List ℕ) (number : ℕ) → All (λ y. x < y) xs → cond (list_any (λ y. eqb y number) (x ∷ xs)) 1 0 ≡ cond (eqb x number) 1 0 + cond (list_any (λ y. eqb y number) xs) 1 0
-    counts x xs number above = elim (cases_Bool (eqb x number)) [
-      | inr other ↦ rw other (omega arith)
-      | inl here ↦
-          let same = eqb-true x number here in
-          let none : list_any (λ y. eqb y number) xs ≡ false = list_any_none (λ y. eqb y number) xs (All-weaker (λ y. x < y) (λ y. eqb y number ≡ false) (λ y higher. ne_eqb y number (λ is. omega (arith, higher, same, is))) xs above) in
-          rw (here, none) (omega arith)
-    ]
+    counts x xs number above =
+        let none : x ≡ number → list_any (λ y. eqb y number) xs ≡ false = λ is. list_any_none (λ y. eqb y number) xs (λ k d inside. ne_eqb (get_or xs k d) number (λ same. omega (arith, above k d inside, is, same))) in
+        grind (arith, nat_tests, none)
 
 -- a list whose numbers rise from one bound to another isn't longer than that
 pub length-rising : {X : Type 0} (f : X → ℕ) (low high : ℕ) (xs : List X) → low ≤ high → AllPairs (λ one other. f one < f other) xs → All (λ x. low ≤ f x) xs → All (λ x. f x < high) xs → length xs + low ≤ high
 length-rising f low high [] le rising above below = omega arith
 length-rising f low high (x ∷ xs) le rising above below =
-    let first : f x < high = All-head (λ y. f y < high) x xs below in
-    let least : low ≤ f x = All-head (λ y. low ≤ f y) x xs above in
-    let rest : length xs + (f x + 1) ≤ high =
-    length-rising f (f x + 1) high xs (omega arith) (pairs-tail (λ one other. f one < f other) x xs rising)
-    (λ k d within. omega (arith, pairs-head (λ one other. f one < f other) x xs rising k d within))
-    (All-tail (λ y. f y < high) x xs below) in
-    omega arith
+    let first = All-head (λ y. f y < high) x xs below in
+    let rest = length-rising f (f x + 1) high xs (omega arith) (pairs-tail (λ one other. f one < f other) x xs rising) (λ k d within. omega (arith, pairs-head (λ one other. f one < f other) x xs rising k d within)) (All-tail (λ y. f y < high) x xs below) in
+    omega (arith, All-head (λ y. low ≤ f y) x xs above)
 
 -- lists of one length compared pair by pair
 pub pointwise-zip : {X Y : Type 0} (same : X → Y → Bool) (xs : List X) (ys : List Y) → length xs ≡ length ys → list_all (λ (pair : X × Y). same pair.0 pair.1) (zip xs ys) ≡ pointwise same xs ys
@@ -182,17 +166,11 @@ filter-same p q (x ∷ xs) same = rw (All-head (λ y. p y ≡ q y) x xs same, fi
 -- a change of the one element with a number, among numbers that rise
 pub set-one : {X : Type 0} (f : X → ℕ) (change : X → X) (number place : ℕ) (x : X) (xs : List X) → AllPairs (λ one other. f one < f other) xs → place < length xs → HoldsAt (λ y. f y ≡ number) xs place → x ≡ get_or xs place x
     → set xs place (change x) ≡ map (λ y. cond (eqb (f y) number) (change y) y) xs
-set-one f change number place x [] rising within found is = absurd (omega (arith, within))
-set-one f change number zero x (y ∷ ys) rising within found is =
-    let here : eqb (f y) number ≡ true = eq-eqb (f y) number (found y) in
-    let others : map (λ z. cond (eqb (f z) number) (change z) z) ys ≡ ys =
-    map_fixed (λ z. cond (eqb (f z) number) (change z) z) ys
-    (λ k d below. rw (ne_eqb (f (get_or ys k d)) number (λ same. omega (arith, same, found y, pairs-head (λ one other. f one < f other) y ys rising k d below))) refl) in
-    rw (here, others) (ap (λ z. change z ∷ ys) is)
-set-one f change number (suc place) x (y ∷ ys) rising within found is =
-    let below : f y < f (get_or ys place x) = pairs-head (λ one other. f one < f other) y ys rising place x (omega (arith, within)) in
-    let other : eqb (f y) number ≡ false = ne_eqb (f y) number (λ same. omega (arith, same, below, found x)) in
-    rw other (ap (λ rest. y ∷ rest) (set-one f change number place x ys (pairs-tail (λ one two. f one < f two) y ys rising) (omega (arith, within)) found is))
+set-one f change number place x xs rising within found is =
+    same_lists (set xs place (change x)) (map (λ y. cond (eqb (f y) number) (change y) y) xs) (omega (arith, length-set xs place (change x), length-map xs (λ y. cond (eqb (f y) number) (change y) y)))
+    (λ k d below. let inside : k < length xs = omega (arith, below, length-set xs place (change x)) in
+    rw (get_or-map (λ y. cond (eqb (f y) number) (change y) y) xs k d d inside)
+    (grind (arith, nat_tests, get_or-set_same xs place (change x) d within, get_or-set_other xs place k (change x) d, rising k place d, rising place k d, found d, get_or_default xs place x d within)))
 
 -- none is changed where none has the number
 pub set-none : {X : Type 0} (f : X → ℕ) (change : X → X) (number : ℕ) (xs : List X) → All (λ y. f y ≢ number) xs → map (λ y. cond (eqb (f y) number) (change y) y) xs ≡ xs
@@ -200,12 +178,10 @@ set-none f change number xs none = map_fixed (λ y. cond (eqb (f y) number) (cha
 
 -- what holds of the front of a list, of its back, and of each of the lists that were joined
 pub All-front : {X : Type 0} (P : X → Type 0) (xs ys : List X) → All P (xs ++ ys) → All P xs
-All-front P [] ys each = All-nil P
-All-front P (x ∷ xs) ys each = All-cons P x xs (All-head P x (xs ++ ys) each) (All-front P xs ys (All-tail P x (xs ++ ys) each))
+All-front P xs ys each k d below = rw (get_or_append_left xs ys d k below) at (each k d (omega (arith, below, length-append xs ys)))
 
 pub All-back : {X : Type 0} (P : X → Type 0) (xs ys : List X) → All P (xs ++ ys) → All P ys
-All-back P [] ys each = each
-All-back P (x ∷ xs) ys each = All-back P xs ys (All-tail P x (xs ++ ys) each)
+All-back P xs ys each k d below = rw (get_or-append-add xs ys k d) at (each (length xs + k) d (omega (arith, below, length-append xs ys)))
 
 pub All-joined : {X Y : Type 0} (P : Y → Type 0) (f : X → List Y) (xs : List X) → All P (flat_map f xs) → All (λ x. All P (f x)) xs
 All-joined P f [] each = All-nil (λ x. All P (f x))

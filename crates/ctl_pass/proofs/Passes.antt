@@ -86,24 +86,14 @@ abbrev hold_of : ℕ → JobRecord → Part → Hold
 hold_of now job part = record { node = part.node; from = unwrap_or job.started 0; until = hold_end now job; cpus = length part.cpus; mem = part.mem }
 
 hold_end-later : (now : ℕ) (job : JobRecord) → now < hold_end now job
-hold_end-later now job =
-    let within = is_running job.state && ltb now (deadline job) in
-    cond_both within (deadline job) (now + 30) (λ end. now < end) (λ runs. ltb-true now (deadline job) (and_parts (is_running job.state) (ltb now (deadline job)) runs).1) (λ past. omega arith)
+hold_end-later now job = grind (arith, nat_tests)
 
 -- at no moment more is held of a node than the parts have
 held-most : (counted : ℕ → ℕ → ℕ) (node moment now : ℕ) (jobs : List JobRecord) → sum_by (hold_has counted node moment) (flat_map (holds_of_job now) jobs) ≤ sum_by (part_has counted node) (parts_of jobs)
 held-most counted node moment now jobs =
     joined-larger (hold_has counted node moment) (part_has counted node) (holds_of_job now) (λ (job : JobRecord). job.parts) jobs
     (λ k d below. let job = get_or jobs k d in
-    omega (arith, sum_by-map (hold_has counted node moment) (hold_of now job) job.parts, sum_by-larger (λ part. hold_has counted node moment (hold_of now job part)) (part_has counted node) job.parts (λ i part inside. most job (get_or job.parts i part))))
-  where
-    less : (on at : Bool) (amount : ℕ) → cond (on && at) amount 0 ≤ cond on amount 0
-    less true true amount = omega arith
-    less true false amount = omega arith
-    less false at amount = omega arith
-
-    most : (job : JobRecord) (part : Part) → hold_has counted node moment (hold_of now job part) ≤ part_has counted node part
-    most job part = less (is_on node part) (leb (unwrap_or job.started 0) moment && ltb moment (hold_end now job)) (counted (length part.cpus) part.mem)
+    omega (arith, sum_by-map (hold_has counted node moment) (hold_of now job) job.parts, sum_by-larger (λ part. hold_has counted node moment (hold_of now job part)) (part_has counted node) job.parts (λ i part inside. grind (arith, nat_tests))))
 
 -- and at this moment no less
 held-now : (counted : ℕ → ℕ → ℕ) (node now : ℕ) (jobs : List JobRecord) → All (λ (job : JobRecord). unwrap_or job.started 0 ≤ now) jobs
@@ -111,16 +101,7 @@ held-now : (counted : ℕ → ℕ → ℕ) (node now : ℕ) (jobs : List JobReco
 held-now counted node now jobs started =
     joined-larger (part_has counted node) (hold_has counted node now) (λ (job : JobRecord). job.parts) (holds_of_job now) jobs
     (λ k d below. let job = get_or jobs k d in
-    omega (arith, sum_by-map (hold_has counted node now) (hold_of now job) job.parts, sum_by-larger (part_has counted node) (λ part. hold_has counted node now (hold_of now job part)) job.parts (λ i part inside. least job (get_or job.parts i part) (started k d below))))
-  where
-    more : (on at : Bool) (amount : ℕ) → at ≡ true → cond on amount 0 ≤ cond (on && at) amount 0
-    more true at amount covered = rw covered (omega arith)
-    more false at amount covered = omega arith
-
-    least : (job : JobRecord) (part : Part) → unwrap_or job.started 0 ≤ now → part_has counted node part ≤ hold_has counted node now (hold_of now job part)
-    least job part before =
-        more (is_on node part) (leb (unwrap_or job.started 0) now && ltb now (hold_end now job)) (counted (length part.cpus) part.mem)
-        (rw (le-leb (unwrap_or job.started 0) now before, lt-ltb now (hold_end now job) (hold_end-later now job)) refl)
+    omega (arith, sum_by-map (hold_has counted node now) (hold_of now job) job.parts, sum_by-larger (part_has counted node) (λ part. hold_has counted node now (hold_of now job part)) job.parts (λ i part inside. grind (arith, nat_tests, started k d below, hold_end-later now job))))
 
 -- all that is held is within the nodes
 pub base-within : (s : State) → IsSound s → AreWithin (map room_of s.nodes) (flat_map (holds_of_job s.moment) s.jobs)
@@ -310,20 +291,8 @@ ready-same : (age now : ℕ) (jobs : List JobRecord) → count_by (is_over now) 
 ready-same age now [] none all = refl
 ready-same age now (job ∷ jobs) none all =
     let stays : JobRecord → Bool = λ one. not (is_old age now one) in
-    let left = those_left (timed_out now) (is_old age now) jobs in
-    let split = sum_by-cons (λ one. cond (is_over now one) 1 0) job jobs in
-    let few : length left ≤ length jobs = omega (arith, length-filter stays (map (timed_out now) jobs), count_by-le-length stays (map (timed_out now) jobs), length-map jobs (timed_out now)) in
-    elim (cases_Bool (is_over now job)) [
-      | inl over ↦
-          let one : cond {A = ℕ} (is_over now job) 1 0 ≡ 1 = rw over refl in
-          absurd (omega (arith, split, one, none))
-      | inr within ↦ elim (cases_Bool (is_old age now job)) [
-        | inl old ↦
-            let short : length left ≡ length (job ∷ jobs) = rw (within, old) at all in
-            absurd (omega (arith, short, few))
-        | inr recent ↦ rw (within, recent) (ap (λ rest. job ∷ rest) (ready-same age now jobs (omega (arith, split, none)) (omega (arith, rw (within, recent) at all))))
-      ]
-    ]
+    let changed = map (timed_out now) jobs in
+    grind (arith, nat_tests, ready-same age now jobs, sum_by-cons (λ one. cond (is_over now one) 1 0) job jobs, length-filter stays changed, count_by-le-length stays changed, length-map jobs (timed_out now))
 
 -- where none starts, they stay too
 none-start : (rooms : List NodeRoom) (now : ℕ) (jobs : List JobRecord) (plan : List Placed) → length (started rooms now jobs plan).starts ≡ 0 → (started rooms now jobs plan).jobs ≡ jobs
@@ -335,16 +304,10 @@ none-start rooms now jobs (placed ∷ later) none = grind (arith, nat_tests, non
 pub idle-unchanged : (s : State) (now : ℕ) → is_idle s now ≡ true → pass_after s now ≡ s
 unfolding is_idle
 idle-unchanged s now idle =
-    let over = eqb (count_by (is_over now) s.jobs) 0 in
-    let kept = eqb (length (ready s now).jobs) (length s.jobs) in
-    let starts = eqb (length (outcome s now).starts) 0 in
-    let plans = same_plans (outcome s now).stays s.plan in
-    let first = and_parts over (kept && (starts && plans)) idle in
-    let second = and_parts kept (starts && plans) first.1 in
-    let third = and_parts starts plans second.1 in
-    let same_jobs = none-start (map room_of s.nodes) now (ready s now).jobs (placements s now) (eqb-true (length (outcome s now).starts) 0 third.0)
-    ∙ ready-same s.settings.min_job_age now s.jobs (eqb-true (count_by (is_over now) s.jobs) 0 first.0) (eqb-true (length (ready s now).jobs) (length s.jobs) second.0) in
-    rw (same_jobs, (plans-same (outcome s now).stays s.plan).0 third.1) refl
+    let none = none-start (map room_of s.nodes) now (ready s now).jobs (placements s now) in
+    let kept = ready-same s.settings.min_job_age now s.jobs in
+    let same : ((outcome s now).jobs ≡ s.jobs) × ((outcome s now).stays ≡ s.plan) = grind (arith, nat_tests, none, kept, (plans-same (outcome s now).stays s.plan).0) in
+    rw (same.0, same.1) refl
 
 -- one for a job that waits, or that runs
 abbrev waits : JobRecord → ℕ

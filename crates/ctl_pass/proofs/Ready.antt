@@ -83,21 +83,16 @@ no_parts job has idle = no_members job.parts (has.some ∙ idle)
 
 -- a limit that is seen to changes no number and no part, nor how long the job holds, nor whether it is old
 timed_out-id : (now : ℕ) (job : JobRecord) → (timed_out now job).id ≡ job.id
-timed_out-id now job = by_limit (λ after. after.id ≡ job.id) now job (λ over running. refl) (λ within. refl)
+timed_out-id now job = grind (arith, nat_tests)
 
 timed_out-parts : (now : ℕ) (job : JobRecord) → (timed_out now job).parts ≡ job.parts
-timed_out-parts now job = by_limit (λ after. after.parts ≡ job.parts) now job (λ over running. refl) (λ within. refl)
+timed_out-parts now job = grind (arith, nat_tests)
 
 timed_out-holds : (now : ℕ) (job : JobRecord) → holds_of_job now (timed_out now job) ≡ holds_of_job now job
-timed_out-holds now job =
-    by_limit (λ after. holds_of_job now after ≡ holds_of_job now job) now job
-    (λ over running.
-    let past : ltb now (deadline job) ≡ false = le-ltb now (deadline job) (leb-true (deadline job) now (and_parts (is_running job.state) (leb (deadline job) now) over).1) in
-    rw (running, past) refl) (λ within. refl)
+timed_out-holds now job = by_limit (λ after. holds_of_job now after ≡ holds_of_job now job) now job (λ over running. grind (arith, nat_tests)) (λ within. refl)
 
 timed_out-old : (age now : ℕ) (job : JobRecord) → is_old age now (timed_out now job) ≡ is_old age now job
-timed_out-old age now job =
-    by_limit (λ after. is_old age now after ≡ is_old age now job) now job (λ over running. let lasts = (running-not_ended job.state running).0 in rw lasts refl) (λ within. refl)
+timed_out-old age now job = by_limit (λ after. is_old age now after ≡ is_old age now job) now job (λ over running. grind (arith, nat_tests, running-not_ended job.state)) (λ within. refl)
 
 old-ended : (age now : ℕ) (job : JobRecord) → is_old age now job ≡ true → is_ended job.state ≡ true
 old-ended age now job old = (and_parts (is_ended job.state) (not (eqb age 0) && leb (unwrap_or job.ended 0 + age) now) old).0
@@ -109,13 +104,8 @@ pub left-more : (age now i : ℕ) (jobs : List JobRecord) (job : JobRecord) → 
 left-more age now i jobs job within is =
     let keep : JobRecord → Bool = λ one. not (is_old age now one) in
     let before = map (timed_out now) (take i jobs) in
-    let last : flat_map (holds_of_job now) (filter keep (timed_out now job ∷ [])) ≡ cond (not (is_old age now job)) (holds_of_job now job) [] =
-    elim (cases_Bool (is_old age now job)) [
-      | inl old ↦ rw (timed_out-old age now job, old) refl
-      | inr recent ↦ rw (timed_out-old age now job, recent, append-nil) (timed_out-holds now job)
-    ] in
     rw (take_more jobs i job within, ← is, map-append (timed_out now) (take i jobs) (job ∷ []), filter-append keep before (timed_out now job ∷ []), flat_map-append (holds_of_job now) (filter keep before) (filter keep (timed_out now job ∷ [])))
-    (ap (λ rest. flat_map (holds_of_job now) (filter keep before) ++ rest) last)
+    (grind (arith, nat_tests, timed_out-old age now job, timed_out-holds now job, append-nil (holds_of_job now job)))
 
 -- those that wait are the same
 pub pending-left : (age now : ℕ) (jobs : List JobRecord)
@@ -127,32 +117,24 @@ pending-left age now (job ∷ jobs) = grind (arith, nat_tests, pending-left age 
 pub length-left : (age now : ℕ) (jobs : List JobRecord) → eqb (length (those_left (timed_out now) (is_old age now) jobs)) (length jobs) ≡ not (list_any (is_old age now) jobs)
 length-left age now [] = refl
 length-left age now (job ∷ jobs) =
+    let stays : JobRecord → Bool = λ one. not (is_old age now one) in
+    let changed = map (timed_out now) jobs in
     let left = those_left (timed_out now) (is_old age now) jobs in
+    let few : length left ≤ length jobs = omega (arith, length-filter stays changed, count_by-le-length stays changed, length-map jobs (timed_out now)) in
     elim (cases_Bool (is_old age now job)) [
-      | inl old ↦ rw (timed_out-old age now job, old) (ne_eqb (length left) (length (job ∷ jobs)) (λ same. omega (arith, same, at_most jobs)))
+      | inl old ↦ rw (timed_out-old age now job, old) (ne_eqb (length left) (length (job ∷ jobs)) (λ same. omega (arith, same, few)))
       | inr recent ↦ rw (timed_out-old age now job, recent) (one_more (length left) (length jobs) ∙ length-left age now jobs)
     ]
   where
     one_more : (a b : ℕ) → eqb (suc a) (suc b) ≡ eqb a b
-    one_more a b = elim (cases_eq a b) [
-      | inl same ↦ eq-eqb (suc a) (suc b) (ap suc same) ∙ sym (eq-eqb a b same)
-      | inr other ↦ ne_eqb (suc a) (suc b) (λ same. other (omega (arith, same))) ∙ sym (ne_eqb a b other)
-    ]
-
-    at_most : (some : List JobRecord) → length (those_left (timed_out now) (is_old age now) some) ≤ length some
-    at_most some = omega (arith, length-filter (λ job. not (is_old age now job)) (map (timed_out now) some), count_by-le-length (λ job. not (is_old age now job)) (map (timed_out now) some), length-map some (timed_out now))
+    one_more a b = grind (arith, nat_tests)
 
 -- the same parts are held, since an old job holds none
 pub parts-left : (age now : ℕ) (jobs : List JobRecord) → All HasItsParts jobs → parts_of (those_left (timed_out now) (is_old age now) jobs) ≡ parts_of jobs
 parts-left age now [] each = refl
 parts-left age now (job ∷ jobs) each =
-    let rest = parts-left age now jobs (All-tail HasItsParts job jobs each) in
-    elim (cases_Bool (is_old age now job)) [
-      | inl old ↦
-          let empty = no_parts job (All-head HasItsParts job jobs each) (ended-others job.state (old-ended age now job old)).1 in
-          rw (timed_out-old age now job, old, empty) rest
-      | inr recent ↦ rw (timed_out-old age now job, recent, timed_out-parts now job, rest) refl
-    ]
+    let empty : is_old age now job ≡ true → job.parts ≡ [] = λ old. no_parts job (All-head HasItsParts job jobs each) (ended-others job.state (old-ended age now job old)).1 in
+    grind (arith, nat_tests, parts-left age now jobs (All-tail HasItsParts job jobs each), timed_out-old age now job, timed_out-parts now job, empty)
 
 -- their numbers rise
 pub rising-left : (age now : ℕ) (jobs : List JobRecord) → HaveRisingIds jobs → HaveRisingIds (those_left (timed_out now) (is_old age now) jobs)

@@ -1,13 +1,13 @@
 -- The starts of a plan, one after another: what each takes, that all stays sound, and that each job gets what was planned.
 use Rattle.std.proofs.lemmas.Bool.Decides.{nat_tests}
 use Rattle.std.proofs.Common.{◌≡◌, ◌≢◌, ℕ, ◌<◌, Bool, true, false, ◌||◌, ◌&&◌, not, eqb, List, [], ◌∷◌, ◌++◌, map, filter, fold, get_or, All, arith, refl, ap, sym, ◌∙◌, append_assoc, inl, inr, ◌+◌}
-use Rattle.std.proofs.Common.{◌≤◌, cond, length, sum_by, AllPairs, Contains, Any, rules, tests}
+use Rattle.std.proofs.Common.{◌≤◌, cond, length, sum_by, AllPairs, Contains, Any, rules, tests, take}
 use Rattle.std.specs.List.{list_any, AllZip}
 use Rattle.std.proofs.lemmas.Bool.{cases_Bool, cases_eq, eq-eqb, ne_eqb, both_ways, eqb-false}
 use Rattle.std.proofs.lemmas.List.{append-nil, length-take, length-map, length-take-le, get_or-map}
 use Rattle.std.proofs.lemmas.List.Sums.{fold_push, sum_by-cons, sum_by-le-sum_by, get_or-le-sum_by}
 use Rattle.std.proofs.lemmas.List.Folds.{list_any-append}
-use Rattle.std.proofs.lemmas.List.Elements.{All-head, All-tail, All-map, All-weaker, All-cons, All-take, All-nil}
+use Rattle.std.proofs.lemmas.List.Elements.{All-head, All-tail, All-map, All-weaker, All-cons, All-take, All-nil, All-filter}
 use Rattle.resource_profile.specs.declared.NodeRoom.{NodeRoom}
 use Rattle.backfill_planner.specs.declared.Placed.{Placed}
 use Rattle.ctl_state.specs.declared.record.Part.{Part}
@@ -49,48 +49,19 @@ any-started p now id parts [] empty = refl
 any-started p now id parts (job ∷ jobs) empty =
     let none : JobRecord → Type 0 = λ one. one.id ≡ id → one.parts ≡ [] in
     let later = parts_of (map (started_as now id parts) jobs) in
-    let rest = any-started p now id parts jobs (All-tail none job jobs empty) in
-    let found = list_any (λ (one : JobRecord). eqb one.id id) jobs in
-    elim (cases_eq job.id id) [
-      | inl here ↦
-          rw (eq-eqb job.id id here, All-head none job jobs empty here, list_any-append p parts later, rest)
-          (first (list_any p parts) (list_any p (parts_of jobs)) found)
-      | inr other ↦
-          rw (ne_eqb job.id id other, list_any-append p job.parts later, list_any-append p job.parts (parts_of jobs), rest)
-          (others (list_any p job.parts) (list_any p (parts_of jobs)) (found && list_any p parts))
-    ]
-  where
-    first : (new old found : Bool) → (new || (old || (found && new))) ≡ (old || new)
-    first true true found = refl
-    first true false found = refl
-    first false true found = refl
-    first false false true = refl
-    first false false false = refl
-
-    others : (one old more : Bool) → (one || (old || more)) ≡ ((one || old) || more)
-    others true old more = refl
-    others false old more = refl
+    grind (arith, nat_tests, any-started p now id parts jobs (All-tail none job jobs empty), All-head none job jobs empty, list_any-append p parts later, list_any-append p job.parts later, list_any-append p job.parts (parts_of jobs))
 
 -- another placement's job is still there, and holds nothing
 awaits-on : (now : ℕ) (jobs : List JobRecord) (start : JobStart) (placed : Placed) → start.id ≢ placed.id → Awaits jobs placed → Awaits (begun now jobs start) placed
 awaits-on now jobs start placed other awaits = record {
   known = known-on jobs awaits.known;
   empty = All-map (λ (job : JobRecord). job.id ≡ placed.id → job.parts ≡ []) (started_as now start.id start.parts) jobs
-      (All-weaker (λ (job : JobRecord). job.id ≡ placed.id → job.parts ≡ []) (λ job. (started_as now start.id start.parts job).id ≡ placed.id → (started_as now start.id start.parts job).parts ≡ [])
-      (λ job none. elim (cases_eq job.id start.id) [
-        | inl here ↦ λ same. absurd (other (sym here ∙ sym (started-id now start.id start.parts job) ∙ same))
-        | inr off ↦ let no : eqb job.id start.id ≡ false = ne_eqb job.id start.id off in rw no none
-      ]) jobs awaits.empty);
+      (λ k d below same. let job = get_or jobs k d in grind (arith, nat_tests, awaits.empty k d below, started-id now start.id start.parts job, other));
 }
   where
     known-on : (some : List JobRecord) → list_any (λ (job : JobRecord). eqb job.id placed.id) some ≡ true → list_any (λ (job : JobRecord). eqb job.id placed.id) (begun now some start) ≡ true
     known-on [] known = known
-    known-on (job ∷ some) known =
-        let same = started-id now start.id start.parts job in
-        elim (cases_Bool (eqb job.id placed.id)) [
-          | inl here ↦ rw (same, here) refl
-          | inr off ↦ rw (same, off) (known-on some (rw off at known))
-        ]
+    known-on (job ∷ some) known = grind (arith, nat_tests, known-on some, started-id now start.id start.parts job)
 
 -- one placement starts: its parts are those of the definition, and the later ones can start after it
 pub can-begin : (now : ℕ) (nodes : List NodeRecord) (jobs : List JobRecord) (before after : List Bool) (placed : Placed) (later : List Placed) (start : JobStart) → All IsNode nodes
@@ -211,16 +182,12 @@ after_start s placed = record s { jobs = begun s.moment s.jobs (start_of (map ro
 -- they take no more than was planned
 cpus-taken : (s : State) (placed : Placed) (node : ℕ) → sum_by (cpus_in node) (parts_for s placed) ≤ cpus_on node placed
 cpus-taken s placed node =
-    let rooms = map room_of s.nodes in
-    let part = part_of rooms s.jobs in
+    let part = part_of (map room_of s.nodes) s.jobs in
     let amount : Share → ℕ = λ share. cond (eqb share.node node) share.cpus 0 in
-    omega (arith, sum_by-map (cpus_in node) part placed.parts, sum_by-le-sum_by (λ share. cpus_in node (part share)) amount placed.parts less)
+    omega (arith, sum_by-map (cpus_in node) part placed.parts, sum_by-le-sum_by (λ share. cpus_in node (part share)) amount placed.parts (λ share. less share.node share.cpus (free_ids (map room_of s.nodes) (parts_of s.jobs) share.node)))
   where
-    less : (share : Share) → cpus_in node (part_of (map room_of s.nodes) s.jobs share) ≤ cond (eqb share.node node) share.cpus 0
-    less share = elim (cases_Bool (eqb share.node node)) [
-      | inl on ↦ rw on (omega (arith, length-take share.cpus (free_ids (map room_of s.nodes) (parts_of s.jobs) share.node)))
-      | inr off ↦ rw off (omega arith)
-    ]
+    less : (on count : ℕ) (free : List ℕ) → cond (eqb on node) (length (take count free)) 0 ≤ cond (eqb on node) count 0
+    less on count free = grind (arith, nat_tests, length-take count free)
 
 mem-taken : (s : State) (placed : Placed) (node : ℕ) → mem_held (parts_for s placed) node ≡ mem_on node placed
 unfolding mem_held
@@ -257,14 +224,7 @@ may-take s placed ready fits =
 
 -- what holds of each placement holds of each that stays
 All-stays : (P : Placed → Type 0) (rooms : List NodeRoom) (now : ℕ) (jobs : List JobRecord) (plan : List Placed) → All P plan → All P (started rooms now jobs plan).stays
-unfolding started
-All-stays P rooms now jobs [] each = each
-All-stays P rooms now jobs (placed ∷ later) each =
-    let rest = All-tail P placed later each in
-    elim (cases_Bool (eqb placed.start now)) [
-      | inr after ↦ rw after (All-cons P placed (started rooms now jobs later).stays (All-head P placed later each) (All-stays P rooms now jobs later rest))
-      | inl due ↦ rw due (All-stays P rooms now (begun now jobs (start_of rooms jobs placed)) later rest)
-    ]
+All-stays P rooms now jobs plan each = rw (stays-later rooms now jobs plan) (All-filter (λ (placed : Placed). not (eqb placed.start now)) P plan each)
 
 -- where the first placement isn't due, the others can start as well
 pub can-later : (s : State) (placed : Placed) (later : List Placed) → CanStart s (placed ∷ later) → eqb placed.start s.moment ≡ false → CanStart s later
