@@ -1,7 +1,7 @@
 -- What parts hold of a node's processors, counted and as bits, and what is free.
 use Rattle.std.proofs.lemmas.Bool.Decides.{nat_tests}
 use Rattle.std.proofs.Common.{◌≡◌, ℕ, ◌+◌, ◌≤◌, ◌<◌, Bool, true, cond, eqb, List, length, filter, sum_by, All, AllPairs, refl, arith, inl, inr, ◌≢◌, false, ◌||◌, not, [], ◌∷◌, ◌++◌, map, take, get_or}
-use Rattle.std.proofs.Common.{count_by, zero, suc, ap, sym, ◌∙◌, rules, tests}
+use Rattle.std.proofs.Common.{count_by, zero, suc, ap, sym, ◌∙◌, rules, tests, ◌&&◌, ltb}
 use Rattle.std.specs.List.{range_with_len, list_any}
 use Rattle.std.proofs.lemmas.Bool.{cases_Bool, eqb-true, eqb-false, ne_eqb, and_left}
 use Rattle.std.proofs.lemmas.List.Sums.{length-filter}
@@ -99,25 +99,11 @@ range-more n = sym (map-id (range_with_len 0 (n + 1))) ∙ map-range_with_len_mo
 passing-more : (p : ℕ → Bool) (n : ℕ) → filter p (range_with_len 0 (n + 1)) ≡ filter p (range_with_len 0 n) ++ cond (p n) (n ∷ []) []
 passing-more p n = rw (range-more n) (filter-append p (range_with_len 0 n) (n ∷ []))
 
-pub lowest-more : (p : ℕ → Bool) (count n : ℕ) (ids : List ℕ) → ids ≡ take count (filter p (range_with_len 0 n)) → p n ≡ true → length ids < count
-    → ids ++ n ∷ [] ≡ take count (filter p (range_with_len 0 (n + 1)))
-lowest-more p count n ids is passes short =
+pub lowest-next : (p : ℕ → Bool) (count n : ℕ) (ids : List ℕ) → ids ≡ take count (filter p (range_with_len 0 n)) → take count (filter p (range_with_len 0 (n + 1))) ≡ cond (p n && ltb (length ids) count) (ids ++ n ∷ []) ids
+lowest-next p count n ids is =
     let found = filter p (range_with_len 0 n) in
-    let few : length found ≤ count = omega (arith, short, ap length is, length-take count found) in
-    let all : ids ≡ found = is ∙ take_all count found few in
-    let long : length (found ++ n ∷ []) ≤ count = omega (arith, short, ap length all, length-append found (n ∷ [])) in
-    rw (passing-more p n, passes) (ap (λ front. front ++ n ∷ []) all ∙ sym (take_all count (found ++ n ∷ []) long))
-
-pub lowest-fails : (p : ℕ → Bool) (count n : ℕ) (ids : List ℕ) → ids ≡ take count (filter p (range_with_len 0 n)) → p n ≡ false
-    → ids ≡ take count (filter p (range_with_len 0 (n + 1)))
-lowest-fails p count n ids is fails = rw (passing-more p n, fails, append-nil (filter p (range_with_len 0 n))) is
-
-pub lowest-full : (p : ℕ → Bool) (count n : ℕ) (ids : List ℕ) → ids ≡ take count (filter p (range_with_len 0 n)) → count ≤ length ids
-    → ids ≡ take count (filter p (range_with_len 0 (n + 1)))
-lowest-full p count n ids is full =
-    let found = filter p (range_with_len 0 n) in
-    let enough : count ≤ length found = omega (arith, full, ap length is, length-take count found) in
-    rw (passing-more p n, take-append-le count found (cond (p n) (n ∷ []) []) enough) is
+    let most : length (found ++ n ∷ []) ≡ length found + 1 = omega (arith, length-append found (n ∷ [])) in
+    rw (passing-more p n) (grind (arith, nat_tests, most, ap length is, take_all count found, take_all count (found ++ n ∷ []), take-append-le count found (n ∷ []), length-take count found, append-nil found))
 
 -- they rise, and are below any bound of the range
 pub lowest-rise : (p : ℕ → Bool) (count n : ℕ) → AllPairs (λ one other. one < other) (take count (filter p (range_with_len 0 n)))

@@ -7,7 +7,7 @@ use Rattle.std.proofs.lemmas.Bool.{cases_Bool, both_ways, eqb-true, eq-eqb, ne_e
 use Rattle.std.proofs.lemmas.List.{get_or-map, length-map, get_or-take, length-take, take-map, take_more, drop_more, map-append, get_or_default, same_lists, length-set, get_or-set_same, get_or-set_other, get_or_append_left, length-append, get_or-append-add}
 use Rattle.std.proofs.lemmas.List.Sums.{sum_by-cons, sum_by-append}
 use Rattle.std.proofs.lemmas.List.Folds.{fold-map, list_any_none, map_fixed}
-use Rattle.std.proofs.lemmas.List.Elements.{All-head, All-tail, All-weaker, All-nil, All-cons, filter_more, All-map, All-filter, All-contains, filter_passes}
+use Rattle.std.proofs.lemmas.List.Elements.{All-head, All-tail, All-weaker, All-nil, All-cons, filter_more, All-map, All-filter, All-contains, filter_passes, All-append}
 use Rattle.std.proofs.lemmas.List.FromFn.{length-range_with_len, get_or-range_with_len}
 use Rattle.std.specs.Cmp.Lexicographic.{pointwise}
 
@@ -187,3 +187,7 @@ pub All-joined : {X Y : Type 0} (P : Y → Type 0) (f : X → List Y) (xs : List
 All-joined P f [] each = All-nil (λ x. All P (f x))
 All-joined P f (x ∷ xs) each =
     All-cons (λ y. All P (f y)) x xs (All-front P (f x) (flat_map f xs) each) (All-joined P f xs (All-back P (f x) (flat_map f xs) each))
+
+pub All-joins : {X Y : Type 0} (P : Y → Type 0) (f : X → List Y) (xs : List X) → All (λ x. All P (f x)) xs → All P (flat_map f xs)
+All-joins P f [] each = All-nil P
+All-joins P f (x ∷ xs) each = All-append P (f x) (flat_map f xs) (All-head (λ y. All P (f y)) x xs each) (All-joins P f xs (All-tail (λ y. All P (f y)) x xs each))

@@ -24,10 +24,10 @@ use Rattle.ctl_state.specs.Planning.{room_of, seconds_of, plan_job}
 use Rattle.ctl_state.specs.Soundness.{IsSound, IsLimit, pending_ids, HasItsParts}
 use Rattle.ctl_pass.specs.Limits.{deadline, hold_end, holds_of_job, is_old, is_over, timed_out}
 use Rattle.ctl_pass.specs.Readiness.{base_of, candidates, ranked, planned, placements, ready}
-use Rattle.ctl_pass.proofs.Lists.{pairs-map, sum_by-larger, sum_by-map, joined-larger, range-rises, range-below, Any-kept, length-rising, sum_by-more}
+use Rattle.ctl_pass.proofs.Lists.{pairs-map, sum_by-larger, sum_by-map, joined-larger, range-rises, range-below, Any-kept, length-rising, sum_by-more, All-joins, All-joined}
 use Rattle.ctl_pass.proofs.Held.{cpus_in, held-counted, free-counted}
-use Rattle.ctl_pass.proofs.Ready.{ReadyLaws, readied, sound-readied, pending-left, length-left, parts-left, no_parts, pending-holds_not, by_limit}
-use Rattle.ctl_pass.proofs.Starting.{CanStart}
+use Rattle.ctl_pass.proofs.Ready.{ReadyLaws, readied, sound-readied, pending-left, length-left, parts-left, no_parts, pending-holds_not, by_limit, running-not_ended}
+use Rattle.ctl_pass.proofs.Starting.{CanStart, started-keeps}
 use Rattle.std.specs.List.{list_any}
 use Rattle.std.proofs.lemmas.List.Folds.{list_any-from_Any}
 use Rattle.ctl_pass.specs.SamePlans.{same_plans, same_shares, same_placements}
@@ -60,19 +60,6 @@ pub record PlanLaws : Type 0 where
       → base.horizon ≤ 250002592000 → All (IsOnRooms base.rooms) ranked → All IsPlannable ranked → All (λ (placed : Placed). AreParts base.rooms placed.parts) (plan_of base ranked now)
   pub fit : (base : BaseView) (ranked : List PlanJob) (now : ℕ)
       → AreWithin base.rooms base.holds → base.horizon ≤ 250002592000 → All (IsOnRooms base.rooms) ranked → All IsPlannable ranked → StartsFit base (plan_of base ranked now) now
-
--- what holds of each element of each joined list
-joined-all : {X Y Z : Type 0} (P : Y → Type 0) (Q : Z → Type 0) (h : X → List Y) (k : X → List Z) (xs : List X) → All P (flat_map h xs) → All (λ x. All P (h x) → All Q (k x)) xs → All Q (flat_map k xs)
-joined-all P Q h k [] all each = All-nil Q
-joined-all {Y = Y} P Q h k (x ∷ xs) all each =
-    All-append Q (k x) (flat_map k xs) (All-head (λ y. All P (h y) → All Q (k y)) x xs each (front (h x) (flat_map h xs) all))
-    (joined-all P Q h k xs (back (h x) (flat_map h xs) all) (All-tail (λ y. All P (h y) → All Q (k y)) x xs each))
-  where
-    front : (ys zs : List Y) → All P (ys ++ zs) → All P ys
-    front ys zs all k d below = rw (get_or_append_left ys zs d k below) at (all k d (omega (arith, below, length-append ys zs)))
-
-    back : (ys zs : List Y) → All P (ys ++ zs) → All P zs
-    back ys zs all k d below = rw (get_or-append-add ys zs k d) at (all (length ys + k) d (omega (arith, below, length-append ys zs)))
 
 -- Of what is counted, processors or megabytes, so much a part has of the node, and a hold holds at a moment.
 abbrev part_has : (ℕ → ℕ → ℕ) → ℕ → Part → ℕ
@@ -108,13 +95,11 @@ pub base-within : (s : State) → IsSound s → AreWithin (map room_of s.nodes) 
 unfolding mem_held
 base-within s sound =
     let rooms = map room_of s.nodes in
-    let held : JobRecord → List Part = λ job. job.parts in
     let parts = parts_of s.jobs in
     record {
-      nodes = joined-all (IsPartOf rooms) (λ (hold : Hold). hold.node < length rooms) held (holds_of_job s.moment) s.jobs sound.held.each
-          (λ k d below are. let job = get_or s.jobs k d in All-map (λ (hold : Hold). hold.node < length rooms) (hold_of s.moment job) job.parts (λ i part inside. (are i part inside).node));
-      windows = joined-all (IsPartOf rooms) (λ (hold : Hold). hold.from < hold.until) held (holds_of_job s.moment) s.jobs sound.held.each
-          (λ k d below are. let job = get_or s.jobs k d in
+      nodes = All-joins (λ (hold : Hold). hold.node < length rooms) (holds_of_job s.moment) s.jobs (λ k d below. let job = get_or s.jobs k d in
+          All-map (λ (hold : Hold). hold.node < length rooms) (hold_of s.moment job) job.parts (λ i part inside. (All-joined (IsPartOf rooms) (λ (one : JobRecord). one.parts) s.jobs sound.held.each k d below i part inside).node));
+      windows = All-joins (λ (hold : Hold). hold.from < hold.until) (holds_of_job s.moment) s.jobs (λ k d below. let job = get_or s.jobs k d in
           All-map (λ (hold : Hold). hold.from < hold.until) (hold_of s.moment job) job.parts (λ i part inside. omega (arith, (sound.jobs k d below).run.start_passed, hold_end-later s.moment job)));
       cpus = λ node moment.
           let most : sum_by (hold_has (λ cpus mem. cpus) node moment) (flat_map (holds_of_job s.moment) s.jobs) ≤ sum_by (cpus_in node) parts = held-most (λ cpus mem. cpus) node moment s.moment s.jobs in
@@ -265,22 +250,17 @@ can-begin-ready s now held plan sound ready_sound is shown ids rising =
       once = rw is (λ i j d before below same. omega (arith, rising base jobs now (ranked-rising (readied s now) now ready_sound) i j d before below, same));
     }
 
-both : {p q : Bool} {P Q : Type 0} → Decides p P → Decides q Q → Decides (p && q) (P × Q)
-both {p} {q} one other = (λ is. let parts = and_parts p q is in (one.0 parts.0, other.0 parts.1), λ has. and_from p q (one.1 has.0) (other.1 has.1))
-
 shares-same : (one other : Share) → Decides (same_shares one other) (one ≡ other)
-shares-same one other =
-    let each = both (Decides-eqb one.node other.node) (both (Decides-eqb one.tasks other.tasks) (both (Decides-eqb one.cpus other.cpus) (Decides-eqb one.mem other.mem))) in (
-      λ is. rw (← (each.0 is).0, ← (each.0 is).1.0, ← (each.0 is).1.1.0, ← (each.0 is).1.1.1) refl,
-      λ is. each.1 (ap (λ (share : Share). share.node) is, (ap (λ (share : Share). share.tasks) is, (ap (λ (share : Share). share.cpus) is, ap (λ (share : Share). share.mem) is))),
-    )
+shares-same one other = (
+  λ is. let e : (one.node ≡ other.node) × (one.tasks ≡ other.tasks) × (one.cpus ≡ other.cpus) × (one.mem ≡ other.mem) = grind (arith, nat_tests) in rw (← e.0, ← e.1, ← e.2, ← e.3) refl,
+  λ is. rw is (grind (arith, nat_tests)),
+)
 
 placements-same : (one other : Placed) → Decides (same_placements one other) (one ≡ other)
 placements-same one other =
-    let parts = slice_eq-Decides shares-same one.parts other.parts (pointwise same_shares one.parts other.parts) refl in
-    let each = both (Decides-eqb one.id other.id) (both (Decides-eqb one.start other.start) parts) in (
-      λ is. rw (← (each.0 is).0, ← (each.0 is).1.0, ← (each.0 is).1.1) refl,
-      λ is. each.1 (ap (λ (placed : Placed). placed.id) is, (ap (λ (placed : Placed). placed.start) is, ap (λ (placed : Placed). placed.parts) is)),
+    let parts = slice_eq-Decides shares-same one.parts other.parts (pointwise same_shares one.parts other.parts) refl in (
+      λ is. let e : (one.id ≡ other.id) × (one.start ≡ other.start) × (one.parts ≡ other.parts) = grind (arith, nat_tests, parts.0) in rw (← e.0, ← e.1, ← e.2) refl,
+      λ is. let same = parts.1 (ap (λ (placed : Placed). placed.parts) is) in grind (arith, nat_tests, same, ap (λ (placed : Placed). placed.id) is, ap (λ (placed : Placed). placed.start) is),
     )
 
 pub plans-same : (one other : List Placed) → Decides (same_plans one other) (one ≡ other)
@@ -320,34 +300,12 @@ runs job = cond (is_running job.state) 1 0
 left-less : (amount lost : JobRecord → ℕ) (change : JobRecord → JobRecord) (goes : JobRecord → Bool) (jobs : List JobRecord) → ((job : JobRecord) → amount (change job) + lost job ≤ amount job)
     → sum_by amount (those_left change goes jobs) + sum_by lost jobs ≤ sum_by amount jobs
 left-less amount lost change goes [] less = omega arith
-left-less amount lost change goes (job ∷ jobs) less = grind (
-  arith,
-  left-less amount lost change goes jobs less,
-  sum_by-cons amount job jobs,
-  sum_by-cons lost job jobs,
-  less job,
-  sum_by-cons amount (change job) (those_left change goes jobs),
-)
+left-less amount lost change goes (job ∷ jobs) less =
+    grind (arith, left-less amount lost change goes jobs less, sum_by-cons amount job jobs, sum_by-cons lost job jobs, less job, sum_by-cons amount (change job) (those_left change goes jobs))
 
 -- a start leaves no more that wait, and fewer where its job waited
-waits-begun : (now id : ℕ) (parts : List Part) (job : JobRecord) → waits (started_as now id parts job) ≤ waits job
-waits-begun now id parts job = cond_both (eqb job.id id) (changed (Start now parts) job) job (λ after. waits after ≤ waits job) (λ here. omega arith) (λ other. omega arith)
-
-no-more : (rooms : List NodeRoom) (now : ℕ) (jobs : List JobRecord) (plan : List Placed) → sum_by waits (started rooms now jobs plan).jobs ≤ sum_by waits jobs
-unfolding started
-no-more rooms now jobs [] = omega arith
-no-more rooms now jobs (placed ∷ later) =
-    let start = start_of rooms jobs placed in
-    let change = started_as now start.id start.parts in
-    elim (cases_Bool (eqb placed.start now)) [
-      | inr after ↦ rw after (no-more rooms now jobs later)
-      | inl due ↦ rw due (omega (
-        arith,
-        no-more rooms now (begun now jobs start) later,
-        sum_by-map waits change jobs,
-        sum_by-le-sum_by (λ job. waits (change job)) waits jobs (λ job. waits-begun now start.id start.parts job),
-      ))
-    ]
+waits-begun : (now id : ℕ) (parts : List Part) (jobs : List JobRecord) → sum_by waits (map (started_as now id parts) jobs) ≤ sum_by waits jobs
+waits-begun now id parts jobs = omega (arith, sum_by-map waits (started_as now id parts) jobs, sum_by-le-sum_by (λ job. waits (started_as now id parts job)) waits jobs (λ job. grind (arith, nat_tests)))
 
 fewer : (rooms : List NodeRoom) (now : ℕ) (jobs : List JobRecord) (plan : List Placed) → All (λ (placed : Placed). Contains (pending_ids jobs) placed.id) plan
     → (length (started rooms now jobs plan).starts ≡ 0) ⊎ (sum_by waits (started rooms now jobs plan).jobs < sum_by waits jobs)
@@ -358,11 +316,12 @@ fewer rooms now jobs (placed ∷ later) each =
     let start = start_of rooms jobs placed in
     let change = started_as now start.id start.parts in
     let one = Any-kept (λ (job : JobRecord). job.id) (λ (job : JobRecord). is_pending job.state) placed.id jobs (All-head named placed later each) in
+    let less = sum_by-more (λ job. waits (change job)) waits jobs (λ job. grind (arith, nat_tests)) (lost start.parts one) in
+    let begun_jobs = begun now jobs start in
+    let most = started-keeps (λ some. sum_by waits some ≤ sum_by waits begun_jobs) rooms now begun_jobs later (λ k d below due some parts few. omega (arith, few, waits-begun now (get_or later k d).id parts some)) (omega arith) in
     elim (cases_Bool (eqb placed.start now)) [
       | inr after ↦ rw after (fewer rooms now jobs later (All-tail named placed later each))
-      | inl due ↦
-          let less = sum_by-more (λ job. waits (change job)) waits jobs (λ job. waits-begun now start.id start.parts job) (lost start.parts one) in
-          rw due (inr (omega (arith, no-more rooms now (begun now jobs start) later, sum_by-map waits change jobs, less)))
+      | inl due ↦ rw due (inr (omega (arith, most, sum_by-map waits change jobs, less)))
     ]
   where
     lost : (parts : List Part) → Any (λ (job : JobRecord). (job.id ≡ placed.id) × (is_pending job.state ≡ true)) jobs → Any (λ job. waits (started_as now placed.id parts job) < waits job) jobs
@@ -377,39 +336,16 @@ unchanged-idle ids s now same =
     let age = s.settings.min_job_age in
     let plan = placements s now in
     let left = ready s now in
-    let over : JobRecord → ℕ = λ job. cond (is_over now job) 1 0 in
     let jobs : (outcome s now).jobs ≡ s.jobs = ap (λ (after : State). after.jobs) same in
     let stays : (outcome s now).stays ≡ s.plan = ap (λ (after : State). after.plan) same in
-    let waiting = left-less waits (λ job. 0) (timed_out now) (is_old age now) s.jobs (λ job. by_limit (λ after. waits after + 0 ≤ waits job) now job (λ over running. omega arith) (λ within. omega arith)) in
-    let running = left-less runs over (timed_out now) (is_old age now) s.jobs
-    (λ job. by_limit (λ after. runs after + over job ≤ runs job) now job (λ is_over running. rw (is_over, running) (omega arith)) (λ within. rw within (omega arith))) in
-    let wait = fewer rooms now left.jobs plan (λ k d below. rw (← ranked-ids left now) (ids (base_of left now) (ranked left now) now k d below)) in
-    elim wait [
+    let waiting = left-less waits (λ job. 0) (timed_out now) (is_old age now) s.jobs (λ job. grind (arith, nat_tests, running-not_ended job.state)) in
+    let running = left-less runs (λ job. cond (is_over now job) 1 0) (timed_out now) (is_old age now) s.jobs (λ job. grind (arith, nat_tests)) in
+    elim (fewer rooms now left.jobs plan (λ k d below. rw (← ranked-ids left now) (ids (base_of left now) (ranked left now) now k d below))) [
       | inr less ↦ absurd (omega (arith, less, waiting, ap (sum_by waits) jobs))
       | inl none ↦
           let all : left.jobs ≡ s.jobs = sym (none-start rooms now left.jobs plan none) ∙ jobs in
           let none_over : count_by (is_over now) s.jobs ≡ 0 = omega (arith, running, ap (sum_by runs) all) in
           rw (none_over, eq-eqb (length left.jobs) (length s.jobs) (ap length all), none, (plans-same (outcome s now).stays s.plan).1 stays) refl
-    ]
-
--- what holds of each job, and of what each start makes of one, holds of each job in the end
-All-started : (P : JobRecord → Type 0) (rooms : List NodeRoom) (now : ℕ) (jobs : List JobRecord) (plan : List Placed)
-    → All (λ (placed : Placed). placed.start ≡ now → (job : JobRecord) (parts : List Part) → job.id ≡ placed.id → P (changed (Start now parts) job)) plan
-    → All P jobs → All P (started rooms now jobs plan).jobs
-unfolding started
-All-started P rooms now jobs [] starts each = each
-All-started P rooms now jobs (placed ∷ later) starts each =
-    let made : Placed → Type 0 = λ placed. placed.start ≡ now → (job : JobRecord) (parts : List Part) → job.id ≡ placed.id → P (changed (Start now parts) job) in
-    let start = start_of rooms jobs placed in
-    let rest = All-tail made placed later starts in
-    elim (cases_Bool (eqb placed.start now)) [
-      | inr after ↦ rw after (All-started P rooms now jobs later rest each)
-      | inl due ↦
-          let here = All-head made placed later starts (eqb-true placed.start now due) in
-          let change = started_as now start.id start.parts in
-          let more : All P (begun now jobs start) = All-map P change jobs (All-weaker P (λ job. P (change job))
-          (λ job has. cond_both (eqb job.id placed.id) (changed (Start now start.parts) job) job P (λ same. here job start.parts (eqb-true job.id placed.id same)) (λ other. has)) jobs each) in
-          rw due (All-started P rooms now (begun now jobs start) later rest more)
     ]
 
 -- A job that runs after a pass ran before it just so, or a placement that begins now is of it.
@@ -420,7 +356,7 @@ origins s now =
     let Origin : JobRecord → Type 0 = λ job. is_running job.state ≡ true → Contains s.jobs job ⊎ Any (λ (placed : Placed). (placed.id ≡ job.id) × (placed.start ≡ now)) plan in
     let ran = All-weaker (Contains s.jobs) (λ job. Origin (timed_out now job))
     (λ job is. by_limit Origin now job (λ over running runs. absurd (both_ways false refl runs)) (λ within runs. inl is)) s.jobs (All-contains_itself s.jobs) in
-    let named : All (λ (placed : Placed). placed.start ≡ now → (job : JobRecord) (parts : List Part) → job.id ≡ placed.id → Origin (changed (Start now parts) job)) plan =
-    λ k d below due job parts same runs. inr (k, get_or plan k d, below, get_or_default plan k (get_or plan k d) d below, (sym same, due)) in
-    All-started Origin (map room_of s.nodes) now (ready s now).jobs plan named
+    started-keeps (All Origin) (map room_of s.nodes) now (ready s now).jobs plan
+    (λ k d below due some parts each. let placed = get_or plan k d in All-map Origin (started_as now placed.id parts) some (All-weaker Origin (λ job. Origin (started_as now placed.id parts job))
+    (λ job has. cond_both (eqb job.id placed.id) (changed (Start now parts) job) job Origin (λ same runs. inr (k, placed, below, get_or_default plan k placed d below, (sym (eqb-true job.id placed.id same), due))) (λ other. has)) some each))
     (All-filter (λ job. not (is_old s.settings.min_job_age now job)) Origin (map (timed_out now) s.jobs) (All-map Origin (timed_out now) s.jobs ran))

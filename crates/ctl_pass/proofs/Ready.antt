@@ -65,7 +65,7 @@ sound-readied laws s now sound raised in_time =
     lets : (job : JobRecord) → IsKept now job → LetsGo now job (timed_out now job)
     lets job kept = cond_both (is_over now job) (changed (Leave Timeout now None) job) job (LetsGo now job) (λ over. laws.changes now (Leave Timeout now None) job refl refl kept) (λ within. laws.nothing now job kept)
 
-running-not_ended : (state : JobState) → is_running state ≡ true → (is_ended state ≡ false) × (is_pending state ≡ false)
+pub running-not_ended : (state : JobState) → is_running state ≡ true → (is_ended state ≡ false) × (is_pending state ≡ false)
 running-not_ended state running = search (rules, tests)
 
 ended-others : (state : JobState) → is_ended state ≡ true → (is_pending state ≡ false) × (is_holding state ≡ false)

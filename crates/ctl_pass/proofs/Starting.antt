@@ -3,7 +3,7 @@ use Rattle.std.proofs.lemmas.Bool.Decides.{nat_tests}
 use Rattle.std.proofs.Common.{◌≡◌, ◌≢◌, ℕ, ◌<◌, Bool, true, false, ◌||◌, ◌&&◌, not, eqb, List, [], ◌∷◌, ◌++◌, map, filter, fold, get_or, All, arith, refl, ap, sym, ◌∙◌, append_assoc, inl, inr, ◌+◌}
 use Rattle.std.proofs.Common.{◌≤◌, cond, length, sum_by, AllPairs, Contains, Any, rules, tests, take}
 use Rattle.std.specs.List.{list_any, AllZip}
-use Rattle.std.proofs.lemmas.Bool.{cases_Bool, cases_eq, eq-eqb, ne_eqb, both_ways, eqb-false}
+use Rattle.std.proofs.lemmas.Bool.{cases_Bool, cases_eq, eq-eqb, ne_eqb, both_ways, eqb-false, eqb-true}
 use Rattle.std.proofs.lemmas.List.{append-nil, length-take, length-map, length-take-le, get_or-map}
 use Rattle.std.proofs.lemmas.List.Sums.{fold_push, sum_by-cons, sum_by-le-sum_by, get_or-le-sum_by}
 use Rattle.std.proofs.lemmas.List.Folds.{list_any-append}
@@ -72,28 +72,16 @@ can-begin now nodes jobs before after placed later start each can is adds =
     let parts = map-same (part_by rooms before) (part_of rooms jobs) placed.parts (λ k d below. part-shown rooms jobs before (get_or placed.parts k d) (few-cpus nodes (get_or placed.parts k d).node each) can.shown) in
     let id : start.id ≡ placed.id = ap (λ (one : JobStart). one.id) is in
     let first = All-head (Awaits jobs) placed later can.awaits in
+    let empty : All (λ (job : JobRecord). job.id ≡ start.id → job.parts ≡ []) jobs = rw id first.empty in
+    let known : list_any (λ (job : JobRecord). eqb job.id start.id) jobs ≡ true = rw id first.known in
     let differs = pairs-head (λ (one other : Placed). one.id ≢ other.id) placed later can.once in (
       is ∙ ap (λ (some : List Part). record { id = placed.id; parts = some }) parts,
       record {
-        shown = record {
-          bits = λ node cpu short.
-              let p : Part → Bool = has_cpu node cpu in
-              let empty : All (λ (job : JobRecord). job.id ≡ start.id → job.parts ≡ []) jobs = rw id first.empty in
-              let known : list_any (λ (job : JobRecord). eqb job.id start.id) jobs ≡ true = rw id first.known in
-              adds.bits node cpu short ∙ ap (λ bit. bit || list_any p start.parts) (can.shown.bits node cpu short)
-              ∙ ap (λ bit. list_any p (parts_of jobs) || (bit && list_any p start.parts)) (sym known) ∙ sym (any-started p now start.id start.parts jobs empty);
-        };
+        shown = record { bits = λ node cpu short. grind (arith, adds.bits node cpu short, can.shown.bits node cpu short, known, any-started (has_cpu node cpu) now start.id start.parts jobs empty) };
         awaits = λ k d below. awaits-on now jobs start (get_or later k d) (λ same. differs k d below (sym id ∙ same)) (All-tail (Awaits jobs) placed later can.awaits k d below);
         once = pairs-tail (λ (one other : Placed). one.id ≢ other.id) placed later can.once;
       },
     )
-
-pub can-pass : (jobs : List JobRecord) (held : List Bool) (placed : Placed) (later : List Placed) → CanBegin jobs held (placed ∷ later) → CanBegin jobs held later
-can-pass jobs held placed later can = record {
-  shown = can.shown;
-  awaits = All-tail (Awaits jobs) placed later can.awaits;
-  once = pairs-tail (λ (one other : Placed). one.id ≢ other.id) placed later can.once;
-}
 
 -- the starts so far are the first ones, and the later placements can start after them
 pub record AreFirst (now : ℕ) (nodes : List NodeRecord) (jobs : List JobRecord) (held : List Bool) (placements : List Placed) (starts : List JobStart) (all : List JobStart) : Type 0 where
@@ -108,25 +96,18 @@ first-begun now nodes jobs before after placed later starts all start each due i
     let rooms = map room_of nodes in
     let middle = fold (begun now) jobs starts in
     let step = can-begin now nodes middle before after placed later start each so_far.can is adds in
-    let jobs_are : fold (begun now) jobs (starts ++ start ∷ []) ≡ begun now middle start = fold_push (begun now) jobs starts start in
     let opened : (started rooms now middle (placed ∷ later)).starts ≡ start ∷ (started rooms now (begun now middle start) later).starts =
     rw (eq-eqb placed.start now due) (ap (λ (one : JobStart). one ∷ (started rooms now (begun now middle one) later).starts) (sym step.0)) in
-    record {
-      can = rw jobs_are step.1;
-      whole = rw jobs_are (append_assoc starts (start ∷ []) (started rooms now (begun now middle start) later).starts ∙ ap (λ rest. starts ++ rest) (sym opened) ∙ so_far.whole);
-    }
+    let jobs_are = fold_push (begun now) jobs starts start in
+    record { can = rw jobs_are step.1; whole = rw jobs_are (append_assoc starts (start ∷ []) (started rooms now (begun now middle start) later).starts ∙ ap (λ rest. starts ++ rest) (sym opened) ∙ so_far.whole) }
 
 pub first-passed : (now : ℕ) (nodes : List NodeRecord) (jobs : List JobRecord) (held : List Bool) (placed : Placed) (later : List Placed) (starts all : List JobStart) → placed.start ≢ now
     → AreFirst now nodes jobs held (placed ∷ later) starts all → AreFirst now nodes jobs held later starts all
 unfolding started
-first-passed now nodes jobs held placed later starts all not_due so_far =
-    let rooms = map room_of nodes in
-    let middle = fold (begun now) jobs starts in
-    let opened : (started rooms now middle (placed ∷ later)).starts ≡ (started rooms now middle later).starts = rw (ne_eqb placed.start now not_due) refl in
-    record {
-      can = can-pass middle held placed later so_far.can;
-      whole = ap (λ rest. starts ++ rest) (sym opened) ∙ so_far.whole;
-    }
+first-passed now nodes jobs held placed later starts all not_due so_far = record {
+  can = record { shown = so_far.can.shown; awaits = All-tail (Awaits (fold (begun now) jobs starts)) placed later so_far.can.awaits; once = pairs-tail (λ (one other : Placed). one.id ≢ other.id) placed later so_far.can.once };
+  whole = rw (ne_eqb placed.start now not_due) at so_far.whole;
+}
 
 pub first-all : (now : ℕ) (nodes : List NodeRecord) (jobs : List JobRecord) (held : List Bool) (starts all : List JobStart) → AreFirst now nodes jobs held [] starts all → starts ≡ all
 unfolding started
@@ -147,6 +128,20 @@ pub jobs-begun : (rooms : List NodeRoom) (now : ℕ) (jobs : List JobRecord) (pl
 unfolding started
 jobs-begun rooms now jobs [] = refl
 jobs-begun rooms now jobs (placed ∷ later) = grind (arith, nat_tests, jobs-begun rooms now jobs later, jobs-begun rooms now (begun now jobs (start_of rooms jobs placed)) later)
+
+-- what each start keeps of the jobs, all of them keep
+pub started-keeps : (P : List JobRecord → Type 0) (rooms : List NodeRoom) (now : ℕ) (jobs : List JobRecord) (plan : List Placed)
+    → All (λ (placed : Placed). placed.start ≡ now → (some : List JobRecord) (parts : List Part) → P some → P (map (started_as now placed.id parts) some)) plan → P jobs → P (started rooms now jobs plan).jobs
+unfolding started
+started-keeps P rooms now jobs [] keeps has = has
+started-keeps P rooms now jobs (placed ∷ later) keeps has =
+    let Keeps : Placed → Type 0 = λ one. one.start ≡ now → (some : List JobRecord) (parts : List Part) → P some → P (map (started_as now one.id parts) some) in
+    let rest = All-tail Keeps placed later keeps in
+    let start = start_of rooms jobs placed in
+    elim (cases_Bool (eqb placed.start now)) [
+      | inr after ↦ rw after (started-keeps P rooms now jobs later rest has)
+      | inl due ↦ rw due (started-keeps P rooms now (begun now jobs start) later rest (All-head Keeps placed later keeps (eqb-true placed.start now due) jobs start.parts has))
+    ]
 
 -- the laws of starts that a pass rests on
 pub record StartLaws : Type 0 where
@@ -267,15 +262,11 @@ module _ (laws : StartLaws) where
   -- who isn't named by the plan still waits
   waits-started : (s : State) (plan : List Placed) (other : ℕ) → CanStart s plan → All (λ (placed : Placed). other ≢ placed.id) plan → Contains (pending_ids s.jobs) other
       → Contains (pending_ids (started (map room_of s.nodes) s.moment s.jobs plan).jobs) other
-  unfolding started
-  waits-started s [] other can apart waits = waits
-  waits-started s (placed ∷ later) other can apart waits =
-      let rest = All-tail (λ (one : Placed). other ≢ one.id) placed later apart in
-      elim (cases_Bool (eqb placed.start s.moment)) [
-        | inr after ↦ rw after (waits-started s later other (can-later s placed later can after) rest waits)
-        | inl due ↦ rw due (waits-started (after_start s placed) later other (can-begun s placed later can due) rest
-            (laws.waits s.jobs s.moment placed.id other (parts_for s placed) can.sound.rising waits (All-head (λ (one : Placed). other ≢ one.id) placed later apart)))
-      ]
+  waits-started s plan other can apart waits =
+      let Waits : List JobRecord → Type 0 = λ some. HaveRisingIds some × Contains (pending_ids some) other in
+      (started-keeps Waits (map room_of s.nodes) s.moment s.jobs plan
+      (λ k d below due some parts has. (rising-begun s.moment some (record { id = (get_or plan k d).id; parts = parts }) has.0, laws.waits some s.moment (get_or plan k d).id other parts has.0 has.1 (apart k d below)))
+      (can.sound.rising, waits)).1
 
   -- so the starts keep all sound, and what stays of the plan names pending jobs
   pub sound-started : (s : State) (plan : List Placed) → CanStart s plan
@@ -326,18 +317,13 @@ given-first s placed later can due =
 
 -- no other start changes it
 stays-given : (rooms : List NodeRoom) (now : ℕ) (jobs : List JobRecord) (placed : Placed) (plan : List Placed) → All (λ (other : Placed). placed.id ≢ other.id) plan → Any (HasStarted now placed) jobs → Any (HasStarted now placed) (started rooms now jobs plan).jobs
-unfolding started
-stays-given rooms now jobs placed [] differ has = has
-stays-given rooms now jobs placed (other ∷ later) differ (k, job, inside, is, has) =
-    let rest = All-tail (λ (one : Placed). placed.id ≢ one.id) other later differ in
-    elim (cases_Bool (eqb other.start now)) [
-      | inr after ↦ rw after (stays-given rooms now jobs placed later rest (k, job, inside, is, has))
-      | inl due ↦
-          let begins = start_of rooms jobs other in
-          let start = started_as now other.id begins.parts in
-          let same : start job ≡ job = rw (ne_eqb job.id other.id (λ equal. All-head (λ (one : Placed). placed.id ≢ one.id) other later differ (sym has.id ∙ equal))) refl in
-          rw due (stays-given rooms now (begun now jobs begins) placed later rest (k, job, omega (arith, inside, length-map jobs start), get_or-map start jobs k job job inside ∙ ap start is ∙ same, has))
-    ]
+stays-given rooms now jobs placed plan differ = started-keeps (Any (HasStarted now placed)) rooms now jobs plan (λ k d below due. on (get_or plan k d).id (differ k d below))
+  where
+    on : (id : ℕ) → placed.id ≢ id → (some : List JobRecord) (parts : List Part) → Any (HasStarted now placed) some → Any (HasStarted now placed) (map (started_as now id parts) some)
+    on id other some parts (k, job, inside, is, has) =
+        let start = started_as now id parts in
+        let same : start job ≡ job = rw (ne_eqb job.id id (λ equal. other (sym has.id ∙ equal))) refl in
+        (k, job, omega (arith, inside, length-map some start), get_or-map start some k job job inside ∙ ap start is ∙ same, has)
 
 -- So each placement that is due is of a job that has started with all that was planned for it.
 pub all-given : StartLaws → (s : State) (plan : List Placed) → CanStart s plan
