@@ -63,10 +63,7 @@ free-counted rooms parts node once =
     omega (arith, split, each, sum_by-ones cpus, length-range_with_len 0 (cpus_of rooms node), length-filter is_free cpus)
   where
     one_of : (times : ℕ) → times ≤ 1 → cond (eqb times 0) 1 0 + times ≡ 1
-    one_of times few = elim (cases_Bool (eqb times 0)) [
-      | inl free ↦ rw free (omega (arith, eqb-true times 0 free))
-      | inr taken ↦ rw taken (omega (arith, few, eqb-false times 0 taken))
-    ]
+    one_of times few = grind (arith, nat_tests)
 
 -- the free processors rise, are the node's, and stand in no part
 pub free-are : (rooms : List NodeRoom) (parts : List Part) (node : ℕ)
@@ -79,14 +76,6 @@ free-are rooms parts node =
       All-filter is_free (λ cpu. cpu < cpus_of rooms node) cpus (range-below (cpus_of rooms node)),
       All-weaker (λ cpu. is_free cpu ≡ true) (λ cpu. times_held parts node cpu ≡ 0) (λ cpu free. eqb-true (times_held parts node cpu) 0 free) (filter is_free cpus) (filter_passes is_free cpus),
     )
-
-or_assoc : (a b c : Bool) → ((a || b) || c) ≡ (a || (b || c))
-or_assoc true b c = refl
-or_assoc false b c = refl
-
-or_none : (a : Bool) → a ≡ (a || false)
-or_none true = refl
-or_none false = refl
 
 -- parts that are held one list after another
 pub adds-then : (before middle after : List Bool) (parts later : List Part) → AddsParts before parts middle → AddsParts middle later after → AddsParts before (parts ++ later) after
@@ -130,17 +119,13 @@ same-cpus p q count few same =
 pub part-elsewhere : (rooms : List NodeRoom) (before held : List Bool) (shares : List Share) (i : ℕ) (share : Share) → i < length shares → share ≡ get_or shares i share
     → AllPairs (λ (one other : Share). one.node ≢ other.node) shares → cpus_of rooms share.node ≤ 1024 → AddsParts before (map (part_by rooms before) (take i shares)) held → part_by rooms held share ≡ part_by rooms before share
 part-elsewhere rooms before held shares i share within is apart few adds =
-    let parts = map (part_by rooms before) (take i shares) in
     let node = share.node in
     let off : All (λ (one : Share). one.node ≢ node) (take i shares) = λ k d below.
     let low : k < i = omega (arith, below, length-take i shares) in
-    rw (get_or-take i shares k d low) (λ same. apart k i share low within (ap (λ (one : Share). one.node) (get_or_default shares k share d (omega (arith, low, within))) ∙ same ∙ ap (λ (one : Share). one.node) is)) in
-    let none = λ (cpu : ℕ). list_any_none (has_cpu node cpu) parts
-    (All-map (λ part. has_cpu node cpu part ≡ false) (part_by rooms before) (take i shares)
-    (All-weaker (λ (one : Share). one.node ≢ node) (λ one. has_cpu node cpu (part_by rooms before one) ≡ false)
-    (λ one differs. and_left (eqb one.node node) (list_any (λ id. eqb id cpu) (part_by rooms before one).cpus) (ne_eqb one.node node differs)) (take i shares) off)) in
-    let same = same-cpus (λ cpu. not (is_held held node cpu)) (λ cpu. not (is_held before node cpu)) (cpus_of rooms node) few
-    (λ cpu short. ap not (adds.bits node cpu short ∙ ap (λ bit. is_held before node cpu || bit) (none cpu) ∙ sym (or_none (is_held before node cpu)))) in
+    rw (get_or-take i shares k d low) (λ same. rw (← is) at (rw (get_or_default shares i d share within) at (apart k i d low within)) same) in
+    let none = λ (cpu : ℕ). list_any_none (has_cpu node cpu) (map (part_by rooms before) (take i shares)) (All-map (λ part. has_cpu node cpu part ≡ false) (part_by rooms before) (take i shares)
+    (λ k d below. and_left (eqb (get_or (take i shares) k d).node node) (list_any (λ id. eqb id cpu) (part_by rooms before (get_or (take i shares) k d)).cpus) (ne_eqb (get_or (take i shares) k d).node node (off k d below)))) in
+    let same = same-cpus (λ cpu. not (is_held held node cpu)) (λ cpu. not (is_held before node cpu)) (cpus_of rooms node) few (λ cpu short. grind (arith, adds.bits node cpu short, none cpu)) in
     rw same refl
 
 -- a count is 0 where none passes

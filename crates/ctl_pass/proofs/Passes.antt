@@ -185,18 +185,15 @@ pub can-start_ready : ReadyLaws → PlanLaws → (s : State) (now : ℕ) → IsS
 unfolding planned base_of ranked candidates
 can-start_ready readies plans s now sound raised in_time = can-start plans (readied s now) (sound-readied readies s now sound raised in_time)
 
-pub base-is : (s : State) (now : ℕ) → base_of s now ≡ record { rooms = map room_of s.nodes; holds = flat_map (holds_of_job now) s.jobs; horizon = now + s.settings.bf_window * 60 }
-unfolding base_of
-base-is s now = refl
-
 -- the base has the nodes' rooms
 pub base-rooms : (s : State) (now : ℕ) (base : BaseView) → base ≡ base_of s now → base.rooms ≡ map room_of s.nodes
-base-rooms s now base is = ap (λ (one : BaseView). one.rooms) (is ∙ base-is s now)
+unfolding base_of
+base-rooms s now base is = ap (λ (one : BaseView). one.rooms) is
 
 -- the pending jobs are those of the state before
-pub ranked-is : (s : State) (now : ℕ) → ranked (ready s now) now ≡ map (plan_job (length s.nodes)) (filter (λ (job : JobRecord). is_pending job.state) s.jobs)
+pub ranked_is : (s : State) (now : ℕ) → ranked (ready s now) now ≡ map (plan_job (length s.nodes)) (filter (λ (job : JobRecord). is_pending job.state) s.jobs)
 unfolding ranked candidates
-ranked-is s now = ap (map (plan_job (length s.nodes))) (pending-left s.settings.min_job_age now s.jobs)
+ranked_is s now = ap (map (plan_job (length s.nodes))) (pending-left s.settings.min_job_age now s.jobs)
 
 pub plan-is : (s : State) (now : ℕ) (made : PlannedView) (base : BaseView) (jobs : List PlanJob) → made ≡ record { base = base; ranked = jobs; moment = now } → base ≡ base_of (ready s now) now → jobs ≡ ranked (ready s now) now
     → plan_of made.base made.ranked made.moment ≡ placements s now
@@ -210,10 +207,10 @@ few-jobs s sound =
     omega (arith, long, sound.next.1)
 
 -- what is tested of a pass is whether it is idle
-pub idle-is : (s : State) (now : ℕ) (decided : Decided) → IsDecided s now decided
+pub idle_is : (s : State) (now : ℕ) (decided : Decided) → IsDecided s now decided
     → (eqb decided.ended 0 && (not (list_any (is_old s.settings.min_job_age now) s.jobs) && (eqb (length decided.starts.items) 0 && same_plans decided.stays.items s.plan))) ≡ is_idle s now
 unfolding is_idle
-idle-is s now decided is = rw (is.ended, is.starts, is.stays, ← length-left s.settings.min_job_age now s.jobs) refl
+idle_is s now decided is = rw (is.ended, is.starts, is.stays, ← length-left s.settings.min_job_age now s.jobs) refl
 
 -- a pending job is there, no other has its number, and it has no parts
 awaited : (s : State) (placed : Placed) → IsSound s → Contains (pending_ids s.jobs) placed.id → Awaits s.jobs placed

@@ -51,15 +51,15 @@ by_limit P now job ends stays =
 abbrev pub readied : State → ℕ → State
 readied s now = record (ready s now) { plan = []; moment = now }
 
-ended-not_holding : (state : JobState) → is_ended state ≡ true → is_holding state ≡ false
-ended-not_holding state ended = search (rules, tests)
+ended-others : (state : JobState) → is_ended state ≡ true → (is_pending state ≡ false) × (is_holding state ≡ false)
+ended-others state ended = search (rules, tests)
 
 -- limits and old records let go: what a pass plans is sound
 pub sound-readied : ReadyLaws → (s : State) (now : ℕ) → IsSound s → s.moment ≤ now → now ≤ last_moment → IsSound (readied s now)
 sound-readied laws s now sound raised in_time =
     let age = s.settings.min_job_age in
     laws.letting_go s now (timed_out now) (is_old age now) [] sound in_time (All-weaker (IsKept s.moment) (λ job. LetsGo now job (timed_out now job)) (λ job kept. lets job (laws.later s.moment now job raised kept)) s.jobs sound.jobs)
-    (λ k d below old. let job = timed_out now (get_or s.jobs k d) in ended-not_holding job.state (and_parts (is_ended job.state) (not (eqb age 0) && leb (unwrap_or job.ended 0 + age) now) old).0)
+    (λ k d below old. let job = timed_out now (get_or s.jobs k d) in (ended-others job.state (and_parts (is_ended job.state) (not (eqb age 0) && leb (unwrap_or job.ended 0 + age) now) old).0).1)
     (no-plan (those_left (timed_out now) (is_old age now) s.jobs))
   where
     lets : (job : JobRecord) → IsKept now job → LetsGo now job (timed_out now job)
@@ -67,9 +67,6 @@ sound-readied laws s now sound raised in_time =
 
 pub running-not_ended : (state : JobState) → is_running state ≡ true → (is_ended state ≡ false) × (is_pending state ≡ false)
 running-not_ended state running = search (rules, tests)
-
-ended-others : (state : JobState) → is_ended state ≡ true → (is_pending state ≡ false) × (is_holding state ≡ false)
-ended-others state ended = search (rules, tests)
 
 pub pending-holds_not : (state : JobState) → is_pending state ≡ true → is_holding state ≡ false
 pending-holds_not state pending = search (rules, tests)

@@ -119,10 +119,10 @@ unfolding started
 none-starts rooms now jobs [] none = refl
 none-starts rooms now jobs (placed ∷ later) none = grind (arith, nat_tests, none-starts rooms now jobs later)
 
-pub stays-later : (rooms : List NodeRoom) (now : ℕ) (jobs : List JobRecord) (placements : List Placed) → (started rooms now jobs placements).stays ≡ filter (λ (placed : Placed). not (eqb placed.start now)) placements
+pub stays_later : (rooms : List NodeRoom) (now : ℕ) (jobs : List JobRecord) (placements : List Placed) → (started rooms now jobs placements).stays ≡ filter (λ (placed : Placed). not (eqb placed.start now)) placements
 unfolding started
-stays-later rooms now jobs [] = refl
-stays-later rooms now jobs (placed ∷ later) = grind (arith, nat_tests, stays-later rooms now jobs later, stays-later rooms now (begun now jobs (start_of rooms jobs placed)) later)
+stays_later rooms now jobs [] = refl
+stays_later rooms now jobs (placed ∷ later) = grind (arith, nat_tests, stays_later rooms now jobs later, stays_later rooms now (begun now jobs (start_of rooms jobs placed)) later)
 
 pub jobs-begun : (rooms : List NodeRoom) (now : ℕ) (jobs : List JobRecord) (placements : List Placed) → (started rooms now jobs placements).jobs ≡ fold (begun now) jobs (started rooms now jobs placements).starts
 unfolding started
@@ -195,31 +195,24 @@ may-take s placed ready fits =
     let held = parts_of s.jobs in
     let part = part_of rooms s.jobs in
     let shares = placed.parts in
+    let free = λ (share : Share). free-are rooms held share.node in
     record {
       waits = ready.waits;
       some = some shares ready.some;
-      each = All-map (IsPartOf rooms) part shares (λ k d below.
-          let share = get_or shares k d in
-          let free = free-are rooms held share.node in
-          record {
-            node = (ready.parts.each k d below).node;
-            rising = pairs-take (λ one other. one < other) share.cpus (free_ids rooms held share.node) free.0;
-            cpus = All-take (λ cpu. cpu < cpus_of rooms share.node) share.cpus (free_ids rooms held share.node) free.1;
-          });
+      each = All-map (IsPartOf rooms) part shares (λ k d below. let share = get_or shares k d in record {
+          node = (ready.parts.each k d below).node;
+          rising = pairs-take (λ one other. one < other) share.cpus (free_ids rooms held share.node) (free share).0;
+          cpus = All-take (λ cpu. cpu < cpus_of rooms share.node) share.cpus (free_ids rooms held share.node) (free share).1;
+        });
       apart = pairs-map (λ (one other : Part). one.node ≢ other.node) part shares ready.parts.apart;
-      unheld = All-map (λ (part : Part). All (λ cpu. times_held held part.node cpu ≡ 0) part.cpus) part shares (λ k d below.
-          let share = get_or shares k d in
-          All-take (λ cpu. times_held held share.node cpu ≡ 0) share.cpus (free_ids rooms held share.node) (free-are rooms held share.node).2);
+      unheld = All-map (λ (part : Part). All (λ cpu. times_held held part.node cpu ≡ 0) part.cpus) part shares (λ k d below. let share = get_or shares k d in
+          All-take (λ cpu. times_held held share.node cpu ≡ 0) share.cpus (free_ids rooms held share.node) (free share).2);
       mem = λ node. omega (arith, fits node, mem-taken s placed node);
     }
   where
     some : (shares : List Share) → 1 ≤ length shares → has_members (map (part_of (map room_of s.nodes) s.jobs) shares) ≡ true
     some [] more = absurd (omega (arith, more))
     some (share ∷ shares) more = refl
-
--- what holds of each placement holds of each that stays
-All-stays : (P : Placed → Type 0) (rooms : List NodeRoom) (now : ℕ) (jobs : List JobRecord) (plan : List Placed) → All P plan → All P (started rooms now jobs plan).stays
-All-stays P rooms now jobs plan each = rw (stays-later rooms now jobs plan) (All-filter (λ (placed : Placed). not (eqb placed.start now)) P plan each)
 
 -- where the first placement isn't due, the others can start as well
 pub can-later : (s : State) (placed : Placed) (later : List Placed) → CanStart s (placed ∷ later) → eqb placed.start s.moment ≡ false → CanStart s later
@@ -246,12 +239,9 @@ module _ (laws : StartLaws) where
       let may = may-take s placed first (λ node. omega (arith, mem node, sum_by-cons (mem_on node) placed (starts_at s.moment later))) in
       record {
         sound = laws.taking s placed.id more [] can.sound may (no-plan (map (started_as s.moment placed.id more) s.jobs));
-        each = λ k d below. let was = rest k d below in record {
-          waits = laws.waits s.jobs s.moment placed.id (get_or later k d).id more can.sound.rising was.waits (λ same. apart k d below (sym same));
-          last = was.last;
-          some = was.some;
-          parts = was.parts;
-        };
+        each = λ k d below. let was = rest k d below in
+            let waits = laws.waits s.jobs s.moment placed.id (get_or later k d).id more can.sound.rising was.waits (λ same. apart k d below (sym same)) in
+            record { waits = waits; last = was.last; some = was.some; parts = was.parts };
         apart = pairs-tail (λ (one other : Placed). one.id ≢ other.id) placed later can.apart;
         cpus = λ node.
             let grown = held-grown rooms held more (parts_of (after_start s placed).jobs) node (λ cpu. laws.times s s.moment placed.id node cpu more can.sound first.waits) in
@@ -284,7 +274,8 @@ module _ (laws : StartLaws) where
         let apart = pairs-head (λ (one other : Placed). one.id ≢ other.id) placed later can.apart in
         let planned : PlansPending rest.jobs (placed ∷ rest.stays) = record {
           pending = All-cons (λ (one : Placed). Contains (pending_ids rest.jobs) one.id) placed rest.stays (waits-started s later placed.id still apart first.waits) sound.plan.pending;
-          once = AllPairs-cons (λ (one other : Placed). one.id ≢ other.id) placed rest.stays (All-stays (λ (one : Placed). placed.id ≢ one.id) rooms s.moment s.jobs later apart) sound.plan.once;
+          once = AllPairs-cons (λ (one other : Placed). one.id ≢ other.id) placed rest.stays
+              (rw (stays_later rooms s.moment s.jobs later) (All-filter (λ (one : Placed). not (eqb one.start s.moment)) (λ (one : Placed). placed.id ≢ one.id) later apart)) sound.plan.once;
           last = All-cons (λ (one : Placed). one.start ≤ 250002592000) placed rest.stays first.last sound.plan.last;
         } in
         rw after (laws.planned (record s { jobs = rest.jobs; plan = rest.stays }) (placed ∷ rest.stays) sound planned)
@@ -331,17 +322,12 @@ pub all-given : StartLaws → (s : State) (plan : List Placed) → CanStart s pl
 unfolding started
 all-given laws s [] can = All-nil (λ (placed : Placed). placed.start ≡ s.moment → Any (HasStarted s.moment placed) s.jobs)
 all-given laws s (placed ∷ later) can =
-    let rooms = map room_of s.nodes in
     let Given : List JobRecord → Placed → Type 0 = λ jobs one. one.start ≡ s.moment → Any (HasStarted s.moment one) jobs in
+    let next = after_start s placed in
+    let run = λ (jobs : List JobRecord). (started (map room_of s.nodes) s.moment jobs later).jobs in
+    let apart = pairs-head (λ (one other : Placed). one.id ≢ other.id) placed later can.apart in
     elim (cases_Bool (eqb placed.start s.moment)) [
-      | inr after ↦
-          let jobs = (started rooms s.moment s.jobs later).jobs in
-          let none : Given jobs placed = λ now. absurd (eqb-false placed.start s.moment after now) in
-          rw after (All-cons (Given jobs) placed later none (all-given laws s later (can-later s placed later can after)))
-      | inl due ↦
-          let next = after_start s placed in
-          let jobs = (started rooms s.moment next.jobs later).jobs in
-          let apart = pairs-head (λ (one other : Placed). one.id ≢ other.id) placed later can.apart in
-          let first : Given jobs placed = λ now. stays-given rooms s.moment next.jobs placed later apart (given-first s placed later can due) in
-          rw due (All-cons (Given jobs) placed later first (all-given laws next later (can-begun laws s placed later can due)))
+      | inr after ↦ rw after (All-cons (Given (run s.jobs)) placed later (λ now. absurd (eqb-false placed.start s.moment after now)) (all-given laws s later (can-later s placed later can after)))
+      | inl due ↦ rw due (All-cons (Given (run next.jobs)) placed later (λ now. stays-given (map room_of s.nodes) s.moment next.jobs placed later apart (given-first s placed later can due))
+          (all-given laws next later (can-begun laws s placed later can due)))
     ]

@@ -6,16 +6,12 @@ use Rattle.ctl_pass.proofs.free_ids.lowest.Goals as goal
 
 pub loop-cpu-preserved : goal.loop-cpu-preserved
 loop-cpu-preserved c =
-    let p : ℕ → Bool = λ cpu. not (is_held c.args.held.now c.args.node cpu) in
-    let next = lowest-next p c.args.count c.loop-cpu.cpu c.loop-cpu.ids.items c.loop-cpu.invariant in
+    let next = lowest-next (λ cpu. not (is_held c.args.held.now c.args.node cpu)) c.args.count c.loop-cpu.cpu c.loop-cpu.ids.items c.loop-cpu.invariant in
     grind (arith, nat_tests, next, c.loop-cpu.ids.ok.0)
 
 pub from_vec-requires-clause-rising : goal.from_vec-requires-clause-rising
-from_vec-requires-clause-rising c =
-    let p : ℕ → Bool = λ cpu. not (is_held c.args.held.now c.args.node cpu) in
-    rw c.loop-cpu.invariant (lowest-rise p c.args.count c.loop-cpu.cpu)
+from_vec-requires-clause-rising c = rw c.loop-cpu.invariant (lowest-rise (λ cpu. not (is_held c.args.held.now c.args.node cpu)) c.args.count c.loop-cpu.cpu)
 
 pub from_vec-requires-clause-small : goal.from_vec-requires-clause-small
 from_vec-requires-clause-small c =
-    let p : ℕ → Bool = λ cpu. not (is_held c.args.held.now c.args.node cpu) in
-    rw c.loop-cpu.invariant (lowest-below p c.args.count c.loop-cpu.cpu 1024 (omega (arith, c.requires.few, c.loop-cpu.auto.cpu-end)))
+    rw c.loop-cpu.invariant (lowest-below (λ cpu. not (is_held c.args.held.now c.args.node cpu)) c.args.count c.loop-cpu.cpu 1024 (omega (arith, c.requires.few, c.loop-cpu.auto.cpu-end)))
