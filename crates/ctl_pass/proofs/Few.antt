@@ -19,7 +19,7 @@ use Rattle.ctl_pass.specs.Limits.{timed_out, is_old}
 use Rattle.ctl_pass.specs.Readiness.{ready, base_of, candidates, ranked, planned, placements}
 use Rattle.ctl_pass.specs.Starting.{started, begun, start_of}
 use Rattle.ctl_pass.specs.Passing.{outcome}
-use Rattle.ctl_pass.proofs.Plans.{few-jobs}
+use Rattle.ctl_pass.proofs.Passes.{few-jobs}
 
 filter-less : {X : Type 0} (p : X → Bool) (xs : List X) → length (filter p xs) ≤ length xs
 filter-less p xs = omega (arith, length-filter p xs, count_by-le-length p xs)

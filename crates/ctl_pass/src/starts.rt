@@ -102,6 +102,7 @@ fn stays_of(now: u64, mut placements: Vec<Placed>) -> Vec<Placed>
 
 /// The starts that come of the plan, and the placements that stay. Linear in the plan, and where something starts in
 /// the parts and the nodes' processors; each part of a start looks at its node's processors.
+#[tactic(auto, using(crate::proofs::Starting::stays_later))]
 pub(crate) fn split(
     alloc: Global,
     cluster: &Cluster,

@@ -1,15 +1,9 @@
+use Rattle.std.proofs.Common.{rules}
 use Rattle.ctl_pass.specs.Readiness.{placements}
-use Rattle.ctl_pass.proofs.Readied.{ReadyLaws, readied}
-use Rattle.ctl_pass.proofs.Soundly.{StartLaws, sound-started}
-use Rattle.ctl_pass.proofs.Fitting.{PlanLaws, can-start_ready}
+use Rattle.ctl_pass.proofs.Ready.{readied}
+use Rattle.ctl_pass.proofs.Starting.{sound-started}
+use Rattle.ctl_pass.proofs.Passes.{can-start_ready}
 use Rattle.ctl_pass.proofs.laws.a_pass_keeps_all_sound.Goals as goal
 
 pub returns : goal.returns
-returns c =
-    let readies : ReadyLaws = record { letting_go = c.letting_go_keeps_all_sound.ensures; changes = c.every_change_but_a_start_lets_go.ensures; nothing = c.jobs_are_kept.ensures.same; later = c.jobs_are_kept.ensures.later } in
-    let planned = c.placements_are_of_ranked_jobs.ensures in
-    let parts = c.parts_are_apart.ensures in
-    let plans : PlanLaws = record { ids = planned.ids; rising = planned.rising; starts = planned.starts; some = parts.some; parts = parts.parts; fit = c.starts_fit.ensures } in
-    let taken = c.what_is_taken_is_counted.ensures in
-    let starts : StartLaws = record { taking = c.taking_keeps_all_sound.ensures; times = taken.times; mem = taken.mem; waits = c.others_wait_on.ensures; planned = c.plans_keep_all_sound.ensures } in
-    λ s now sound raised in_time. sound-started starts (readied s now) (placements s now) (can-start_ready readies plans s now sound raised in_time)
+returns c = λ s now sound raised in_time. sound-started (search rules) (readied s now) (placements s now) (can-start_ready (search rules) (search rules) s now sound raised in_time)

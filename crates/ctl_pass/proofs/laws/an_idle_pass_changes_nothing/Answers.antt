@@ -1,4 +1,4 @@
-use Rattle.ctl_pass.proofs.Idle.{idle-unchanged, unchanged-idle}
+use Rattle.ctl_pass.proofs.Passes.{idle-unchanged, unchanged-idle}
 use Rattle.ctl_pass.proofs.laws.an_idle_pass_changes_nothing.Goals as goal
 
 pub returns : goal.returns

@@ -4,7 +4,7 @@ use Rattle.ctl_state.specs.State.{state_of}
 use Rattle.ctl_pass.specs.Readiness.{ready, placements}
 use Rattle.ctl_pass.specs.Starting.{begun}
 use Rattle.ctl_pass.specs.Passing.{outcome}
-use Rattle.ctl_pass.proofs.Beginning.{jobs-begun}
+use Rattle.ctl_pass.proofs.Starting.{jobs-begun}
 use Rattle.ctl_pass.proofs.pass.act.Goals as goal
 
 pub returns : goal.returns

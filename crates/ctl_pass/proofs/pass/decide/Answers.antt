@@ -6,7 +6,7 @@ use Rattle.ctl_state.specs.Planning.{room_of}
 use Rattle.ctl_state.specs.State.{state_of}
 use Rattle.ctl_pass.specs.Limits.{is_over}
 use Rattle.ctl_pass.specs.Readiness.{ready}
-use Rattle.ctl_pass.proofs.Plans.{base-rooms, plan-is, few-jobs}
+use Rattle.ctl_pass.proofs.Passes.{base-rooms, plan-is, few-jobs}
 use Rattle.ctl_pass.proofs.pass.decide.Goals as goal
 
 pub plan-requires : goal.plan-requires

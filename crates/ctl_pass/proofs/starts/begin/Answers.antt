@@ -1,7 +1,7 @@
 use Rattle.std.proofs.Common.{ap, sym, ◌∙◌}
 use Rattle.std.proofs.lemmas.List.Sums.{fold_push}
 use Rattle.ctl_pass.specs.Starting.{begun}
-use Rattle.ctl_pass.proofs.Beginning.{rising-begun}
+use Rattle.ctl_pass.proofs.Starting.{rising-begun}
 use Rattle.ctl_pass.proofs.starts.begin.Goals as goal
 
 pub loop-start-preserved : goal.loop-start-preserved

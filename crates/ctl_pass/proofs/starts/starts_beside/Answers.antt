@@ -5,7 +5,7 @@ use Rattle.ctl_state.specs.Planning.{room_of}
 use Rattle.ctl_pass.specs.declared.starts.JobStart.{JobStart}
 use Rattle.ctl_pass.specs.HeldIds.{part_by}
 use Rattle.ctl_pass.proofs.Lists.{next}
-use Rattle.ctl_pass.proofs.Beginning.{first-begun, first-passed, first-all}
+use Rattle.ctl_pass.proofs.Starting.{first-begun, first-passed, first-all}
 use Rattle.ctl_pass.proofs.starts.starts_beside.Goals as goal
 use Rattle.ctl_pass.proofs.starts.starts_beside.Goals.{then-placed-now+in_ok-parts+in_ok-push, else-placed-now}
 

@@ -3,7 +3,7 @@ use Rattle.ctl_state.specs.declared.record.JobRecord.{JobRecord}
 use Rattle.ctl_state.specs.Planning.{room_of}
 use Rattle.ctl_pass.specs.Awaiting.{CanBegin}
 use Rattle.ctl_pass.specs.Starting.{started}
-use Rattle.ctl_pass.proofs.Beginning.{AreFirst}
+use Rattle.ctl_pass.proofs.Starting.{AreFirst}
 use Rattle.ctl_pass.proofs.starts.starts_beside.Given as goal
 
 -- the starts so far are the first ones, whatever the jobs are

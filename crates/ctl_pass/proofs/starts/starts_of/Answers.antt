@@ -4,8 +4,8 @@ use Rattle.ctl_state.specs.Planning.{room_of}
 use Rattle.ctl_state.specs.State.{state_of}
 use Rattle.ctl_pass.specs.Readiness.{ready, placements}
 use Rattle.ctl_pass.specs.Starting.{started}
-use Rattle.ctl_pass.proofs.Beginning.{none-starts}
-use Rattle.ctl_pass.proofs.Plans.{can-begin-ready}
+use Rattle.ctl_pass.proofs.Starting.{none-starts}
+use Rattle.ctl_pass.proofs.Passes.{can-begin-ready}
 use Rattle.ctl_pass.proofs.starts.starts_of.Goals as goal
 
 pub returns-then-not-any_starts : goal.returns-then-not-any_starts
@@ -24,9 +24,9 @@ returns c =
     let jobs = (ready s now).jobs in
     let shown = rw c.deref.ensures.value at c.in_ok-held.ensures.shown in
     let ids = c.placements_are_of_ranked_jobs.ensures.ids in
-    let rising = c.placements_are_of_ranked_jobs.ensures.rising in
+    let apart = c.placements_are_of_ranked_jobs.ensures.apart in
     let sound = c.what_a_pass_plans_is_sound.ensures s now c.requires.sound c.requires.raised c.requires.in_time in
-    let can = can-begin-ready s now c.in_ok-held.held.items c.args.placements.now c.requires.sound sound c.requires.plan shown ids rising in
+    let can = can-begin-ready s now c.in_ok-held.held.items c.args.placements.now c.requires.sound sound c.requires.plan shown ids apart in
     IfOk-weaker c.starts_beside.result _ _
     (λ starts has. has jobs (rw c.deref_mut.ensures.value can) ∙ ap (λ plan. (started (map room_of s.nodes) now jobs plan).starts) c.requires.plan)
     (rw c.deref-2.ensures.value at c.starts_beside.ensures)

@@ -1,0 +1,360 @@
+-- A pass: its plan can start, it is idle exactly where it changes nothing, and where the jobs come from that run after it.
+use Rattle.std.proofs.Common.{◌≡◌, ℕ, ◌+◌, ◌≤◌, ◌<◌, Bool, true, false, ◌&&◌, cond, leb, ltb, List, [], ◌∷◌, ◌++◌, length, map, filter, flat_map, sum_by, All, AllPairs, Contains, IfSome, unwrap_or}
+use Rattle.std.proofs.Common.{get_or, refl, ap, arith, ◌*◌, not, eqb, Any, ◌∙◌, inl, inr, ◌⊎◌, sym, rules, tests}
+use Rattle.std.proofs.lemmas.Bool.{cond_both, and_parts, le-leb, lt-ltb, ltb-true, cases_order, eq-eqb, and_from, cases_Bool, eqb-true, both_ways}
+use Rattle.std.proofs.lemmas.List.{length-map, length-append, get_or_append_left, get_or-append-add, get_or_default}
+use Rattle.std.proofs.lemmas.List.Elements.{All-nil, All-append, All-head, All-tail, All-map, All-filter, All-weaker, All-contains_itself}
+use Rattle.std.proofs.lemmas.List.Kept.{AllPairs-filter}
+use Rattle.slurm_text.specs.declared.plain.limit.Limit.{Limit}
+use Rattle.slurm_text.specs.declared.plain.limit.Limit.TheVariants.{Minutes, Unlimited}
+use Rattle.resource_profile.specs.declared.Hold.{Hold}
+use Rattle.resource_profile.specs.Free.{covers}
+use Rattle.resource_profile.specs.Profiles.{AreWithin}
+use Rattle.backfill_planner.specs.declared.Placed.{Placed}
+use Rattle.backfill_planner.specs.declared.job.PlanJob.{PlanJob}
+use Rattle.backfill_planner.specs.Bases.{BaseView}
+use Rattle.backfill_planner.specs.Plans.{plan_of, PlannedView}
+use Rattle.backfill_planner.specs.Placements.{IsPlannable, IsOnRooms, AreParts, StartsFit}
+use Rattle.ctl_state.specs.declared.record.Part.{Part}
+use Rattle.ctl_state.specs.declared.record.JobRecord.{JobRecord}
+use Rattle.ctl_state.specs.State.{State, last_moment, last_job_id}
+use Rattle.ctl_state.specs.JobStates.{is_pending, is_running}
+use Rattle.ctl_state.specs.Holding.{is_on, mem_held, mem_in, parts_of, IsPartOf}
+use Rattle.ctl_state.specs.Planning.{room_of, seconds_of, plan_job}
+use Rattle.ctl_state.specs.Soundness.{IsSound, IsLimit, pending_ids, HasItsParts}
+use Rattle.ctl_pass.specs.Limits.{deadline, hold_end, holds_of_job, is_old, is_over, timed_out}
+use Rattle.ctl_pass.specs.Readiness.{base_of, candidates, ranked, planned, placements, ready}
+use Rattle.ctl_pass.proofs.Lists.{pairs-map, sum_by-larger, sum_by-map, joined-larger, range-rises, range-below, Any-kept, length-rising, sum_by-more, All-joins, All-joined}
+use Rattle.ctl_pass.proofs.Held.{cpus_in, held-counted, free-counted}
+use Rattle.ctl_pass.proofs.Ready.{ReadyLaws, readied, sound-readied, pending-left, length-left, parts-left, no_parts, pending-holds_not, by_limit, running-not_ended}
+use Rattle.ctl_pass.proofs.Starting.{CanStart, started-keeps}
+use Rattle.std.specs.List.{list_any}
+use Rattle.std.proofs.lemmas.List.Folds.{list_any-from_Any}
+use Rattle.ctl_pass.specs.SamePlans.{same_plans, same_shares, same_placements}
+use Rattle.ctl_pass.specs.HeldIds.{ShowsParts}
+use Rattle.ctl_pass.specs.Awaiting.{Awaits, CanBegin}
+use Rattle.ctl_pass.specs.Passing.{is_idle, IsDecided, outcome, pass_after}
+use Rattle.ctl_pass.specs.declared.pass.Decided.{Decided}
+use Rattle.std.specs.Bool.{Decides}
+use Rattle.std.specs.Cmp.Lexicographic.{pointwise}
+use Rattle.std.proofs.lemmas.Bool.Decides.{Decides-eqb, nat_tests}
+use Rattle.std.proofs.lemmas.Slice.Eq.{slice_eq-Decides}
+use Rattle.backfill_planner.specs.declared.Share.{Share}
+use Rattle.std.specs.Prelude.{count_by}
+use Rattle.std.proofs.lemmas.List.Sums.{sum_by-cons, sum_by-le-sum_by, length-filter, count_by-le-length}
+use Rattle.resource_profile.specs.declared.NodeRoom.{NodeRoom}
+use Rattle.ctl_state.specs.declared.change.Change.TheVariants.{Start}
+use Rattle.ctl_state.specs.Changes.{changed}
+use Rattle.ctl_state.specs.Events.{started_as, those_left}
+use Rattle.ctl_pass.specs.Starting.{start_of, begun, started}
+
+-- the laws of plans that a pass rests on
+pub record PlanLaws : Type 0 where
+  pub ids : (base : BaseView) (ranked : List PlanJob) (now : ℕ) → All (λ (placed : Placed). Contains (map (λ (job : PlanJob). job.id) ranked) placed.id) (plan_of base ranked now)
+  pub apart : (base : BaseView) (ranked : List PlanJob) (now : ℕ)
+      → AllPairs (λ (one other : PlanJob). one.id ≢ other.id) ranked → AllPairs (λ (one other : Placed). one.id ≢ other.id) (plan_of base ranked now)
+  pub starts : (base : BaseView) (ranked : List PlanJob) (now : ℕ) → All (λ (placed : Placed). (now ≤ placed.start) × (placed.start ≤ base.horizon)) (plan_of base ranked now)
+  pub some : (base : BaseView) (ranked : List PlanJob) (now : ℕ)
+      → All (λ (job : PlanJob). 1 ≤ job.need.tasks) ranked → All (λ (placed : Placed). 1 ≤ length placed.parts) (plan_of base ranked now)
+  pub parts : (base : BaseView) (ranked : List PlanJob) (now : ℕ)
+      → base.horizon ≤ 250002592000 → All (IsOnRooms base.rooms) ranked → All IsPlannable ranked → All (λ (placed : Placed). AreParts base.rooms placed.parts) (plan_of base ranked now)
+  pub fit : (base : BaseView) (ranked : List PlanJob) (now : ℕ)
+      → AreWithin base.rooms base.holds → base.horizon ≤ 250002592000 → All (IsOnRooms base.rooms) ranked → All IsPlannable ranked → StartsFit base (plan_of base ranked now) now
+
+-- Of what is counted, processors or megabytes, so much a part has of the node, and a hold holds at a moment.
+abbrev part_has : (ℕ → ℕ → ℕ) → ℕ → Part → ℕ
+part_has counted node part = cond (is_on node part) (counted (length part.cpus) part.mem) 0
+
+abbrev hold_has : (ℕ → ℕ → ℕ) → ℕ → ℕ → Hold → ℕ
+hold_has counted node moment hold = cond (covers node moment hold) (counted hold.cpus hold.mem) 0
+
+-- what a job holds of its part, until a later moment
+abbrev hold_of : ℕ → JobRecord → Part → Hold
+hold_of now job part = record { node = part.node; from = unwrap_or job.started 0; until = hold_end now job; cpus = length part.cpus; mem = part.mem }
+
+hold_end-later : (now : ℕ) (job : JobRecord) → now < hold_end now job
+hold_end-later now job = grind (arith, nat_tests)
+
+-- at no moment more is held of a node than the parts have
+held-most : (counted : ℕ → ℕ → ℕ) (node moment now : ℕ) (jobs : List JobRecord) → sum_by (hold_has counted node moment) (flat_map (holds_of_job now) jobs) ≤ sum_by (part_has counted node) (parts_of jobs)
+held-most counted node moment now jobs =
+    joined-larger (hold_has counted node moment) (part_has counted node) (holds_of_job now) (λ (job : JobRecord). job.parts) jobs
+    (λ k d below. let job = get_or jobs k d in
+    omega (arith, sum_by-map (hold_has counted node moment) (hold_of now job) job.parts, sum_by-larger (λ part. hold_has counted node moment (hold_of now job part)) (part_has counted node) job.parts (λ i part inside. grind (arith, nat_tests))))
+
+-- and at this moment no less
+held-now : (counted : ℕ → ℕ → ℕ) (node now : ℕ) (jobs : List JobRecord) → All (λ (job : JobRecord). unwrap_or job.started 0 ≤ now) jobs
+    → sum_by (part_has counted node) (parts_of jobs) ≤ sum_by (hold_has counted node now) (flat_map (holds_of_job now) jobs)
+held-now counted node now jobs started =
+    joined-larger (part_has counted node) (hold_has counted node now) (λ (job : JobRecord). job.parts) (holds_of_job now) jobs
+    (λ k d below. let job = get_or jobs k d in
+    omega (arith, sum_by-map (hold_has counted node now) (hold_of now job) job.parts, sum_by-larger (part_has counted node) (λ part. hold_has counted node now (hold_of now job part)) job.parts (λ i part inside. grind (arith, nat_tests, started k d below, hold_end-later now job))))
+
+-- all that is held is within the nodes
+pub base-within : (s : State) → IsSound s → AreWithin (map room_of s.nodes) (flat_map (holds_of_job s.moment) s.jobs)
+unfolding mem_held
+base-within s sound =
+    let rooms = map room_of s.nodes in
+    let parts = parts_of s.jobs in
+    record {
+      nodes = All-joins (λ (hold : Hold). hold.node < length rooms) (holds_of_job s.moment) s.jobs (λ k d below. let job = get_or s.jobs k d in
+          All-map (λ (hold : Hold). hold.node < length rooms) (hold_of s.moment job) job.parts (λ i part inside. (All-joined (IsPartOf rooms) (λ (one : JobRecord). one.parts) s.jobs sound.held.each k d below i part inside).node));
+      windows = All-joins (λ (hold : Hold). hold.from < hold.until) (holds_of_job s.moment) s.jobs (λ k d below. let job = get_or s.jobs k d in
+          All-map (λ (hold : Hold). hold.from < hold.until) (hold_of s.moment job) job.parts (λ i part inside. omega (arith, (sound.jobs k d below).run.start_passed, hold_end-later s.moment job)));
+      cpus = λ node moment.
+          let most : sum_by (hold_has (λ cpus mem. cpus) node moment) (flat_map (holds_of_job s.moment) s.jobs) ≤ sum_by (cpus_in node) parts = held-most (λ cpus mem. cpus) node moment s.moment s.jobs in
+          omega (arith, most, held-counted rooms parts node sound.held.each, free-counted rooms parts node (sound.held.once node));
+      mem = λ node moment.
+          let most : sum_by (hold_has (λ cpus mem. mem) node moment) (flat_map (holds_of_job s.moment) s.jobs) ≤ sum_by (mem_in node) parts = held-most (λ cpus mem. mem) node moment s.moment s.jobs in
+          omega (arith, most, sound.held.mem node);
+    }
+
+-- what is ranked are the pending jobs
+pub ranked-ids : (s : State) (now : ℕ) → map (λ (job : PlanJob). job.id) (ranked s now) ≡ pending_ids s.jobs
+unfolding ranked candidates plan_job
+ranked-ids s now = same (filter (λ (job : JobRecord). is_pending job.state) s.jobs)
+  where
+    same : (jobs : List JobRecord) → map (λ (job : PlanJob). job.id) (map (plan_job (length s.nodes)) jobs) ≡ map (λ (job : JobRecord). job.id) jobs
+    same [] = refl
+    same (job ∷ jobs) = ap (λ ids. job.id ∷ ids) (same jobs)
+
+ranked-all : (P : PlanJob → Type 0) (s : State) (now : ℕ) → All (λ job. P (plan_job (length s.nodes) job)) s.jobs → All P (ranked s now)
+unfolding ranked candidates
+ranked-all P s now each =
+    let waits : JobRecord → Bool = λ job. is_pending job.state in
+    All-map P (plan_job (length s.nodes)) (filter waits s.jobs) (All-filter waits (λ job. P (plan_job (length s.nodes) job)) s.jobs each)
+
+pub ranked-apart : (s : State) (now : ℕ) → IsSound s → AllPairs (λ (one other : PlanJob). one.id ≢ other.id) (ranked s now)
+unfolding ranked candidates plan_job
+ranked-apart s now sound =
+    let waits : JobRecord → Bool = λ job. is_pending job.state in
+    let apart : AllPairs (λ (one other : JobRecord). one.id ≢ other.id) s.jobs = λ i j d before within same. omega (arith, sound.rising i j d before within, same) in
+    pairs-map (λ (one other : PlanJob). one.id ≢ other.id) (plan_job (length s.nodes)) (filter waits s.jobs) (AllPairs-filter (λ (one other : JobRecord). one.id ≢ other.id) waits s.jobs apart)
+
+-- they can be planned
+ranked-plannable : (s : State) (now : ℕ) → IsSound s → All IsPlannable (ranked s now)
+unfolding plan_job
+ranked-plannable s now sound = ranked-all IsPlannable s now (λ k d below. let kept = sound.jobs k d below in record {
+  once = λ i j e before inside same. omega (arith, range-rises (length s.nodes) i j e before inside, same);
+  cpus = omega arith;
+  seconds = seconds (get_or s.jobs k d).limit kept.limit;
+})
+  where
+    seconds : (limit : Limit) → IsLimit limit → IfSome (seconds_of limit) (λ seconds. 1 ≤ seconds)
+    seconds (Minutes minutes) is = omega (arith, is.0)
+    seconds Unlimited is = tt
+
+ranked-on_rooms : (s : State) (now : ℕ) → All (IsOnRooms (map room_of s.nodes)) (ranked s now)
+unfolding plan_job
+ranked-on_rooms s now = ranked-all (IsOnRooms (map room_of s.nodes)) s now (λ k d below i node inside. omega (arith, range-below (length s.nodes) i node inside, length-map s.nodes room_of))
+
+ranked-tasks : (s : State) (now : ℕ) → IsSound s → All (λ (job : PlanJob). 1 ≤ job.need.tasks) (ranked s now)
+unfolding plan_job
+ranked-tasks s now sound = ranked-all (λ (job : PlanJob). 1 ≤ job.need.tasks) s now (λ k d below. (sound.jobs k d below).asked.tasks.0)
+
+-- The plan of a sound state can start.
+pub can-start : PlanLaws → (s : State) → IsSound s → CanStart s (planned s s.moment)
+unfolding planned base_of mem_held
+can-start laws s sound =
+    let now = s.moment in
+    let base = base_of s now in
+    let jobs = ranked s now in
+    let horizon : base.horizon ≤ 250002592000 = omega (arith, sound.moment, sound.settings.window.1) in
+    let rooms = ranked-on_rooms s now in
+    let plannable = ranked-plannable s now sound in
+    let fit = laws.fit base jobs now (base-within s sound) horizon rooms plannable in
+    let started : All (λ (job : JobRecord). unwrap_or job.started 0 ≤ now) s.jobs = λ k d below. (sound.jobs k d below).run.start_passed in
+    record {
+      sound = sound;
+      each = λ k d below. record {
+        waits = rw (← ranked-ids s now) (laws.ids base jobs now k d below);
+        last = omega (arith, (laws.starts base jobs now k d below).1, horizon);
+        some = laws.some base jobs now (ranked-tasks s now sound) k d below;
+        parts = laws.parts base jobs now horizon rooms plannable k d below;
+      };
+      apart = laws.apart base jobs now (ranked-apart s now sound);
+      cpus = λ node.
+          let least : sum_by (cpus_in node) (parts_of s.jobs) ≤ sum_by (hold_has (λ cpus mem. cpus) node now) (flat_map (holds_of_job now) s.jobs) = held-now (λ cpus mem. cpus) node now s.jobs started in
+          omega (arith, fit.cpus node, least, held-counted (map room_of s.nodes) (parts_of s.jobs) node sound.held.each);
+      mem = λ node.
+          let least : sum_by (mem_in node) (parts_of s.jobs) ≤ sum_by (hold_has (λ cpus mem. mem) node now) (flat_map (holds_of_job now) s.jobs) = held-now (λ cpus mem. mem) node now s.jobs started in
+          omega (arith, fit.mem node, least);
+    }
+
+-- So those of a pass can.
+pub can-start_ready : ReadyLaws → PlanLaws → (s : State) (now : ℕ) → IsSound s → s.moment ≤ now → now ≤ last_moment → CanStart (readied s now) (placements s now)
+unfolding planned base_of ranked candidates
+can-start_ready readies plans s now sound raised in_time = can-start plans (readied s now) (sound-readied readies s now sound raised in_time)
+
+-- the base has the nodes' rooms
+pub base-rooms : (s : State) (now : ℕ) (base : BaseView) → base ≡ base_of s now → base.rooms ≡ map room_of s.nodes
+unfolding base_of
+base-rooms s now base is = ap (λ (one : BaseView). one.rooms) is
+
+-- the pending jobs are those of the state before
+pub ranked_is : (s : State) (now : ℕ) → ranked (ready s now) now ≡ map (plan_job (length s.nodes)) (filter (λ (job : JobRecord). is_pending job.state) s.jobs)
+unfolding ranked candidates
+ranked_is s now = ap (map (plan_job (length s.nodes))) (pending-left s.settings.min_job_age now s.jobs)
+
+pub plan-is : (s : State) (now : ℕ) (made : PlannedView) (base : BaseView) (jobs : List PlanJob) → made ≡ record { base = base; ranked = jobs; moment = now } → base ≡ base_of (ready s now) now → jobs ≡ ranked (ready s now) now
+    → plan_of made.base made.ranked made.moment ≡ placements s now
+unfolding planned
+plan-is s now made base jobs is base_is jobs_are = ap (λ (one : PlannedView). plan_of one.base one.ranked one.moment) is ∙ rw (base_is, jobs_are) refl
+
+-- the numbers of the jobs bound how many there are
+pub few-jobs : (s : State) → IsSound s → length s.jobs ≤ last_job_id + 1
+few-jobs s sound =
+    let long = length-rising (λ (job : JobRecord). job.id) 0 s.next_id s.jobs (omega arith) sound.rising (λ k d below. omega arith) sound.below_next in
+    omega (arith, long, sound.next.1)
+
+-- what is tested of a pass is whether it is idle
+pub idle_is : (s : State) (now : ℕ) (decided : Decided) → IsDecided s now decided
+    → (eqb decided.ended 0 && (not (list_any (is_old s.settings.min_job_age now) s.jobs) && (eqb (length decided.starts.items) 0 && same_plans decided.stays.items s.plan))) ≡ is_idle s now
+unfolding is_idle
+idle_is s now decided is = rw (is.ended, is.starts, is.stays, ← length-left s.settings.min_job_age now s.jobs) refl
+
+-- a pending job is there, no other has its number, and it has no parts
+awaited : (s : State) (placed : Placed) → IsSound s → Contains (pending_ids s.jobs) placed.id → Awaits s.jobs placed
+awaited s placed sound waits = from (Any-kept (λ (job : JobRecord). job.id) (λ (job : JobRecord). is_pending job.state) placed.id s.jobs waits)
+  where
+    from : Any (λ (job : JobRecord). (job.id ≡ placed.id) × (is_pending job.state ≡ true)) s.jobs → Awaits s.jobs placed
+    from (k, job, inside, is, (here, pending)) = record {
+      known = list_any-from_Any (λ (one : JobRecord). eqb one.id placed.id) s.jobs (k, job, inside, is, eq-eqb job.id placed.id here);
+      empty = λ j d below same.
+          let it : get_or s.jobs k d ≡ job = get_or_default s.jobs k d job inside ∙ is in
+          elim (cases_order j k) [
+            | inl equal ↦
+                let one = get_or s.jobs j d in
+                no_parts one (sound.jobs j d below).parts (pending-holds_not one.state (ap (λ place. is_pending (get_or s.jobs place d).state) equal ∙ ap (λ (other : JobRecord). is_pending other.state) it ∙ pending))
+            | inr (inl before) ↦ absurd (omega (arith, sound.rising j k d before inside, same, here, ap (λ (one : JobRecord). one.id) it))
+            | inr (inr after) ↦ absurd (omega (arith, sound.rising k j d after below, same, here, ap (λ (one : JobRecord). one.id) it))
+          ];
+    }
+
+-- so all placements of a pass can begin, beside bits that show what is held
+pub can-begin-ready : (s : State) (now : ℕ) (held : List Bool) (plan : List Placed) → IsSound s → IsSound (readied s now) → plan ≡ placements s now → ShowsParts (parts_of s.jobs) held
+    → ((base : BaseView) (ranked : List PlanJob) (now : ℕ) → All (λ (placed : Placed). Contains (map (λ (job : PlanJob). job.id) ranked) placed.id) (plan_of base ranked now))
+    → ((base : BaseView) (ranked : List PlanJob) (now : ℕ) → AllPairs (λ (one other : PlanJob). one.id ≢ other.id) ranked → AllPairs (λ (one other : Placed). one.id ≢ other.id) (plan_of base ranked now))
+    → CanBegin (ready s now).jobs held plan
+unfolding planned ranked candidates
+can-begin-ready s now held plan sound ready_sound is shown ids apart =
+    let has : All HasItsParts s.jobs = λ k d below. (sound.jobs k d below).parts in
+    let base = base_of (ready s now) now in
+    let jobs = ranked (readied s now) now in
+    let waits : All (λ (placed : Placed). Contains (pending_ids (ready s now).jobs) placed.id) plan = rw (is, ← ranked-ids (readied s now) now) (ids base jobs now) in
+    record {
+      shown = rw (parts-left s.settings.min_job_age now s.jobs has) shown;
+      awaits = λ k d below. awaited (readied s now) (get_or plan k d) ready_sound (waits k d below);
+      once = rw is (apart base jobs now (ranked-apart (readied s now) now ready_sound));
+    }
+
+shares-same : (one other : Share) → Decides (same_shares one other) (one ≡ other)
+shares-same one other = (
+  λ is. let e : (one.node ≡ other.node) × (one.tasks ≡ other.tasks) × (one.cpus ≡ other.cpus) × (one.mem ≡ other.mem) = grind (arith, nat_tests) in rw (← e.0, ← e.1, ← e.2, ← e.3) refl,
+  λ is. rw is (grind (arith, nat_tests)),
+)
+
+placements-same : (one other : Placed) → Decides (same_placements one other) (one ≡ other)
+placements-same one other =
+    let parts = slice_eq-Decides shares-same one.parts other.parts (pointwise same_shares one.parts other.parts) refl in (
+      λ is. let e : (one.id ≡ other.id) × (one.start ≡ other.start) × (one.parts ≡ other.parts) = grind (arith, nat_tests, parts.0) in rw (← e.0, ← e.1, ← e.2) refl,
+      λ is. let same = parts.1 (ap (λ (placed : Placed). placed.parts) is) in grind (arith, nat_tests, same, ap (λ (placed : Placed). placed.id) is, ap (λ (placed : Placed). placed.start) is),
+    )
+
+pub plans-same : (one other : List Placed) → Decides (same_plans one other) (one ≡ other)
+plans-same one other = slice_eq-Decides placements-same one other (same_plans one other) refl
+
+-- where no limit is reached and no record is dropped, the jobs stay
+ready-same : (age now : ℕ) (jobs : List JobRecord) → count_by (is_over now) jobs ≡ 0 → length (those_left (timed_out now) (is_old age now) jobs) ≡ length jobs → those_left (timed_out now) (is_old age now) jobs ≡ jobs
+ready-same age now [] none all = refl
+ready-same age now (job ∷ jobs) none all =
+    let stays : JobRecord → Bool = λ one. not (is_old age now one) in
+    let changed = map (timed_out now) jobs in
+    grind (arith, nat_tests, ready-same age now jobs, sum_by-cons (λ one. cond (is_over now one) 1 0) job jobs, length-filter stays changed, count_by-le-length stays changed, length-map jobs (timed_out now))
+
+-- where none starts, they stay too
+none-start : (rooms : List NodeRoom) (now : ℕ) (jobs : List JobRecord) (plan : List Placed) → length (started rooms now jobs plan).starts ≡ 0 → (started rooms now jobs plan).jobs ≡ jobs
+unfolding started
+none-start rooms now jobs [] none = refl
+none-start rooms now jobs (placed ∷ later) none = grind (arith, nat_tests, none-start rooms now jobs later)
+
+-- An idle pass changes nothing but the moment.
+pub idle-unchanged : (s : State) (now : ℕ) → is_idle s now ≡ true → pass_after s now ≡ s
+unfolding is_idle
+idle-unchanged s now idle =
+    let none = none-start (map room_of s.nodes) now (ready s now).jobs (placements s now) in
+    let kept = ready-same s.settings.min_job_age now s.jobs in
+    let same : ((outcome s now).jobs ≡ s.jobs) × ((outcome s now).stays ≡ s.plan) = grind (arith, nat_tests, none, kept, (plans-same (outcome s now).stays s.plan).0) in
+    rw (same.0, same.1) refl
+
+-- one for a job that waits, or that runs
+abbrev waits : JobRecord → ℕ
+waits job = cond (is_pending job.state) 1 0
+
+abbrev runs : JobRecord → ℕ
+runs job = cond (is_running job.state) 1 0
+
+-- what is left is no more than there was without what each job lost
+left-less : (amount lost : JobRecord → ℕ) (change : JobRecord → JobRecord) (goes : JobRecord → Bool) (jobs : List JobRecord) → ((job : JobRecord) → amount (change job) + lost job ≤ amount job)
+    → sum_by amount (those_left change goes jobs) + sum_by lost jobs ≤ sum_by amount jobs
+left-less amount lost change goes [] less = omega arith
+left-less amount lost change goes (job ∷ jobs) less =
+    grind (arith, left-less amount lost change goes jobs less, sum_by-cons amount job jobs, sum_by-cons lost job jobs, less job, sum_by-cons amount (change job) (those_left change goes jobs))
+
+-- a start leaves no more that wait, and fewer where its job waited
+waits-begun : (now id : ℕ) (parts : List Part) (jobs : List JobRecord) → sum_by waits (map (started_as now id parts) jobs) ≤ sum_by waits jobs
+waits-begun now id parts jobs = omega (arith, sum_by-map waits (started_as now id parts) jobs, sum_by-le-sum_by (λ job. waits (started_as now id parts job)) waits jobs (λ job. grind (arith, nat_tests)))
+
+fewer : (rooms : List NodeRoom) (now : ℕ) (jobs : List JobRecord) (plan : List Placed) → All (λ (placed : Placed). Contains (pending_ids jobs) placed.id) plan
+    → (length (started rooms now jobs plan).starts ≡ 0) ⊎ (sum_by waits (started rooms now jobs plan).jobs < sum_by waits jobs)
+unfolding started
+fewer rooms now jobs [] each = inl refl
+fewer rooms now jobs (placed ∷ later) each =
+    let named : Placed → Type 0 = λ one. Contains (pending_ids jobs) one.id in
+    let start = start_of rooms jobs placed in
+    let change = started_as now start.id start.parts in
+    let one = Any-kept (λ (job : JobRecord). job.id) (λ (job : JobRecord). is_pending job.state) placed.id jobs (All-head named placed later each) in
+    let less = sum_by-more (λ job. waits (change job)) waits jobs (λ job. grind (arith, nat_tests)) (lost start.parts one) in
+    let begun_jobs = begun now jobs start in
+    let most = started-keeps (λ some. sum_by waits some ≤ sum_by waits begun_jobs) rooms now begun_jobs later (λ k d below due some parts few. omega (arith, few, waits-begun now (get_or later k d).id parts some)) (omega arith) in
+    elim (cases_Bool (eqb placed.start now)) [
+      | inr after ↦ rw after (fewer rooms now jobs later (All-tail named placed later each))
+      | inl due ↦ rw due (inr (omega (arith, most, sum_by-map waits change jobs, less)))
+    ]
+  where
+    lost : (parts : List Part) → Any (λ (job : JobRecord). (job.id ≡ placed.id) × (is_pending job.state ≡ true)) jobs → Any (λ job. waits (started_as now placed.id parts job) < waits job) jobs
+    lost parts (k, job, inside, is, (here, pending)) = (k, job, inside, is, rw (eq-eqb job.id placed.id here, pending) (omega arith))
+
+-- And only an idle pass does.
+pub unchanged-idle : ((base : BaseView) (ranked : List PlanJob) (now : ℕ) → All (λ (placed : Placed). Contains (map (λ (job : PlanJob). job.id) ranked) placed.id) (plan_of base ranked now))
+    → (s : State) (now : ℕ) → pass_after s now ≡ s → is_idle s now ≡ true
+unfolding is_idle planned
+unchanged-idle ids s now same =
+    let rooms = map room_of s.nodes in
+    let age = s.settings.min_job_age in
+    let plan = placements s now in
+    let left = ready s now in
+    let jobs : (outcome s now).jobs ≡ s.jobs = ap (λ (after : State). after.jobs) same in
+    let stays : (outcome s now).stays ≡ s.plan = ap (λ (after : State). after.plan) same in
+    let waiting = left-less waits (λ job. 0) (timed_out now) (is_old age now) s.jobs (λ job. grind (arith, nat_tests, running-not_ended job.state)) in
+    let running = left-less runs (λ job. cond (is_over now job) 1 0) (timed_out now) (is_old age now) s.jobs (λ job. grind (arith, nat_tests)) in
+    elim (fewer rooms now left.jobs plan (λ k d below. rw (← ranked-ids left now) (ids (base_of left now) (ranked left now) now k d below))) [
+      | inr less ↦ absurd (omega (arith, less, waiting, ap (sum_by waits) jobs))
+      | inl none ↦
+          let all : left.jobs ≡ s.jobs = sym (none-start rooms now left.jobs plan none) ∙ jobs in
+          let none_over : count_by (is_over now) s.jobs ≡ 0 = omega (arith, running, ap (sum_by runs) all) in
+          rw (none_over, eq-eqb (length left.jobs) (length s.jobs) (ap length all), none, (plans-same (outcome s now).stays s.plan).1 stays) refl
+    ]
+
+-- A job that runs after a pass ran before it just so, or a placement that begins now is of it.
+pub origins : (s : State) (now : ℕ)
+    → All (λ (job : JobRecord). is_running job.state ≡ true → Contains s.jobs job ⊎ Any (λ (placed : Placed). (placed.id ≡ job.id) × (placed.start ≡ now)) (placements s now)) (pass_after s now).jobs
+origins s now =
+    let plan = placements s now in
+    let Origin : JobRecord → Type 0 = λ job. is_running job.state ≡ true → Contains s.jobs job ⊎ Any (λ (placed : Placed). (placed.id ≡ job.id) × (placed.start ≡ now)) plan in
+    let ran = All-weaker (Contains s.jobs) (λ job. Origin (timed_out now job))
+    (λ job is. by_limit Origin now job (λ over running runs. absurd (both_ways false refl runs)) (λ within runs. inl is)) s.jobs (All-contains_itself s.jobs) in
+    started-keeps (All Origin) (map room_of s.nodes) now (ready s now).jobs plan
+    (λ k d below due some parts each. let placed = get_or plan k d in All-map Origin (started_as now placed.id parts) some (All-weaker Origin (λ job. Origin (started_as now placed.id parts job))
+    (λ job has. cond_both (eqb job.id placed.id) (changed (Start now parts) job) job Origin (λ same runs. inr (k, placed, below, get_or_default plan k placed d below, (sym (eqb-true job.id placed.id same), due))) (λ other. has)) some each))
+    (All-filter (λ job. not (is_old s.settings.min_job_age now job)) Origin (map (timed_out now) s.jobs) (All-map Origin (timed_out now) s.jobs ran))

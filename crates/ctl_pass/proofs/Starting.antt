@@ -1,0 +1,333 @@
+-- The starts of a plan, one after another: what each takes, that all stays sound, and that each job gets what was planned.
+use Rattle.std.proofs.lemmas.Bool.Decides.{nat_tests}
+use Rattle.std.proofs.Common.{◌≡◌, ◌≢◌, ℕ, ◌<◌, Bool, true, false, ◌||◌, ◌&&◌, not, eqb, List, [], ◌∷◌, ◌++◌, map, filter, fold, get_or, All, arith, refl, ap, sym, ◌∙◌, append_assoc, inl, inr, ◌+◌}
+use Rattle.std.proofs.Common.{◌≤◌, cond, length, sum_by, AllPairs, Contains, Any, rules, tests, take}
+use Rattle.std.specs.List.{list_any, AllZip}
+use Rattle.std.proofs.lemmas.Bool.{cases_Bool, cases_eq, eq-eqb, ne_eqb, both_ways, eqb-false, eqb-true}
+use Rattle.std.proofs.lemmas.List.{append-nil, length-take, length-map, length-take-le, get_or-map}
+use Rattle.std.proofs.lemmas.List.Sums.{fold_push, sum_by-cons, sum_by-le-sum_by, get_or-le-sum_by}
+use Rattle.std.proofs.lemmas.List.Folds.{list_any-append}
+use Rattle.std.proofs.lemmas.List.Elements.{All-head, All-tail, All-map, All-weaker, All-cons, All-take, All-nil, All-filter}
+use Rattle.resource_profile.specs.declared.NodeRoom.{NodeRoom}
+use Rattle.backfill_planner.specs.declared.Placed.{Placed}
+use Rattle.ctl_state.specs.declared.record.Part.{Part}
+use Rattle.ctl_state.specs.declared.record.NodeRecord.{NodeRecord}
+use Rattle.ctl_state.specs.declared.record.JobRecord.{JobRecord}
+use Rattle.ctl_state.specs.Events.{started_as, MayTake}
+use Rattle.ctl_state.specs.Holding.{has_cpu, parts_of, cpus_of, mem_of, mem_in, times_held, mem_held, free_ids, has_members, IsPartOf}
+use Rattle.ctl_state.specs.Planning.{room_of}
+use Rattle.ctl_state.specs.Soundness.{IsNode, HaveRisingIds, IsSound, PlansPending, pending_ids}
+use Rattle.ctl_pass.specs.HeldIds.{AddsParts, part_by}
+use Rattle.ctl_pass.specs.Awaiting.{Awaits, CanBegin}
+use Rattle.ctl_pass.specs.declared.starts.JobStart.{JobStart}
+use Rattle.ctl_pass.specs.Starting.{part_of, start_of, begun, started, IsAsPlanned, HasStarted}
+use Rattle.ctl_pass.proofs.Lists.{pairs-head, pairs-tail, pairs-map, map-same, pairs-take, sum_by-map, Any-kept}
+use Rattle.ctl_pass.proofs.Held.{few-cpus, part-shown, cpus_held, cpus_in, held-counted, held-grown, free-are, free-counted}
+use Rattle.std.proofs.lemmas.List.Kept.{AllPairs-cons}
+use Rattle.backfill_planner.specs.declared.Share.{Share}
+use Rattle.backfill_planner.specs.Plans.{starts_at, cpus_on, mem_on}
+use Rattle.backfill_planner.specs.Placements.{AreParts}
+use Rattle.ctl_state.specs.State.{State}
+use Rattle.ctl_state.specs.Laws.{Taking, TakenTimes, TakenMem, OthersWait, Planning}
+use Rattle.ctl_pass.proofs.Ready.{no-plan}
+use Rattle.ctl_state.specs.JobStates.{is_pending}
+
+-- a start changes no number, and nothing of another job
+started-id : (now id : ℕ) (parts : List Part) (job : JobRecord) → (started_as now id parts job).id ≡ job.id
+started-id now id parts job = grind (arith, nat_tests)
+
+pub rising-begun : (now : ℕ) (jobs : List JobRecord) (start : JobStart) → HaveRisingIds jobs → HaveRisingIds (begun now jobs start)
+rising-begun now jobs start rising =
+    let change = started_as now start.id start.parts in
+    pairs-map (λ (one other : JobRecord). one.id < other.id) change jobs
+    (λ i j d before within. omega (arith, rising i j d before within, started-id now start.id start.parts (get_or jobs i d), started-id now start.id start.parts (get_or jobs j d)))
+
+-- whether a part passes a test: where the jobs with the number held nothing, one of the jobs' or of the new ones does
+any-started : (p : Part → Bool) (now id : ℕ) (parts : List Part) (jobs : List JobRecord) → All (λ (job : JobRecord). job.id ≡ id → job.parts ≡ []) jobs
+    → list_any p (parts_of (map (started_as now id parts) jobs)) ≡ (list_any p (parts_of jobs) || (list_any (λ (job : JobRecord). eqb job.id id) jobs && list_any p parts))
+any-started p now id parts [] empty = refl
+any-started p now id parts (job ∷ jobs) empty =
+    let none : JobRecord → Type 0 = λ one. one.id ≡ id → one.parts ≡ [] in
+    let later = parts_of (map (started_as now id parts) jobs) in
+    grind (arith, nat_tests, any-started p now id parts jobs (All-tail none job jobs empty), All-head none job jobs empty, list_any-append p parts later, list_any-append p job.parts later, list_any-append p job.parts (parts_of jobs))
+
+-- another placement's job is still there, and holds nothing
+awaits-on : (now : ℕ) (jobs : List JobRecord) (start : JobStart) (placed : Placed) → start.id ≢ placed.id → Awaits jobs placed → Awaits (begun now jobs start) placed
+awaits-on now jobs start placed other awaits = record {
+  known = known-on jobs awaits.known;
+  empty = All-map (λ (job : JobRecord). job.id ≡ placed.id → job.parts ≡ []) (started_as now start.id start.parts) jobs
+      (λ k d below same. let job = get_or jobs k d in grind (arith, nat_tests, awaits.empty k d below, started-id now start.id start.parts job, other));
+}
+  where
+    known-on : (some : List JobRecord) → list_any (λ (job : JobRecord). eqb job.id placed.id) some ≡ true → list_any (λ (job : JobRecord). eqb job.id placed.id) (begun now some start) ≡ true
+    known-on [] known = known
+    known-on (job ∷ some) known = grind (arith, nat_tests, known-on some, started-id now start.id start.parts job)
+
+-- one placement starts: its parts are those of the definition, and the later ones can start after it
+pub can-begin : (now : ℕ) (nodes : List NodeRecord) (jobs : List JobRecord) (before after : List Bool) (placed : Placed) (later : List Placed) (start : JobStart) → All IsNode nodes
+    → CanBegin jobs before (placed ∷ later) → start ≡ record { id = placed.id; parts = map (part_by (map room_of nodes) before) placed.parts } → AddsParts before start.parts after
+    → (start ≡ start_of (map room_of nodes) jobs placed) × CanBegin (begun now jobs start) after later
+can-begin now nodes jobs before after placed later start each can is adds =
+    let rooms = map room_of nodes in
+    let parts = map-same (part_by rooms before) (part_of rooms jobs) placed.parts (λ k d below. part-shown rooms jobs before (get_or placed.parts k d) (few-cpus nodes (get_or placed.parts k d).node each) can.shown) in
+    let id : start.id ≡ placed.id = ap (λ (one : JobStart). one.id) is in
+    let first = All-head (Awaits jobs) placed later can.awaits in
+    let empty : All (λ (job : JobRecord). job.id ≡ start.id → job.parts ≡ []) jobs = rw id first.empty in
+    let known : list_any (λ (job : JobRecord). eqb job.id start.id) jobs ≡ true = rw id first.known in
+    let differs = pairs-head (λ (one other : Placed). one.id ≢ other.id) placed later can.once in (
+      is ∙ ap (λ (some : List Part). record { id = placed.id; parts = some }) parts,
+      record {
+        shown = record { bits = λ node cpu short. grind (arith, adds.bits node cpu short, can.shown.bits node cpu short, known, any-started (has_cpu node cpu) now start.id start.parts jobs empty) };
+        awaits = λ k d below. awaits-on now jobs start (get_or later k d) (λ same. differs k d below (sym id ∙ same)) (All-tail (Awaits jobs) placed later can.awaits k d below);
+        once = pairs-tail (λ (one other : Placed). one.id ≢ other.id) placed later can.once;
+      },
+    )
+
+-- the starts so far are the first ones, and the later placements can start after them
+pub record AreFirst (now : ℕ) (nodes : List NodeRecord) (jobs : List JobRecord) (held : List Bool) (placements : List Placed) (starts : List JobStart) (all : List JobStart) : Type 0 where
+  pub can : CanBegin (fold (begun now) jobs starts) held placements
+  pub whole : starts ++ (started (map room_of nodes) now (fold (begun now) jobs starts) placements).starts ≡ all
+
+pub first-begun : (now : ℕ) (nodes : List NodeRecord) (jobs : List JobRecord) (before after : List Bool) (placed : Placed) (later : List Placed) (starts all : List JobStart) (start : JobStart) → All IsNode nodes → placed.start ≡ now
+    → start ≡ record { id = placed.id; parts = map (part_by (map room_of nodes) before) placed.parts } → AddsParts before start.parts after
+    → AreFirst now nodes jobs before (placed ∷ later) starts all → AreFirst now nodes jobs after later (starts ++ start ∷ []) all
+unfolding started
+first-begun now nodes jobs before after placed later starts all start each due is adds so_far =
+    let rooms = map room_of nodes in
+    let middle = fold (begun now) jobs starts in
+    let step = can-begin now nodes middle before after placed later start each so_far.can is adds in
+    let opened : (started rooms now middle (placed ∷ later)).starts ≡ start ∷ (started rooms now (begun now middle start) later).starts =
+    rw (eq-eqb placed.start now due) (ap (λ (one : JobStart). one ∷ (started rooms now (begun now middle one) later).starts) (sym step.0)) in
+    let jobs_are = fold_push (begun now) jobs starts start in
+    record { can = rw jobs_are step.1; whole = rw jobs_are (append_assoc starts (start ∷ []) (started rooms now (begun now middle start) later).starts ∙ ap (λ rest. starts ++ rest) (sym opened) ∙ so_far.whole) }
+
+pub first-passed : (now : ℕ) (nodes : List NodeRecord) (jobs : List JobRecord) (held : List Bool) (placed : Placed) (later : List Placed) (starts all : List JobStart) → placed.start ≢ now
+    → AreFirst now nodes jobs held (placed ∷ later) starts all → AreFirst now nodes jobs held later starts all
+unfolding started
+first-passed now nodes jobs held placed later starts all not_due so_far = record {
+  can = record { shown = so_far.can.shown; awaits = All-tail (Awaits (fold (begun now) jobs starts)) placed later so_far.can.awaits; once = pairs-tail (λ (one other : Placed). one.id ≢ other.id) placed later so_far.can.once };
+  whole = rw (ne_eqb placed.start now not_due) at so_far.whole;
+}
+
+pub first-all : (now : ℕ) (nodes : List NodeRecord) (jobs : List JobRecord) (held : List Bool) (starts all : List JobStart) → AreFirst now nodes jobs held [] starts all → starts ≡ all
+unfolding started
+first-all now nodes jobs held starts all so_far = sym (append-nil starts) ∙ so_far.whole
+
+-- none starts where none begins now; those that stay begin later; and the jobs are those that the starts make
+pub none-starts : (rooms : List NodeRoom) (now : ℕ) (jobs : List JobRecord) (placements : List Placed) → list_any (λ (placed : Placed). eqb placed.start now) placements ≡ false → (started rooms now jobs placements).starts ≡ []
+unfolding started
+none-starts rooms now jobs [] none = refl
+none-starts rooms now jobs (placed ∷ later) none = grind (arith, nat_tests, none-starts rooms now jobs later)
+
+pub stays_later : (rooms : List NodeRoom) (now : ℕ) (jobs : List JobRecord) (placements : List Placed) → (started rooms now jobs placements).stays ≡ filter (λ (placed : Placed). not (eqb placed.start now)) placements
+unfolding started
+stays_later rooms now jobs [] = refl
+stays_later rooms now jobs (placed ∷ later) = grind (arith, nat_tests, stays_later rooms now jobs later, stays_later rooms now (begun now jobs (start_of rooms jobs placed)) later)
+
+pub jobs-begun : (rooms : List NodeRoom) (now : ℕ) (jobs : List JobRecord) (placements : List Placed) → (started rooms now jobs placements).jobs ≡ fold (begun now) jobs (started rooms now jobs placements).starts
+unfolding started
+jobs-begun rooms now jobs [] = refl
+jobs-begun rooms now jobs (placed ∷ later) = grind (arith, nat_tests, jobs-begun rooms now jobs later, jobs-begun rooms now (begun now jobs (start_of rooms jobs placed)) later)
+
+-- what each start keeps of the jobs, all of them keep
+pub started-keeps : (P : List JobRecord → Type 0) (rooms : List NodeRoom) (now : ℕ) (jobs : List JobRecord) (plan : List Placed)
+    → All (λ (placed : Placed). placed.start ≡ now → (some : List JobRecord) (parts : List Part) → P some → P (map (started_as now placed.id parts) some)) plan → P jobs → P (started rooms now jobs plan).jobs
+unfolding started
+started-keeps P rooms now jobs [] keeps has = has
+started-keeps P rooms now jobs (placed ∷ later) keeps has =
+    let Keeps : Placed → Type 0 = λ one. one.start ≡ now → (some : List JobRecord) (parts : List Part) → P some → P (map (started_as now one.id parts) some) in
+    let rest = All-tail Keeps placed later keeps in
+    let start = start_of rooms jobs placed in
+    elim (cases_Bool (eqb placed.start now)) [
+      | inr after ↦ rw after (started-keeps P rooms now jobs later rest has)
+      | inl due ↦ rw due (started-keeps P rooms now (begun now jobs start) later rest (All-head Keeps placed later keeps (eqb-true placed.start now due) jobs start.parts has))
+    ]
+
+-- the laws of starts that a pass rests on
+pub record StartLaws : Type 0 where
+  pub taking : Taking
+  pub times : TakenTimes
+  pub mem : TakenMem
+  pub waits : OthersWait
+  pub planned : Planning
+
+-- a placement that can start once it is due
+pub record IsReady (s : State) (placed : Placed) : Type 0 where
+  pub waits : Contains (pending_ids s.jobs) placed.id
+  pub last : placed.start ≤ 250002592000
+  pub some : 1 ≤ length placed.parts
+  pub parts : AreParts (map room_of s.nodes) placed.parts
+
+-- A plan whose due placements can start one after another: the state is sound, no two placements are of one job, and all that
+-- the due ones take fits beside what is held.
+pub record CanStart (s : State) (plan : List Placed) : Type 0 where
+  pub sound : IsSound s
+  pub each : All (IsReady s) plan
+  pub apart : AllPairs (λ (one other : Placed). one.id ≢ other.id) plan
+  pub cpus : (node : ℕ) → cpus_held (map room_of s.nodes) (parts_of s.jobs) node + sum_by (cpus_on node) (starts_at s.moment plan) ≤ cpus_of (map room_of s.nodes) node
+  pub mem : (node : ℕ) → mem_held (parts_of s.jobs) node + sum_by (mem_on node) (starts_at s.moment plan) ≤ mem_of (map room_of s.nodes) node
+
+-- the parts that a placement gets, and the state once it has started
+abbrev pub parts_for : State → Placed → List Part
+parts_for s placed = map (part_of (map room_of s.nodes) s.jobs) placed.parts
+
+abbrev pub after_start : State → Placed → State
+after_start s placed = record s { jobs = begun s.moment s.jobs (start_of (map room_of s.nodes) s.jobs placed); plan = [] }
+
+-- they take no more than was planned
+cpus-taken : (s : State) (placed : Placed) (node : ℕ) → sum_by (cpus_in node) (parts_for s placed) ≤ cpus_on node placed
+cpus-taken s placed node =
+    let part = part_of (map room_of s.nodes) s.jobs in
+    let amount : Share → ℕ = λ share. cond (eqb share.node node) share.cpus 0 in
+    omega (arith, sum_by-map (cpus_in node) part placed.parts, sum_by-le-sum_by (λ share. cpus_in node (part share)) amount placed.parts (λ share. less share.node share.cpus (free_ids (map room_of s.nodes) (parts_of s.jobs) share.node)))
+  where
+    less : (on count : ℕ) (free : List ℕ) → cond (eqb on node) (length (take count free)) 0 ≤ cond (eqb on node) count 0
+    less on count free = grind (arith, nat_tests, length-take count free)
+
+mem-taken : (s : State) (placed : Placed) (node : ℕ) → mem_held (parts_for s placed) node ≡ mem_on node placed
+unfolding mem_held
+mem-taken s placed node = sum_by-map (mem_in node) (part_of (map room_of s.nodes) s.jobs) placed.parts
+
+-- and a placement with memory for it may take them
+may-take : (s : State) (placed : Placed) → IsReady s placed → ((node : ℕ) → mem_held (parts_of s.jobs) node + mem_on node placed ≤ mem_of (map room_of s.nodes) node) → MayTake (map room_of s.nodes) s.jobs placed.id (parts_for s placed)
+may-take s placed ready fits =
+    let rooms = map room_of s.nodes in
+    let held = parts_of s.jobs in
+    let part = part_of rooms s.jobs in
+    let shares = placed.parts in
+    let free = λ (share : Share). free-are rooms held share.node in
+    record {
+      waits = ready.waits;
+      some = some shares ready.some;
+      each = All-map (IsPartOf rooms) part shares (λ k d below. let share = get_or shares k d in record {
+          node = (ready.parts.each k d below).node;
+          rising = pairs-take (λ one other. one < other) share.cpus (free_ids rooms held share.node) (free share).0;
+          cpus = All-take (λ cpu. cpu < cpus_of rooms share.node) share.cpus (free_ids rooms held share.node) (free share).1;
+        });
+      apart = pairs-map (λ (one other : Part). one.node ≢ other.node) part shares ready.parts.apart;
+      unheld = All-map (λ (part : Part). All (λ cpu. times_held held part.node cpu ≡ 0) part.cpus) part shares (λ k d below. let share = get_or shares k d in
+          All-take (λ cpu. times_held held share.node cpu ≡ 0) share.cpus (free_ids rooms held share.node) (free share).2);
+      mem = λ node. omega (arith, fits node, mem-taken s placed node);
+    }
+  where
+    some : (shares : List Share) → 1 ≤ length shares → has_members (map (part_of (map room_of s.nodes) s.jobs) shares) ≡ true
+    some [] more = absurd (omega (arith, more))
+    some (share ∷ shares) more = refl
+
+-- where the first placement isn't due, the others can start as well
+pub can-later : (s : State) (placed : Placed) (later : List Placed) → CanStart s (placed ∷ later) → eqb placed.start s.moment ≡ false → CanStart s later
+can-later s placed later can other = record {
+  sound = can.sound;
+  each = All-tail (IsReady s) placed later can.each;
+  apart = pairs-tail (λ (one other : Placed). one.id ≢ other.id) placed later can.apart;
+  cpus = λ node. rw other at (can.cpus node);
+  mem = λ node. rw other at (can.mem node);
+}
+
+module _ (laws : StartLaws) where
+  -- where the first placement is due, the others can start after it
+  pub can-begun : (s : State) (placed : Placed) (later : List Placed) → CanStart s (placed ∷ later) → eqb placed.start s.moment ≡ true → CanStart (after_start s placed) later
+  can-begun s placed later can due =
+      let rooms = map room_of s.nodes in
+      let held = parts_of s.jobs in
+      let more = parts_for s placed in
+      let first = All-head (IsReady s) placed later can.each in
+      let rest = All-tail (IsReady s) placed later can.each in
+      let apart = pairs-head (λ (one other : Placed). one.id ≢ other.id) placed later can.apart in
+      let cpus : (node : ℕ) → cpus_held rooms held node + sum_by (cpus_on node) (placed ∷ starts_at s.moment later) ≤ cpus_of rooms node = λ node. rw due at (can.cpus node) in
+      let mem : (node : ℕ) → mem_held held node + sum_by (mem_on node) (placed ∷ starts_at s.moment later) ≤ mem_of rooms node = λ node. rw due at (can.mem node) in
+      let may = may-take s placed first (λ node. omega (arith, mem node, sum_by-cons (mem_on node) placed (starts_at s.moment later))) in
+      record {
+        sound = laws.taking s placed.id more [] can.sound may (no-plan (map (started_as s.moment placed.id more) s.jobs));
+        each = λ k d below. let was = rest k d below in
+            let waits = laws.waits s.jobs s.moment placed.id (get_or later k d).id more can.sound.rising was.waits (λ same. apart k d below (sym same)) in
+            record { waits = waits; last = was.last; some = was.some; parts = was.parts };
+        apart = pairs-tail (λ (one other : Placed). one.id ≢ other.id) placed later can.apart;
+        cpus = λ node.
+            let grown = held-grown rooms held more (parts_of (after_start s placed).jobs) node (λ cpu. laws.times s s.moment placed.id node cpu more can.sound first.waits) in
+            omega (arith, cpus node, sum_by-cons (cpus_on node) placed (starts_at s.moment later), grown, held-counted rooms more node may.each, cpus-taken s placed node);
+        mem = λ node. omega (arith, mem node, sum_by-cons (mem_on node) placed (starts_at s.moment later), laws.mem s s.moment placed.id node more can.sound first.waits, mem-taken s placed node);
+      }
+
+  -- who isn't named by the plan still waits
+  waits-started : (s : State) (plan : List Placed) (other : ℕ) → CanStart s plan → All (λ (placed : Placed). other ≢ placed.id) plan → Contains (pending_ids s.jobs) other
+      → Contains (pending_ids (started (map room_of s.nodes) s.moment s.jobs plan).jobs) other
+  waits-started s plan other can apart waits =
+      let Waits : List JobRecord → Type 0 = λ some. HaveRisingIds some × Contains (pending_ids some) other in
+      (started-keeps Waits (map room_of s.nodes) s.moment s.jobs plan
+      (λ k d below due some parts has. (rising-begun s.moment some (record { id = (get_or plan k d).id; parts = parts }) has.0, laws.waits some s.moment (get_or plan k d).id other parts has.0 has.1 (apart k d below)))
+      (can.sound.rising, waits)).1
+
+  -- so the starts keep all sound, and what stays of the plan names pending jobs
+  pub sound-started : (s : State) (plan : List Placed) → CanStart s plan
+      → IsSound (record s { jobs = (started (map room_of s.nodes) s.moment s.jobs plan).jobs; plan = (started (map room_of s.nodes) s.moment s.jobs plan).stays })
+  unfolding started
+  sound-started s [] can = laws.planned s [] can.sound (no-plan s.jobs)
+  sound-started s (placed ∷ later) can = elim (cases_Bool (eqb placed.start s.moment)) [
+    | inl due ↦ rw due (sound-started (after_start s placed) later (can-begun s placed later can due))
+    | inr after ↦
+        let rooms = map room_of s.nodes in
+        let rest = started rooms s.moment s.jobs later in
+        let still = can-later s placed later can after in
+        let sound = sound-started s later still in
+        let first = All-head (IsReady s) placed later can.each in
+        let apart = pairs-head (λ (one other : Placed). one.id ≢ other.id) placed later can.apart in
+        let planned : PlansPending rest.jobs (placed ∷ rest.stays) = record {
+          pending = All-cons (λ (one : Placed). Contains (pending_ids rest.jobs) one.id) placed rest.stays (waits-started s later placed.id still apart first.waits) sound.plan.pending;
+          once = AllPairs-cons (λ (one other : Placed). one.id ≢ other.id) placed rest.stays
+              (rw (stays_later rooms s.moment s.jobs later) (All-filter (λ (one : Placed). not (eqb one.start s.moment)) (λ (one : Placed). placed.id ≢ one.id) later apart)) sound.plan.once;
+          last = All-cons (λ (one : Placed). one.start ≤ 250002592000) placed rest.stays first.last sound.plan.last;
+        } in
+        rw after (laws.planned (record s { jobs = rest.jobs; plan = rest.stays }) (placed ∷ rest.stays) sound planned)
+  ]
+
+-- a share takes no more than its placement, so where that fits the share gets all its processors
+given : (rooms : List NodeRoom) (jobs : List JobRecord) (shares : List Share) → All (λ (share : Share). share.cpus ≤ length (free_ids rooms (parts_of jobs) share.node)) shares → AllZip IsAsPlanned shares (map (part_of rooms jobs) shares)
+given rooms jobs [] fit = tt
+given rooms jobs (share ∷ shares) fit =
+    let fits : Share → Type 0 = λ one. one.cpus ≤ length (free_ids rooms (parts_of jobs) one.node) in
+    (record { node = refl; cpus = length-take-le share.cpus (free_ids rooms (parts_of jobs) share.node) (All-head fits share shares fit); mem = refl }, given rooms jobs shares (All-tail fits share shares fit))
+
+-- the first that starts
+given-first : (s : State) (placed : Placed) (later : List Placed) → CanStart s (placed ∷ later) → eqb placed.start s.moment ≡ true → Any (HasStarted s.moment placed) (after_start s placed).jobs
+given-first s placed later can due =
+    let rooms = map room_of s.nodes in
+    let fits : All (λ (share : Share). share.cpus ≤ length (free_ids rooms (parts_of s.jobs) share.node)) placed.parts = λ k d below.
+    let share = get_or placed.parts k d in
+    let amount : Share → ℕ = λ one. cond (eqb one.node share.node) one.cpus 0 in
+    let whole : amount share ≡ share.cpus = rw (eq-eqb share.node share.node refl) refl in
+    let room = rw due at (can.cpus share.node) in
+    omega (arith, whole, get_or-le-sum_by amount placed.parts k d below, room, sum_by-cons (cpus_on share.node) placed (starts_at s.moment later), free-counted rooms (parts_of s.jobs) share.node (can.sound.held.once share.node)) in
+    by (given rooms s.jobs placed.parts fits) (Any-kept (λ (job : JobRecord). job.id) (λ (job : JobRecord). is_pending job.state) placed.id s.jobs (All-head (IsReady s) placed later can.each).waits)
+  where
+    by : AllZip IsAsPlanned placed.parts (parts_for s placed) → Any (λ (job : JobRecord). (job.id ≡ placed.id) × (is_pending job.state ≡ true)) s.jobs → Any (HasStarted s.moment placed) (after_start s placed).jobs
+    by as_planned (k, job, inside, is, (here, pending)) =
+        let start = started_as s.moment placed.id (parts_for s placed) in
+        let starts : HasStarted s.moment placed (start job) = rw (eq-eqb job.id placed.id here) (record { id = here; state = refl; started = refl; parts = as_planned }) in
+        (k, start job, omega (arith, inside, length-map s.jobs start), get_or-map start s.jobs k job (start job) inside ∙ ap start is, starts)
+
+-- no other start changes it
+stays-given : (rooms : List NodeRoom) (now : ℕ) (jobs : List JobRecord) (placed : Placed) (plan : List Placed) → All (λ (other : Placed). placed.id ≢ other.id) plan → Any (HasStarted now placed) jobs → Any (HasStarted now placed) (started rooms now jobs plan).jobs
+stays-given rooms now jobs placed plan differ = started-keeps (Any (HasStarted now placed)) rooms now jobs plan (λ k d below due. on (get_or plan k d).id (differ k d below))
+  where
+    on : (id : ℕ) → placed.id ≢ id → (some : List JobRecord) (parts : List Part) → Any (HasStarted now placed) some → Any (HasStarted now placed) (map (started_as now id parts) some)
+    on id other some parts (k, job, inside, is, has) =
+        let start = started_as now id parts in
+        let same : start job ≡ job = rw (ne_eqb job.id id (λ equal. other (sym has.id ∙ equal))) refl in
+        (k, job, omega (arith, inside, length-map some start), get_or-map start some k job job inside ∙ ap start is ∙ same, has)
+
+-- So each placement that is due is of a job that has started with all that was planned for it.
+pub all-given : StartLaws → (s : State) (plan : List Placed) → CanStart s plan
+    → All (λ (placed : Placed). placed.start ≡ s.moment → Any (HasStarted s.moment placed) (started (map room_of s.nodes) s.moment s.jobs plan).jobs) plan
+unfolding started
+all-given laws s [] can = All-nil (λ (placed : Placed). placed.start ≡ s.moment → Any (HasStarted s.moment placed) s.jobs)
+all-given laws s (placed ∷ later) can =
+    let Given : List JobRecord → Placed → Type 0 = λ jobs one. one.start ≡ s.moment → Any (HasStarted s.moment one) jobs in
+    let next = after_start s placed in
+    let run = λ (jobs : List JobRecord). (started (map room_of s.nodes) s.moment jobs later).jobs in
+    let apart = pairs-head (λ (one other : Placed). one.id ≢ other.id) placed later can.apart in
+    elim (cases_Bool (eqb placed.start s.moment)) [
+      | inr after ↦ rw after (All-cons (Given (run s.jobs)) placed later (λ now. absurd (eqb-false placed.start s.moment after now)) (all-given laws s later (can-later s placed later can after)))
+      | inl due ↦ rw due (All-cons (Given (run next.jobs)) placed later (λ now. stays-given (map room_of s.nodes) s.moment next.jobs placed later apart (given-first s placed later can due))
+          (all-given laws next later (can-begun laws s placed later can due)))
+    ]
