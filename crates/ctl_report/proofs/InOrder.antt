@@ -18,7 +18,7 @@ use Rattle.slurm_text.specs.declared.plain.report.Start.{Start}
 use Rattle.ctl_report.specs.Ordering.{by_job, is_before, in_order}
 
 -- the order is total, and only a start ties with itself
-abbrev is_same : Start → Start → Bool
+abbrev pub is_same : Start → Start → Bool
 is_same one other = nat_eq one.id other.id && nat_eq one.number other.number
 
 total : IsTotalOrder by_job

@@ -25,6 +25,7 @@ use Rattle.ctl_state.specs.State.{State, last_moment}
 use Rattle.ctl_state.specs.Verdicts.{stamped}
 use Rattle.ctl_report.specs.Reporting.{is_named, heard_nodes, is_last_start, is_listed, done_of, is_at, is_batch_host, final_of, told_over, after_told, reported, report_after}
 use Rattle.ctl_report.specs.Ordering.{runs_start}
+use Rattle.ctl_report.proofs.InOrder.{is_same}
 
 -- the job runs on the node, before and after the report
 abbrev pub stays : ℕ → Report → JobRecord → Bool
@@ -43,10 +44,7 @@ over now node done job = cond (is_batch_host node job.parts) (changed (Leave (fi
 
 -- who leaves a node runs on as it did, and keeps its start
 left-runs : (now node : ℕ) (final : Final) (parts : List Part) (job : JobRecord) → job.state ≡ Completing final → runs_at node (with_left now final parts job) ≡ false
-left-runs now node final [] job is = ap (λ stopped. stopped && false) (left-stops final)
-  where
-    left-stops : (final : Final) → is_running (left final) ≡ false
-    left-stops final = elim final as (λ f. is_running (left f) ≡ false) [ Completed ↦ refl | Cancelled ↦ refl | Failed ↦ refl | Timeout ↦ refl | NodeFail ↦ refl | Requeue ↦ refl ]
+left-runs now node final [] job is = elim final as (λ f. runs_at node (with_left now f [] job) ≡ false) [ Completed ↦ refl | Cancelled ↦ refl | Failed ↦ refl | Timeout ↦ refl | NodeFail ↦ refl | Requeue ↦ refl ]
 left-runs now node final (part ∷ later) job is = rw is refl
 
 off-runs : (now node : ℕ) (job : JobRecord) (state : JobState) → job.state ≡ state → runs_at node (off_node now node job state) ≡ runs_at node job
@@ -58,11 +56,7 @@ off-runs now node job (Ended final) is = refl
 off-start : (now node : ℕ) (job : JobRecord) (state : JobState) → start_of (off_node now node job state) ≡ start_of job
 off-start now node job Pending = refl
 off-start now node job Running = refl
-off-start now node job (Completing final) = left-start (parts_off node job.parts)
-  where
-    left-start : (parts : List Part) → start_of (with_left now final parts job) ≡ start_of job
-    left-start [] = refl
-    left-start (part ∷ later) = refl
+off-start now node job (Completing final) = elim (parts_off node job.parts) as (λ parts. start_of (with_left now final parts job) ≡ start_of job) [ [] ↦ refl | part ∷ later ↦ refl ]
 off-start now node job (Ended final) = refl
 
 -- who leaves Running doesn't run, and keeps its start
@@ -101,25 +95,22 @@ reported-start now node report job = cond_both (is_at node job) _ job (λ one. s
     told None = cond_both (is_listed report job) job _ (λ one. start_of one ≡ start_of job) (λ h. refl) (λ h. off-start now node job job.state)
     told (Some done) = off-start now node (over now node done job) (over now node done job).state ∙ over-start now node done job
 
-abbrev pub is_same : Start → Start → Bool
-is_same start other = nat_eq other.id start.id && nat_eq other.number start.number
-
-kept-step : (b one : Bool) (start : Start) (job : JobRecord) (jobs : List JobRecord) (rest : Bool) → is_same start (start_of job) ≡ one → list_any (is_same start) (map start_of jobs) ≡ rest
-    → list_any (is_same start) (map start_of (cond b (job ∷ jobs) jobs)) ≡ ((one && b) || rest)
+kept-step : (b one : Bool) (start : Start) (job : JobRecord) (jobs : List JobRecord) (rest : Bool) → is_same (start_of job) start ≡ one → list_any (λ other. is_same other start) (map start_of jobs) ≡ rest
+    → list_any (λ other. is_same other start) (map start_of (cond b (job ∷ jobs) jobs)) ≡ ((one && b) || rest)
 kept-step true one start job jobs rest e h = rw (and-true, e, h) refl
 kept-step false one start job jobs rest e h = rw (and-false, h) refl
 
 -- a start is among those that stay exactly where a job runs it once the report is accepted
-kept-starts : (now node : ℕ) (report : Report) (start : Start) (jobs : List JobRecord) → list_any (is_same start) (map start_of (filter (stays node report) jobs)) ≡ runs_start node (map (reported now node report) jobs) start
+kept-starts : (now node : ℕ) (report : Report) (start : Start) (jobs : List JobRecord) → list_any (λ other. is_same other start) (map start_of (filter (stays node report) jobs)) ≡ runs_start node (map (reported now node report) jobs) start
 kept-starts now node report start [] = refl
 kept-starts now node report start (job ∷ jobs) =
     let one = is_last_start (reported now node report job) start in
     let rest = runs_start node (map (reported now node report) jobs) start in
-    kept-step (stays node report job) one start job (filter (stays node report) jobs) rest (ap (is_same start) (sym (reported-start now node report job))) (kept-starts now node report start jobs)
+    kept-step (stays node report job) one start job (filter (stays node report) jobs) rest (ap (λ other. is_same other start) (sym (reported-start now node report job))) (kept-starts now node report start jobs)
     ∙ ap (λ b. (one && b) || rest) (sym (reported-runs now node report job))
 
 pub lost_starts : (now node : ℕ) (report : Report) (jobs : List JobRecord) (starts : List Start)
-    → filter (λ start. not (list_any (is_same start) (map start_of (filter (stays node report) jobs)))) starts
+    → filter (λ start. not (list_any (λ other. is_same other start) (map start_of (filter (stays node report) jobs)))) starts
     ≡ filter (λ start. not (runs_start node (map (reported now node report) jobs) start)) starts
 lost_starts now node report jobs starts = filter_agree _ _ (λ start. ap not (kept-starts now node report start jobs)) starts
 
@@ -142,27 +133,24 @@ lets-reported rests now node report job kept = cond_both (is_at node job) _ job 
         rests.twice now job middle (told_over now node done job) first (rests.changes now (DropPart node now) middle refl refl (rests.kept now job middle kept first))
 
 -- a job that waits stays as it is
-off-waits : (now node : ℕ) (job : JobRecord) (state : JobState) → is_pending state ≡ true → off_node now node job state ≡ job
-off-waits now node job Pending waits = refl
-off-waits now node job Running waits = refl
-off-waits now node job (Completing final) waits = absurd (both_ways false refl waits)
-off-waits now node job (Ended final) waits = refl
+pending : (state : JobState) → is_pending state ≡ true → state ≡ Pending
+pending Pending waits = refl
+pending Running waits = absurd (both_ways false refl waits)
+pending (Completing final) waits = absurd (both_ways false refl waits)
+pending (Ended final) waits = absurd (both_ways false refl waits)
 
 reported-waits : (now node : ℕ) (report : Report) (job : JobRecord) → is_pending job.state ≡ true → reported now node report job ≡ job
 reported-waits now node report job waits = cond_both (is_at node job) _ job (λ one. one ≡ job) (λ h. told (done_of report job)) (λ h. refl)
   where
-    stopped : (state : JobState) → is_pending state ≡ true → is_running state ≡ true → ⊥
-    stopped Pending h k = both_ways false refl k
-    stopped Running h k = both_ways false refl h
-    stopped (Completing final) h k = both_ways false refl k
-    stopped (Ended final) h k = both_ways false refl k
-
+    stopped : is_running job.state ≡ false
+    stopped = ap is_running (pending job.state waits)
+    off : off_node now node job job.state ≡ job
+    off = ap (off_node now node job) (pending job.state waits)
     told : (done : Option Done) → after_told now node report job done ≡ job
-    told None = cond_both (is_listed report job) job _ (λ one. one ≡ job) (λ h. refl) (λ h. off-waits now node job job.state waits)
+    told None = cond_both (is_listed report job) job _ (λ one. one ≡ job) (λ h. refl) (λ h. off)
     told (Some done) =
-        let middle : over now node done job ≡ job =
-        cond_both (is_batch_host node job.parts) _ job (λ one. one ≡ job) (λ h. cond_both (is_running job.state) _ job (λ one. one ≡ job) (λ r. absurd (stopped job.state waits r)) (λ r. refl)) (λ h. refl) in
-        ap (λ one. off_node now node one one.state) middle ∙ off-waits now node job job.state waits
+        let middle : over now node done job ≡ job = cond_both (is_batch_host node job.parts) _ job (λ one. one ≡ job) (λ h. rw stopped refl) (λ h. refl) in
+        ap (λ one. off_node now node one one.state) middle ∙ off
 
 -- so who waits, waits on
 waits-on : (change : JobRecord → JobRecord) (jobs : List JobRecord) (id : ℕ) → ((job : JobRecord) → is_pending job.state ≡ true → change job ≡ job) → Contains (pending_ids jobs) id → Contains (pending_ids (map change jobs)) id
@@ -177,10 +165,9 @@ waits-on change (job ∷ jobs) id same has =
             | inl first ↦ Contains-append_left (job.id ∷ []) later id first
             | inr other ↦ Contains-append_right (job.id ∷ []) later id (rest other)
           ])
-      | inr other ↦ elim (cases_Bool (is_pending (change job).state)) [
-        | inl waits ↦ rw waits (Contains-append_right ((change job).id ∷ []) later id (rest (rw other at has)))
-        | inr none ↦ rw none (rest (rw other at has))
-      ]
+      | inr other ↦
+          let more = rest (rw other at has) in
+          cond_both (is_pending (change job).state) _ _ (λ (jobs : List JobRecord). Contains (map (λ (job : JobRecord). job.id) jobs) id) (λ h. Contains-append_right ((change job).id ∷ []) later id more) (λ h. more)
     ]
 
 all-stay : {X : Type 0} (xs : List X) → filter (λ x. not false) xs ≡ xs
