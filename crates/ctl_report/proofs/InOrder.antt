@@ -1,6 +1,6 @@
 -- The starts in order: sorted and without repeats they are the keys of their map, which rise and are the starts that were given.
 use Rattle.std.proofs.Common.{◌≡◌, ◌∙◌, Ordering, Less, Equal, Greater, Bool, true, false, ◌&&◌, nat_eq, List, [], ◌∷◌, get_or, map, Option, Some, None, is_some, refl, sym, ap, subst, arith}
-use Rattle.std.specs.Prelude.{T, ◌↔◌}
+use Rattle.std.specs.Prelude.{T}
 use Rattle.std.specs.Cmp.{IsTotalOrder}
 use Rattle.std.specs.FinMap.{FinMap, entries, entries_sorted, from_entries, get-entries, get-from_entries, contains_key-keys}
 use Rattle.std.specs.FinMap.Entries.{find, is_sorted, is_some-find, same_entries}
@@ -70,9 +70,9 @@ unfolding IsStrictlySortedBy
 ordered [] h = refl
 ordered (start ∷ starts) h = above start starts h.0 (ordered starts h.1)
 
-pub in_order-rises : (starts : List Start) → AllPairs (λ one other. is_before one other ≡ true) (in_order starts)
+pub in_order_rises : (starts : List Start) → AllPairs (λ one other. is_before one other ≡ true) (in_order starts)
 unfolding in_order
-in_order-rises starts i j d earlier within =
+in_order_rises starts i j d earlier within =
     before (get_or (in_order starts) i d) (get_or (in_order starts) j d) (Less-from_sorted by_job (in_order starts) i j d (rise _ (holds _ (entries_sorted (from_entries {R = by_job} (paired starts))))) earlier within)
 
 -- the keys of a map are those that were given
@@ -96,11 +96,13 @@ has-in_order : (one : Start) (starts : List Start) → has one (in_order starts)
 unfolding in_order
 has-in_order one starts = sym (contains_key-keys (from_entries {R = by_job} (paired starts)) one) ∙ ap is_some (get-from_entries total (paired starts) one) ∙ find-paired one starts
 
-pub in_order-has : (starts : List Start) (one : Start) → Contains (in_order starts) one ↔ Contains starts one
-in_order-has starts one = (
-  λ h. found one starts (sym (has-in_order one starts) ∙ finds one (in_order starts) h),
-  λ h. found one (in_order starts) (has-in_order one starts ∙ finds one starts h),
-)
+pub in_order_given : (starts : List Start) (one : Start) → Contains (in_order starts) one → Contains starts one
+in_order_given starts one h = found one starts (sym (has-in_order one starts) ∙ finds one (in_order starts) h)
+
+pub in_order_has : (starts : List Start) (one : Start) → Contains starts one → Contains (in_order starts) one
+in_order_has starts one h = found one (in_order starts) (has-in_order one starts ∙ finds one starts h)
+
+pub ruleset orders = (in_order_rises, in_order_given, in_order_has)
 
 -- starts that are sorted and without repeats are in order
 alike : (x y : Option (Unit {0})) → (is_some x ≡ true → is_some y ≡ true) → (is_some y ≡ true → is_some x ≡ true) → x ≡ y

@@ -1,5 +1,5 @@
 -- What a report makes of a job: whether it runs on, that it lets go, and that whoever waits stays as he is.
-use Rattle.std.proofs.Common.{ℕ, ◌≡◌, ◌≤◌, ◌∙◌, Bool, true, false, ◌&&◌, ◌||◌, not, nat_eq, cond, List, [], ◌∷◌, map, All, get_or, Option, Some, None, is_some, refl, sym, ap, inl, inr}
+use Rattle.std.proofs.Common.{ℕ, ◌≡◌, ◌≤◌, ◌∙◌, Bool, true, false, ◌&&◌, ◌||◌, not, cond, List, [], ◌∷◌, map, All, get_or, Option, Some, None, is_some, refl, sym, ap, inl, inr}
 use Rattle.std.specs.List.{list_any, filter, Contains}
 use Rattle.std.proofs.Math.Bool.{and-true, and-false, and_assoc}
 use Rattle.std.proofs.lemmas.Bool.{cases_Bool, both_ways, cond_both}
@@ -18,7 +18,7 @@ use Rattle.ctl_state.specs.declared.change.Change.TheVariants.{Leave, DropPart}
 use Rattle.ctl_state.specs.Changes.{changed, off_node, with_left}
 use Rattle.ctl_state.specs.Events.{LetsGo, those_left}
 use Rattle.ctl_state.specs.Holding.{parts_off}
-use Rattle.ctl_state.specs.JobStates.{is_pending, is_running, left}
+use Rattle.ctl_state.specs.JobStates.{is_pending, is_running}
 use Rattle.ctl_state.specs.Laws.{LettingGo, ChangesLetGo, KeptLater, KeptOn, LetsGoNothing, LetsGoTwice, NodesStay}
 use Rattle.ctl_state.specs.Soundness.{IsSound, IsKept, PlansPending, pending_ids}
 use Rattle.ctl_state.specs.State.{State, last_moment}
@@ -128,8 +128,7 @@ lets-reported rests now node report job kept = cond_both (is_at node job) _ job 
     told None = cond_both (is_listed report job) job _ (LetsGo now job) (λ h. rests.nothing now job kept) (λ h. rests.changes now (DropPart node now) job refl refl kept)
     told (Some done) =
         let middle = over now node done job in
-        let first : LetsGo now job middle =
-        cond_both (is_batch_host node job.parts) _ job (LetsGo now job) (λ h. rests.changes now (Leave (final_of done.exit) now (Some done.exit)) job refl refl kept) (λ h. rests.nothing now job kept) in
+        let first = cond_both (is_batch_host node job.parts) _ job (LetsGo now job) (λ h. rests.changes now (Leave (final_of done.exit) now (Some done.exit)) job refl refl kept) (λ h. rests.nothing now job kept) in
         rests.twice now job middle (told_over now node done job) first (rests.changes now (DropPart node now) middle refl refl (rests.kept now job middle kept first))
 
 -- a job that waits stays as it is
@@ -144,8 +143,10 @@ reported-waits now node report job waits = cond_both (is_at node job) _ job (λ 
   where
     stopped : is_running job.state ≡ false
     stopped = ap is_running (pending job.state waits)
+
     off : off_node now node job job.state ≡ job
     off = ap (off_node now node job) (pending job.state waits)
+
     told : (done : Option Done) → after_told now node report job done ≡ job
     told None = cond_both (is_listed report job) job _ (λ one. one ≡ job) (λ h. refl) (λ h. off)
     told (Some done) =

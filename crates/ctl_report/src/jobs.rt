@@ -100,7 +100,8 @@ fn finish(alloc: Global, job: &mut JobRecord, now: u64, node: u32, done: Done)
 
 // The job's script is over, if it ran on the node.
 fn end_script(alloc: Global, job: &mut JobRecord, now: u64, node: u32, done: Done)
-    ensures { job.new ≡ (if is_batch_host node job.old.parts then changed (Change.Leave (final_of done.exit) now (Some done.exit)) job.old else job.old) }
+    ensures { job.new ≡ (if is_batch_host node job.old.parts
+        then changed (Change.Leave (final_of done.exit) now (Some done.exit)) job.old else job.old) }
 {
     if is_batch_host(node, job.parts.as_slice()) {
         leave(alloc, job, now, done);

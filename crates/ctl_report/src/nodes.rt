@@ -1,7 +1,7 @@
 //! What the nodes reported last.
 
-ghost use Rattle.std.specs.Prelude.{◌≡◌, position, find, length, ◌<◌, IfSome, if◌then◌else◌, Some, option_copied};
-ghost use Rattle.ctl_report.specs.Reporting.{is_named, heard_of, is_after, heard_nodes};
+ghost use Rattle.std.specs.Prelude.{◌≡◌, position, find, length, ◌<◌, IfSome, option_copied};
+ghost use Rattle.ctl_report.specs.Reporting.{is_named, heard_of, is_after, heard_at, heard_nodes};
 
 use ctl_state::record::{Heard, NodeRecord};
 use slurm_text::name::Name;
@@ -46,8 +46,7 @@ pub(crate) fn hear(nodes: &mut [NodeRecord], now: u64, report: &Report)
 }
 
 fn hear_at(node: &mut NodeRecord, now: u64, report: &Report)
-    ensures { node.new
-        ≡ (if is_named report.now.node node.old then record node.old { heard = Some (record { boot = report.now.boot; number = report.now.number; moment = now }) } else node.old) }
+    ensures { node.new ≡ heard_at now report.now node.old }
 {
     if node.conf.name.is(&report.node) {
         node.heard = Some(Heard {
