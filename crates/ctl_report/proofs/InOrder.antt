@@ -1,145 +1,126 @@
--- The starts in order: where one more goes.
-use Rattle.std.proofs.Common.{ℕ, zero, suc, ◌≡◌, ◌≢◌, ◌+◌, ◌-◌, ◌<◌, ◌≤◌, ◌++◌, ◌∙◌, ◌⊎◌, inl, inr, Bool, true, false, ◌&&◌, nat_eq, List, [], ◌∷◌, length, get_or, take, drop, refl, ap, sym, arith}
-use Rattle.std.specs.List.{fold, filter, All, AllPairs, insert}
-use Rattle.std.proofs.lemmas.Bool.{both_ways, cases_eq}
+-- The starts in order: sorted and without repeats they are the keys of their map, which rise and are the starts that were given.
+use Rattle.std.proofs.Common.{◌≡◌, ◌∙◌, Ordering, Less, Equal, Greater, Bool, true, false, ◌&&◌, nat_eq, List, [], ◌∷◌, get_or, map, Option, Some, None, is_some, refl, sym, ap, subst, arith}
+use Rattle.std.specs.Prelude.{T}
+use Rattle.std.specs.Cmp.{IsTotalOrder}
+use Rattle.std.specs.FinMap.{FinMap, entries, entries_sorted, from_entries, get-entries, get-from_entries, contains_key-keys}
+use Rattle.std.specs.FinMap.Entries.{find, is_sorted, is_some-find, same_entries}
+use Rattle.std.specs.List.{AllByRecursion, AllPairs, Contains, dedup, list_any}
+use Rattle.std.specs.List.Sorted.{IsPermutation, IsSorted, IsStrictlySortedBy}
+use Rattle.std.specs.Ordering.{eq_by_cmp, is_eq, is_lt}
+use Rattle.std.proofs.lemmas.Bool.{and_from, and_parts, both_ways}
 use Rattle.std.proofs.lemmas.Bool.Decides.{nat_tests}
-use Rattle.std.proofs.lemmas.List.{drop_more, get_or_default, take-append-drop}
-use Rattle.std.proofs.lemmas.List.Elements.{All-append, All-cons, All-head, All-tail, All-weaker, filter_passes}
-use Rattle.std.proofs.lemmas.List.Kept.{AllPairs-cons, AllPairs-filter}
+use Rattle.std.proofs.lemmas.Cmp.{eq_by_cmp_equiv, nat_cmp_total, nat_eq_equiv, and_equiv, on_equiv, on_total, then_total}
+use Rattle.std.proofs.lemmas.List.Kept.{Contains-dedup, Contains-from_dedup, IsStrictlySortedBy-dedup}
+use Rattle.std.proofs.lemmas.List.Sorted.{Contains-permutation, IsPermutation-sym}
+use Rattle.std.proofs.lemmas.Map.Keys.{Less-from_sorted}
+use Rattle.std.proofs.lemmas.Map.Views.{Contains-from_any, list_any-from_Contains}
 use Rattle.slurm_text.specs.declared.plain.report.Start.{Start}
-use Rattle.ctl_report.specs.Ordering.{is_before, with_start}
+use Rattle.ctl_report.specs.Ordering.{by_job, is_before, in_order}
 
--- the order of the starts
-abbrev pub Before : Start → Start → Type 0
-Before one other = is_before one other ≡ true
+-- the order is total, and only a start ties with itself
+abbrev pub is_same : Start → Start → Bool
+is_same one other = nat_eq one.id other.id && nat_eq one.number other.number
 
-abbrev pub InOrder : List Start → Type 0
-InOrder starts = AllPairs Before starts
+total : IsTotalOrder by_job
+total = then_total (on_total (λ (start : Start). start.id) nat_cmp_total) (on_total (λ (start : Start). start.number) nat_cmp_total)
 
-before_trans : (one other third : Start) → Before one other → Before other third → Before one third
-before_trans one other third h k = grind (arith, nat_tests)
+ties : (one other : Start) → is_same one other ≡ eq_by_cmp by_job one other
+ties one other = grind (arith, nat_tests)
 
-before_not_back : (one other : Start) → Before one other → is_before other one ≡ false
-before_not_back one other h = grind (arith, nat_tests)
-
-pub same_start : (one other : Start) → one.id ≡ other.id → one.number ≡ other.number → one ≡ other
-same_start one other id number =
+same : (one other : Start) → is_same one other ≡ true → one ≡ other
+same one other e =
+    let id : one.id ≡ other.id = grind (arith, nat_tests) in
+    let number : one.number ≡ other.number = grind (arith, nat_tests) in
     ap (λ x. record { id = x; number = one.number }) id ∙ ap (λ y. record { id = other.id; number = y }) number
 
-pub before_cases : (one other : Start) → is_before one other ≡ false → Before other one ⊎ ((one.id ≡ other.id) × (one.number ≡ other.number))
-before_cases one other h = grind (arith, nat_tests)
+before : (one other : Start) → by_job one other ≡ Less → is_before one other ≡ true
+before one other e = grind (arith, nat_tests)
 
-before_from_not : (one other : Start) → is_before one other ≡ false → one ≢ other → Before other one
-before_from_not one other h differ =
-    elim (before_cases one other h) [ inl b ↦ b | inr e ↦ absurd (differ (same_start one other e.0 e.1)) ]
+-- the keys of a map rise, and what rises may be the keys of a map
+holds : (b : Bool) → T b → b ≡ true
+holds true h = refl
+holds false h = absurd h
 
-not_before_itself : (one : Start) → is_before one one ≡ false
-not_before_itself one = grind (arith, nat_tests)
+less : (o : Ordering) → is_lt o ≡ true → o ≡ Less
+less Less h = refl
+less Equal h = absurd (both_ways false refl h)
+less Greater h = absurd (both_ways false refl h)
 
--- a filter that passes just what stands before a place, and one that passes just what stands from a place on
-filter-front : {X : Type 0} (p : X → Bool) (xs : List X) (n : ℕ) (d : X) → ((k : ℕ) → k < n → k < length xs → p (get_or xs k d) ≡ true) → ((k : ℕ) → n ≤ k → k < length xs → p (get_or xs k d) ≡ false) → filter p xs ≡ take n xs
-filter-front p [] zero d pass fail = refl
-filter-front p [] (suc n) d pass fail = refl
-filter-front p (x ∷ xs) zero d pass fail =
-    rw (fail 0 (omega arith) (omega arith)) (filter-front p xs 0 d (λ k h. absurd (omega arith)) (λ k h l. fail (suc k) (omega arith) (omega arith)))
-filter-front p (x ∷ xs) (suc n) d pass fail =
-    rw (pass 0 (omega arith) (omega arith)) (ap (λ ys. x ∷ ys) (filter-front p xs n d (λ k h l. pass (suc k) (omega arith) (omega arith)) (λ k h l. fail (suc k) (omega arith) (omega arith))))
+below : (start : Start) (es : List (Start × Unit {0})) → is_sorted by_job ((start, tt) ∷ es) ≡ true → AllByRecursion (λ other. by_job start other ≡ Less) (map (λ e. e.0) es)
+below start [] h = tt
+below start (e ∷ es) h =
+    let p = and_parts _ _ h in
+    let first = and_parts _ _ p.0 in
+    (less _ first.0, below start es (and_from _ _ first.1 (and_parts _ _ p.1).1))
 
-filter-back : {X : Type 0} (p : X → Bool) (xs : List X) (n : ℕ) (d : X) → ((k : ℕ) → k < n → k < length xs → p (get_or xs k d) ≡ false) → ((k : ℕ) → n ≤ k → k < length xs → p (get_or xs k d) ≡ true) → filter p xs ≡ drop n xs
-filter-back p [] zero d fail pass = refl
-filter-back p [] (suc n) d fail pass = refl
-filter-back p (x ∷ xs) zero d fail pass =
-    rw (pass 0 (omega arith) (omega arith)) (ap (λ ys. x ∷ ys) (filter-back p xs 0 d (λ k h. absurd (omega arith)) (λ k h l. pass (suc k) (omega arith) (omega arith))))
-filter-back p (x ∷ xs) (suc n) d fail pass =
-    rw (fail 0 (omega arith) (omega arith)) (filter-back p xs n d (λ k h l. fail (suc k) (omega arith) (omega arith)) (λ k h l. pass (suc k) (omega arith) (omega arith)))
+rise : (es : List (Start × Unit {0})) → is_sorted by_job es ≡ true → IsStrictlySortedBy by_job (map (λ e. e.0) es)
+unfolding IsStrictlySortedBy
+rise [] h = tt
+rise (e ∷ es) h = (below e.0 es h, rise es (and_parts _ _ h).1)
 
--- the starts before the place of one more come before it
-before_place : (starts : List Start) (start : Start) (place : ℕ) → InOrder starts → place ≤ length starts → (0 < place → Before (get_or starts (place - 1) start) start) → (k : ℕ) → k < place → Before (get_or starts k start) start
-before_place starts start place ordered within last k h =
-    elim (cases_eq k (place - 1)) [
-      | inl e ↦ rw e (last (omega arith))
-      | inr ne ↦ before_trans (get_or starts k start) (get_or starts (place - 1) start) start (ordered k (place - 1) start (omega arith) (omega arith)) (last (omega arith))
-    ]
+abbrev paired : List Start → List (Start × Unit {0})
+paired starts = map (λ start. (start, tt)) starts
 
--- one more start that isn't there goes to its place
-pub with_absent : (starts : List Start) (start : Start) (place : ℕ) → InOrder starts → place ≤ length starts
-    → ((k : ℕ) → place ≤ k → k < length starts → is_before (get_or starts k start) start ≡ false)
-    → (0 < place → Before (get_or starts (place - 1) start) start)
-    → (place < length starts → get_or starts place start ≢ start)
-    → with_start starts start ≡ insert starts place start
-with_absent starts start place ordered within later last absent =
-    let before = before_place starts start place ordered within last in
-    let first : place < length starts → Before start (get_or starts place start) = λ h. before_from_not (get_or starts place start) start (later place (omega arith) h) (absent h) in
-    let after : (k : ℕ) → place ≤ k → k < length starts → Before start (get_or starts k start) =
-    λ k h l. elim (cases_eq k place) [
-      | inl e ↦ rw e (first (omega arith))
-      | inr ne ↦ before_trans start (get_or starts place start) (get_or starts k start) (first (omega arith)) (ordered place k start (omega arith) l)
-    ] in
-    rw (filter-front (λ other. is_before other start) starts place start (λ k h l. before k h) later)
-    (ap (λ ys. take place starts ++ start ∷ ys)
-    (filter-back (is_before start) starts place start (λ k h l. before_not_back (get_or starts k start) start (before k h)) after))
+above : (start : Start) (starts : List Start) → AllByRecursion (λ other. by_job start other ≡ Less) starts → is_sorted by_job (paired starts) ≡ true → is_sorted by_job (paired (start ∷ starts)) ≡ true
+above start [] all h = refl
+above start (one ∷ later) all h = and_from _ _ (and_from _ _ (ap is_lt all.0) (and_parts _ _ (above start later all.1 (and_parts _ _ h).1)).0) h
 
--- one more start that is there changes nothing
-pub with_present : (starts : List Start) (start : Start) (place : ℕ) → InOrder starts → place < length starts
-    → ((k : ℕ) → place ≤ k → k < length starts → is_before (get_or starts k start) start ≡ false)
-    → (0 < place → Before (get_or starts (place - 1) start) start)
-    → get_or starts place start ≡ start
-    → with_start starts start ≡ starts
-with_present starts start place ordered within later last present =
-    let before = before_place starts start place ordered (omega arith) last in
-    let not_after : (k : ℕ) → k < place + 1 → k < length starts → is_before start (get_or starts k start) ≡ false =
-    λ k h l. elim (cases_eq k place) [
-      | inl e ↦ rw (e, present) (not_before_itself start)
-      | inr ne ↦ before_not_back (get_or starts k start) start (before k (omega arith))
-    ] in
-    let after : (k : ℕ) → place + 1 ≤ k → k < length starts → Before start (get_or starts k start) =
-    λ k h l. rw present at (ordered place k start (omega arith) l) in
-    rw (filter-front (λ other. is_before other start) starts place start (λ k h l. before k h) later)
-    (ap (λ ys. take place starts ++ start ∷ ys) (filter-back (is_before start) starts (place + 1) start not_after after)
-    ∙ ap (λ x. take place starts ++ x ∷ drop (place + 1) starts) (sym present)
-    ∙ ap (λ ys. take place starts ++ ys) (sym (drop_more starts place start within))
-    ∙ take-append-drop place starts)
+ordered : (starts : List Start) → IsStrictlySortedBy by_job starts → is_sorted by_job (paired starts) ≡ true
+unfolding IsStrictlySortedBy
+ordered [] h = refl
+ordered (start ∷ starts) h = above start starts h.0 (ordered starts h.1)
 
--- starts in order stay in order with one more
-AllPairs-append : {X : Type 0} (R : X → X → Type 0) (xs ys : List X) → AllPairs R xs → AllPairs R ys → All (λ x. All (R x) ys) xs → AllPairs R (xs ++ ys)
-AllPairs-append R [] ys one other across = other
-AllPairs-append R (x ∷ xs) ys one other across =
-    AllPairs-cons R x (xs ++ ys)
-    (All-append (R x) xs ys (λ k d h. one 0 (suc k) d (omega arith) (omega arith)) (All-head (λ y. All (R y) ys) x xs across))
-    (AllPairs-append R xs ys (λ i j d h l. one (suc i) (suc j) d (omega arith) (omega arith)) other (All-tail (λ y. All (R y) ys) x xs across))
+pub in_order_rises : (starts : List Start) → AllPairs (λ one other. is_before one other ≡ true) (in_order starts)
+unfolding in_order
+in_order_rises starts i j d earlier within =
+    before (get_or (in_order starts) i d) (get_or (in_order starts) j d) (Less-from_sorted by_job (in_order starts) i j d (rise _ (holds _ (entries_sorted (from_entries {R = by_job} (paired starts))))) earlier within)
 
-pub InOrder-with : (starts : List Start) (start : Start) → InOrder starts → InOrder (with_start starts start)
-InOrder-with starts start ordered =
-    let earlier = filter (λ other. is_before other start) starts in
-    let later = filter (is_before start) starts in
-    let passed = filter_passes (is_before start) starts in
-    AllPairs-append Before earlier (start ∷ later)
-    (AllPairs-filter Before (λ other. is_before other start) starts ordered)
-    (AllPairs-cons Before start later passed (AllPairs-filter Before (is_before start) starts ordered))
-    (All-weaker (λ x. Before x start) (λ x. All (Before x) (start ∷ later))
-    (λ x h. All-cons (Before x) start later h (All-weaker (Before start) (Before x) (λ y k. before_trans x start y h k) later passed))
-    earlier (filter_passes (λ other. is_before other start) starts))
+-- the keys of a map are those that were given
+unpaired : (starts : List Start) → map (λ e. e.0) (paired starts) ≡ starts
+unpaired [] = refl
+unpaired (start ∷ starts) = ap (λ later. start ∷ later) (unpaired starts)
 
-in_order-from : (starts out : List Start) → InOrder out → InOrder (fold with_start out starts)
-in_order-from [] out ordered = ordered
-in_order-from (start ∷ starts) out ordered = in_order-from starts (with_start out start) (InOrder-with out start ordered)
+abbrev has : Start → List Start → Bool
+has one = list_any (eq_by_cmp by_job one)
 
--- so far as a loop has come
-pub InOrder-so_far : (starts : List Start) → InOrder (fold with_start [] starts)
-InOrder-so_far starts = in_order-from starts [] (λ i j d h l. absurd (omega arith))
+found : (one : Start) (starts : List Start) → has one starts ≡ true → Contains starts one
+found one starts = Contains-from_any (λ x y e. same x y (ties x y ∙ e)) one starts
 
--- the start at a place is the one that it is compared with, or another
-pub same_at : (starts : List Start) (start item : Start) (place : ℕ) → place < length starts → item ≡ get_or starts place item
-    → true ≡ (nat_eq item.id start.id && nat_eq item.number start.number)
-    → get_or starts place start ≡ start
-same_at starts start item place within is same =
-    get_or_default starts place start item within
-    ∙ sym is
-    ∙ same_start item start (grind (arith, nat_tests)) (grind (arith, nat_tests))
+finds : (one : Start) (starts : List Start) → Contains starts one → has one starts ≡ true
+finds one starts = list_any-from_Contains (eq_by_cmp_equiv total) one starts
 
-pub other_at : (starts : List Start) (start item : Start) (place : ℕ) → place < length starts → item ≡ get_or starts place item
-    → false ≡ (nat_eq item.id start.id && nat_eq item.number start.number)
-    → get_or starts place start ≢ start
-other_at starts start item place within is differ e =
-    let same : item ≡ start = is ∙ get_or_default starts place item start within ∙ e in
-    both_ways (nat_eq item.id start.id && nat_eq item.number start.number) (sym differ) (rw same (grind (arith, nat_tests)))
+find-paired : (one : Start) (starts : List Start) → is_some (find by_job one (paired starts)) ≡ has one starts
+find-paired one starts = is_some-find by_job one (paired starts) ∙ ap (has one) (unpaired starts)
+
+has-in_order : (one : Start) (starts : List Start) → has one (in_order starts) ≡ has one starts
+unfolding in_order
+has-in_order one starts = sym (contains_key-keys (from_entries {R = by_job} (paired starts)) one) ∙ ap is_some (get-from_entries total (paired starts) one) ∙ find-paired one starts
+
+pub in_order_given : (starts : List Start) (one : Start) → Contains (in_order starts) one → Contains starts one
+in_order_given starts one h = found one starts (sym (has-in_order one starts) ∙ finds one (in_order starts) h)
+
+pub in_order_has : (starts : List Start) (one : Start) → Contains starts one → Contains (in_order starts) one
+in_order_has starts one h = found one (in_order starts) (has-in_order one starts ∙ finds one starts h)
+
+pub ruleset orders = (in_order_rises, in_order_given, in_order_has)
+
+-- starts that are sorted and without repeats are in order
+alike : (x y : Option (Unit {0})) → (is_some x ≡ true → is_some y ≡ true) → (is_some y ≡ true → is_some x ≡ true) → x ≡ y
+alike None None h k = refl
+alike None (Some v) h k = absurd (cc (k refl))
+alike (Some u) None h k = absurd (cc (h refl))
+alike (Some u) (Some v) h k = refl
+
+pub in_order-deduped : (starts sorted : List Start) → IsPermutation starts sorted → IsSorted by_job sorted → dedup is_same sorted ≡ in_order starts
+unfolding in_order
+in_order-deduped starts sorted moved up =
+    let once = dedup is_same sorted in
+    let keys : FinMap by_job (Unit {0}) = from_entries (paired starts) in
+    let equal = and_equiv (on_equiv (λ (start : Start). start.id) nat_eq_equiv) (on_equiv (λ (start : Start). start.number) nat_eq_equiv) in
+    let given : (one : Start) → has one once ≡ true → has one starts ≡ true = λ one h. finds one starts (Contains-permutation sorted starts one (IsPermutation-sym starts sorted moved) (Contains-from_dedup is_same sorted one (found one once h))) in
+    let kept : (one : Start) → has one starts ≡ true → has one once ≡ true = λ one h. finds one once (Contains-dedup equal same sorted one (Contains-permutation starts sorted one moved (found one starts h))) in
+    let alike_at : (one : Start) → find by_job one (paired once) ≡ find by_job one (entries keys) = λ one.
+    alike _ _ (λ h. find-paired one starts ∙ given one (sym (find-paired one once) ∙ h)) (λ h. find-paired one once ∙ kept one (sym (find-paired one starts) ∙ h))
+    ∙ sym (get-from_entries total (paired starts) one) ∙ get-entries keys one in
+    sym (unpaired once)
+    ∙ ap (map (λ e. e.0)) (same_entries by_job total (λ x y e. same x y (ties x y ∙ ap is_eq e)) (paired once) (entries keys) (subst T (sym (ordered once (IsStrictlySortedBy-dedup total ties sorted up))) tt) (entries_sorted keys) alike_at)

@@ -1,6 +1,2 @@
-pub mod Gathering
 pub mod InOrder
-pub mod Kills
-pub mod Members
-pub mod Soundly
-pub mod Chosen
+pub mod Reported

@@ -1,6 +1,9 @@
 -- What the node is ordered to do in answer to its report.
-use Rattle.std.specs.Prelude.{ℕ, Bool, ◌&&◌, ◌||◌, not, nat_eq, nat_lt, is_some, if◌then◌else◌, List, [], ◌∷◌, ◌++◌, map, filter, find, fold, filter_map, Option, Some, None, option_map}
+use Rattle.std.specs.Prelude.{ℕ, Bool, ◌&&◌, ◌||◌, not, nat_eq, nat_lt, is_some, if◌then◌else◌, List, map, filter, find, filter_map, Option, Some, None, option_map}
 use Rattle.std.specs.List.{list_any}
+use Rattle.std.specs.declared.cmp.Ordering.{Ordering}
+use Rattle.std.specs.Ordering.{ordering_then, nat_cmp}
+use Rattle.std.specs.FinMap.{keys, from_entries}
 use Rattle.slurm_text.specs.declared.plain.report.Start.{Start}
 use Rattle.slurm_text.specs.declared.plain.report.Done.{Done}
 use Rattle.slurm_text.specs.declared.plain.report.Report.{Report}
@@ -17,13 +20,12 @@ use Rattle.ctl_report.specs.Reporting.{is_last_start, is_listed, done_of, is_at,
 abbrev pub is_before : Start → Start → Bool
 is_before one other = nat_lt one.id other.id || (nat_eq one.id other.id && nat_lt one.number other.number)
 
--- the starts in order, with one more, each once
-abbrev pub with_start : List Start → Start → List Start
-with_start starts start = filter (λ other. is_before other start) starts ++ start ∷ filter (λ other. is_before start other) starts
+abbrev pub by_job : Start → Start → Ordering
+by_job one other = ordering_then (nat_cmp one.id other.id) (nat_cmp one.number other.number)
 
--- the starts in order, each once
+-- the starts in order, each once: the keys of a map in that order
 unfoldable pub in_order : List Start → List Start
-in_order starts = fold with_start [] starts
+in_order starts = keys (from_entries {R = by_job} (map (λ start. (start, tt {0})) starts))
 
 -- one of the jobs still runs this start on the node
 abbrev pub runs_start : ℕ → List JobRecord → Start → Bool

@@ -28,10 +28,14 @@ heard_of nodes name = option_and_then (λ (node : NodeRecord). node.heard) (find
 abbrev pub is_after : Heard → Report → Bool
 is_after heard report = nat_lt heard.boot report.boot || (nat_eq heard.boot report.boot && nat_lt heard.number report.number)
 
+-- a node once the report is accepted: it is noted at the node that it names
+abbrev pub heard_at : ℕ → Report → NodeRecord → NodeRecord
+heard_at now report node =
+    if is_named report.node node then record node { heard = Some (record { boot = report.boot; number = report.number; moment = now }) } else node
+
 -- the nodes once the report is accepted
 abbrev pub heard_nodes : ℕ → Report → List NodeRecord → List NodeRecord
-heard_nodes now report nodes =
-    map (λ (node : NodeRecord). if is_named report.node node then record node { heard = Some (record { boot = report.boot; number = report.number; moment = now }) } else node) nodes
+heard_nodes now report nodes = map (heard_at now report) nodes
 
 -- the start is this job's last one
 abbrev pub is_last_start : JobRecord → Start → Bool

@@ -1,6 +1,6 @@
 //! What a report does to the jobs.
 
-ghost use Rattle.std.specs.Prelude.{◌≡◌, map, find, Some};
+ghost use Rattle.std.specs.Prelude.{◌≡◌, if◌then◌else◌, map, find, Some};
 ghost use Rattle.ctl_state.specs.Changes.{changed};
 ghost use Rattle.std.specs.List.{list_any};
 ghost use Rattle.ctl_report.specs.Reporting.{is_last_start, is_listed, done_of, is_at, is_batch_host, final_of, told_over, reported};
@@ -94,13 +94,21 @@ fn report_job(alloc: Global, job: &mut JobRecord, now: u64, node: u32, report: &
 fn finish(alloc: Global, job: &mut JobRecord, now: u64, node: u32, done: Done)
     ensures { job.new ≡ told_over now node done job.old }
 {
-    if is_batch_host(node, job.parts.as_slice()) {
-        leave(alloc, job, now, done);
-    }
+    end_script(alloc, job, now, node, done);
     apply(alloc, job, Change::DropPart { node, moment: now });
 }
 
-// The job's script is over.
+// The job's script is over, if it ran on the node.
+fn end_script(alloc: Global, job: &mut JobRecord, now: u64, node: u32, done: Done)
+    ensures { job.new ≡ (if is_batch_host node job.old.parts
+        then changed (Change.Leave (final_of done.exit) now (Some done.exit)) job.old else job.old) }
+{
+    if is_batch_host(node, job.parts.as_slice()) {
+        leave(alloc, job, now, done);
+    }
+}
+
+// The job leaves Running, as its script ended.
 fn leave(alloc: Global, job: &mut JobRecord, now: u64, done: Done)
     ensures { job.new ≡ changed (Change.Leave (final_of done.exit) now (Some done.exit)) job.old }
 {

@@ -26,6 +26,7 @@ pub fn a_report_keeps_all_sound()
 }
 
 /// Starts in order rise, each once, and are those that were given.
+#[tactic(auto, using(crate::proofs::InOrder::orders))]
 pub fn orders_are_in_order()
     ensures rising { (starts : List Start) → AllPairs (λ one other. is_before one other ≡ true) (in_order starts) }
     ensures members { (starts : List Start) (start : Start) → Contains (in_order starts) start ↔ Contains starts start }

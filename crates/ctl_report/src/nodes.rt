@@ -1,7 +1,7 @@
 //! What the nodes reported last.
 
-ghost use Rattle.std.specs.Prelude.{◌≡◌, position, length, ◌<◌, IfSome, if◌then◌else◌, Some};
-ghost use Rattle.ctl_report.specs.Reporting.{is_named, heard_of, is_after, heard_nodes};
+ghost use Rattle.std.specs.Prelude.{◌≡◌, position, find, length, ◌<◌, IfSome, option_copied};
+ghost use Rattle.ctl_report.specs.Reporting.{is_named, heard_of, is_after, heard_at, heard_nodes};
 
 use ctl_state::record::{Heard, NodeRecord};
 use slurm_text::name::Name;
@@ -19,8 +19,14 @@ pub(crate) fn place_of(nodes: &[NodeRecord], name: &Name) -> Option<usize>
 pub(crate) fn heard_of(nodes: &[NodeRecord], name: &Name) -> Option<Heard>
     ensures { result ≡ heard_of nodes.now name.now }
 {
-    let node = nodes.iter().find(|node| node.conf.name.is(name))?;
+    let node = node_named(nodes, name)?;
     node.heard
+}
+
+fn node_named<'a>(nodes: &'a [NodeRecord], name: &Name) -> Option<&'a NodeRecord>
+    ensures { option_copied result ≡ find (is_named name.now) nodes.now }
+{
+    nodes.iter().find(|node| node.conf.name.is(name))
 }
 
 /// Whether the report comes after that one.
@@ -40,8 +46,7 @@ pub(crate) fn hear(nodes: &mut [NodeRecord], now: u64, report: &Report)
 }
 
 fn hear_at(node: &mut NodeRecord, now: u64, report: &Report)
-    ensures { node.new
-        ≡ (if is_named report.now.node node.old then record node.old { heard = Some (record { boot = report.now.boot; number = report.now.number; moment = now }) } else node.old) }
+    ensures { node.new ≡ heard_at now report.now node.old }
 {
     if node.conf.name.is(&report.node) {
         node.heard = Some(Heard {

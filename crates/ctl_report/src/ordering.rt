@@ -30,7 +30,7 @@ pub(crate) fn kills(
 {
     let kept = kept_starts(alloc, jobs, node, report)?;
     let lost = without(alloc, report.running.as_slice(), kept.as_slice())?;
-    in_order(alloc, lost.as_slice())
+    Ok(in_order(lost))
 }
 
 // The starts that aren't among those kept.
@@ -88,8 +88,7 @@ fn start_of(job: &JobRecord) -> Start
 pub(crate) fn forgets(alloc: Global, done: &[Done]) -> Result<Items<Start>, Memory>
     ensures { IfOk result (λ forgets. forgets ≡ in_order (map (λ done. done.start) done.now)) }
 {
-    let starts = starts_over(alloc, done)?;
-    in_order(alloc, starts.as_slice())
+    Ok(in_order(starts_over(alloc, done)?))
 }
 
 fn starts_over(alloc: Global, done: &[Done]) -> Result<Vec<Start>, Memory>

@@ -65,7 +65,12 @@ pub fn refusal_of(cluster: &Cluster, user: &Name, report: &Report) -> Option<Ref
 
 /// What the node at a place is ordered in answer to its report, whatever its moment. Linear in the jobs, and for each that
 /// holds something of the node in what the report tells.
-pub fn orders(alloc: Global, cluster: &Cluster, node: u32, report: &Report) -> Result<Orders, Memory>
+pub fn orders(
+    alloc: Global,
+    cluster: &Cluster,
+    node: u32,
+    report: &Report,
+) -> Result<Orders, Memory>
     requires sound { IsSound (state_of cluster.now) }
     ensures { IfOk result (λ orders. (now : ℕ) → orders ≡ orders_of (state_of cluster.now) now node report.now) }
 {

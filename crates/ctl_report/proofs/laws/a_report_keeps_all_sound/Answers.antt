@@ -1,4 +1,4 @@
-use Rattle.ctl_report.proofs.Soundly.{sound-reported}
+use Rattle.ctl_report.proofs.Reported.{sound-reported}
 use Rattle.ctl_report.proofs.laws.a_report_keeps_all_sound.Goals as goal
 
 pub returns : goal.returns

@@ -1,13 +1,10 @@
-use Rattle.std.proofs.Common.{◌≡◌, ◌∙◌, ◌<◌, length, if◌then◌else◌, Some, ap, sym, slice_set, arith}
+use Rattle.std.proofs.Common.{◌∙◌, ap, sym, slice_set, arith}
 use Rattle.std.proofs.lemmas.List.Edits.{map_over_more}
-use Rattle.ctl_state.specs.declared.record.NodeRecord.{NodeRecord}
-use Rattle.ctl_report.specs.Reporting.{is_named}
+use Rattle.ctl_report.specs.Reporting.{heard_at}
 use Rattle.ctl_report.proofs.nodes.hear.Goals as goal
 
 pub loop-node-preserved : goal.loop-node-preserved
 loop-node-preserved c =
-    let heard = λ (node : NodeRecord). if is_named c.args.report.now.node node then record node { heard = Some (record { boot = c.args.report.now.boot; number = c.args.report.now.number; moment = c.args.now }) } else node in
-    let within : c.loop-node.node-index < length c.args.nodes.now = omega arith in
-    let new : c.hear_at.new.node ≡ heard c.node-item.result = c.hear_at.ensures ∙ ap heard (sym c.node-item.is) in
-    ap (slice_set c.loop-node.nodes c.loop-node.node-index) new
-    ∙ map_over_more heard c.args.nodes.now c.loop-node.nodes c.loop-node.node-index c.node-item.result within c.loop-node.invariant c.node-item.is
+    let change = heard_at c.args.now c.args.report.now in
+    ap (slice_set c.loop-node.nodes c.loop-node.node-index) (c.hear_at.ensures ∙ ap change (sym c.node-item.is))
+    ∙ map_over_more change c.args.nodes.now c.loop-node.nodes c.loop-node.node-index c.node-item.result (omega arith) c.loop-node.invariant c.node-item.is

@@ -1,15 +1,11 @@
-use Rattle.std.proofs.Common.{◌∙◌, ◌≤◌, [], length, take, ap, arith, subst, sym}
-use Rattle.std.specs.List.{fold}
-use Rattle.std.proofs.lemmas.List.{take_all}
-use Rattle.ctl_report.specs.Ordering.{with_start, in_order}
-use Rattle.ctl_report.proofs.InOrder.{InOrder, InOrder-so_far}
+use Rattle.std.proofs.Common.{◌∙◌, rules}
+use Rattle.std.proofs.lemmas.List.Filters.{dedup_is}
+use Rattle.std.proofs.lemmas.List.Sorted.{answers_always}
+use Rattle.slurm_text.specs.declared.plain.report.Start.{Start}
+use Rattle.ctl_report.proofs.InOrder.{in_order-deduped}
 use Rattle.ctl_report.proofs.starts.in_order.Goals as goal
 
-pub add_start-requires : goal.add_start-requires
-add_start-requires c = subst InOrder (sym c.loop-start.invariant) (InOrder-so_far (take c.loop-start.start-index c.args.starts.now))
-
 pub returns : goal.returns
-unfolding in_order
 returns c =
-    let past : length c.args.starts.now ≤ c.loop-start.start-index = omega arith in
-    c.from_vec.ensures ∙ c.loop-start.invariant ∙ ap (fold with_start []) (take_all c.loop-start.start-index c.args.starts.now past)
+    let sorted = c.sort_unstable_by_key.ensures.sorted (λ (start : Start). (start.id, start.number)) (answers_always _ _ _ (λ f a r q k. search rules)) in
+    c.from_vec.ensures ∙ dedup_is _ _ _ c.dedup.ensures.filtered ∙ in_order-deduped _ _ c.sort_unstable_by_key.ensures.permutation sorted

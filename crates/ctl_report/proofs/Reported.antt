@@ -1,0 +1,196 @@
+-- What a report makes of a job: whether it runs on, that it lets go, and that whoever waits stays as he is.
+use Rattle.std.proofs.Common.{ℕ, ◌≡◌, ◌≤◌, ◌∙◌, Bool, true, false, ◌&&◌, ◌||◌, not, cond, List, [], ◌∷◌, map, All, get_or, Option, Some, None, is_some, refl, sym, ap, inl, inr}
+use Rattle.std.specs.List.{list_any, filter, Contains}
+use Rattle.std.proofs.Math.Bool.{and-true, and-false, and_assoc}
+use Rattle.std.proofs.lemmas.Bool.{cases_Bool, both_ways, cond_both}
+use Rattle.std.proofs.lemmas.List.Elements.{Contains-append_left, Contains-append_right, Contains-append_cases, filter_agree}
+use Rattle.slurm_text.specs.declared.plain.report.Done.{Done}
+use Rattle.slurm_text.specs.declared.plain.report.Start.{Start}
+use Rattle.slurm_text.specs.declared.plain.report.Report.{Report}
+use Rattle.slurm_text.specs.declared.plain.state.JobState.{JobState}
+use Rattle.slurm_text.specs.declared.plain.state.JobState.TheVariants.{Pending, Running, Completing, Ended}
+use Rattle.slurm_text.specs.declared.plain.state.Final.{Final}
+use Rattle.slurm_text.specs.declared.plain.state.Final.TheVariants.{Completed, Cancelled, Failed, Timeout, NodeFail, Requeue}
+use Rattle.ctl_state.specs.declared.record.NodeRecord.{NodeRecord}
+use Rattle.ctl_state.specs.declared.record.Part.{Part}
+use Rattle.ctl_state.specs.declared.record.JobRecord.{JobRecord}
+use Rattle.ctl_state.specs.declared.change.Change.TheVariants.{Leave, DropPart}
+use Rattle.ctl_state.specs.Changes.{changed, off_node, with_left}
+use Rattle.ctl_state.specs.Events.{LetsGo, those_left}
+use Rattle.ctl_state.specs.Holding.{parts_off}
+use Rattle.ctl_state.specs.JobStates.{is_pending, is_running}
+use Rattle.ctl_state.specs.Laws.{LettingGo, ChangesLetGo, KeptLater, KeptOn, LetsGoNothing, LetsGoTwice, NodesStay}
+use Rattle.ctl_state.specs.Soundness.{IsSound, IsKept, PlansPending, pending_ids}
+use Rattle.ctl_state.specs.State.{State, last_moment}
+use Rattle.ctl_state.specs.Verdicts.{stamped}
+use Rattle.ctl_report.specs.Reporting.{is_named, heard_nodes, is_last_start, is_listed, done_of, is_at, is_batch_host, final_of, told_over, after_told, reported, report_after}
+use Rattle.ctl_report.specs.Ordering.{runs_start}
+use Rattle.ctl_report.proofs.InOrder.{is_same}
+
+-- the job runs on the node, before and after the report
+abbrev pub stays : ℕ → Report → JobRecord → Bool
+stays node report job = is_running job.state && (is_at node job && not (is_batch_host node job.parts && is_some (done_of report job)))
+
+abbrev runs_at : ℕ → JobRecord → Bool
+runs_at node job = is_running job.state && is_at node job
+
+-- the job's last start
+abbrev pub start_of : JobRecord → Start
+start_of job = record { id = job.id; number = job.starts }
+
+-- the job whose script is over, where it ran
+abbrev over : ℕ → ℕ → Done → JobRecord → JobRecord
+over now node done job = cond (is_batch_host node job.parts) (changed (Leave (final_of done.exit) now (Some done.exit)) job) job
+
+-- who leaves a node runs on as it did, and keeps its start
+left-runs : (now node : ℕ) (final : Final) (parts : List Part) (job : JobRecord) → job.state ≡ Completing final → runs_at node (with_left now final parts job) ≡ false
+left-runs now node final [] job is = elim final as (λ f. runs_at node (with_left now f [] job) ≡ false) [ Completed ↦ refl | Cancelled ↦ refl | Failed ↦ refl | Timeout ↦ refl | NodeFail ↦ refl | Requeue ↦ refl ]
+left-runs now node final (part ∷ later) job is = rw is refl
+
+off-runs : (now node : ℕ) (job : JobRecord) (state : JobState) → job.state ≡ state → runs_at node (off_node now node job state) ≡ runs_at node job
+off-runs now node job Pending is = refl
+off-runs now node job Running is = refl
+off-runs now node job (Completing final) is = left-runs now node final (parts_off node job.parts) job is ∙ sym (ap (λ state. is_running state && is_at node job) is)
+off-runs now node job (Ended final) is = refl
+
+off-start : (now node : ℕ) (job : JobRecord) (state : JobState) → start_of (off_node now node job state) ≡ start_of job
+off-start now node job Pending = refl
+off-start now node job Running = refl
+off-start now node job (Completing final) = elim (parts_off node job.parts) as (λ parts. start_of (with_left now final parts job) ≡ start_of job) [ [] ↦ refl | part ∷ later ↦ refl ]
+off-start now node job (Ended final) = refl
+
+-- who leaves Running doesn't run, and keeps its start
+over-runs : (now node : ℕ) (done : Done) (job : JobRecord) (host : Bool)
+    → runs_at node (cond host (changed (Leave (final_of done.exit) now (Some done.exit)) job) job) ≡ (runs_at node job && not host)
+over-runs now node done job false = sym (and-true (runs_at node job))
+over-runs now node done job true = elim (cases_Bool (is_running job.state)) [
+  | inl runs ↦ rw runs (sym (and-false (is_at node job)))
+  | inr stopped ↦ rw (stopped, stopped) refl
+]
+
+over-start : (now node : ℕ) (done : Done) (job : JobRecord) → start_of (over now node done job) ≡ start_of job
+over-start now node done job =
+    cond_both (is_batch_host node job.parts) _ job (λ one. start_of one ≡ start_of job) (λ h. cond_both (is_running job.state) _ job (λ one. start_of one ≡ start_of job) (λ r. refl) (λ r. refl)) (λ h. refl)
+
+told-runs : (now node : ℕ) (report : Report) (job : JobRecord) (done : Option Done) → runs_at node (after_told now node report job done) ≡ (runs_at node job && not (is_batch_host node job.parts && is_some done))
+told-runs now node report job None =
+    cond_both (is_listed report job) job (changed (DropPart node now) job) (λ one. runs_at node one ≡ runs_at node job) (λ h. refl) (λ h. off-runs now node job job.state refl)
+    ∙ sym (and-true (runs_at node job)) ∙ ap (λ host. runs_at node job && not host) (sym (and-false (is_batch_host node job.parts)))
+told-runs now node report job (Some done) =
+    off-runs now node (over now node done job) (over now node done job).state refl ∙ over-runs now node done job (is_batch_host node job.parts)
+    ∙ ap (λ host. runs_at node job && not host) (sym (and-true (is_batch_host node job.parts)))
+
+reported-runs : (now node : ℕ) (report : Report) (job : JobRecord) → runs_at node (reported now node report job) ≡ stays node report job
+reported-runs now node report job =
+    let ended = not (is_batch_host node job.parts && is_some (done_of report job)) in
+    elim (cases_Bool (is_at node job)) [
+      | inl at ↦ rw at (told-runs now node report job (done_of report job) ∙ and_assoc (is_running job.state) (is_at node job) ended ∙ ap (λ here. is_running job.state && (here && ended)) at)
+      | inr off ↦ rw (off, off) refl
+    ]
+
+reported-start : (now node : ℕ) (report : Report) (job : JobRecord) → start_of (reported now node report job) ≡ start_of job
+reported-start now node report job = cond_both (is_at node job) _ job (λ one. start_of one ≡ start_of job) (λ h. told (done_of report job)) (λ h. refl)
+  where
+    told : (done : Option Done) → start_of (after_told now node report job done) ≡ start_of job
+    told None = cond_both (is_listed report job) job _ (λ one. start_of one ≡ start_of job) (λ h. refl) (λ h. off-start now node job job.state)
+    told (Some done) = off-start now node (over now node done job) (over now node done job).state ∙ over-start now node done job
+
+kept-step : (b one : Bool) (start : Start) (job : JobRecord) (jobs : List JobRecord) (rest : Bool) → is_same (start_of job) start ≡ one → list_any (λ other. is_same other start) (map start_of jobs) ≡ rest
+    → list_any (λ other. is_same other start) (map start_of (cond b (job ∷ jobs) jobs)) ≡ ((one && b) || rest)
+kept-step true one start job jobs rest e h = rw (and-true, e, h) refl
+kept-step false one start job jobs rest e h = rw (and-false, h) refl
+
+-- a start is among those that stay exactly where a job runs it once the report is accepted
+kept-starts : (now node : ℕ) (report : Report) (start : Start) (jobs : List JobRecord) → list_any (λ other. is_same other start) (map start_of (filter (stays node report) jobs)) ≡ runs_start node (map (reported now node report) jobs) start
+kept-starts now node report start [] = refl
+kept-starts now node report start (job ∷ jobs) =
+    let one = is_last_start (reported now node report job) start in
+    let rest = runs_start node (map (reported now node report) jobs) start in
+    kept-step (stays node report job) one start job (filter (stays node report) jobs) rest (ap (λ other. is_same other start) (sym (reported-start now node report job))) (kept-starts now node report start jobs)
+    ∙ ap (λ b. (one && b) || rest) (sym (reported-runs now node report job))
+
+pub lost_starts : (now node : ℕ) (report : Report) (jobs : List JobRecord) (starts : List Start)
+    → filter (λ start. not (list_any (λ other. is_same other start) (map start_of (filter (stays node report) jobs)))) starts
+    ≡ filter (λ start. not (runs_start node (map (reported now node report) jobs) start)) starts
+lost_starts now node report jobs starts = filter_agree _ _ (λ start. ap not (kept-starts now node report start jobs)) starts
+
+-- the laws of letting go that a report rests on
+pub record Rests : Type 0 where
+  pub changes : ChangesLetGo
+  pub kept : KeptOn
+  pub nothing : LetsGoNothing
+  pub twice : LetsGoTwice
+
+lets-reported : Rests → (now node : ℕ) (report : Report) (job : JobRecord) → IsKept now job → LetsGo now job (reported now node report job)
+lets-reported rests now node report job kept = cond_both (is_at node job) _ job (LetsGo now job) (λ h. told (done_of report job)) (λ h. rests.nothing now job kept)
+  where
+    told : (done : Option Done) → LetsGo now job (after_told now node report job done)
+    told None = cond_both (is_listed report job) job _ (LetsGo now job) (λ h. rests.nothing now job kept) (λ h. rests.changes now (DropPart node now) job refl refl kept)
+    told (Some done) =
+        let middle = over now node done job in
+        let first = cond_both (is_batch_host node job.parts) _ job (LetsGo now job) (λ h. rests.changes now (Leave (final_of done.exit) now (Some done.exit)) job refl refl kept) (λ h. rests.nothing now job kept) in
+        rests.twice now job middle (told_over now node done job) first (rests.changes now (DropPart node now) middle refl refl (rests.kept now job middle kept first))
+
+-- a job that waits stays as it is
+pending : (state : JobState) → is_pending state ≡ true → state ≡ Pending
+pending Pending waits = refl
+pending Running waits = absurd (both_ways false refl waits)
+pending (Completing final) waits = absurd (both_ways false refl waits)
+pending (Ended final) waits = absurd (both_ways false refl waits)
+
+reported-waits : (now node : ℕ) (report : Report) (job : JobRecord) → is_pending job.state ≡ true → reported now node report job ≡ job
+reported-waits now node report job waits = cond_both (is_at node job) _ job (λ one. one ≡ job) (λ h. told (done_of report job)) (λ h. refl)
+  where
+    stopped : is_running job.state ≡ false
+    stopped = ap is_running (pending job.state waits)
+
+    off : off_node now node job job.state ≡ job
+    off = ap (off_node now node job) (pending job.state waits)
+
+    told : (done : Option Done) → after_told now node report job done ≡ job
+    told None = cond_both (is_listed report job) job _ (λ one. one ≡ job) (λ h. refl) (λ h. off)
+    told (Some done) =
+        let middle : over now node done job ≡ job = cond_both (is_batch_host node job.parts) _ job (λ one. one ≡ job) (λ h. rw stopped refl) (λ h. refl) in
+        ap (λ one. off_node now node one one.state) middle ∙ off
+
+-- so who waits, waits on
+waits-on : (change : JobRecord → JobRecord) (jobs : List JobRecord) (id : ℕ) → ((job : JobRecord) → is_pending job.state ≡ true → change job ≡ job) → Contains (pending_ids jobs) id → Contains (pending_ids (map change jobs)) id
+waits-on change [] id same has = has
+waits-on change (job ∷ jobs) id same has =
+    let later = pending_ids (map change jobs) in
+    let rest = waits-on change jobs id same in
+    elim (cases_Bool (is_pending job.state)) [
+      | inl waits ↦
+          rw (same job waits, waits)
+          (elim (Contains-append_cases (job.id ∷ []) (pending_ids jobs) id (rw waits at has)) [
+            | inl first ↦ Contains-append_left (job.id ∷ []) later id first
+            | inr other ↦ Contains-append_right (job.id ∷ []) later id (rest other)
+          ])
+      | inr other ↦
+          let more = rest (rw other at has) in
+          cond_both (is_pending (change job).state) _ _ (λ (jobs : List JobRecord). Contains (map (λ (job : JobRecord). job.id) jobs) id) (λ h. Contains-append_right ((change job).id ∷ []) later id more) (λ h. more)
+    ]
+
+all-stay : {X : Type 0} (xs : List X) → filter (λ x. not false) xs ≡ xs
+all-stay [] = refl
+all-stay (x ∷ xs) = ap (λ rest. x ∷ rest) (all-stay xs)
+
+heard-confs : (now : ℕ) (report : Report) (nodes : List NodeRecord) → map (λ (node : NodeRecord). node.conf) (heard_nodes now report nodes) ≡ map (λ (node : NodeRecord). node.conf) nodes
+heard-confs now report [] = refl
+heard-confs now report (node ∷ nodes) =
+    cond_both (is_named report.node node) _ node (λ one. one.conf ∷ map (λ (node : NodeRecord). node.conf) (heard_nodes now report nodes) ≡ node.conf ∷ map (λ (node : NodeRecord). node.conf) nodes)
+    (λ h. ap (λ rest. node.conf ∷ rest) (heard-confs now report nodes)) (λ h. ap (λ rest. node.conf ∷ rest) (heard-confs now report nodes))
+
+-- An accepted report keeps all sound.
+pub sound-reported : LettingGo → KeptLater → NodesStay → Rests → (s : State) (now node : ℕ) (report : Report) → IsSound s → s.moment ≤ now → now ≤ last_moment → IsSound (stamped now (report_after s now node report))
+sound-reported letting later nodes rests s now node report sound raised in_time =
+    let change = reported now node report in
+    let stays : those_left change (λ job. false) s.jobs ≡ map change s.jobs = all-stay (map change s.jobs) in
+    let plan : PlansPending (map change s.jobs) s.plan = record {
+      pending = λ k d below. waits-on change s.jobs (get_or s.plan k d).id (reported-waits now node report) (sound.plan.pending k d below);
+      once = sound.plan.once;
+      last = sound.plan.last;
+    } in
+    let lets : All (λ job. LetsGo now job (change job)) s.jobs = λ k d below. lets-reported rests now node report (get_or s.jobs k d) (later s.moment now (get_or s.jobs k d) raised (sound.jobs k d below)) in
+    let left = letting s now change (λ job. false) s.plan sound in_time lets (λ k d below goes. absurd (both_ways false refl goes)) (rw stays plan) in
+    nodes (record s { jobs = map change s.jobs; moment = now }) (heard_nodes now report s.nodes) (rw stays at left) (heard-confs now report s.nodes)
