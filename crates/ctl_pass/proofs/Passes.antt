@@ -1,5 +1,5 @@
 -- A pass: its plan can start, it is idle exactly where it changes nothing, and where the jobs come from that run after it.
-use Rattle.std.proofs.Common.{◌≡◌, ℕ, ◌+◌, ◌≤◌, ◌<◌, Bool, true, false, ◌&&◌, cond, leb, ltb, List, [], ◌∷◌, ◌++◌, length, map, filter, flat_map, sum_by, All, AllPairs, Contains, IfSome, unwrap_or}
+use Rattle.std.proofs.Common.{◌≡◌, ◌≢◌, ℕ, ◌+◌, ◌≤◌, ◌<◌, Bool, true, false, ◌&&◌, cond, leb, ltb, List, [], ◌∷◌, ◌++◌, length, map, filter, flat_map, sum_by, All, AllPairs, Contains, IfSome, unwrap_or}
 use Rattle.std.proofs.Common.{get_or, refl, ap, arith, ◌*◌, not, eqb, Any, ◌∙◌, inl, inr, ◌⊎◌, sym, rules, tests}
 use Rattle.std.proofs.lemmas.Bool.{cond_both, and_parts, le-leb, lt-ltb, ltb-true, cases_order, eq-eqb, and_from, cases_Bool, eqb-true, both_ways}
 use Rattle.std.proofs.lemmas.List.{length-map, length-append, get_or_append_left, get_or-append-add, get_or_default}
