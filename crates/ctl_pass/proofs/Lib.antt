@@ -1,5 +1,3 @@
 pub mod Lists
-pub mod Held
-pub mod Ready
 pub mod Starting
 pub mod Passes
