@@ -210,12 +210,8 @@ base-within s sound =
           All-map (λ (hold : Hold). hold.node < length rooms) (hold_of s.moment job) job.parts (λ i part inside. (All-joined (IsPartOf rooms) (λ (one : JobRecord). one.parts) s.jobs sound.held.each k d below i part inside).node));
       windows = All-joins (λ (hold : Hold). hold.from < hold.until) (holds_of_job s.moment) s.jobs (λ k d below. let job = get_or s.jobs k d in
           All-map (λ (hold : Hold). hold.from < hold.until) (hold_of s.moment job) job.parts (λ i part inside. omega (arith, (sound.jobs k d below).run.start_passed, hold_end-later s.moment job)));
-      cpus = λ node moment.
-          let most : sum_by (hold_has (λ cpus mem. cpus) node moment) (flat_map (holds_of_job s.moment) s.jobs) ≤ sum_by (cpus_in node) parts = held-most (λ cpus mem. cpus) node moment s.moment s.jobs in
-          omega (arith, most, held-counted rooms parts node sound.held.each, free-counted rooms parts node (sound.held.once node));
-      mem = λ node moment.
-          let most : sum_by (hold_has (λ cpus mem. mem) node moment) (flat_map (holds_of_job s.moment) s.jobs) ≤ sum_by (mem_in node) parts = held-most (λ cpus mem. mem) node moment s.moment s.jobs in
-          omega (arith, most, sound.held.mem node);
+      cpus = λ node moment. omega (arith, held-most (λ cpus mem. cpus) node moment s.moment s.jobs, held-counted rooms parts node sound.held.each, free-counted rooms parts node (sound.held.once node));
+      mem = λ node moment. omega (arith, held-most (λ cpus mem. mem) node moment s.moment s.jobs, sound.held.mem node);
     }
 
 -- what is ranked are the pending jobs
@@ -281,12 +277,8 @@ can-start laws s sound =
         parts = laws.parts base jobs now horizon rooms plannable k d below;
       };
       apart = λ i j d before below same. omega (arith, laws.rising base jobs now (ranked-rising s now sound) i j d before below, same);
-      cpus = λ node.
-          let least : sum_by (cpus_in node) (parts_of s.jobs) ≤ sum_by (hold_has (λ cpus mem. cpus) node now) (flat_map (holds_of_job now) s.jobs) = held-now (λ cpus mem. cpus) node now s.jobs started in
-          omega (arith, fit.cpus node, least, held-counted (map room_of s.nodes) (parts_of s.jobs) node sound.held.each);
-      mem = λ node.
-          let least : sum_by (mem_in node) (parts_of s.jobs) ≤ sum_by (hold_has (λ cpus mem. mem) node now) (flat_map (holds_of_job now) s.jobs) = held-now (λ cpus mem. mem) node now s.jobs started in
-          omega (arith, fit.mem node, least);
+      cpus = λ node. omega (arith, fit.cpus node, held-now (λ cpus mem. cpus) node now s.jobs started, held-counted (map room_of s.nodes) (parts_of s.jobs) node sound.held.each);
+      mem = λ node. omega (arith, fit.mem node, held-now (λ cpus mem. mem) node now s.jobs started);
     }
 
 -- So those of a pass can.
