@@ -69,11 +69,8 @@ free-counted rooms parts node once =
     let cpus = range_with_len 0 (cpus_of rooms node) in
     let is_free : ℕ → Bool = λ cpu. eqb (times_held parts node cpu) 0 in
     let split = sum_by-add (λ cpu. cond (is_free cpu) 1 0) (λ cpu. times_held parts node cpu) cpus in
-    let each = sum_by-same (λ cpu. cond (is_free cpu) 1 0 + times_held parts node cpu) (λ cpu. 1) cpus (λ k d below. one_of _ (once _)) in
+    let each = sum_by-same (λ cpu. cond (is_free cpu) 1 0 + times_held parts node cpu) (λ cpu. 1) cpus (λ k d below. let few = once (get_or cpus k d) in grind (arith, nat_tests, few)) in
     omega (arith, split, each, sum_by-ones cpus, length-range_with_len 0 (cpus_of rooms node), length-filter is_free cpus)
-  where
-    one_of : (times : ℕ) → times ≤ 1 → cond (eqb times 0) 1 0 + times ≡ 1
-    one_of times few = grind (arith, nat_tests)
 
 -- the free processors rise, are the node's, and stand in no part
 pub free-are : (rooms : List NodeRoom) (parts : List Part) (node : ℕ)
@@ -304,10 +301,7 @@ cpus-taken : (s : State) (placed : Placed) (node : ℕ) → sum_by (cpus_in node
 cpus-taken s placed node =
     let part = part_of (map room_of s.nodes) s.jobs in
     let amount : Share → ℕ = λ share. cond (eqb share.node node) share.cpus 0 in
-    omega (arith, sum_by-map (cpus_in node) part placed.parts, sum_by-le-sum_by (λ share. cpus_in node (part share)) amount placed.parts (λ share. less share.node share.cpus (free_ids (map room_of s.nodes) (parts_of s.jobs) share.node)))
-  where
-    less : (on count : ℕ) (free : List ℕ) → cond (eqb on node) (length (take count free)) 0 ≤ cond (eqb on node) count 0
-    less on count free = grind (arith, nat_tests, length-take count free)
+    omega (arith, sum_by-map (cpus_in node) part placed.parts, sum_by-le-sum_by (λ share. cpus_in node (part share)) amount placed.parts (λ share. grind (arith, nat_tests, length-take share.cpus (free_ids (map room_of s.nodes) (parts_of s.jobs) share.node))))
 
 mem-taken : (s : State) (placed : Placed) (node : ℕ) → mem_held (parts_for s placed) node ≡ mem_on node placed
 unfolding mem_held

@@ -9,10 +9,7 @@ use Rattle.ctl_pass.proofs.Passes.{can-begin-ready}
 use Rattle.ctl_pass.proofs.starts.starts_of.Goals as goal
 
 pub returns-then-not-any_starts : goal.returns-then-not-any_starts
-returns-then-not-any_starts c =
-    let s = state_of c.args.cluster.now in
-    c.new.ensures.items
-    ∙ sym (none-starts (map room_of s.nodes) c.args.now (ready s c.args.now).jobs (placements s c.args.now) (rw c.requires.plan at (sym c.any_starts.ensures ∙ c.if-not-any_starts.true)))
+returns-then-not-any_starts c = c.new.ensures.items ∙ sym (none-starts _ _ _ _ (rw c.requires.plan at (sym c.any_starts.ensures ∙ c.if-not-any_starts.true)))
 
 pub starts_beside-requires-clause-parts : goal.starts_beside-requires-clause-parts
 starts_beside-requires-clause-parts c = rw c.deref-2.ensures.value c.requires.parts
