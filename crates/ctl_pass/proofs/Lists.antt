@@ -2,13 +2,13 @@
 use Rattle.std.proofs.lemmas.List.Concat.{get_or-flat_map}
 use Rattle.std.proofs.lemmas.Bool.Decides.{nat_tests}
 use Rattle.std.proofs.Common.{◌≡◌, ◌≢◌, ℕ, zero, suc, ◌+◌, ◌≤◌, ◌<◌, Bool, true, false, cond, eqb, List, [], ◌∷◌, length, map, filter, flat_map, sum_by, take, get_or, All, AllPairs, Any, Contains}
-use Rattle.std.proofs.Common.{arith, refl, inl, inr, ◌&&◌, ◌++◌, drop, set, ap, sym, ◌∙◌, append_assoc, rules, tests}
+use Rattle.std.proofs.Common.{arith, refl, ◌&&◌, ◌++◌, drop, set, ap, sym, ◌∙◌}
 use Rattle.std.specs.List.{list_any, range_with_len, list_all, zip, HoldsAt}
-use Rattle.std.proofs.lemmas.Bool.{cases_Bool, both_ways, eqb-true, eq-eqb, ne_eqb}
-use Rattle.std.proofs.lemmas.List.{get_or-map, length-map, get_or-take, length-take, take-map, take_more, drop_more, map-append, get_or_default, same_lists, length-set, get_or-set_same, get_or-set_other, get_or_append_left, length-append, get_or-append-add}
+use Rattle.std.proofs.lemmas.Bool.{ne_eqb}
+use Rattle.std.proofs.lemmas.List.{get_or-map, length-map, get_or-take, length-take, take-map, take_more, drop_more, map-append, get_or_default, same_lists, length-set, get_or-set_same, get_or-set_other}
 use Rattle.std.proofs.lemmas.List.Sums.{sum_by-cons, sum_by-append}
 use Rattle.std.proofs.lemmas.List.Folds.{fold-map, list_any_none, map_fixed, length-flat_map-take}
-use Rattle.std.proofs.lemmas.List.Elements.{All-head, All-tail, All-weaker, All-nil, All-cons, filter_more, All-map, All-filter, All-contains, filter_passes, All-append}
+use Rattle.std.proofs.lemmas.List.Elements.{All-head, All-tail, All-nil, filter_more, All-map, All-filter, All-contains, filter_passes, All-append}
 use Rattle.std.proofs.lemmas.List.FromFn.{length-range_with_len, get_or-range_with_len}
 use Rattle.std.specs.Cmp.Lexicographic.{pointwise}
 
@@ -116,9 +116,9 @@ range-rising (x ∷ xs) bound rising below =
     let split = sum_by-add (λ number. cond (eqb x number) 1 0) (λ number. cond (list_any (λ y. eqb y number) xs) 1 0) (range_with_len 0 bound) in
     let above = pairs-head (λ one other. one < other) x xs rising in
     let each = sum_by-same (λ number. cond (list_any (λ y. eqb y number) (x ∷ xs)) 1 0) (λ number. cond (eqb x number) 1 0 + cond (list_any (λ y. eqb y number) xs) 1 0) (range_with_len 0 bound) (λ i e within.
-        let number = get_or (range_with_len 0 bound) i e in
-        let none : x ≡ number → list_any (λ y. eqb y number) xs ≡ false = λ is. list_any_none (λ y. eqb y number) xs (λ k d inside. ne_eqb (get_or xs k d) number (λ same. omega (arith, above k d inside, is, same))) in
-        grind (arith, nat_tests, none)) in
+    let number = get_or (range_with_len 0 bound) i e in
+    let none : x ≡ number → list_any (λ y. eqb y number) xs ≡ false = λ is. list_any_none (λ y. eqb y number) xs (λ k d inside. ne_eqb (get_or xs k d) number (λ same. omega (arith, above k d inside, is, same))) in
+    grind (arith, nat_tests, none)) in
     omega (arith, rest, first, split, each)
 
 -- a list whose numbers rise from one bound to another isn't longer than that

@@ -1,12 +1,12 @@
 -- A pass: what its first steps leave is sound, its plan can start, when it is idle, and where the jobs come from that run after it.
 use Rattle.std.proofs.lemmas.List.Concat.{flat_map-append}
-use Rattle.std.proofs.lemmas.Bool.Decides.{nat_tests, Decides-eqb}
-use Rattle.std.proofs.Common.{◌≡◌, ℕ, ◌+◌, ◌≤◌, true, false, ◌&&◌, not, eqb, leb, List, [], Contains, unwrap_or, Some, None, get_or, refl, sym, arith, suc, ◌<◌, Bool, cond, ltb, ◌∷◌, ◌++◌, length}
-use Rattle.std.proofs.Common.{map, flat_map, filter, take, All, ap, ◌∙◌, inl, inr, rules, tests, sum_by, AllPairs, IfSome, ◌*◌, Any, ◌⊎◌}
-use Rattle.std.proofs.lemmas.Bool.{cond_both, and_parts, cases_Bool, cases_eq, both_ways, leb-true, le-ltb, ne_eqb, eq-eqb, le-leb, lt-ltb, ltb-true, cases_order, and_from, eqb-true}
-use Rattle.std.proofs.lemmas.List.Elements.{All-nil, All-weaker, All-head, All-tail, filter-append, All-append, All-map, All-filter, All-contains_itself}
+use Rattle.std.proofs.lemmas.Bool.Decides.{nat_tests}
+use Rattle.std.proofs.Common.{◌≡◌, ℕ, ◌+◌, ◌≤◌, true, false, ◌&&◌, not, eqb, leb, List, [], Contains, unwrap_or, Some, None, get_or, refl, sym, arith, suc, ◌<◌, Bool, cond, ◌∷◌, ◌++◌, length}
+use Rattle.std.proofs.Common.{map, flat_map, filter, take, All, ap, ◌∙◌, inl, inr, rules, tests, sum_by, AllPairs, IfSome, Any, ◌⊎◌}
+use Rattle.std.proofs.lemmas.Bool.{cond_both, and_parts, cases_Bool, both_ways, ne_eqb, eq-eqb, cases_order, eqb-true}
+use Rattle.std.proofs.lemmas.List.Elements.{All-weaker, All-head, All-tail, filter-append, All-map, All-filter, All-contains_itself}
 use Rattle.slurm_text.specs.declared.plain.state.JobState.{JobState}
-use Rattle.slurm_text.specs.declared.plain.state.JobState.TheVariants.{Pending, Running, Completing, Ended}
+use Rattle.slurm_text.specs.declared.plain.state.JobState.TheVariants.{Completing}
 use Rattle.slurm_text.specs.declared.plain.state.Final.TheVariants.{Timeout}
 use Rattle.backfill_planner.specs.declared.Placed.{Placed}
 use Rattle.ctl_state.specs.declared.record.JobRecord.{JobRecord}
@@ -16,14 +16,14 @@ use Rattle.ctl_state.specs.JobStates.{is_running, is_ended, is_holding, is_pendi
 use Rattle.ctl_state.specs.Changes.{changed}
 use Rattle.ctl_state.specs.Events.{LetsGo, those_left, started_as}
 use Rattle.ctl_state.specs.Laws.{LettingGo, ChangesLetGo, LetsGoNothing, KeptLater}
-use Rattle.ctl_state.specs.Soundness.{IsSound, IsKept, PlansPending, pending_ids, HasItsParts, HaveRisingIds, IsLimit}
+use Rattle.ctl_state.specs.Soundness.{IsSound, IsKept, pending_ids, HasItsParts, HaveRisingIds, IsLimit}
 use Rattle.ctl_pass.specs.Limits.{deadline, is_over, timed_out, is_old, holds_of_job, hold_end}
 use Rattle.ctl_pass.specs.Readiness.{ready, base_of, candidates, ranked, planned, placements}
 use Rattle.std.specs.List.{list_any}
-use Rattle.std.proofs.lemmas.List.{take_more, map-append, append-nil, length-map, length-append, get_or_append_left, get_or-append-add, get_or_default}
+use Rattle.std.proofs.lemmas.List.{take_more, map-append, append-nil, length-map, get_or_default}
 use Rattle.std.proofs.lemmas.List.Sums.{length-filter, count_by-le-length, sum_by-cons, sum_by-le-sum_by}
 use Rattle.std.proofs.lemmas.List.Kept.{AllPairs-filter}
-use Rattle.ctl_state.specs.Holding.{parts_of, has_members, is_on, mem_held, mem_in, IsPartOf}
+use Rattle.ctl_state.specs.Holding.{parts_of, has_members, is_on, mem_held, IsPartOf}
 use Rattle.ctl_pass.proofs.Lists.{pairs-map, sum_by-larger, sum_by-map, joined-larger, range-rises, range-below, Any-kept, length-rising, sum_by-more, All-joins, All-joined}
 use Rattle.slurm_text.specs.declared.plain.limit.Limit.{Limit}
 use Rattle.slurm_text.specs.declared.plain.limit.Limit.TheVariants.{Minutes, Unlimited}
@@ -36,7 +36,7 @@ use Rattle.backfill_planner.specs.Plans.{plan_of, PlannedView}
 use Rattle.backfill_planner.specs.Placements.{IsPlannable, IsOnRooms, AreParts, StartsFit}
 use Rattle.ctl_state.specs.declared.record.Part.{Part}
 use Rattle.ctl_state.specs.Planning.{room_of, seconds_of, plan_job}
-use Rattle.ctl_pass.proofs.Starting.{cpus_in, held-counted, free-counted, CanStart, started-keeps, no-plan}
+use Rattle.ctl_pass.proofs.Starting.{held-counted, free-counted, CanStart, started-keeps, no-plan}
 use Rattle.std.proofs.lemmas.List.Folds.{list_any-from_Any}
 use Rattle.ctl_pass.specs.SamePlans.{same_plans, same_shares, same_placements}
 use Rattle.ctl_pass.specs.HeldIds.{ShowsParts}

@@ -1,12 +1,12 @@
 -- What parts hold of a node's processors, and the starts of a plan: what each takes, that all stays sound, and that each job gets what was planned.
 use Rattle.std.proofs.lemmas.Bool.Decides.{nat_tests}
 use Rattle.std.proofs.Common.{◌≡◌, ℕ, ◌+◌, ◌≤◌, ◌<◌, Bool, true, cond, eqb, List, length, filter, sum_by, All, AllPairs, refl, arith, inl, inr, ◌≢◌, false, ◌||◌, not, [], ◌∷◌, ◌++◌, map, take, get_or}
-use Rattle.std.proofs.Common.{count_by, zero, suc, ap, sym, ◌∙◌, rules, tests, ◌&&◌, ltb, fold, append_assoc, Contains, Any}
+use Rattle.std.proofs.Common.{count_by, zero, suc, ap, sym, ◌∙◌, ◌&&◌, ltb, fold, append_assoc, Contains, Any}
 use Rattle.std.specs.List.{range_with_len, list_any, AllZip}
-use Rattle.std.proofs.lemmas.Bool.{cases_Bool, eqb-true, eqb-false, ne_eqb, and_left, cases_eq, eq-eqb, both_ways}
+use Rattle.std.proofs.lemmas.Bool.{cases_Bool, eqb-true, eqb-false, ne_eqb, and_left, eq-eqb}
 use Rattle.std.proofs.lemmas.List.Sums.{length-filter, fold_push, sum_by-cons, sum_by-le-sum_by, get_or-le-sum_by}
-use Rattle.std.proofs.lemmas.List.FromFn.{length-range_with_len, map-range_with_len_more, filter_of_map_range_with_len_more}
-use Rattle.std.proofs.lemmas.List.Elements.{All-filter, All-weaker, filter_passes, All-head, All-tail, All-map, All-take, filter-append, All-cons, All-nil}
+use Rattle.std.proofs.lemmas.List.FromFn.{length-range_with_len, filter_of_map_range_with_len_more}
+use Rattle.std.proofs.lemmas.List.Elements.{All-filter, All-weaker, filter_passes, All-head, All-tail, All-map, All-take, All-cons, All-nil}
 use Rattle.std.proofs.lemmas.List.Kept.{AllPairs-filter, AllPairs-cons}
 use Rattle.resource_profile.specs.declared.NodeRoom.{NodeRoom}
 use Rattle.ctl_state.specs.declared.record.Part.{Part}
@@ -319,10 +319,10 @@ may-take s placed ready fits =
       waits = ready.waits;
       some = some shares ready.some;
       each = All-map (IsPartOf rooms) part shares (λ k d below. let share = get_or shares k d in record {
-          node = (ready.parts.each k d below).node;
-          rising = pairs-take (λ one other. one < other) share.cpus (free_ids rooms held share.node) (free share).0;
-          cpus = All-take (λ cpu. cpu < cpus_of rooms share.node) share.cpus (free_ids rooms held share.node) (free share).1;
-        });
+        node = (ready.parts.each k d below).node;
+        rising = pairs-take (λ one other. one < other) share.cpus (free_ids rooms held share.node) (free share).0;
+        cpus = All-take (λ cpu. cpu < cpus_of rooms share.node) share.cpus (free_ids rooms held share.node) (free share).1;
+      });
       apart = pairs-map (λ (one other : Part). one.node ≢ other.node) part shares ready.parts.apart;
       unheld = All-map (λ (part : Part). All (λ cpu. times_held held part.node cpu ≡ 0) part.cpus) part shares (λ k d below. let share = get_or shares k d in
           All-take (λ cpu. times_held held share.node cpu ≡ 0) share.cpus (free_ids rooms held share.node) (free share).2);

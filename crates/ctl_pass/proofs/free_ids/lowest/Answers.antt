@@ -1,4 +1,4 @@
-use Rattle.std.proofs.Common.{◌≡◌, ℕ, Bool, not, arith}
+use Rattle.std.proofs.Common.{not, arith}
 use Rattle.std.proofs.lemmas.Bool.Decides.{nat_tests}
 use Rattle.ctl_pass.specs.HeldIds.{is_held}
 use Rattle.ctl_pass.proofs.Starting.{lowest-next, lowest-rise, lowest-below}

@@ -2,7 +2,7 @@ use Rattle.std.proofs.Common.{map, sym, ap, ◌∙◌}
 use Rattle.std.proofs.lemmas.Result.{IfOk-weaker}
 use Rattle.ctl_state.specs.Planning.{room_of}
 use Rattle.ctl_state.specs.State.{state_of}
-use Rattle.ctl_pass.specs.Readiness.{ready, placements}
+use Rattle.ctl_pass.specs.Readiness.{ready}
 use Rattle.ctl_pass.specs.Starting.{started}
 use Rattle.ctl_pass.proofs.Starting.{none-starts}
 use Rattle.ctl_pass.proofs.Passes.{can-begin-ready}
