@@ -1,8 +1,8 @@
 -- A pass: what its first steps leave is sound, its plan can start, when it is idle, and where the jobs come from that run after it.
 use Rattle.std.proofs.lemmas.List.Concat.{flat_map-append}
 use Rattle.std.proofs.lemmas.Bool.Decides.{nat_tests}
-use Rattle.std.proofs.Common.{◌≡◌, ℕ, ◌+◌, ◌≤◌, true, false, ◌&&◌, not, eqb, leb, List, [], Contains, unwrap_or, Some, None, get_or, refl, sym, arith, suc, ◌<◌, Bool, cond, ◌∷◌, ◌++◌, length}
-use Rattle.std.proofs.Common.{map, flat_map, filter, take, All, ap, ◌∙◌, inl, inr, rules, tests, sum_by, AllPairs, IfSome, Any, ◌⊎◌}
+use Rattle.std.proofs.Common.{◌≡◌, ℕ, ◌+◌, ◌≤◌, true, false, ◌&&◌, not, eqb, leb, List, [], Contains, unwrap_or, Some, None, get_or, refl, sym, arith, suc, ◌<◌, Bool, cond, ◌∷◌, ◌++◌, length, map, flat_map}
+use Rattle.std.proofs.Common.{filter, take, All, ap, ◌∙◌, inl, inr, rules, tests, sum_by, AllPairs, IfSome, Any, ◌⊎◌}
 use Rattle.std.proofs.lemmas.Bool.{cond_both, and_parts, cases_Bool, both_ways, ne_eqb, eq-eqb, cases_order, eqb-true}
 use Rattle.std.proofs.lemmas.List.Elements.{All-weaker, All-head, All-tail, filter-append, All-map, All-filter, All-contains_itself}
 use Rattle.slurm_text.specs.declared.plain.state.JobState.{JobState}
@@ -227,8 +227,7 @@ ranked-ids s now = same (filter (λ (job : JobRecord). is_pending job.state) s.j
 ranked-all : (P : PlanJob → Type 0) (s : State) (now : ℕ) → All (λ job. P (plan_job (length s.nodes) job)) s.jobs → All P (ranked s now)
 unfolding ranked candidates
 ranked-all P s now each =
-    let waits : JobRecord → Bool = λ job. is_pending job.state in
-    All-map P (plan_job (length s.nodes)) (filter waits s.jobs) (All-filter waits (λ job. P (plan_job (length s.nodes) job)) s.jobs each)
+    All-map P (plan_job (length s.nodes)) _ (All-filter (λ job. is_pending job.state) (λ job. P (plan_job (length s.nodes) job)) s.jobs each)
 
 pub ranked-rising : (s : State) (now : ℕ) → IsSound s → AllPairs (λ (one other : PlanJob). one.id < other.id) (ranked s now)
 unfolding ranked candidates plan_job

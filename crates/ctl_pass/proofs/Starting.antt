@@ -1,7 +1,7 @@
 -- What parts hold of a node's processors, and the starts of a plan: what each takes, that all stays sound, and that each job gets what was planned.
 use Rattle.std.proofs.lemmas.Bool.Decides.{nat_tests}
-use Rattle.std.proofs.Common.{◌≡◌, ℕ, ◌+◌, ◌≤◌, ◌<◌, Bool, true, cond, eqb, List, length, filter, sum_by, All, AllPairs, refl, arith, inl, inr, ◌≢◌, false, ◌||◌, not, [], ◌∷◌, ◌++◌, map, take, get_or}
-use Rattle.std.proofs.Common.{count_by, zero, suc, ap, sym, ◌∙◌, ◌&&◌, ltb, fold, append_assoc, Contains, Any}
+use Rattle.std.proofs.Common.{◌≡◌, ℕ, ◌+◌, ◌≤◌, ◌<◌, Bool, true, cond, eqb, List, length, filter, sum_by, All, AllPairs, refl, arith, inl, inr, ◌≢◌, false, ◌||◌, not, [], ◌∷◌, ◌++◌, map, take, get_or, count_by}
+use Rattle.std.proofs.Common.{zero, suc, ap, sym, ◌∙◌, ◌&&◌, ltb, fold, append_assoc, Contains, Any}
 use Rattle.std.specs.List.{range_with_len, list_any, AllZip}
 use Rattle.std.proofs.lemmas.Bool.{cases_Bool, eqb-true, eqb-false, ne_eqb, and_left, eq-eqb}
 use Rattle.std.proofs.lemmas.List.Sums.{length-filter, fold_push, sum_by-cons, sum_by-le-sum_by, get_or-le-sum_by}
@@ -11,8 +11,8 @@ use Rattle.std.proofs.lemmas.List.Kept.{AllPairs-filter, AllPairs-cons}
 use Rattle.resource_profile.specs.declared.NodeRoom.{NodeRoom}
 use Rattle.ctl_state.specs.declared.record.Part.{Part}
 use Rattle.ctl_state.specs.Holding.{cpus_of, is_on, has_cpu, times_held, free_ids, IsPartOf, parts_of, mem_of, mem_in, mem_held, has_members}
-use Rattle.ctl_pass.proofs.Lists.{sum_by-same, sum_by-none, sum_by-ones, sum_by-add, sum_by-swap, range-rises, range-below, range-rising, pairs-take, filter-same, pairs-head, pairs-tail, pairs-map}
-use Rattle.ctl_pass.proofs.Lists.{map-same, sum_by-map, Any-kept}
+use Rattle.ctl_pass.proofs.Lists.{sum_by-same, sum_by-none, sum_by-ones, sum_by-add, sum_by-swap, range-rises, range-below, range-rising, pairs-take, filter-same, pairs-head, pairs-tail, pairs-map, map-same}
+use Rattle.ctl_pass.proofs.Lists.{sum_by-map, Any-kept}
 use Rattle.std.proofs.lemmas.List.{get_or-take, get_or_default, length-take, length-append, map-id, take_all, take-append-le, append-nil, length-map, length-take-le, get_or-map}
 use Rattle.std.proofs.lemmas.List.Folds.{list_any-append, list_any_none}
 use Rattle.backfill_planner.specs.declared.Share.{Share}
@@ -44,14 +44,11 @@ unfolding cpus_held times_held
 held-counted rooms parts node are =
     let cpus = range_with_len 0 (cpus_of rooms node) in
     let has : ℕ → Part → ℕ = λ cpu part. cond (has_cpu node cpu part) 1 0 in
-    let counted = sum_by-same (λ part. sum_by (λ cpu. has cpu part) cpus) (cpus_in node) parts (All-weaker (IsPartOf rooms) (λ part. sum_by (λ cpu. has cpu part) cpus ≡ cpus_in node part) one parts are) in
+    let counted = sum_by-same (λ part. sum_by (λ cpu. has cpu part) cpus) (cpus_in node) parts (λ k d below. let part = get_or parts k d in elim (cases_Bool (is_on node part)) [
+      | inr off ↦ rw off (sum_by-none (λ cpu. 0) cpus (λ i e within. refl))
+      | inl on ↦ rw on (range-rising part.cpus (cpus_of rooms node) (are k d below).rising (rw (← eqb-true part.node node on) (are k d below).cpus))
+    ]) in
     omega (arith, sum_by-swap has cpus parts, counted)
-  where
-    one : (part : Part) → IsPartOf rooms part → sum_by (λ cpu. cond (has_cpu node cpu part) 1 0) (range_with_len 0 (cpus_of rooms node)) ≡ cpus_in node part
-    one part is = elim (cases_Bool (is_on node part)) [
-      | inr off ↦ rw off (sum_by-none (λ cpu. 0) (range_with_len 0 (cpus_of rooms node)) (λ k d below. refl))
-      | inl on ↦ rw on (range-rising part.cpus (cpus_of rooms node) is.rising (rw (← eqb-true part.node node on) is.cpus))
-    ]
 
 -- what is held grows by what more parts have
 pub held-grown : (rooms : List NodeRoom) (before more after : List Part) (node : ℕ) → ((cpu : ℕ) → times_held after node cpu ≡ times_held before node cpu + times_held more node cpu)
