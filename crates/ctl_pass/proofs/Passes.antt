@@ -100,9 +100,6 @@ no_parts job has idle = no_members job.parts (has.some ∙ idle)
 timed_out-id : (now : ℕ) (job : JobRecord) → (timed_out now job).id ≡ job.id
 timed_out-id now job = grind (arith, nat_tests)
 
-timed_out-parts : (now : ℕ) (job : JobRecord) → (timed_out now job).parts ≡ job.parts
-timed_out-parts now job = grind (arith, nat_tests)
-
 timed_out-holds : (now : ℕ) (job : JobRecord) → holds_of_job now (timed_out now job) ≡ holds_of_job now job
 timed_out-holds now job = by_limit (λ after. holds_of_job now after ≡ holds_of_job now job) now job (λ over running. grind (arith, nat_tests)) (λ within. refl)
 
@@ -149,7 +146,7 @@ pub parts-left : (age now : ℕ) (jobs : List JobRecord) → All HasItsParts job
 parts-left age now [] each = refl
 parts-left age now (job ∷ jobs) each =
     let empty : is_old age now job ≡ true → job.parts ≡ [] = λ old. no_parts job (All-head HasItsParts job jobs each) (ended-others job.state (old-ended age now job old)).1 in
-    grind (arith, nat_tests, parts-left age now jobs (All-tail HasItsParts job jobs each), timed_out-old age now job, timed_out-parts now job, empty)
+    grind (arith, nat_tests, parts-left age now jobs (All-tail HasItsParts job jobs each), timed_out-old age now job, empty)
 
 -- their numbers rise
 pub rising-left : (age now : ℕ) (jobs : List JobRecord) → HaveRisingIds jobs → HaveRisingIds (those_left (timed_out now) (is_old age now) jobs)
@@ -248,23 +245,15 @@ ranked-plannable s now sound = ranked-all IsPlannable s now (λ k d below. let k
     seconds (Minutes minutes) is = omega (arith, is.0)
     seconds Unlimited is = tt
 
-ranked-on_rooms : (s : State) (now : ℕ) → All (IsOnRooms (map room_of s.nodes)) (ranked s now)
-unfolding plan_job
-ranked-on_rooms s now = ranked-all (IsOnRooms (map room_of s.nodes)) s now (λ k d below i node inside. omega (arith, range-below (length s.nodes) i node inside, length-map s.nodes room_of))
-
-ranked-tasks : (s : State) (now : ℕ) → IsSound s → All (λ (job : PlanJob). 1 ≤ job.need.tasks) (ranked s now)
-unfolding plan_job
-ranked-tasks s now sound = ranked-all (λ (job : PlanJob). 1 ≤ job.need.tasks) s now (λ k d below. (sound.jobs k d below).asked.tasks.0)
-
 -- The plan of a sound state can start.
 pub can-start : PlanLaws → (s : State) → IsSound s → CanStart s (planned s s.moment)
-unfolding planned base_of mem_held
+unfolding planned base_of mem_held plan_job
 can-start laws s sound =
     let now = s.moment in
     let base = base_of s now in
     let jobs = ranked s now in
     let horizon : base.horizon ≤ 250002592000 = omega (arith, sound.moment, sound.settings.window.1) in
-    let rooms = ranked-on_rooms s now in
+    let rooms = ranked-all (IsOnRooms (map room_of s.nodes)) s now (λ k d below i node inside. omega (arith, range-below (length s.nodes) i node inside, length-map s.nodes room_of)) in
     let plannable = ranked-plannable s now sound in
     let fit = laws.fit base jobs now (base-within s sound) horizon rooms plannable in
     let started : All (λ (job : JobRecord). unwrap_or job.started 0 ≤ now) s.jobs = λ k d below. (sound.jobs k d below).run.start_passed in
@@ -273,7 +262,7 @@ can-start laws s sound =
       each = λ k d below. record {
         waits = rw (← ranked-ids s now) (laws.ids base jobs now k d below);
         last = omega (arith, (laws.starts base jobs now k d below).1, horizon);
-        some = laws.some base jobs now (ranked-tasks s now sound) k d below;
+        some = laws.some base jobs now (ranked-all (λ (job : PlanJob). 1 ≤ job.need.tasks) s now (λ j e inside. (sound.jobs j e inside).asked.tasks.0)) k d below;
         parts = laws.parts base jobs now horizon rooms plannable k d below;
       };
       apart = λ i j d before below same. omega (arith, laws.rising base jobs now (ranked-rising s now sound) i j d before below, same);
