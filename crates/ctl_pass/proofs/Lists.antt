@@ -167,10 +167,6 @@ set-one f change number place x xs rising within found is =
     rw (get_or-map (λ y. cond (eqb (f y) number) (change y) y) xs k d d inside)
     (grind (arith, nat_tests, get_or-set_same xs place (change x) d within, get_or-set_other xs place k (change x) d, rising k place d, rising place k d, found d, get_or_default xs place x d within)))
 
--- none is changed where none has the number
-pub set-none : {X : Type 0} (f : X → ℕ) (change : X → X) (number : ℕ) (xs : List X) → All (λ y. f y ≢ number) xs → map (λ y. cond (eqb (f y) number) (change y) y) xs ≡ xs
-set-none f change number xs none = map_fixed (λ y. cond (eqb (f y) number) (change y) y) xs (λ k d below. rw (ne_eqb (f (get_or xs k d)) number (none k d below)) refl)
-
 pub All-joined : {X Y : Type 0} (P : Y → Type 0) (f : X → List Y) (xs : List X) → All P (flat_map f xs) → All (λ x. All P (f x)) xs
 All-joined P f xs each k e below j d inside =
     rw (get_or-flat_map f xs k j e d below inside) at (each (length (flat_map f (take k xs)) + j) d (omega (arith, length-flat_map-take f xs k e below, inside)))

@@ -327,12 +327,11 @@ pub can-begin-ready : (s : State) (now : ℕ) (held : List Bool) (plan : List Pl
     → CanBegin (ready s now).jobs held plan
 unfolding planned ranked candidates
 can-begin-ready s now held plan sound ready_sound is shown ids rising =
-    let has : All HasItsParts s.jobs = λ k d below. (sound.jobs k d below).parts in
     let base = base_of (ready s now) now in
     let jobs = ranked (readied s now) now in
     let waits : All (λ (placed : Placed). Contains (pending_ids (ready s now).jobs) placed.id) plan = rw (is, ← ranked-ids (readied s now) now) (ids base jobs now) in
     record {
-      shown = rw (parts-left s.settings.min_job_age now s.jobs has) shown;
+      shown = rw (parts-left s.settings.min_job_age now s.jobs (λ k d below. (sound.jobs k d below).parts)) shown;
       awaits = λ k d below. awaited (readied s now) (get_or plan k d) ready_sound (waits k d below);
       once = rw is (λ i j d before below same. omega (arith, rising base jobs now (ranked-rising (readied s now) now ready_sound) i j d before below, same));
     }

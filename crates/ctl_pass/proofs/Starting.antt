@@ -220,10 +220,6 @@ first-passed now nodes jobs held placed later starts all not_due so_far = record
   whole = rw (ne_eqb placed.start now not_due) at so_far.whole;
 }
 
-pub first-all : (now : ℕ) (nodes : List NodeRecord) (jobs : List JobRecord) (held : List Bool) (starts all : List JobStart) → AreFirst now nodes jobs held [] starts all → starts ≡ all
-unfolding started
-first-all now nodes jobs held starts all so_far = sym (append-nil starts) ∙ so_far.whole
-
 -- none starts where none begins now; those that stay begin later; and the jobs are those that the starts make
 pub none-starts : (rooms : List NodeRoom) (now : ℕ) (jobs : List JobRecord) (placements : List Placed) → list_any (λ (placed : Placed). eqb placed.start now) placements ≡ false → (started rooms now jobs placements).starts ≡ []
 unfolding started
@@ -365,15 +361,6 @@ module _ (laws : StartLaws) where
         mem = λ node. omega (arith, mem node, sum_by-cons (mem_on node) placed (starts_at s.moment later), laws.mem s s.moment placed.id node more can.sound first.waits, mem-taken s placed node);
       }
 
-  -- who isn't named by the plan still waits
-  waits-started : (s : State) (plan : List Placed) (other : ℕ) → CanStart s plan → All (λ (placed : Placed). other ≢ placed.id) plan → Contains (pending_ids s.jobs) other
-      → Contains (pending_ids (started (map room_of s.nodes) s.moment s.jobs plan).jobs) other
-  waits-started s plan other can apart waits =
-      let Waits : List JobRecord → Type 0 = λ some. HaveRisingIds some × Contains (pending_ids some) other in
-      (started-keeps Waits (map room_of s.nodes) s.moment s.jobs plan
-      (λ k d below due some parts has. (rising-begun s.moment some (record { id = (get_or plan k d).id; parts = parts }) has.0, laws.waits some s.moment (get_or plan k d).id other parts has.0 has.1 (apart k d below)))
-      (can.sound.rising, waits)).1
-
   -- so the starts keep all sound, and what stays of the plan names pending jobs
   pub sound-started : (s : State) (plan : List Placed) → CanStart s plan
       → IsSound (record s { jobs = (started (map room_of s.nodes) s.moment s.jobs plan).jobs; plan = (started (map room_of s.nodes) s.moment s.jobs plan).stays })
@@ -384,12 +371,14 @@ module _ (laws : StartLaws) where
     | inr after ↦
         let rooms = map room_of s.nodes in
         let rest = started rooms s.moment s.jobs later in
-        let still = can-later s placed later can after in
-        let sound = sound-started s later still in
+        let sound = sound-started s later (can-later s placed later can after) in
         let first = All-head (IsReady s) placed later can.each in
         let apart = pairs-head (λ (one other : Placed). one.id ≢ other.id) placed later can.apart in
+        let still_waits = started-keeps (λ some. HaveRisingIds some × Contains (pending_ids some) placed.id) rooms s.moment s.jobs later
+        (λ k d below due some parts has. (rising-begun s.moment some (record { id = (get_or later k d).id; parts = parts }) has.0, laws.waits some s.moment (get_or later k d).id placed.id parts has.0 has.1 (apart k d below)))
+        (can.sound.rising, first.waits) in
         let planned : PlansPending rest.jobs (placed ∷ rest.stays) = record {
-          pending = All-cons (λ (one : Placed). Contains (pending_ids rest.jobs) one.id) placed rest.stays (waits-started s later placed.id still apart first.waits) sound.plan.pending;
+          pending = All-cons (λ (one : Placed). Contains (pending_ids rest.jobs) one.id) placed rest.stays still_waits.1 sound.plan.pending;
           once = AllPairs-cons (λ (one other : Placed). one.id ≢ other.id) placed rest.stays
               (rw (stays_later rooms s.moment s.jobs later) (All-filter (λ (one : Placed). not (eqb one.start s.moment)) (λ (one : Placed). placed.id ≢ one.id) later apart)) sound.plan.once;
           last = All-cons (λ (one : Placed). one.start ≤ 250002592000) placed rest.stays first.last sound.plan.last;

@@ -1,13 +1,14 @@
-use Rattle.std.proofs.Common.{◌≡◌, ◌+◌, List, map, drop, ap, ◌∙◌}
-use Rattle.std.proofs.lemmas.List.{drop_all}
+use Rattle.std.proofs.Common.{◌≡◌, ◌+◌, List, map, drop, ap, sym, ◌∙◌}
+use Rattle.std.proofs.lemmas.List.{drop_all, append-nil}
 use Rattle.ctl_state.specs.declared.record.Part.{Part}
 use Rattle.ctl_state.specs.declared.record.JobRecord.{JobRecord}
 use Rattle.ctl_state.specs.Planning.{room_of}
 use Rattle.ctl_pass.specs.Awaiting.{CanBegin}
+use Rattle.ctl_pass.specs.Starting.{started}
 use Rattle.ctl_pass.specs.declared.starts.JobStart.{JobStart}
 use Rattle.ctl_pass.specs.HeldIds.{part_by}
 use Rattle.ctl_pass.proofs.Lists.{next}
-use Rattle.ctl_pass.proofs.Starting.{first-begun, first-passed, first-all}
+use Rattle.ctl_pass.proofs.Starting.{first-begun, first-passed}
 use Rattle.ctl_pass.proofs.starts.starts_beside.Goals as goal
 use Rattle.ctl_pass.proofs.starts.starts_beside.Goals.{then-placed-now+in_ok-parts+in_ok-push, else-placed-now}
 
@@ -32,7 +33,5 @@ loop-placed-preserved c =
     ]
 
 pub returns : goal.returns
-returns c =
-    λ jobs can.
-    first-all c.args.now c.args.nodes.now jobs c.loop-placed.held c.loop-placed.starts.items _
-    (rw (drop_all c.loop-placed.placed-index c.args.placements.now c.loop-placed-test.false) at (c.loop-placed.invariant jobs can))
+unfolding started
+returns c = λ jobs can. sym (append-nil c.loop-placed.starts.items) ∙ (rw (drop_all c.loop-placed.placed-index c.args.placements.now c.loop-placed-test.false) at (c.loop-placed.invariant jobs can)).whole

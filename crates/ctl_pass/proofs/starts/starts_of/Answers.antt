@@ -19,11 +19,9 @@ returns c =
     let s = state_of c.args.cluster.now in
     let now = c.args.now in
     let jobs = (ready s now).jobs in
-    let shown = rw c.deref.ensures.value at c.in_ok-held.ensures.shown in
-    let ids = c.placements_are_of_ranked_jobs.ensures.ids in
-    let rising = c.placements_are_of_ranked_jobs.ensures.rising in
     let sound = c.what_a_pass_plans_is_sound.ensures s now c.requires.sound c.requires.raised c.requires.in_time in
-    let can = can-begin-ready s now c.in_ok-held.held.items c.args.placements.now c.requires.sound sound c.requires.plan shown ids rising in
+    let can = can-begin-ready s now c.in_ok-held.held.items c.args.placements.now c.requires.sound sound c.requires.plan
+    (rw c.deref.ensures.value at c.in_ok-held.ensures.shown) c.placements_are_of_ranked_jobs.ensures.ids c.placements_are_of_ranked_jobs.ensures.rising in
     IfOk-weaker c.starts_beside.result _ _
     (λ starts has. has jobs (rw c.deref_mut.ensures.value can) ∙ ap (λ plan. (started (map room_of s.nodes) now jobs plan).starts) c.requires.plan)
     (rw c.deref-2.ensures.value at c.starts_beside.ensures)
