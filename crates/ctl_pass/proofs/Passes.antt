@@ -229,8 +229,7 @@ ranked-all P s now each =
 pub ranked-rising : (s : State) (now : ℕ) → IsSound s → AllPairs (λ (one other : PlanJob). one.id < other.id) (ranked s now)
 unfolding ranked candidates plan_job
 ranked-rising s now sound =
-    let waits : JobRecord → Bool = λ job. is_pending job.state in
-    pairs-map (λ (one other : PlanJob). one.id < other.id) (plan_job (length s.nodes)) (filter waits s.jobs) (AllPairs-filter (λ (one other : JobRecord). one.id < other.id) waits s.jobs sound.rising)
+    pairs-map (λ (one other : PlanJob). one.id < other.id) (plan_job (length s.nodes)) _ (AllPairs-filter (λ (one other : JobRecord). one.id < other.id) (λ job. is_pending job.state) s.jobs sound.rising)
 
 -- they can be planned
 ranked-plannable : (s : State) (now : ℕ) → IsSound s → All IsPlannable (ranked s now)
@@ -313,8 +312,7 @@ awaited s placed sound waits = from (Any-kept (λ (job : JobRecord). job.id) (λ
           let it : get_or s.jobs k d ≡ job = get_or_default s.jobs k d job inside ∙ is in
           elim (cases_order j k) [
             | inl equal ↦
-                let one = get_or s.jobs j d in
-                no_parts one (sound.jobs j d below).parts (pending-holds_not one.state (ap (λ place. is_pending (get_or s.jobs place d).state) equal ∙ ap (λ (other : JobRecord). is_pending other.state) it ∙ pending))
+                no_parts (get_or s.jobs j d) (sound.jobs j d below).parts (pending-holds_not (get_or s.jobs j d).state (ap (λ place. is_pending (get_or s.jobs place d).state) equal ∙ ap (λ (other : JobRecord). is_pending other.state) it ∙ pending))
             | inr (inl before) ↦ absurd (omega (arith, sound.rising j k d before inside, same, here, ap (λ (one : JobRecord). one.id) it))
             | inr (inr after) ↦ absurd (omega (arith, sound.rising k j d after below, same, here, ap (λ (one : JobRecord). one.id) it))
           ];
@@ -370,9 +368,7 @@ none-start rooms now jobs (placed ∷ later) none = grind (arith, nat_tests, non
 pub idle-unchanged : (s : State) (now : ℕ) → is_idle s now ≡ true → pass_after s now ≡ s
 unfolding is_idle
 idle-unchanged s now idle =
-    let none = none-start (map room_of s.nodes) now (ready s now).jobs (placements s now) in
-    let kept = ready-same s.settings.min_job_age now s.jobs in
-    let same : ((outcome s now).jobs ≡ s.jobs) × ((outcome s now).stays ≡ s.plan) = grind (arith, nat_tests, none, kept, (plans-same (outcome s now).stays s.plan).0) in
+    let same : ((outcome s now).jobs ≡ s.jobs) × ((outcome s now).stays ≡ s.plan) = grind (arith, nat_tests, none-start (map room_of s.nodes) now (ready s now).jobs (placements s now), ready-same s.settings.min_job_age now s.jobs, (plans-same (outcome s now).stays s.plan).0) in
     rw (same.0, same.1) refl
 
 -- one for a job that waits, or that runs
@@ -423,7 +419,6 @@ unchanged-idle ids s now same =
     let plan = placements s now in
     let left = ready s now in
     let jobs : (outcome s now).jobs ≡ s.jobs = ap (λ (after : State). after.jobs) same in
-    let stays : (outcome s now).stays ≡ s.plan = ap (λ (after : State). after.plan) same in
     let waiting = left-less waits (λ job. 0) (timed_out now) (is_old age now) s.jobs (λ job. grind (arith, nat_tests, running-not_ended job.state)) in
     let running = left-less runs (λ job. cond (is_over now job) 1 0) (timed_out now) (is_old age now) s.jobs (λ job. grind (arith, nat_tests)) in
     elim (fewer rooms now left.jobs plan (λ k d below. rw (← ranked-ids left now) (ids (base_of left now) (ranked left now) now k d below))) [
@@ -431,7 +426,7 @@ unchanged-idle ids s now same =
       | inl none ↦
           let all : left.jobs ≡ s.jobs = sym (none-start rooms now left.jobs plan none) ∙ jobs in
           let none_over : count_by (is_over now) s.jobs ≡ 0 = omega (arith, running, ap (sum_by runs) all) in
-          rw (none_over, eq-eqb (length left.jobs) (length s.jobs) (ap length all), none, (plans-same (outcome s now).stays s.plan).1 stays) refl
+          rw (none_over, eq-eqb (length left.jobs) (length s.jobs) (ap length all), none, (plans-same (outcome s now).stays s.plan).1 (ap (λ (after : State). after.plan) same)) refl
     ]
 
 -- A job that runs after a pass ran before it just so, or a placement that begins now is of it.
