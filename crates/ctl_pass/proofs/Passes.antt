@@ -292,8 +292,7 @@ plan-is s now made base jobs is base_is jobs_are = ap (λ (one : PlannedView). p
 -- the numbers of the jobs bound how many there are
 pub few-jobs : (s : State) → IsSound s → length s.jobs ≤ last_job_id + 1
 few-jobs s sound =
-    let long = length-rising (λ (job : JobRecord). job.id) 0 s.next_id s.jobs (omega arith) sound.rising (λ k d below. omega arith) sound.below_next in
-    omega (arith, long, sound.next.1)
+    omega (arith, length-rising (λ (job : JobRecord). job.id) 0 s.next_id s.jobs (omega arith) sound.rising (λ k d below. omega arith) sound.below_next, sound.next.1)
 
 -- what is tested of a pass is whether it is idle
 pub idle_is : (s : State) (now : ℕ) (decided : Decided) → IsDecided s now decided

@@ -56,8 +56,7 @@ pub held-grown : (rooms : List NodeRoom) (before more after : List Part) (node :
 unfolding cpus_held
 held-grown rooms before more after node grows =
     let cpus = range_with_len 0 (cpus_of rooms node) in
-    let each = sum_by-same (λ cpu. times_held after node cpu) (λ cpu. times_held before node cpu + times_held more node cpu) cpus (λ k d below. grows _) in
-    omega (arith, each, sum_by-add (λ cpu. times_held before node cpu) (λ cpu. times_held more node cpu) cpus)
+    omega (arith, sum_by-same (λ cpu. times_held after node cpu) (λ cpu. times_held before node cpu + times_held more node cpu) cpus (λ k d below. grows _), sum_by-add (λ cpu. times_held before node cpu) (λ cpu. times_held more node cpu) cpus)
 
 -- each processor of a node is free or in a part
 pub free-counted : (rooms : List NodeRoom) (parts : List Part) (node : ℕ) → ((cpu : ℕ) → times_held parts node cpu ≤ 1) → length (free_ids rooms parts node) + cpus_held rooms parts node ≡ cpus_of rooms node
