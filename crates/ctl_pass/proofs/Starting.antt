@@ -136,10 +136,8 @@ count-none p (x ∷ xs) = grind (arith, nat_tests, count-none p xs, length-filte
 pub part-shown : (rooms : List NodeRoom) (jobs : List JobRecord) (held : List Bool) (share : Share) → cpus_of rooms share.node ≤ 1024 → ShowsParts (parts_of jobs) held → part_by rooms held share ≡ part_of rooms jobs share
 unfolding free_ids times_held
 part-shown rooms jobs held share few shows =
-    let node = share.node in
-    let parts = parts_of jobs in
-    let same = same-cpus (λ cpu. not (is_held held node cpu)) (λ cpu. eqb (count_by (has_cpu node cpu) parts) 0) (cpus_of rooms node) few
-    (λ cpu short. ap not (shows.bits node cpu short) ∙ sym (count-none (has_cpu node cpu) parts)) in
+    let same = same-cpus (λ cpu. not (is_held held share.node cpu)) (λ cpu. eqb (count_by (has_cpu share.node cpu) (parts_of jobs)) 0) (cpus_of rooms share.node) few
+    (λ cpu short. ap not (shows.bits share.node cpu short) ∙ sym (count-none (has_cpu share.node cpu) (parts_of jobs))) in
     rw same refl
 
 -- a start changes no number, and nothing of another job
