@@ -75,10 +75,9 @@ ended-others state ended = search (rules, tests)
 -- limits and old records let go: what a pass plans is sound
 pub sound-readied : ReadyLaws → (s : State) (now : ℕ) → IsSound s → s.moment ≤ now → now ≤ last_moment → IsSound (readied s now)
 sound-readied laws s now sound raised in_time =
-    let age = s.settings.min_job_age in
-    laws.letting_go s now (timed_out now) (is_old age now) [] sound in_time (All-weaker (IsKept s.moment) (λ job. LetsGo now job (timed_out now job)) (λ job kept. lets job (laws.later s.moment now job raised kept)) s.jobs sound.jobs)
-    (λ k d below old. let job = timed_out now (get_or s.jobs k d) in (ended-others job.state (and_parts (is_ended job.state) (not (eqb age 0) && leb (unwrap_or job.ended 0 + age) now) old).0).1)
-    (no-plan (those_left (timed_out now) (is_old age now) s.jobs))
+    laws.letting_go s now (timed_out now) (is_old s.settings.min_job_age now) [] sound in_time (All-weaker (IsKept s.moment) (λ job. LetsGo now job (timed_out now job)) (λ job kept. lets job (laws.later s.moment now job raised kept)) s.jobs sound.jobs)
+    (λ k d below old. let job = timed_out now (get_or s.jobs k d) in (ended-others job.state (and_parts (is_ended job.state) (not (eqb s.settings.min_job_age 0) && leb (unwrap_or job.ended 0 + s.settings.min_job_age) now) old).0).1)
+    (no-plan (those_left (timed_out now) (is_old s.settings.min_job_age now) s.jobs))
   where
     lets : (job : JobRecord) → IsKept now job → LetsGo now job (timed_out now job)
     lets job kept = cond_both (is_over now job) (changed (Leave Timeout now None) job) job (LetsGo now job) (λ over. laws.changes now (Leave Timeout now None) job refl refl kept) (λ within. laws.nothing now job kept)
