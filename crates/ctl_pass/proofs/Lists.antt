@@ -1,13 +1,14 @@
 -- What holds of lists: each two elements, sums, ranges, and steps of loops.
+use Rattle.std.proofs.lemmas.List.Concat.{get_or-flat_map}
 use Rattle.std.proofs.lemmas.Bool.Decides.{nat_tests}
-use Rattle.std.proofs.Common.{◌≡◌, ◌≢◌, ℕ, zero, suc, ◌+◌, ◌≤◌, ◌<◌, Bool, true, false, cond, eqb, List, [], ◌∷◌, length, map, filter, flat_map, sum_by, take, get_or, All, AllPairs, Any, Contains}
-use Rattle.std.proofs.Common.{arith, refl, inl, inr, ◌&&◌, ◌++◌, drop, set, ap, sym, ◌∙◌, append_assoc, rules, tests}
+use Rattle.std.proofs.Common.{◌≡◌, ◌≢◌, ℕ, zero, suc, ◌+◌, ◌≤◌, ◌<◌, Bool, true, false, cond, eqb, List, [], ◌∷◌, length, map, filter, flat_map, sum_by, take, get_or, All, AllPairs, Any, Contains, arith, refl}
+use Rattle.std.proofs.Common.{◌&&◌, ◌++◌, drop, set, ap, sym, ◌∙◌}
 use Rattle.std.specs.List.{list_any, range_with_len, list_all, zip, HoldsAt}
-use Rattle.std.proofs.lemmas.Bool.{cases_Bool, both_ways, eqb-true, eq-eqb, ne_eqb}
-use Rattle.std.proofs.lemmas.List.{get_or-map, length-map, get_or-take, length-take, take-map, take_more, drop_more, map-append, get_or_default, same_lists, length-set, get_or-set_same, get_or-set_other, get_or_append_left, length-append, get_or-append-add}
+use Rattle.std.proofs.lemmas.Bool.{ne_eqb}
+use Rattle.std.proofs.lemmas.List.{get_or-map, length-map, get_or-take, length-take, take-map, take_more, drop_more, map-append, get_or_default, same_lists, length-set, get_or-set_same, get_or-set_other}
 use Rattle.std.proofs.lemmas.List.Sums.{sum_by-cons, sum_by-append}
-use Rattle.std.proofs.lemmas.List.Folds.{fold-map, list_any_none, map_fixed}
-use Rattle.std.proofs.lemmas.List.Elements.{All-head, All-tail, All-weaker, All-nil, All-cons, filter_more, All-map, All-filter, All-contains, filter_passes, All-append}
+use Rattle.std.proofs.lemmas.List.Folds.{fold-map, list_any_none, map_fixed, length-flat_map-take}
+use Rattle.std.proofs.lemmas.List.Elements.{All-head, All-tail, All-nil, filter_more, All-map, All-filter, All-contains, filter_passes, All-append}
 use Rattle.std.proofs.lemmas.List.FromFn.{length-range_with_len, get_or-range_with_len}
 use Rattle.std.specs.Cmp.Lexicographic.{pointwise}
 
@@ -113,14 +114,12 @@ range-rising (x ∷ xs) bound rising below =
     let rest = range-rising xs bound (pairs-tail (λ one other. one < other) x xs rising) (All-tail (λ y. y < bound) x xs below) in
     let first = range-within x 0 bound (omega arith) (omega (arith, All-head (λ y. y < bound) x xs below)) in
     let split = sum_by-add (λ number. cond (eqb x number) 1 0) (λ number. cond (list_any (λ y. eqb y number) xs) 1 0) (range_with_len 0 bound) in
-    let each = sum_by-same (λ number. cond (list_any (λ y. eqb y number) (x ∷ xs)) 1 0) (λ number. cond (eqb x number) 1 0 + cond (list_any (λ y. eqb y number) xs) 1 0) (range_with_len 0 bound)
-    (λ k d inside. counts x xs _ (pairs-head (λ one other. one < other) x xs rising)) in
+    let above = pairs-head (λ one other. one < other) x xs rising in
+    let each = sum_by-same (λ number. cond (list_any (λ y. eqb y number) (x ∷ xs)) 1 0) (λ number. cond (eqb x number) 1 0 + cond (list_any (λ y. eqb y number) xs) 1 0) (range_with_len 0 bound) (λ i e within.
+    let number = get_or (range_with_len 0 bound) i e in
+    let none : x ≡ number → list_any (λ y. eqb y number) xs ≡ false = λ is. list_any_none (λ y. eqb y number) xs (λ k d inside. ne_eqb (get_or xs k d) number (λ same. omega (arith, above k d inside, is, same))) in
+    grind (arith, nat_tests, none)) in
     omega (arith, rest, first, split, each)
-  where
-    counts : (x : ℕ) (xs : List ℕ) (number : ℕ) → All (λ y. x < y) xs → cond (list_any (λ y. eqb y number) (x ∷ xs)) 1 0 ≡ cond (eqb x number) 1 0 + cond (list_any (λ y. eqb y number) xs) 1 0
-    counts x xs number above =
-        let none : x ≡ number → list_any (λ y. eqb y number) xs ≡ false = λ is. list_any_none (λ y. eqb y number) xs (λ k d inside. ne_eqb (get_or xs k d) number (λ same. omega (arith, above k d inside, is, same))) in
-        grind (arith, nat_tests, none)
 
 -- a list whose numbers rise from one bound to another isn't longer than that
 pub length-rising : {X : Type 0} (f : X → ℕ) (low high : ℕ) (xs : List X) → low ≤ high → AllPairs (λ one other. f one < f other) xs → All (λ x. low ≤ f x) xs → All (λ x. f x < high) xs → length xs + low ≤ high
@@ -146,10 +145,6 @@ pub map-filter-more : {X Y : Type 0} (f : X → Y) (p : X → Bool) (xs : List X
 map-filter-more f p xs i x within is =
     rw (filter_more p xs i x within, map-append f (filter p (take i xs)) (cond (p (get_or xs i x)) (get_or xs i x ∷ []) []), ← is) refl
 
-pub flat_map-append : {X Y : Type 0} (f : X → List Y) (xs ys : List X) → flat_map f (xs ++ ys) ≡ flat_map f xs ++ flat_map f ys
-flat_map-append f [] ys = refl
-flat_map-append f (x ∷ xs) ys = ap (λ rest. f x ++ rest) (flat_map-append f xs ys) ∙ sym (append_assoc (f x) (flat_map f xs) (flat_map f ys))
-
 -- the rest of a list from one element on
 pub next : {X : Type 0} (xs : List X) (i : ℕ) (x : X) → i < length xs → x ≡ get_or xs i x → drop i xs ≡ x ∷ drop (i + 1) xs
 next xs i x within is = drop_more xs i x within ∙ ap (λ first. first ∷ drop (i + 1) xs) (sym is)
@@ -172,21 +167,9 @@ set-one f change number place x xs rising within found is =
     rw (get_or-map (λ y. cond (eqb (f y) number) (change y) y) xs k d d inside)
     (grind (arith, nat_tests, get_or-set_same xs place (change x) d within, get_or-set_other xs place k (change x) d, rising k place d, rising place k d, found d, get_or_default xs place x d within)))
 
--- none is changed where none has the number
-pub set-none : {X : Type 0} (f : X → ℕ) (change : X → X) (number : ℕ) (xs : List X) → All (λ y. f y ≢ number) xs → map (λ y. cond (eqb (f y) number) (change y) y) xs ≡ xs
-set-none f change number xs none = map_fixed (λ y. cond (eqb (f y) number) (change y) y) xs (λ k d below. rw (ne_eqb (f (get_or xs k d)) number (none k d below)) refl)
-
--- what holds of the front of a list, of its back, and of each of the lists that were joined
-pub All-front : {X : Type 0} (P : X → Type 0) (xs ys : List X) → All P (xs ++ ys) → All P xs
-All-front P xs ys each k d below = rw (get_or_append_left xs ys d k below) at (each k d (omega (arith, below, length-append xs ys)))
-
-pub All-back : {X : Type 0} (P : X → Type 0) (xs ys : List X) → All P (xs ++ ys) → All P ys
-All-back P xs ys each k d below = rw (get_or-append-add xs ys k d) at (each (length xs + k) d (omega (arith, below, length-append xs ys)))
-
 pub All-joined : {X Y : Type 0} (P : Y → Type 0) (f : X → List Y) (xs : List X) → All P (flat_map f xs) → All (λ x. All P (f x)) xs
-All-joined P f [] each = All-nil (λ x. All P (f x))
-All-joined P f (x ∷ xs) each =
-    All-cons (λ y. All P (f y)) x xs (All-front P (f x) (flat_map f xs) each) (All-joined P f xs (All-back P (f x) (flat_map f xs) each))
+All-joined P f xs each k e below j d inside =
+    rw (get_or-flat_map f xs k j e d below inside) at (each (length (flat_map f (take k xs)) + j) d (omega (arith, length-flat_map-take f xs k e below, inside)))
 
 pub All-joins : {X Y : Type 0} (P : Y → Type 0) (f : X → List Y) (xs : List X) → All (λ x. All P (f x)) xs → All P (flat_map f xs)
 All-joins P f [] each = All-nil P

@@ -1,34 +1,42 @@
--- A pass: its plan can start, it is idle exactly where it changes nothing, and where the jobs come from that run after it.
-use Rattle.std.proofs.Common.{◌≡◌, ◌≢◌, ℕ, ◌+◌, ◌≤◌, ◌<◌, Bool, true, false, ◌&&◌, cond, leb, ltb, List, [], ◌∷◌, ◌++◌, length, map, filter, flat_map, sum_by, All, AllPairs, Contains, IfSome, unwrap_or}
-use Rattle.std.proofs.Common.{get_or, refl, ap, arith, ◌*◌, not, eqb, Any, ◌∙◌, inl, inr, ◌⊎◌, sym, rules, tests}
-use Rattle.std.proofs.lemmas.Bool.{cond_both, and_parts, le-leb, lt-ltb, ltb-true, cases_order, eq-eqb, and_from, cases_Bool, eqb-true, both_ways}
-use Rattle.std.proofs.lemmas.List.{length-map, length-append, get_or_append_left, get_or-append-add, get_or_default}
-use Rattle.std.proofs.lemmas.List.Elements.{All-nil, All-append, All-head, All-tail, All-map, All-filter, All-weaker, All-contains_itself}
+-- A pass: what its first steps leave is sound, its plan can start, when it is idle, and where the jobs come from that run after it.
+use Rattle.std.proofs.lemmas.List.Concat.{flat_map-append}
+use Rattle.std.proofs.lemmas.Bool.Decides.{nat_tests}
+use Rattle.std.proofs.Common.{◌≡◌, ◌≢◌, ℕ, ◌+◌, ◌≤◌, true, false, ◌&&◌, not, eqb, leb, List, [], Contains, unwrap_or, Some, None, get_or, refl, sym, arith, suc, ◌<◌, Bool, cond, ◌∷◌, ◌++◌, length, map, flat_map}
+use Rattle.std.proofs.Common.{filter, take, All, ap, ◌∙◌, inl, inr, rules, tests, sum_by, AllPairs, IfSome, Any, ◌⊎◌}
+use Rattle.std.proofs.lemmas.Bool.{cond_both, and_parts, cases_Bool, both_ways, ne_eqb, eq-eqb, cases_order, eqb-true}
+use Rattle.std.proofs.lemmas.List.Elements.{All-weaker, All-head, All-tail, filter-append, All-map, All-filter, All-contains_itself}
+use Rattle.slurm_text.specs.declared.plain.state.JobState.{JobState}
+use Rattle.slurm_text.specs.declared.plain.state.JobState.TheVariants.{Completing}
+use Rattle.slurm_text.specs.declared.plain.state.Final.TheVariants.{Timeout}
+use Rattle.backfill_planner.specs.declared.Placed.{Placed}
+use Rattle.ctl_state.specs.declared.record.JobRecord.{JobRecord}
+use Rattle.ctl_state.specs.declared.change.Change.TheVariants.{Leave, Start}
+use Rattle.ctl_state.specs.State.{State, last_moment, last_job_id}
+use Rattle.ctl_state.specs.JobStates.{is_running, is_ended, is_holding, is_pending}
+use Rattle.ctl_state.specs.Changes.{changed}
+use Rattle.ctl_state.specs.Events.{LetsGo, those_left, started_as}
+use Rattle.ctl_state.specs.Laws.{LettingGo, ChangesLetGo, LetsGoNothing, KeptLater}
+use Rattle.ctl_state.specs.Soundness.{IsSound, IsKept, pending_ids, HasItsParts, HaveRisingIds, IsLimit}
+use Rattle.ctl_pass.specs.Limits.{deadline, is_over, timed_out, is_old, holds_of_job, hold_end}
+use Rattle.ctl_pass.specs.Readiness.{ready, base_of, candidates, ranked, planned, placements}
+use Rattle.std.specs.List.{list_any}
+use Rattle.std.proofs.lemmas.List.{take_more, map-append, append-nil, length-map, get_or_default}
+use Rattle.std.proofs.lemmas.List.Sums.{length-filter, count_by-le-length, sum_by-cons, sum_by-le-sum_by}
 use Rattle.std.proofs.lemmas.List.Kept.{AllPairs-filter}
+use Rattle.ctl_state.specs.Holding.{parts_of, has_members, is_on, mem_held, IsPartOf}
+use Rattle.ctl_pass.proofs.Lists.{pairs-map, sum_by-larger, sum_by-map, joined-larger, range-rises, range-below, Any-kept, length-rising, sum_by-more, All-joins, All-joined}
 use Rattle.slurm_text.specs.declared.plain.limit.Limit.{Limit}
 use Rattle.slurm_text.specs.declared.plain.limit.Limit.TheVariants.{Minutes, Unlimited}
 use Rattle.resource_profile.specs.declared.Hold.{Hold}
 use Rattle.resource_profile.specs.Free.{covers}
 use Rattle.resource_profile.specs.Profiles.{AreWithin}
-use Rattle.backfill_planner.specs.declared.Placed.{Placed}
 use Rattle.backfill_planner.specs.declared.job.PlanJob.{PlanJob}
 use Rattle.backfill_planner.specs.Bases.{BaseView}
 use Rattle.backfill_planner.specs.Plans.{plan_of, PlannedView}
 use Rattle.backfill_planner.specs.Placements.{IsPlannable, IsOnRooms, AreParts, StartsFit}
 use Rattle.ctl_state.specs.declared.record.Part.{Part}
-use Rattle.ctl_state.specs.declared.record.JobRecord.{JobRecord}
-use Rattle.ctl_state.specs.State.{State, last_moment, last_job_id}
-use Rattle.ctl_state.specs.JobStates.{is_pending, is_running}
-use Rattle.ctl_state.specs.Holding.{is_on, mem_held, mem_in, parts_of, IsPartOf}
 use Rattle.ctl_state.specs.Planning.{room_of, seconds_of, plan_job}
-use Rattle.ctl_state.specs.Soundness.{IsSound, IsLimit, pending_ids, HasItsParts}
-use Rattle.ctl_pass.specs.Limits.{deadline, hold_end, holds_of_job, is_old, is_over, timed_out}
-use Rattle.ctl_pass.specs.Readiness.{base_of, candidates, ranked, planned, placements, ready}
-use Rattle.ctl_pass.proofs.Lists.{pairs-map, sum_by-larger, sum_by-map, joined-larger, range-rises, range-below, Any-kept, length-rising, sum_by-more, All-joins, All-joined}
-use Rattle.ctl_pass.proofs.Held.{cpus_in, held-counted, free-counted}
-use Rattle.ctl_pass.proofs.Ready.{ReadyLaws, readied, sound-readied, pending-left, length-left, parts-left, no_parts, pending-holds_not, by_limit, running-not_ended}
-use Rattle.ctl_pass.proofs.Starting.{CanStart, started-keeps}
-use Rattle.std.specs.List.{list_any}
+use Rattle.ctl_pass.proofs.Starting.{held-counted, free-counted, CanStart, started-keeps, no-plan}
 use Rattle.std.proofs.lemmas.List.Folds.{list_any-from_Any}
 use Rattle.ctl_pass.specs.SamePlans.{same_plans, same_shares, same_placements}
 use Rattle.ctl_pass.specs.HeldIds.{ShowsParts}
@@ -37,16 +45,114 @@ use Rattle.ctl_pass.specs.Passing.{is_idle, IsDecided, outcome, pass_after}
 use Rattle.ctl_pass.specs.declared.pass.Decided.{Decided}
 use Rattle.std.specs.Bool.{Decides}
 use Rattle.std.specs.Cmp.Lexicographic.{pointwise}
-use Rattle.std.proofs.lemmas.Bool.Decides.{Decides-eqb, nat_tests}
 use Rattle.std.proofs.lemmas.Slice.Eq.{slice_eq-Decides}
 use Rattle.backfill_planner.specs.declared.Share.{Share}
 use Rattle.std.specs.Prelude.{count_by}
-use Rattle.std.proofs.lemmas.List.Sums.{sum_by-cons, sum_by-le-sum_by, length-filter, count_by-le-length}
 use Rattle.resource_profile.specs.declared.NodeRoom.{NodeRoom}
-use Rattle.ctl_state.specs.declared.change.Change.TheVariants.{Start}
-use Rattle.ctl_state.specs.Changes.{changed}
-use Rattle.ctl_state.specs.Events.{started_as, those_left}
 use Rattle.ctl_pass.specs.Starting.{start_of, begun, started}
+
+-- the laws of letting go that a pass rests on
+pub record ReadyLaws : Type 0 where
+  pub letting_go : LettingGo
+  pub changes : ChangesLetGo
+  pub nothing : LetsGoNothing
+  pub later : KeptLater
+
+-- what the limit makes of a job: it was running where it is over
+pub by_limit : (P : JobRecord → Type 0) (now : ℕ) (job : JobRecord) → (is_over now job ≡ true → is_running job.state ≡ true → P (record job { state = Completing Timeout; ended = Some now; exit = None })) → (is_over now job ≡ false → P job)
+    → P (timed_out now job)
+by_limit P now job ends stays =
+    cond_both (is_over now job) (changed (Leave Timeout now None) job) job P
+    (λ over. let running = (and_parts (is_running job.state) (leb (deadline job) now) over).0 in rw running (ends over running)) stays
+
+-- the ready state at its moment, with no plan yet
+abbrev pub readied : State → ℕ → State
+readied s now = record (ready s now) { plan = []; moment = now }
+
+ended-others : (state : JobState) → is_ended state ≡ true → (is_pending state ≡ false) × (is_holding state ≡ false)
+ended-others state ended = search (rules, tests)
+
+-- limits and old records let go: what a pass plans is sound
+pub sound-readied : ReadyLaws → (s : State) (now : ℕ) → IsSound s → s.moment ≤ now → now ≤ last_moment → IsSound (readied s now)
+sound-readied laws s now sound raised in_time =
+    laws.letting_go s now (timed_out now) (is_old s.settings.min_job_age now) [] sound in_time (All-weaker (IsKept s.moment) (λ job. LetsGo now job (timed_out now job)) (λ job kept. lets job (laws.later s.moment now job raised kept)) s.jobs sound.jobs)
+    (λ k d below old. let job = timed_out now (get_or s.jobs k d) in (ended-others job.state (and_parts (is_ended job.state) (not (eqb s.settings.min_job_age 0) && leb (unwrap_or job.ended 0 + s.settings.min_job_age) now) old).0).1)
+    (no-plan (those_left (timed_out now) (is_old s.settings.min_job_age now) s.jobs))
+  where
+    lets : (job : JobRecord) → IsKept now job → LetsGo now job (timed_out now job)
+    lets job kept = cond_both (is_over now job) (changed (Leave Timeout now None) job) job (LetsGo now job) (λ over. laws.changes now (Leave Timeout now None) job refl refl kept) (λ within. laws.nothing now job kept)
+
+pub running-not_ended : (state : JobState) → is_running state ≡ true → (is_ended state ≡ false) × (is_pending state ≡ false)
+running-not_ended state running = search (rules, tests)
+
+pub pending-holds_not : (state : JobState) → is_pending state ≡ true → is_holding state ≡ false
+pending-holds_not state pending = search (rules, tests)
+
+no_members : {X : Type 0} (xs : List X) → has_members xs ≡ false → xs ≡ []
+no_members xs none = search (rules, tests)
+
+-- a job that holds nothing has no parts
+pub no_parts : (job : JobRecord) → HasItsParts job → is_holding job.state ≡ false → job.parts ≡ []
+no_parts job has idle = no_members job.parts (has.some ∙ idle)
+
+-- a limit that is seen to changes no number and no part, nor how long the job holds, nor whether it is old
+timed_out-id : (now : ℕ) (job : JobRecord) → (timed_out now job).id ≡ job.id
+timed_out-id now job = grind (arith, nat_tests)
+
+timed_out-holds : (now : ℕ) (job : JobRecord) → holds_of_job now (timed_out now job) ≡ holds_of_job now job
+timed_out-holds now job = by_limit (λ after. holds_of_job now after ≡ holds_of_job now job) now job (λ over running. grind (arith, nat_tests)) (λ within. refl)
+
+timed_out-old : (age now : ℕ) (job : JobRecord) → is_old age now (timed_out now job) ≡ is_old age now job
+timed_out-old age now job = by_limit (λ after. is_old age now after ≡ is_old age now job) now job (λ over running. grind (arith, nat_tests, running-not_ended job.state)) (λ within. refl)
+
+old-ended : (age now : ℕ) (job : JobRecord) → is_old age now job ≡ true → is_ended job.state ≡ true
+old-ended age now job old = (and_parts (is_ended job.state) (not (eqb age 0) && leb (unwrap_or job.ended 0 + age) now) old).0
+
+-- one more job of those that are left
+pub left-more : (age now i : ℕ) (jobs : List JobRecord) (job : JobRecord) → i < length jobs → job ≡ get_or jobs i job
+    → flat_map (holds_of_job now) (those_left (timed_out now) (is_old age now) (take (i + 1) jobs))
+    ≡ flat_map (holds_of_job now) (those_left (timed_out now) (is_old age now) (take i jobs)) ++ cond (not (is_old age now job)) (holds_of_job now job) []
+left-more age now i jobs job within is =
+    let keep : JobRecord → Bool = λ one. not (is_old age now one) in
+    let before = map (timed_out now) (take i jobs) in
+    rw (take_more jobs i job within, ← is, map-append (timed_out now) (take i jobs) (job ∷ []), filter-append keep before (timed_out now job ∷ []), flat_map-append (holds_of_job now) (filter keep before) (filter keep (timed_out now job ∷ [])))
+    (grind (arith, nat_tests, timed_out-old age now job, timed_out-holds now job, append-nil (holds_of_job now job)))
+
+-- those that wait are the same
+pub pending-left : (age now : ℕ) (jobs : List JobRecord)
+    → filter (λ (job : JobRecord). is_pending job.state) (those_left (timed_out now) (is_old age now) jobs) ≡ filter (λ (job : JobRecord). is_pending job.state) jobs
+pending-left age now [] = refl
+pending-left age now (job ∷ jobs) = grind (arith, nat_tests, pending-left age now jobs, timed_out-old age now job, old-ended age now job, ended-others job.state, running-not_ended job.state)
+
+-- nothing is dropped where none is old
+pub length-left : (age now : ℕ) (jobs : List JobRecord) → eqb (length (those_left (timed_out now) (is_old age now) jobs)) (length jobs) ≡ not (list_any (is_old age now) jobs)
+length-left age now [] = refl
+length-left age now (job ∷ jobs) =
+    let stays : JobRecord → Bool = λ one. not (is_old age now one) in
+    let changed = map (timed_out now) jobs in
+    let left = those_left (timed_out now) (is_old age now) jobs in
+    let few : length left ≤ length jobs = omega (arith, length-filter stays changed, count_by-le-length stays changed, length-map jobs (timed_out now)) in
+    elim (cases_Bool (is_old age now job)) [
+      | inl old ↦ rw (timed_out-old age now job, old) (ne_eqb (length left) (length (job ∷ jobs)) (λ same. omega (arith, same, few)))
+      | inr recent ↦ rw (timed_out-old age now job, recent) (one_more (length left) (length jobs) ∙ length-left age now jobs)
+    ]
+  where
+    one_more : (a b : ℕ) → eqb (suc a) (suc b) ≡ eqb a b
+    one_more a b = grind (arith, nat_tests)
+
+-- the same parts are held, since an old job holds none
+pub parts-left : (age now : ℕ) (jobs : List JobRecord) → All HasItsParts jobs → parts_of (those_left (timed_out now) (is_old age now) jobs) ≡ parts_of jobs
+parts-left age now [] each = refl
+parts-left age now (job ∷ jobs) each =
+    let empty : is_old age now job ≡ true → job.parts ≡ [] = λ old. no_parts job (All-head HasItsParts job jobs each) (ended-others job.state (old-ended age now job old)).1 in
+    grind (arith, nat_tests, parts-left age now jobs (All-tail HasItsParts job jobs each), timed_out-old age now job, empty)
+
+-- their numbers rise
+pub rising-left : (age now : ℕ) (jobs : List JobRecord) → HaveRisingIds jobs → HaveRisingIds (those_left (timed_out now) (is_old age now) jobs)
+rising-left age now jobs rising =
+    let lower : JobRecord → JobRecord → Type 0 = λ one other. one.id < other.id in
+    AllPairs-filter lower (λ job. not (is_old age now job)) (map (timed_out now) jobs)
+    (pairs-map lower (timed_out now) jobs (λ i j d before within. omega (arith, rising i j d before within, timed_out-id now (get_or jobs i d), timed_out-id now (get_or jobs j d))))
 
 -- the laws of plans that a pass rests on
 pub record PlanLaws : Type 0 where
@@ -101,12 +207,8 @@ base-within s sound =
           All-map (λ (hold : Hold). hold.node < length rooms) (hold_of s.moment job) job.parts (λ i part inside. (All-joined (IsPartOf rooms) (λ (one : JobRecord). one.parts) s.jobs sound.held.each k d below i part inside).node));
       windows = All-joins (λ (hold : Hold). hold.from < hold.until) (holds_of_job s.moment) s.jobs (λ k d below. let job = get_or s.jobs k d in
           All-map (λ (hold : Hold). hold.from < hold.until) (hold_of s.moment job) job.parts (λ i part inside. omega (arith, (sound.jobs k d below).run.start_passed, hold_end-later s.moment job)));
-      cpus = λ node moment.
-          let most : sum_by (hold_has (λ cpus mem. cpus) node moment) (flat_map (holds_of_job s.moment) s.jobs) ≤ sum_by (cpus_in node) parts = held-most (λ cpus mem. cpus) node moment s.moment s.jobs in
-          omega (arith, most, held-counted rooms parts node sound.held.each, free-counted rooms parts node (sound.held.once node));
-      mem = λ node moment.
-          let most : sum_by (hold_has (λ cpus mem. mem) node moment) (flat_map (holds_of_job s.moment) s.jobs) ≤ sum_by (mem_in node) parts = held-most (λ cpus mem. mem) node moment s.moment s.jobs in
-          omega (arith, most, sound.held.mem node);
+      cpus = λ node moment. omega (arith, held-most (λ cpus mem. cpus) node moment s.moment s.jobs, held-counted rooms parts node sound.held.each, free-counted rooms parts node (sound.held.once node));
+      mem = λ node moment. omega (arith, held-most (λ cpus mem. mem) node moment s.moment s.jobs, sound.held.mem node);
     }
 
 -- what is ranked are the pending jobs
@@ -121,15 +223,13 @@ ranked-ids s now = same (filter (λ (job : JobRecord). is_pending job.state) s.j
 ranked-all : (P : PlanJob → Type 0) (s : State) (now : ℕ) → All (λ job. P (plan_job (length s.nodes) job)) s.jobs → All P (ranked s now)
 unfolding ranked candidates
 ranked-all P s now each =
-    let waits : JobRecord → Bool = λ job. is_pending job.state in
-    All-map P (plan_job (length s.nodes)) (filter waits s.jobs) (All-filter waits (λ job. P (plan_job (length s.nodes) job)) s.jobs each)
+    All-map P (plan_job (length s.nodes)) _ (All-filter (λ job. is_pending job.state) (λ job. P (plan_job (length s.nodes) job)) s.jobs each)
 
 pub ranked-apart : (s : State) (now : ℕ) → IsSound s → AllPairs (λ (one other : PlanJob). one.id ≢ other.id) (ranked s now)
 unfolding ranked candidates plan_job
 ranked-apart s now sound =
-    let waits : JobRecord → Bool = λ job. is_pending job.state in
     let apart : AllPairs (λ (one other : JobRecord). one.id ≢ other.id) s.jobs = λ i j d before within same. omega (arith, sound.rising i j d before within, same) in
-    pairs-map (λ (one other : PlanJob). one.id ≢ other.id) (plan_job (length s.nodes)) (filter waits s.jobs) (AllPairs-filter (λ (one other : JobRecord). one.id ≢ other.id) waits s.jobs apart)
+    pairs-map (λ (one other : PlanJob). one.id ≢ other.id) (plan_job (length s.nodes)) _ (AllPairs-filter (λ (one other : JobRecord). one.id ≢ other.id) (λ job. is_pending job.state) s.jobs apart)
 
 -- they can be planned
 ranked-plannable : (s : State) (now : ℕ) → IsSound s → All IsPlannable (ranked s now)
@@ -144,23 +244,15 @@ ranked-plannable s now sound = ranked-all IsPlannable s now (λ k d below. let k
     seconds (Minutes minutes) is = omega (arith, is.0)
     seconds Unlimited is = tt
 
-ranked-on_rooms : (s : State) (now : ℕ) → All (IsOnRooms (map room_of s.nodes)) (ranked s now)
-unfolding plan_job
-ranked-on_rooms s now = ranked-all (IsOnRooms (map room_of s.nodes)) s now (λ k d below i node inside. omega (arith, range-below (length s.nodes) i node inside, length-map s.nodes room_of))
-
-ranked-tasks : (s : State) (now : ℕ) → IsSound s → All (λ (job : PlanJob). 1 ≤ job.need.tasks) (ranked s now)
-unfolding plan_job
-ranked-tasks s now sound = ranked-all (λ (job : PlanJob). 1 ≤ job.need.tasks) s now (λ k d below. (sound.jobs k d below).asked.tasks.0)
-
 -- The plan of a sound state can start.
 pub can-start : PlanLaws → (s : State) → IsSound s → CanStart s (planned s s.moment)
-unfolding planned base_of mem_held
+unfolding planned base_of mem_held plan_job
 can-start laws s sound =
     let now = s.moment in
     let base = base_of s now in
     let jobs = ranked s now in
     let horizon : base.horizon ≤ 250002592000 = omega (arith, sound.moment, sound.settings.window.1) in
-    let rooms = ranked-on_rooms s now in
+    let rooms = ranked-all (IsOnRooms (map room_of s.nodes)) s now (λ k d below i node inside. omega (arith, range-below (length s.nodes) i node inside, length-map s.nodes room_of)) in
     let plannable = ranked-plannable s now sound in
     let fit = laws.fit base jobs now (base-within s sound) horizon rooms plannable in
     let started : All (λ (job : JobRecord). unwrap_or job.started 0 ≤ now) s.jobs = λ k d below. (sound.jobs k d below).run.start_passed in
@@ -169,16 +261,12 @@ can-start laws s sound =
       each = λ k d below. record {
         waits = rw (← ranked-ids s now) (laws.ids base jobs now k d below);
         last = omega (arith, (laws.starts base jobs now k d below).1, horizon);
-        some = laws.some base jobs now (ranked-tasks s now sound) k d below;
+        some = laws.some base jobs now (ranked-all (λ (job : PlanJob). 1 ≤ job.need.tasks) s now (λ j e inside. (sound.jobs j e inside).asked.tasks.0)) k d below;
         parts = laws.parts base jobs now horizon rooms plannable k d below;
       };
       apart = laws.apart base jobs now (ranked-apart s now sound);
-      cpus = λ node.
-          let least : sum_by (cpus_in node) (parts_of s.jobs) ≤ sum_by (hold_has (λ cpus mem. cpus) node now) (flat_map (holds_of_job now) s.jobs) = held-now (λ cpus mem. cpus) node now s.jobs started in
-          omega (arith, fit.cpus node, least, held-counted (map room_of s.nodes) (parts_of s.jobs) node sound.held.each);
-      mem = λ node.
-          let least : sum_by (mem_in node) (parts_of s.jobs) ≤ sum_by (hold_has (λ cpus mem. mem) node now) (flat_map (holds_of_job now) s.jobs) = held-now (λ cpus mem. mem) node now s.jobs started in
-          omega (arith, fit.mem node, least);
+      cpus = λ node. omega (arith, fit.cpus node, held-now (λ cpus mem. cpus) node now s.jobs started, held-counted (map room_of s.nodes) (parts_of s.jobs) node sound.held.each);
+      mem = λ node. omega (arith, fit.mem node, held-now (λ cpus mem. mem) node now s.jobs started);
     }
 
 -- So those of a pass can.
@@ -204,8 +292,7 @@ plan-is s now made base jobs is base_is jobs_are = ap (λ (one : PlannedView). p
 -- the numbers of the jobs bound how many there are
 pub few-jobs : (s : State) → IsSound s → length s.jobs ≤ last_job_id + 1
 few-jobs s sound =
-    let long = length-rising (λ (job : JobRecord). job.id) 0 s.next_id s.jobs (omega arith) sound.rising (λ k d below. omega arith) sound.below_next in
-    omega (arith, long, sound.next.1)
+    omega (arith, length-rising (λ (job : JobRecord). job.id) 0 s.next_id s.jobs (omega arith) sound.rising (λ k d below. omega arith) sound.below_next, sound.next.1)
 
 -- what is tested of a pass is whether it is idle
 pub idle_is : (s : State) (now : ℕ) (decided : Decided) → IsDecided s now decided
@@ -224,8 +311,7 @@ awaited s placed sound waits = from (Any-kept (λ (job : JobRecord). job.id) (λ
           let it : get_or s.jobs k d ≡ job = get_or_default s.jobs k d job inside ∙ is in
           elim (cases_order j k) [
             | inl equal ↦
-                let one = get_or s.jobs j d in
-                no_parts one (sound.jobs j d below).parts (pending-holds_not one.state (ap (λ place. is_pending (get_or s.jobs place d).state) equal ∙ ap (λ (other : JobRecord). is_pending other.state) it ∙ pending))
+                no_parts (get_or s.jobs j d) (sound.jobs j d below).parts (pending-holds_not (get_or s.jobs j d).state (ap (λ place. is_pending (get_or s.jobs place d).state) equal ∙ ap (λ (other : JobRecord). is_pending other.state) it ∙ pending))
             | inr (inl before) ↦ absurd (omega (arith, sound.rising j k d before inside, same, here, ap (λ (one : JobRecord). one.id) it))
             | inr (inr after) ↦ absurd (omega (arith, sound.rising k j d after below, same, here, ap (λ (one : JobRecord). one.id) it))
           ];
@@ -238,12 +324,11 @@ pub can-begin-ready : (s : State) (now : ℕ) (held : List Bool) (plan : List Pl
     → CanBegin (ready s now).jobs held plan
 unfolding planned ranked candidates
 can-begin-ready s now held plan sound ready_sound is shown ids apart =
-    let has : All HasItsParts s.jobs = λ k d below. (sound.jobs k d below).parts in
     let base = base_of (ready s now) now in
     let jobs = ranked (readied s now) now in
     let waits : All (λ (placed : Placed). Contains (pending_ids (ready s now).jobs) placed.id) plan = rw (is, ← ranked-ids (readied s now) now) (ids base jobs now) in
     record {
-      shown = rw (parts-left s.settings.min_job_age now s.jobs has) shown;
+      shown = rw (parts-left s.settings.min_job_age now s.jobs (λ k d below. (sound.jobs k d below).parts)) shown;
       awaits = λ k d below. awaited (readied s now) (get_or plan k d) ready_sound (waits k d below);
       once = rw is (apart base jobs now (ranked-apart (readied s now) now ready_sound));
     }
@@ -282,9 +367,7 @@ none-start rooms now jobs (placed ∷ later) none = grind (arith, nat_tests, non
 pub idle-unchanged : (s : State) (now : ℕ) → is_idle s now ≡ true → pass_after s now ≡ s
 unfolding is_idle
 idle-unchanged s now idle =
-    let none = none-start (map room_of s.nodes) now (ready s now).jobs (placements s now) in
-    let kept = ready-same s.settings.min_job_age now s.jobs in
-    let same : ((outcome s now).jobs ≡ s.jobs) × ((outcome s now).stays ≡ s.plan) = grind (arith, nat_tests, none, kept, (plans-same (outcome s now).stays s.plan).0) in
+    let same : ((outcome s now).jobs ≡ s.jobs) × ((outcome s now).stays ≡ s.plan) = grind (arith, nat_tests, none-start (map room_of s.nodes) now (ready s now).jobs (placements s now), ready-same s.settings.min_job_age now s.jobs, (plans-same (outcome s now).stays s.plan).0) in
     rw (same.0, same.1) refl
 
 -- one for a job that waits, or that runs
@@ -335,7 +418,6 @@ unchanged-idle ids s now same =
     let plan = placements s now in
     let left = ready s now in
     let jobs : (outcome s now).jobs ≡ s.jobs = ap (λ (after : State). after.jobs) same in
-    let stays : (outcome s now).stays ≡ s.plan = ap (λ (after : State). after.plan) same in
     let waiting = left-less waits (λ job. 0) (timed_out now) (is_old age now) s.jobs (λ job. grind (arith, nat_tests, running-not_ended job.state)) in
     let running = left-less runs (λ job. cond (is_over now job) 1 0) (timed_out now) (is_old age now) s.jobs (λ job. grind (arith, nat_tests)) in
     elim (fewer rooms now left.jobs plan (λ k d below. rw (← ranked-ids left now) (ids (base_of left now) (ranked left now) now k d below))) [
@@ -343,7 +425,7 @@ unchanged-idle ids s now same =
       | inl none ↦
           let all : left.jobs ≡ s.jobs = sym (none-start rooms now left.jobs plan none) ∙ jobs in
           let none_over : count_by (is_over now) s.jobs ≡ 0 = omega (arith, running, ap (sum_by runs) all) in
-          rw (none_over, eq-eqb (length left.jobs) (length s.jobs) (ap length all), none, (plans-same (outcome s now).stays s.plan).1 stays) refl
+          rw (none_over, eq-eqb (length left.jobs) (length s.jobs) (ap length all), none, (plans-same (outcome s now).stays s.plan).1 (ap (λ (after : State). after.plan) same)) refl
     ]
 
 -- A job that runs after a pass ran before it just so, or a placement that begins now is of it.

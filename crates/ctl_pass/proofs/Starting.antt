@@ -1,36 +1,144 @@
--- The starts of a plan, one after another: what each takes, that all stays sound, and that each job gets what was planned.
+-- What parts hold of a node's processors, and the starts of a plan: what each takes, that all stays sound, and that each job gets what was planned.
 use Rattle.std.proofs.lemmas.Bool.Decides.{nat_tests}
-use Rattle.std.proofs.Common.{◌≡◌, ◌≢◌, ℕ, ◌<◌, Bool, true, false, ◌||◌, ◌&&◌, not, eqb, List, [], ◌∷◌, ◌++◌, map, filter, fold, get_or, All, arith, refl, ap, sym, ◌∙◌, append_assoc, inl, inr, ◌+◌}
-use Rattle.std.proofs.Common.{◌≤◌, cond, length, sum_by, AllPairs, Contains, Any, rules, tests, take}
-use Rattle.std.specs.List.{list_any, AllZip}
-use Rattle.std.proofs.lemmas.Bool.{cases_Bool, cases_eq, eq-eqb, ne_eqb, both_ways, eqb-false, eqb-true}
-use Rattle.std.proofs.lemmas.List.{append-nil, length-take, length-map, length-take-le, get_or-map}
-use Rattle.std.proofs.lemmas.List.Sums.{fold_push, sum_by-cons, sum_by-le-sum_by, get_or-le-sum_by}
-use Rattle.std.proofs.lemmas.List.Folds.{list_any-append}
-use Rattle.std.proofs.lemmas.List.Elements.{All-head, All-tail, All-map, All-weaker, All-cons, All-take, All-nil, All-filter}
+use Rattle.std.proofs.Common.{◌≡◌, ℕ, ◌+◌, ◌≤◌, ◌<◌, Bool, true, cond, eqb, List, length, filter, sum_by, All, AllPairs, refl, arith, inl, inr, ◌≢◌, false, ◌||◌, not, [], ◌∷◌, ◌++◌, map, take, get_or, count_by}
+use Rattle.std.proofs.Common.{zero, suc, ap, sym, ◌∙◌, ◌&&◌, ltb, fold, append_assoc, Contains, Any}
+use Rattle.std.specs.List.{range_with_len, list_any, AllZip}
+use Rattle.std.proofs.lemmas.Bool.{cases_Bool, eqb-true, eqb-false, ne_eqb, and_left, eq-eqb}
+use Rattle.std.proofs.lemmas.List.Sums.{length-filter, fold_push, sum_by-cons, sum_by-le-sum_by, get_or-le-sum_by}
+use Rattle.std.proofs.lemmas.List.FromFn.{length-range_with_len, filter_of_map_range_with_len_more}
+use Rattle.std.proofs.lemmas.List.Elements.{All-filter, All-weaker, filter_passes, All-head, All-tail, All-map, All-take, All-cons, All-nil}
+use Rattle.std.proofs.lemmas.List.Kept.{AllPairs-filter, AllPairs-cons}
 use Rattle.resource_profile.specs.declared.NodeRoom.{NodeRoom}
-use Rattle.backfill_planner.specs.declared.Placed.{Placed}
 use Rattle.ctl_state.specs.declared.record.Part.{Part}
+use Rattle.ctl_state.specs.Holding.{cpus_of, is_on, has_cpu, times_held, free_ids, IsPartOf, parts_of, mem_of, mem_in, mem_held, has_members}
+use Rattle.ctl_pass.proofs.Lists.{sum_by-same, sum_by-none, sum_by-ones, sum_by-add, sum_by-swap, range-rises, range-below, range-rising, pairs-take, filter-same, pairs-head, pairs-tail, pairs-map, map-same}
+use Rattle.ctl_pass.proofs.Lists.{sum_by-map, Any-kept}
+use Rattle.std.proofs.lemmas.List.{get_or-take, get_or_default, length-take, length-append, map-id, take_all, take-append-le, append-nil, length-map, length-take-le, get_or-map}
+use Rattle.std.proofs.lemmas.List.Folds.{list_any-append, list_any_none}
+use Rattle.backfill_planner.specs.declared.Share.{Share}
 use Rattle.ctl_state.specs.declared.record.NodeRecord.{NodeRecord}
 use Rattle.ctl_state.specs.declared.record.JobRecord.{JobRecord}
-use Rattle.ctl_state.specs.Events.{started_as, MayTake}
-use Rattle.ctl_state.specs.Holding.{has_cpu, parts_of, cpus_of, mem_of, mem_in, times_held, mem_held, free_ids, has_members, IsPartOf}
 use Rattle.ctl_state.specs.Planning.{room_of}
 use Rattle.ctl_state.specs.Soundness.{IsNode, HaveRisingIds, IsSound, PlansPending, pending_ids}
-use Rattle.ctl_pass.specs.HeldIds.{AddsParts, part_by}
+use Rattle.ctl_pass.specs.HeldIds.{is_held, ShowsParts, AddsParts, part_by}
+use Rattle.ctl_pass.specs.Starting.{part_of, start_of, begun, started, IsAsPlanned, HasStarted}
+use Rattle.backfill_planner.specs.declared.Placed.{Placed}
+use Rattle.ctl_state.specs.Events.{started_as, MayTake}
 use Rattle.ctl_pass.specs.Awaiting.{Awaits, CanBegin}
 use Rattle.ctl_pass.specs.declared.starts.JobStart.{JobStart}
-use Rattle.ctl_pass.specs.Starting.{part_of, start_of, begun, started, IsAsPlanned, HasStarted}
-use Rattle.ctl_pass.proofs.Lists.{pairs-head, pairs-tail, pairs-map, map-same, pairs-take, sum_by-map, Any-kept}
-use Rattle.ctl_pass.proofs.Held.{few-cpus, part-shown, cpus_held, cpus_in, held-counted, held-grown, free-are, free-counted}
-use Rattle.std.proofs.lemmas.List.Kept.{AllPairs-cons}
-use Rattle.backfill_planner.specs.declared.Share.{Share}
 use Rattle.backfill_planner.specs.Plans.{starts_at, cpus_on, mem_on}
 use Rattle.backfill_planner.specs.Placements.{AreParts}
 use Rattle.ctl_state.specs.State.{State}
 use Rattle.ctl_state.specs.Laws.{Taking, TakenTimes, TakenMem, OthersWait, Planning}
-use Rattle.ctl_pass.proofs.Ready.{no-plan}
 use Rattle.ctl_state.specs.JobStates.{is_pending}
+
+-- how many processors of the node the parts hold, each as often as it stands in them; and how many one part has
+pub cpus_held : List NodeRoom → List Part → ℕ → ℕ
+cpus_held rooms parts node = sum_by (λ cpu. times_held parts node cpu) (range_with_len 0 (cpus_of rooms node))
+
+abbrev pub cpus_in : ℕ → Part → ℕ
+cpus_in node part = cond (is_on node part) (length part.cpus) 0
+
+pub held-counted : (rooms : List NodeRoom) (parts : List Part) (node : ℕ) → All (IsPartOf rooms) parts → cpus_held rooms parts node ≡ sum_by (cpus_in node) parts
+unfolding cpus_held times_held
+held-counted rooms parts node are =
+    let cpus = range_with_len 0 (cpus_of rooms node) in
+    let has : ℕ → Part → ℕ = λ cpu part. cond (has_cpu node cpu part) 1 0 in
+    let counted = sum_by-same (λ part. sum_by (λ cpu. has cpu part) cpus) (cpus_in node) parts (λ k d below. let part = get_or parts k d in elim (cases_Bool (is_on node part)) [
+      | inr off ↦ rw off (sum_by-none (λ cpu. 0) cpus (λ i e within. refl))
+      | inl on ↦ rw on (range-rising part.cpus (cpus_of rooms node) (are k d below).rising (rw (← eqb-true part.node node on) (are k d below).cpus))
+    ]) in
+    omega (arith, sum_by-swap has cpus parts, counted)
+
+-- what is held grows by what more parts have
+pub held-grown : (rooms : List NodeRoom) (before more after : List Part) (node : ℕ) → ((cpu : ℕ) → times_held after node cpu ≡ times_held before node cpu + times_held more node cpu)
+    → cpus_held rooms after node ≡ cpus_held rooms before node + cpus_held rooms more node
+unfolding cpus_held
+held-grown rooms before more after node grows =
+    let cpus = range_with_len 0 (cpus_of rooms node) in
+    omega (arith, sum_by-same (λ cpu. times_held after node cpu) (λ cpu. times_held before node cpu + times_held more node cpu) cpus (λ k d below. grows _), sum_by-add (λ cpu. times_held before node cpu) (λ cpu. times_held more node cpu) cpus)
+
+-- each processor of a node is free or in a part
+pub free-counted : (rooms : List NodeRoom) (parts : List Part) (node : ℕ) → ((cpu : ℕ) → times_held parts node cpu ≤ 1) → length (free_ids rooms parts node) + cpus_held rooms parts node ≡ cpus_of rooms node
+unfolding cpus_held free_ids
+free-counted rooms parts node once =
+    let cpus = range_with_len 0 (cpus_of rooms node) in
+    let is_free : ℕ → Bool = λ cpu. eqb (times_held parts node cpu) 0 in
+    let split = sum_by-add (λ cpu. cond (is_free cpu) 1 0) (λ cpu. times_held parts node cpu) cpus in
+    let each = sum_by-same (λ cpu. cond (is_free cpu) 1 0 + times_held parts node cpu) (λ cpu. 1) cpus (λ k d below. let few = once (get_or cpus k d) in grind (arith, nat_tests, few)) in
+    omega (arith, split, each, sum_by-ones cpus, length-range_with_len 0 (cpus_of rooms node), length-filter is_free cpus)
+
+-- the free processors rise, are the node's, and stand in no part
+pub free-are : (rooms : List NodeRoom) (parts : List Part) (node : ℕ)
+    → AllPairs (λ one other. one < other) (free_ids rooms parts node) × All (λ cpu. cpu < cpus_of rooms node) (free_ids rooms parts node) × All (λ cpu. times_held parts node cpu ≡ 0) (free_ids rooms parts node)
+unfolding free_ids
+free-are rooms parts node =
+    let cpus = range_with_len 0 (cpus_of rooms node) in
+    let is_free : ℕ → Bool = λ cpu. eqb (times_held parts node cpu) 0 in (
+      AllPairs-filter (λ one other. one < other) is_free cpus (range-rises (cpus_of rooms node)),
+      All-filter is_free (λ cpu. cpu < cpus_of rooms node) cpus (range-below (cpus_of rooms node)),
+      All-weaker (λ cpu. is_free cpu ≡ true) (λ cpu. times_held parts node cpu ≡ 0) (λ cpu free. eqb-true (times_held parts node cpu) 0 free) (filter is_free cpus) (filter_passes is_free cpus),
+    )
+
+-- parts that are held one list after another
+pub adds-then : (before middle after : List Bool) (parts later : List Part) → AddsParts before parts middle → AddsParts middle later after → AddsParts before (parts ++ later) after
+adds-then before middle after parts later one two = record { bits = λ node cpu short. grind (arith, one.bits node cpu short, two.bits node cpu short, list_any-append (has_cpu node cpu) parts later) }
+
+passing-more : (p : ℕ → Bool) (n : ℕ) → filter p (range_with_len 0 (n + 1)) ≡ filter p (range_with_len 0 n) ++ cond (p n) (n ∷ []) []
+passing-more p n = simp map-id at (filter_of_map_range_with_len_more p (λ (k : ℕ). k) 0 n n (omega arith))
+
+pub lowest-next : (p : ℕ → Bool) (count n : ℕ) (ids : List ℕ) → ids ≡ take count (filter p (range_with_len 0 n)) → take count (filter p (range_with_len 0 (n + 1))) ≡ cond (p n && ltb (length ids) count) (ids ++ n ∷ []) ids
+lowest-next p count n ids is =
+    let found = filter p (range_with_len 0 n) in
+    let most : length (found ++ n ∷ []) ≡ length found + 1 = omega (arith, length-append found (n ∷ [])) in
+    rw (passing-more p n) (grind (arith, nat_tests, most, ap length is, take_all count found, take_all count (found ++ n ∷ []), take-append-le count found (n ∷ []), length-take count found, append-nil found))
+
+-- they rise, and are below any bound of the range
+pub lowest-rise : (p : ℕ → Bool) (count n : ℕ) → AllPairs (λ one other. one < other) (take count (filter p (range_with_len 0 n)))
+lowest-rise p count n = pairs-take (λ one other. one < other) count (filter p (range_with_len 0 n)) (AllPairs-filter (λ one other. one < other) p (range_with_len 0 n) (range-rises n))
+
+pub lowest-below : (p : ℕ → Bool) (count n most : ℕ) → n ≤ most → All (λ id. id < most) (take count (filter p (range_with_len 0 n)))
+lowest-below p count n most le =
+    All-take (λ id. id < most) count (filter p (range_with_len 0 n)) (All-filter p (λ id. id < most) (range_with_len 0 n)
+    (All-weaker (λ id. id < n) (λ id. id < most) (λ id below. omega (arith, below, le)) (range_with_len 0 n) (range-below n)))
+
+-- the processors of a node are at most 1,024
+pub few-cpus : (nodes : List NodeRecord) (node : ℕ) → All IsNode nodes → cpus_of (map room_of nodes) node ≤ 1024
+few-cpus [] node each = omega arith
+few-cpus (one ∷ nodes) zero each = (All-head IsNode one nodes each).cpus.1
+few-cpus (one ∷ nodes) (suc node) each = few-cpus nodes node (All-tail IsNode one nodes each)
+
+-- tests that agree on the processors of a node leave the same ones
+pub same-cpus : (p q : ℕ → Bool) (count : ℕ) → count ≤ 1024 → ((cpu : ℕ) → cpu < 1024 → p cpu ≡ q cpu) → filter p (range_with_len 0 count) ≡ filter q (range_with_len 0 count)
+same-cpus p q count few same =
+    filter-same p q (range_with_len 0 count)
+    (All-weaker (λ cpu. cpu < count) (λ cpu. p cpu ≡ q cpu) (λ cpu below. same cpu (omega (arith, below, few))) (range_with_len 0 count) (range-below count))
+
+-- parts on other nodes change nothing of what a share becomes
+pub part-elsewhere : (rooms : List NodeRoom) (before held : List Bool) (shares : List Share) (i : ℕ) (share : Share) → i < length shares → share ≡ get_or shares i share
+    → AllPairs (λ (one other : Share). one.node ≢ other.node) shares → cpus_of rooms share.node ≤ 1024 → AddsParts before (map (part_by rooms before) (take i shares)) held → part_by rooms held share ≡ part_by rooms before share
+part-elsewhere rooms before held shares i share within is apart few adds =
+    let node = share.node in
+    let off : All (λ (one : Share). one.node ≢ node) (take i shares) = λ k d below.
+    let low : k < i = omega (arith, below, length-take i shares) in
+    rw (get_or-take i shares k d low) (λ same. rw (← is) at (rw (get_or_default shares i d share within) at (apart k i d low within)) same) in
+    let none = λ (cpu : ℕ). list_any_none (has_cpu node cpu) (map (part_by rooms before) (take i shares)) (All-map (λ part. has_cpu node cpu part ≡ false) (part_by rooms before) (take i shares)
+    (λ k d below. and_left (eqb (get_or (take i shares) k d).node node) (list_any (λ id. eqb id cpu) (part_by rooms before (get_or (take i shares) k d)).cpus) (ne_eqb (get_or (take i shares) k d).node node (off k d below)))) in
+    let same = same-cpus (λ cpu. not (is_held held node cpu)) (λ cpu. not (is_held before node cpu)) (cpus_of rooms node) few (λ cpu short. grind (arith, adds.bits node cpu short, none cpu)) in
+    rw same refl
+
+-- a count is 0 where none passes
+count-none : {X : Type 0} (p : X → Bool) (xs : List X) → eqb (count_by p xs) 0 ≡ not (list_any p xs)
+count-none p [] = refl
+count-none p (x ∷ xs) = grind (arith, nat_tests, count-none p xs, length-filter p xs, length-filter p (x ∷ xs))
+
+-- what is free by bits that show the jobs' parts is what is free beside the jobs
+pub part-shown : (rooms : List NodeRoom) (jobs : List JobRecord) (held : List Bool) (share : Share) → cpus_of rooms share.node ≤ 1024 → ShowsParts (parts_of jobs) held → part_by rooms held share ≡ part_of rooms jobs share
+unfolding free_ids times_held
+part-shown rooms jobs held share few shows =
+    let same = same-cpus (λ cpu. not (is_held held share.node cpu)) (λ cpu. eqb (count_by (has_cpu share.node cpu) (parts_of jobs)) 0) (cpus_of rooms share.node) few
+    (λ cpu short. ap not (shows.bits share.node cpu short) ∙ sym (count-none (has_cpu share.node cpu) (parts_of jobs))) in
+    rw same refl
 
 -- a start changes no number, and nothing of another job
 started-id : (now id : ℕ) (parts : List Part) (job : JobRecord) → (started_as now id parts job).id ≡ job.id
@@ -109,10 +217,6 @@ first-passed now nodes jobs held placed later starts all not_due so_far = record
   whole = rw (ne_eqb placed.start now not_due) at so_far.whole;
 }
 
-pub first-all : (now : ℕ) (nodes : List NodeRecord) (jobs : List JobRecord) (held : List Bool) (starts all : List JobStart) → AreFirst now nodes jobs held [] starts all → starts ≡ all
-unfolding started
-first-all now nodes jobs held starts all so_far = sym (append-nil starts) ∙ so_far.whole
-
 -- none starts where none begins now; those that stay begin later; and the jobs are those that the starts make
 pub none-starts : (rooms : List NodeRoom) (now : ℕ) (jobs : List JobRecord) (placements : List Placed) → list_any (λ (placed : Placed). eqb placed.start now) placements ≡ false → (started rooms now jobs placements).starts ≡ []
 unfolding started
@@ -142,6 +246,14 @@ started-keeps P rooms now jobs (placed ∷ later) keeps has =
       | inr after ↦ rw after (started-keeps P rooms now jobs later rest has)
       | inl due ↦ rw due (started-keeps P rooms now (begun now jobs start) later rest (All-head Keeps placed later keeps (eqb-true placed.start now due) jobs start.parts has))
     ]
+
+-- no plan names nobody
+pub no-plan : (jobs : List JobRecord) → PlansPending jobs []
+no-plan jobs = record {
+  pending = All-nil (λ (placed : Placed). Contains (pending_ids jobs) placed.id);
+  once = λ i j d before below. absurd (omega (arith, below));
+  last = All-nil (λ (placed : Placed). placed.start ≤ 250002592000);
+}
 
 -- the laws of starts that a pass rests on
 pub record StartLaws : Type 0 where
@@ -179,10 +291,7 @@ cpus-taken : (s : State) (placed : Placed) (node : ℕ) → sum_by (cpus_in node
 cpus-taken s placed node =
     let part = part_of (map room_of s.nodes) s.jobs in
     let amount : Share → ℕ = λ share. cond (eqb share.node node) share.cpus 0 in
-    omega (arith, sum_by-map (cpus_in node) part placed.parts, sum_by-le-sum_by (λ share. cpus_in node (part share)) amount placed.parts (λ share. less share.node share.cpus (free_ids (map room_of s.nodes) (parts_of s.jobs) share.node)))
-  where
-    less : (on count : ℕ) (free : List ℕ) → cond (eqb on node) (length (take count free)) 0 ≤ cond (eqb on node) count 0
-    less on count free = grind (arith, nat_tests, length-take count free)
+    omega (arith, sum_by-map (cpus_in node) part placed.parts, sum_by-le-sum_by (λ share. cpus_in node (part share)) amount placed.parts (λ share. grind (arith, nat_tests, length-take share.cpus (free_ids (map room_of s.nodes) (parts_of s.jobs) share.node))))
 
 mem-taken : (s : State) (placed : Placed) (node : ℕ) → mem_held (parts_for s placed) node ≡ mem_on node placed
 unfolding mem_held
@@ -200,10 +309,10 @@ may-take s placed ready fits =
       waits = ready.waits;
       some = some shares ready.some;
       each = All-map (IsPartOf rooms) part shares (λ k d below. let share = get_or shares k d in record {
-          node = (ready.parts.each k d below).node;
-          rising = pairs-take (λ one other. one < other) share.cpus (free_ids rooms held share.node) (free share).0;
-          cpus = All-take (λ cpu. cpu < cpus_of rooms share.node) share.cpus (free_ids rooms held share.node) (free share).1;
-        });
+        node = (ready.parts.each k d below).node;
+        rising = pairs-take (λ one other. one < other) share.cpus (free_ids rooms held share.node) (free share).0;
+        cpus = All-take (λ cpu. cpu < cpus_of rooms share.node) share.cpus (free_ids rooms held share.node) (free share).1;
+      });
       apart = pairs-map (λ (one other : Part). one.node ≢ other.node) part shares ready.parts.apart;
       unheld = All-map (λ (part : Part). All (λ cpu. times_held held part.node cpu ≡ 0) part.cpus) part shares (λ k d below. let share = get_or shares k d in
           All-take (λ cpu. times_held held share.node cpu ≡ 0) share.cpus (free_ids rooms held share.node) (free share).2);
@@ -249,15 +358,6 @@ module _ (laws : StartLaws) where
         mem = λ node. omega (arith, mem node, sum_by-cons (mem_on node) placed (starts_at s.moment later), laws.mem s s.moment placed.id node more can.sound first.waits, mem-taken s placed node);
       }
 
-  -- who isn't named by the plan still waits
-  waits-started : (s : State) (plan : List Placed) (other : ℕ) → CanStart s plan → All (λ (placed : Placed). other ≢ placed.id) plan → Contains (pending_ids s.jobs) other
-      → Contains (pending_ids (started (map room_of s.nodes) s.moment s.jobs plan).jobs) other
-  waits-started s plan other can apart waits =
-      let Waits : List JobRecord → Type 0 = λ some. HaveRisingIds some × Contains (pending_ids some) other in
-      (started-keeps Waits (map room_of s.nodes) s.moment s.jobs plan
-      (λ k d below due some parts has. (rising-begun s.moment some (record { id = (get_or plan k d).id; parts = parts }) has.0, laws.waits some s.moment (get_or plan k d).id other parts has.0 has.1 (apart k d below)))
-      (can.sound.rising, waits)).1
-
   -- so the starts keep all sound, and what stays of the plan names pending jobs
   pub sound-started : (s : State) (plan : List Placed) → CanStart s plan
       → IsSound (record s { jobs = (started (map room_of s.nodes) s.moment s.jobs plan).jobs; plan = (started (map room_of s.nodes) s.moment s.jobs plan).stays })
@@ -268,12 +368,14 @@ module _ (laws : StartLaws) where
     | inr after ↦
         let rooms = map room_of s.nodes in
         let rest = started rooms s.moment s.jobs later in
-        let still = can-later s placed later can after in
-        let sound = sound-started s later still in
+        let sound = sound-started s later (can-later s placed later can after) in
         let first = All-head (IsReady s) placed later can.each in
         let apart = pairs-head (λ (one other : Placed). one.id ≢ other.id) placed later can.apart in
+        let still_waits = started-keeps (λ some. HaveRisingIds some × Contains (pending_ids some) placed.id) rooms s.moment s.jobs later
+        (λ k d below due some parts has. (rising-begun s.moment some (record { id = (get_or later k d).id; parts = parts }) has.0, laws.waits some s.moment (get_or later k d).id placed.id parts has.0 has.1 (apart k d below)))
+        (can.sound.rising, first.waits) in
         let planned : PlansPending rest.jobs (placed ∷ rest.stays) = record {
-          pending = All-cons (λ (one : Placed). Contains (pending_ids rest.jobs) one.id) placed rest.stays (waits-started s later placed.id still apart first.waits) sound.plan.pending;
+          pending = All-cons (λ (one : Placed). Contains (pending_ids rest.jobs) one.id) placed rest.stays still_waits.1 sound.plan.pending;
           once = AllPairs-cons (λ (one other : Placed). one.id ≢ other.id) placed rest.stays
               (rw (stays_later rooms s.moment s.jobs later) (All-filter (λ (one : Placed). not (eqb one.start s.moment)) (λ (one : Placed). placed.id ≢ one.id) later apart)) sound.plan.once;
           last = All-cons (λ (one : Placed). one.start ≤ 250002592000) placed rest.stays first.last sound.plan.last;

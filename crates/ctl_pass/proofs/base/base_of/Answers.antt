@@ -1,7 +1,6 @@
 use Rattle.std.proofs.Common.{arith}
 use Rattle.ctl_state.specs.State.{state_of}
-use Rattle.ctl_pass.proofs.Ready.{readied}
-use Rattle.ctl_pass.proofs.Passes.{base-within}
+use Rattle.ctl_pass.proofs.Passes.{readied, base-within}
 use Rattle.ctl_pass.proofs.base.base_of.Goals as goal
 
 pub invariant_of-result : goal.invariant_of-result

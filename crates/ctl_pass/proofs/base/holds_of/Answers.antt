@@ -1,6 +1,6 @@
-use Rattle.std.proofs.Common.{◌≡◌, append-nil, arith}
+use Rattle.std.proofs.Common.{append-nil, arith}
 use Rattle.std.proofs.lemmas.Bool.Decides.{nat_tests}
-use Rattle.ctl_pass.proofs.Ready.{left-more}
+use Rattle.ctl_pass.proofs.Passes.{left-more}
 use Rattle.ctl_pass.proofs.base.holds_of.Goals as goal
 
 pub loop-job-preserved : goal.loop-job-preserved

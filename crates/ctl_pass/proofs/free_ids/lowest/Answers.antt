@@ -1,7 +1,7 @@
-use Rattle.std.proofs.Common.{◌≡◌, ℕ, Bool, not, arith}
+use Rattle.std.proofs.Common.{not, arith}
 use Rattle.std.proofs.lemmas.Bool.Decides.{nat_tests}
 use Rattle.ctl_pass.specs.HeldIds.{is_held}
-use Rattle.ctl_pass.proofs.Held.{lowest-next, lowest-rise, lowest-below}
+use Rattle.ctl_pass.proofs.Starting.{lowest-next, lowest-rise, lowest-below}
 use Rattle.ctl_pass.proofs.free_ids.lowest.Goals as goal
 
 pub loop-cpu-preserved : goal.loop-cpu-preserved

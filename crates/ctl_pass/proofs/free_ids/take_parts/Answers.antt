@@ -3,7 +3,7 @@ use Rattle.std.proofs.lemmas.List.{get_or_default, map_more}
 use Rattle.backfill_planner.specs.declared.Share.{Share}
 use Rattle.ctl_state.specs.Planning.{room_of}
 use Rattle.ctl_pass.specs.HeldIds.{part_by}
-use Rattle.ctl_pass.proofs.Held.{few-cpus, adds-then, part-elsewhere}
+use Rattle.ctl_pass.proofs.Starting.{few-cpus, adds-then, part-elsewhere}
 use Rattle.ctl_pass.proofs.free_ids.take_parts.Goals as goal
 
 pub loop-share-preserved : goal.loop-share-preserved

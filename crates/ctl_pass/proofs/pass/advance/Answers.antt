@@ -2,7 +2,7 @@ use Rattle.std.proofs.Common.{◌≡◌, length, map, vec_len, ap, sym, ◌∙�
 use Rattle.std.specs.Vec.{with_items}
 use Rattle.std.proofs.lemmas.List.{length-map, with_items_is}
 use Rattle.ctl_pass.specs.Limits.{timed_out}
-use Rattle.ctl_pass.proofs.Ready.{rising-left}
+use Rattle.ctl_pass.proofs.Passes.{rising-left}
 use Rattle.ctl_pass.proofs.pass.advance.Goals as goal
 
 pub begin-requires : goal.begin-requires

@@ -27,6 +27,4 @@ split-requires-clause-parts g c =
     rw (are, ← base-rooms (ready s c.args.now) c.args.now c.in_ok-base.base c.in_ok-base.ensures) c.in-Ok.ensures.apart
 
 pub overflow_cast-result : goal.overflow_cast-result
-overflow_cast-result g c =
-    let s = state_of c.args.cluster.now in
-    omega (arith, c.count_over.ensures, ap length c.deref.ensures.value, count_by-le-length (is_over c.args.now) c.deref.result.now, few-jobs s c.requires.sound)
+overflow_cast-result g c = omega (arith, c.count_over.ensures, ap length c.deref.ensures.value, count_by-le-length (is_over c.args.now) c.deref.result.now, few-jobs _ c.requires.sound)

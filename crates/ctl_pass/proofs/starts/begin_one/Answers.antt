@@ -1,8 +1,10 @@
-use Rattle.std.proofs.Common.{sym}
+use Rattle.std.proofs.Common.{sym, refl, get_or}
+use Rattle.std.proofs.lemmas.Bool.{ne_eqb}
+use Rattle.std.proofs.lemmas.List.Folds.{map_fixed}
 use Rattle.ctl_state.specs.declared.record.JobRecord.{JobRecord}
 use Rattle.ctl_state.specs.declared.change.Change.TheVariants.{Start}
 use Rattle.ctl_state.specs.Changes.{changed}
-use Rattle.ctl_pass.proofs.Lists.{set-one, set-none}
+use Rattle.ctl_pass.proofs.Lists.{set-one}
 use Rattle.ctl_pass.proofs.starts.begin_one.Goals as goal
 
 pub returns-in-Some : goal.returns-in-Some
@@ -11,5 +13,4 @@ returns-in-Some c =
     (set-one (λ (job : JobRecord). job.id) (changed (Start c.args.now c.args.start.parts)) c.args.start.id c.in-Some.place c.index-jobs-place.result c.args.jobs.now c.requires c.in-Some.ensures.within c.in-Some.ensures.found c.index-jobs-place.is)
 
 pub returns-in_default : goal.returns-in_default
-returns-in_default c =
-    sym (set-none (λ (job : JobRecord). job.id) (changed (Start c.args.now c.args.start.parts)) c.args.start.id c.args.jobs.now c.in_default.ensures.none)
+returns-in_default c = sym (map_fixed _ c.args.jobs.now (λ k d below. rw (ne_eqb (get_or c.args.jobs.now k d).id c.args.start.id (c.in_default.ensures.none k d below)) refl))
