@@ -7,7 +7,7 @@ use Rattle.std.specs.FinMap.Entries.{find, is_sorted, is_some-find, same_entries
 use Rattle.std.specs.List.{AllByRecursion, AllPairs, Contains, dedup, list_any}
 use Rattle.std.specs.List.Sorted.{IsPermutation, IsSorted, IsStrictlySortedBy}
 use Rattle.std.specs.Ordering.{eq_by_cmp, is_eq, is_lt}
-use Rattle.std.proofs.lemmas.Bool.{and_from, and_parts, both_ways}
+use Rattle.std.proofs.lemmas.Bool.{and_from, and_parts}
 use Rattle.std.proofs.lemmas.Bool.Decides.{nat_tests}
 use Rattle.std.proofs.lemmas.Cmp.{eq_by_cmp_equiv, nat_cmp_total, nat_eq_equiv, and_equiv, on_equiv, on_total, then_total}
 use Rattle.std.proofs.lemmas.List.Kept.{Contains-dedup, Contains-from_dedup, IsStrictlySortedBy-dedup}
@@ -42,9 +42,7 @@ holds true h = refl
 holds false h = absurd h
 
 less : (o : Ordering) → is_lt o ≡ true → o ≡ Less
-less Less h = refl
-less Equal h = absurd (both_ways false refl h)
-less Greater h = absurd (both_ways false refl h)
+less o = elim o as (λ o. is_lt o ≡ true → o ≡ Less) [ Less ↦ λ h. refl | Equal ↦ λ h. cc | Greater ↦ λ h. cc ]
 
 below : (start : Start) (es : List (Start × Unit {0})) → is_sorted by_job ((start, tt) ∷ es) ≡ true → AllByRecursion (λ other. by_job start other ≡ Less) (map (λ e. e.0) es)
 below start [] h = tt
