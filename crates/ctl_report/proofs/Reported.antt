@@ -138,16 +138,13 @@ pending state = elim state as (λ one. is_pending one ≡ true → one ≡ Pendi
 reported-waits : (now node : ℕ) (report : Report) (job : JobRecord) → is_pending job.state ≡ true → reported now node report job ≡ job
 reported-waits now node report job waits = cond_both (is_at node job) _ job (λ one. one ≡ job) (λ h. told (done_of report job)) (λ h. refl)
   where
-    stopped : is_running job.state ≡ false
-    stopped = ap is_running (pending job.state waits)
-
     off : off_node now node job job.state ≡ job
     off = ap (off_node now node job) (pending job.state waits)
 
     told : (done : Option Done) → after_told now node report job done ≡ job
     told None = cond_both (is_listed report job) job _ (λ one. one ≡ job) (λ h. refl) (λ h. off)
     told (Some done) =
-        let middle : over now node done job ≡ job = cond_both (is_batch_host node job.parts) _ job (λ one. one ≡ job) (λ h. rw stopped refl) (λ h. refl) in
+        let middle : over now node done job ≡ job = cond_both (is_batch_host node job.parts) _ job (λ one. one ≡ job) (λ h. rw (ap is_running (pending job.state waits)) refl) (λ h. refl) in
         ap (λ one. off_node now node one one.state) middle ∙ off
 
 -- so who waits, waits on
