@@ -7,11 +7,11 @@ use Rattle.std.specs.FinMap.Entries.{find, is_sorted, is_some-find, same_entries
 use Rattle.std.specs.List.{AllByRecursion, AllPairs, Contains, dedup, list_any}
 use Rattle.std.specs.List.Sorted.{IsPermutation, IsSorted, IsStrictlySortedBy}
 use Rattle.std.specs.Ordering.{eq_by_cmp, is_eq, is_lt}
-use Rattle.std.proofs.lemmas.Bool.{and_from, and_parts, both_ways}
+use Rattle.std.proofs.lemmas.Bool.{and_from, and_parts}
 use Rattle.std.proofs.lemmas.Bool.Decides.{nat_tests}
 use Rattle.std.proofs.lemmas.Cmp.{eq_by_cmp_equiv, nat_cmp_total, nat_eq_equiv, and_equiv, on_equiv, on_total, then_total}
 use Rattle.std.proofs.lemmas.List.Kept.{Contains-dedup, Contains-from_dedup, IsStrictlySortedBy-dedup}
-use Rattle.std.proofs.lemmas.List.Sorted.{Contains-permutation, IsPermutation-sym}
+use Rattle.std.proofs.lemmas.List.Sorted.{list_any-IsPermutation}
 use Rattle.std.proofs.lemmas.Map.Keys.{Less-from_sorted}
 use Rattle.std.proofs.lemmas.Map.Views.{Contains-from_any, list_any-from_Contains}
 use Rattle.slurm_text.specs.declared.plain.report.Start.{Start}
@@ -42,9 +42,7 @@ holds true h = refl
 holds false h = absurd h
 
 less : (o : Ordering) → is_lt o ≡ true → o ≡ Less
-less Less h = refl
-less Equal h = absurd (both_ways false refl h)
-less Greater h = absurd (both_ways false refl h)
+less o = elim o as (λ o. is_lt o ≡ true → o ≡ Less) [ Less ↦ λ h. refl | Equal ↦ λ h. cc | Greater ↦ λ h. cc ]
 
 below : (start : Start) (es : List (Start × Unit {0})) → is_sorted by_job ((start, tt) ∷ es) ≡ true → AllByRecursion (λ other. by_job start other ≡ Less) (map (λ e. e.0) es)
 below start [] h = tt
@@ -117,10 +115,12 @@ in_order-deduped starts sorted moved up =
     let once = dedup is_same sorted in
     let keys : FinMap by_job (Unit {0}) = from_entries (paired starts) in
     let equal = and_equiv (on_equiv (λ (start : Start). start.id) nat_eq_equiv) (on_equiv (λ (start : Start). start.number) nat_eq_equiv) in
-    let given : (one : Start) → has one once ≡ true → has one starts ≡ true = λ one h. finds one starts (Contains-permutation sorted starts one (IsPermutation-sym starts sorted moved) (Contains-from_dedup is_same sorted one (found one once h))) in
-    let kept : (one : Start) → has one starts ≡ true → has one once ≡ true = λ one h. finds one once (Contains-dedup equal same sorted one (Contains-permutation starts sorted one moved (found one starts h))) in
+    let moves : (one : Start) → has one starts ≡ has one sorted = λ one. list_any-IsPermutation (eq_by_cmp by_job one) starts sorted moved in
+    let given : (one : Start) → has one once ≡ true → has one starts ≡ true = λ one h. moves one ∙ finds one sorted (Contains-from_dedup is_same sorted one (found one once h)) in
+    let kept : (one : Start) → has one starts ≡ true → has one once ≡ true = λ one h. finds one once (Contains-dedup equal same sorted one (found one sorted (sym (moves one) ∙ h))) in
     let alike_at : (one : Start) → find by_job one (paired once) ≡ find by_job one (entries keys) = λ one.
     alike _ _ (λ h. find-paired one starts ∙ given one (sym (find-paired one once) ∙ h)) (λ h. find-paired one once ∙ kept one (sym (find-paired one starts) ∙ h))
     ∙ sym (get-from_entries total (paired starts) one) ∙ get-entries keys one in
+    let rises = subst T (sym (ordered once (IsStrictlySortedBy-dedup total ties sorted up))) tt in
     sym (unpaired once)
-    ∙ ap (map (λ e. e.0)) (same_entries by_job total (λ x y e. same x y (ties x y ∙ ap is_eq e)) (paired once) (entries keys) (subst T (sym (ordered once (IsStrictlySortedBy-dedup total ties sorted up))) tt) (entries_sorted keys) alike_at)
+    ∙ ap (map (λ e. e.0)) (same_entries by_job total (λ x y e. same x y (ties x y ∙ ap is_eq e)) (paired once) (entries keys) rises (entries_sorted keys) alike_at)

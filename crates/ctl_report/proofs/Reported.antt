@@ -133,24 +133,18 @@ lets-reported rests now node report job kept = cond_both (is_at node job) _ job 
 
 -- a job that waits stays as it is
 pending : (state : JobState) → is_pending state ≡ true → state ≡ Pending
-pending Pending waits = refl
-pending Running waits = absurd (both_ways false refl waits)
-pending (Completing final) waits = absurd (both_ways false refl waits)
-pending (Ended final) waits = absurd (both_ways false refl waits)
+pending state = elim state as (λ one. is_pending one ≡ true → one ≡ Pending) [ Pending ↦ λ h. refl | Running ↦ λ h. cc | Completing final ↦ λ h. cc | Ended final ↦ λ h. cc ]
 
 reported-waits : (now node : ℕ) (report : Report) (job : JobRecord) → is_pending job.state ≡ true → reported now node report job ≡ job
 reported-waits now node report job waits = cond_both (is_at node job) _ job (λ one. one ≡ job) (λ h. told (done_of report job)) (λ h. refl)
   where
-    stopped : is_running job.state ≡ false
-    stopped = ap is_running (pending job.state waits)
-
     off : off_node now node job job.state ≡ job
     off = ap (off_node now node job) (pending job.state waits)
 
     told : (done : Option Done) → after_told now node report job done ≡ job
     told None = cond_both (is_listed report job) job _ (λ one. one ≡ job) (λ h. refl) (λ h. off)
     told (Some done) =
-        let middle : over now node done job ≡ job = cond_both (is_batch_host node job.parts) _ job (λ one. one ≡ job) (λ h. rw stopped refl) (λ h. refl) in
+        let middle : over now node done job ≡ job = cond_both (is_batch_host node job.parts) _ job (λ one. one ≡ job) (λ h. rw (ap is_running (pending job.state waits)) refl) (λ h. refl) in
         ap (λ one. off_node now node one one.state) middle ∙ off
 
 -- so who waits, waits on
@@ -178,8 +172,8 @@ all-stay (x ∷ xs) = ap (λ rest. x ∷ rest) (all-stay xs)
 heard-confs : (now : ℕ) (report : Report) (nodes : List NodeRecord) → map (λ (node : NodeRecord). node.conf) (heard_nodes now report nodes) ≡ map (λ (node : NodeRecord). node.conf) nodes
 heard-confs now report [] = refl
 heard-confs now report (node ∷ nodes) =
-    cond_both (is_named report.node node) _ node (λ one. one.conf ∷ map (λ (node : NodeRecord). node.conf) (heard_nodes now report nodes) ≡ node.conf ∷ map (λ (node : NodeRecord). node.conf) nodes)
-    (λ h. ap (λ rest. node.conf ∷ rest) (heard-confs now report nodes)) (λ h. ap (λ rest. node.conf ∷ rest) (heard-confs now report nodes))
+    ap (λ conf. conf ∷ map (λ (node : NodeRecord). node.conf) (heard_nodes now report nodes)) (cond_both (is_named report.node node) _ node (λ one. one.conf ≡ node.conf) (λ h. refl) (λ h. refl))
+    ∙ ap (λ later. node.conf ∷ later) (heard-confs now report nodes)
 
 -- An accepted report keeps all sound.
 pub sound-reported : LettingGo → KeptLater → NodesStay → Rests → (s : State) (now node : ℕ) (report : Report) → IsSound s → s.moment ≤ now → now ≤ last_moment → IsSound (stamped now (report_after s now node report))
