@@ -127,9 +127,9 @@ sound-step adding reports passes s now user request sound ranges =
     (elim (cases_Bool (is_unbuilt s request)) [
       | inl unbuilt ↦ rw unbuilt tt
       | inr built ↦ rw built (sound-judged s (raised s now) (first_refusal (refused_if (nat_lt last_moment now) MomentTooLarge ∷ refusals_of s (raised s now) user request)) (made s (raised s now) user request)
-      (λ none.
-      let early = none-first MomentTooLarge (nat_lt last_moment now) (refusals_of s (raised s now) user request) none in
-      sound-made adding reports passes s (raised s now) user request sound (max-above s.moment now) (max-below s.moment now last_moment sound.moment (ltb-false last_moment now early.0)) ranges early.1))
+          (λ none.
+          let early = none-first MomentTooLarge (nat_lt last_moment now) (refusals_of s (raised s now) user request) none in
+          sound-made adding reports passes s (raised s now) user request sound (max-above s.moment now) (max-below s.moment now last_moment sound.moment (ltb-false last_moment now early.0)) ranges early.1))
     ])
 
 -- so what a step leaves is sound, whatever comes of it
