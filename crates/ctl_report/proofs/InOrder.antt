@@ -15,7 +15,8 @@ use Rattle.std.proofs.lemmas.List.Sorted.{list_any-IsPermutation}
 use Rattle.std.proofs.lemmas.Map.Keys.{Less-from_sorted}
 use Rattle.std.proofs.lemmas.Map.Views.{Contains-from_any, list_any-from_Contains}
 use Rattle.slurm_text.specs.declared.plain.report.Start.{Start}
-use Rattle.ctl_report.specs.Ordering.{by_job, is_before, in_order}
+use Rattle.slurm_text.specs.Starts.{is_before, InOrder}
+use Rattle.ctl_report.specs.Ordering.{by_job, in_order}
 
 -- the order is total, and only a start ties with itself
 abbrev pub is_same : Start → Start → Bool

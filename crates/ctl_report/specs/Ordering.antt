@@ -17,9 +17,6 @@ use Rattle.ctl_state.specs.State.{State}
 use Rattle.ctl_report.specs.Reporting.{is_last_start, is_listed, done_of, is_at, is_batch_host, reported}
 
 -- the order of the starts: by job, then by number
-abbrev pub is_before : Start → Start → Bool
-is_before one other = nat_lt one.id other.id || (nat_eq one.id other.id && nat_lt one.number other.number)
-
 abbrev pub by_job : Start → Start → Ordering
 by_job one other = ordering_then (nat_cmp one.id other.id) (nat_cmp one.number other.number)
 
