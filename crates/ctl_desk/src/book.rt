@@ -86,7 +86,7 @@ impl Book {
     }
 
     /// Makes a pass for a session, whatever plan is at hand, and enters it where it is accepted. The cost is the
-    /// controller's.
+    /// controller's, and so is the count of steps.
     pub fn pass<L>(
         &mut self,
         session: u32,
