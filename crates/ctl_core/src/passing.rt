@@ -68,7 +68,9 @@ pub(crate) fn pass<L>(
     ensures err { OnErr result (state_of cluster.new ≡ state_of cluster.old) }
     ensures steps { OnOk result (steps.new
         ≡ ticked steps.old (if is_privileged (state_of cluster.old) user.now then jobs_planned (state_of cluster.old) moment else 0)) }
-    ensures steps_err { OnErr result (IsTickedUpTo (if is_privileged (state_of cluster.old) user.now then jobs_planned (state_of cluster.old) moment else 0) steps.old steps.new) }
+    ensures steps_err { OnErr result (IsTickedUpTo
+        (if is_privileged (state_of cluster.old) user.now then jobs_planned (state_of cluster.old) moment else 0)
+        steps.old steps.new) }
 {
     if let Some(refusal) = refusal_of(cluster, user) {
         return Ok(refused(refusal));

@@ -27,9 +27,9 @@ pub trait Desk {
             IsAnswered (sight self.old) (sight self.new) now user.now request answer) }
         ensures err { OnErr result ((sight self.new).mine ≡ (sight self.old).mine) };
 
-    /// Makes a pass for a user at a moment, whatever plan is at hand. Where it is answered it counts a step for each job that
-    /// it plans at its place. After want of memory nothing of it is entered, and it has counted at most a step for each job
-    /// that it would plan after all that the desk has seen.
+    /// Makes a pass for a user at a moment, whatever plan is at hand. Where it is answered it counts a step for each
+    /// job that it plans at its place. After want of memory nothing of it is entered, and it has counted at most a step
+    /// for each job that it would plan after all that the desk has seen.
     fn pass(
         &mut self,
         now: u64,

@@ -47,8 +47,8 @@ pub fn refusal_of(cluster: &Cluster, user: &Name) -> Option<Refusal>
     }
 }
 
-/// What a pass at its raised moment does. Linear in jobs, parts and the nodes' processors, beside what its plan costs. It
-/// counts a step for each job that it plans, and after want of memory at most that many.
+/// What a pass at its raised moment does. Linear in jobs, parts and the nodes' processors, beside what its plan costs.
+/// It counts a step for each job that it plans, and after want of memory at most that many.
 pub fn decide<L>(
     alloc: Global,
     cluster: &Cluster,
@@ -60,7 +60,8 @@ pub fn decide<L>(
     requires in_time { now ≤ last_moment }
     ensures decided { IfOk result (Passing.IsDecided (state_of cluster.now) now) }
     ensures steps { OnOk result (steps.new ≡ ticked steps.old (Passing.jobs_planned (state_of cluster.now) now)) }
-    ensures steps_err { OnErr result (IsTickedUpTo (Passing.jobs_planned (state_of cluster.now) now) steps.old steps.new) }
+    ensures steps_err { OnErr result (IsTickedUpTo
+        (Passing.jobs_planned (state_of cluster.now) now) steps.old steps.new) }
 {
     let base = base_of(alloc, cluster, now)?;
     let ranked = rank(alloc, cluster, now)?;
