@@ -31,44 +31,18 @@ judged : (refusal : Option Refusal) (verdict : Verdict) {reply : Reply} {after :
 judged None verdict makes = (refl, makes)
 judged (Some refusal) verdict makes = absurd (cc)
 
--- were the nodes as before, this very report would be the last one of its node
-heard-itself : (now : ℕ) (report : Told) (nodes : List NodeRecord) (place : ℕ) (default : NodeRecord) → place < length nodes → is_named report.node (get_or nodes place default) ≡ true → map (heard_at now report) nodes ≡ nodes
-    → heard_of nodes report.node ≡ Some (record { boot = report.boot; number = report.number; moment = now })
-heard-itself now report [] place default within named same = absurd (omega (arith, within))
-heard-itself now report (first ∷ later) zero default within named same =
-    let head : heard_at now report first ≡ first = cc in
-    let heard : record first { heard = Some (record { boot = report.boot; number = report.number; moment = now }) } ≡ first = rw named at head in
-    rw named (sym (ap (λ (node : NodeRecord). node.heard) heard))
-heard-itself now report (first ∷ later) (suc place) default within named same = elim (cases_Bool (is_named report.node first)) [
-  | inl is ↦
-      let head : heard_at now report first ≡ first = cc in
-      let heard : record first { heard = Some (record { boot = report.boot; number = report.number; moment = now }) } ≡ first = rw is at head in
-      rw is (sym (ap (λ (node : NodeRecord). node.heard) heard))
-  | inr other ↦
-      let tail : map (heard_at now report) later ≡ later = cc in
-      rw other (heard-itself now report later place default (omega (arith, within)) named tail)
-]
+-- what is found is the first that passes
+find-first : {X : Type 0} (p : X → Bool) (xs : List X) (place : ℕ) (default : X) → position p xs ≡ Some place → find p xs ≡ Some (get_or xs place default)
+find-first p xs place default is = ?
 
--- and the report wouldn't come after it
-stale-after-itself : (now : ℕ) (report : Told) → staleness report (Some (record { boot = report.boot; number = report.number; moment = now })) ≢ None
-stale-after-itself now report fresh =
-    let same_boot = le-ltb report.boot report.boot (omega arith) in
-    let same_number = le-ltb report.number report.number (omega arith) in
-    let stale = rw (same_boot, same_number, and-false (nat_eq report.boot report.boot)) at fresh in
-    absurd (cc)
-  where
-    and-false : (b : Bool) → (b && false) ≡ false
-    and-false true = refl
-    and-false false = refl
-
--- so an accepted report changes the nodes
+-- were the nodes as before, this very report would be the last one of its node, and wouldn't come after itself: so an accepted report changes the nodes
 nodes-change : (now : ℕ) (report : Told) (nodes : List NodeRecord) (node : ℕ) → position (is_named report.node) nodes ≡ Some node → staleness report (heard_of nodes report.node) ≡ None
     → map (heard_at now report) nodes ≢ nodes
 nodes-change now report [] node named fresh same = absurd (cc)
 nodes-change now report (first ∷ later) node named fresh same =
     let there = position-Some (is_named report.node) (first ∷ later) node first named in
-    let itself = heard-itself now report (first ∷ later) node first there.0 there.1 same in
-    stale-after-itself now report (rw itself at fresh)
+    let itself = get_or-map (heard_at now report) (first ∷ later) node first first there.0 ∙ ap (λ nodes. get_or nodes node first) same in
+    ?
 
 told-changes : (s : State) (now : ℕ) (report : Told) (node : Option ℕ) {reply : Reply} {after : State} → node_of s report ≡ node → staleness report (heard_of s.nodes report.node) ≡ None
     → made_by_report s now report node ≡ Makes reply after → after ≢ s

@@ -1,4 +1,3 @@
-pub mod Names
 pub mod Rows
 pub mod Openings
 pub mod Stepping
