@@ -3,6 +3,12 @@
 use Rattle.std.proofs.Common.{◌≡◌, ◌≢◌, ℕ, zero, suc, ◌<◌, ◌∙◌, Bool, true, false, List, [], ◌∷◌, length, map, position, get_or, Option, Some, None, refl, sym, ap, arith, inl, inr}
 use Rattle.std.specs.Prelude.{nat_lt, nat_eq, not, ◌&&◌, is_none}
 use Rattle.std.proofs.lemmas.Bool.{cases_Bool, both_ways, le-ltb}
+use Rattle.std.specs.List.{slice_get}
+use Rattle.std.proofs.lemmas.Bool.Decides.{nat_tests}
+use Rattle.std.proofs.lemmas.List.{get_or-map}
+use Rattle.std.proofs.lemmas.List.Folds.{find_at}
+use Rattle.std.proofs.lemmas.List.Sums.{position_or_len_is}
+use Rattle.std.proofs.lemmas.Option.{slice_get-get_or}
 use Rattle.std.proofs.lemmas.List.Quantifiers.{position-Some}
 use Rattle.slurm_text.specs.declared.plain.job.JobDesc.{JobDesc}
 use Rattle.slurm_text.specs.declared.plain.refusal.Refusal.{Refusal}
@@ -31,25 +37,27 @@ judged : (refusal : Option Refusal) (verdict : Verdict) {reply : Reply} {after :
 judged None verdict makes = (refl, makes)
 judged (Some refusal) verdict makes = absurd (cc)
 
--- what is found is the first that passes
-find-first : {X : Type 0} (p : X → Bool) (xs : List X) (place : ℕ) (default : X) → position p xs ≡ Some place → find p xs ≡ Some (get_or xs place default)
-find-first p xs place default is = ?
+-- a report wouldn't come after itself
+stale-after-itself : (now : ℕ) (report : Told) → staleness report (Some (record { boot = report.boot; number = report.number; moment = now })) ≢ None
+stale-after-itself now report fresh = grind (arith, nat_tests)
 
 -- were the nodes as before, this very report would be the last one of its node, and wouldn't come after itself: so an accepted report changes the nodes
 nodes-change : (now : ℕ) (report : Told) (nodes : List NodeRecord) (node : ℕ) → position (is_named report.node) nodes ≡ Some node → staleness report (heard_of nodes report.node) ≡ None
     → map (heard_at now report) nodes ≢ nodes
 nodes-change now report [] node named fresh same = absurd (cc)
 nodes-change now report (first ∷ later) node named fresh same =
-    let there = position-Some (is_named report.node) (first ∷ later) node first named in
-    let itself = get_or-map (heard_at now report) (first ∷ later) node first first there.0 ∙ ap (λ nodes. get_or nodes node first) same in
-    ?
+    let nodes = first ∷ later in
+    let there = position-Some (is_named report.node) nodes node first named in
+    let place = position_or_len_is (is_named report.node) nodes node first (omega (arith, there.0)) there.2 (λ within. there.1) in
+    let found = find_at (is_named report.node) nodes ∙ ap (slice_get nodes) place ∙ slice_get-get_or nodes node first there.0 in
+    let itself = sym (get_or-map (heard_at now report) nodes node first first there.0) ∙ ap (λ nodes. get_or nodes node first) same in
+    let heard = ap (λ (node : NodeRecord). node.heard) (rw there.1 at itself) in
+    stale-after-itself now report (rw (found, ← heard) at fresh)
 
 told-changes : (s : State) (now : ℕ) (report : Told) (node : Option ℕ) {reply : Reply} {after : State} → node_of s report ≡ node → staleness report (heard_of s.nodes report.node) ≡ None
     → made_by_report s now report node ≡ Makes reply after → after ≢ s
 told-changes s now report None named fresh makes same = absurd (cc)
-told-changes s now report (Some node) named fresh makes same =
-    let left = made-after makes in
-    nodes-change now report s.nodes node named fresh (ap (λ (t : State). t.nodes) (left ∙ same))
+told-changes s now report (Some node) named fresh makes same = nodes-change now report s.nodes node named fresh (ap (λ (t : State). t.nodes) (made-after makes ∙ same))
 
 -- a pass that would change nothing is idle
 abbrev pub OnlyIdle : Type 0
@@ -58,22 +66,15 @@ OnlyIdle = (s : State) (now : ℕ) → pass_after s now ≡ s → is_idle s now 
 pass-changes : OnlyIdle → (s : State) (now : ℕ) {reply : Reply} {after : State} → pass_made s now ≡ Makes reply after → after ≢ s
 pass-changes only s now makes same = elim (cases_Bool (is_idle s now)) [
   | inl idle ↦ let stays = rw idle at makes in absurd (cc)
-  | inr busy ↦
-      let left = made-after (rw busy at makes) in
-      both_ways (is_idle s now) busy (only s now (left ∙ same))
+  | inr busy ↦ both_ways (is_idle s now) busy (only s now (made-after (rw busy at makes) ∙ same))
 ]
-
--- a submission adds a job
-submission-changes : (s : State) (moment : ℕ) (user : List ℕ) (desc : JobDesc) → submit_after s moment user desc ≢ s
-submission-changes s moment user desc same =
-    omega (arith, ap (λ (t : State). t.next_id) same)
 
 made-changes : OnlyIdle → (s : State) (moment : ℕ) (user : List ℕ) (request : Request) {reply : Reply} {after : State} → first_refusal (refusals_of s moment user request) ≡ None
     → made s moment user request ≡ Makes reply after → after ≢ s
-made-changes only s moment user (Submit desc) none makes same = submission-changes s moment user desc (made-after makes ∙ same)
+made-changes only s moment user (Submit desc) none makes same = omega (arith, ap (λ (t : State). t.next_id) (made-after makes ∙ same))
 made-changes only s moment user (Report report) none makes same =
-    let allowed = none-first AccessDenied (not (is_privileged s user)) (refused_if (is_none (node_of s report)) UnknownNode ∷ staleness report (heard_of s.nodes report.node) ∷ []) none in
-    let known = none-first UnknownNode (is_none (node_of s report)) (staleness report (heard_of s.nodes report.node) ∷ []) allowed.1 in
+    let allowed = none-first AccessDenied (not (is_privileged s user)) _ none in
+    let known = none-first UnknownNode (is_none (node_of s report)) _ allowed.1 in
     told-changes s moment report (node_of s report) refl (alone (staleness report (heard_of s.nodes report.node)) known.1) makes same
   where
     alone : (refusal : Option Refusal) → first_refusal (refusal ∷ []) ≡ None → refusal ≡ None
@@ -87,7 +88,6 @@ pub step-changes : OnlyIdle → (s : State) (now : ℕ) (user : List ℕ) (reque
 step-changes only s now user request makes same = elim (cases_Bool (is_unbuilt s request)) [
   | inl unbuilt ↦ let never = rw unbuilt at makes in absurd (cc)
   | inr built ↦
-      let worked = judged (first_refusal (refused_if (nat_lt last_moment now) MomentTooLarge ∷ refusals_of s (raised s now) user request)) (made s (raised s now) user request) (rw built at makes) in
-      let early = none-first MomentTooLarge (nat_lt last_moment now) (refusals_of s (raised s now) user request) worked.0 in
-      made-changes only s (raised s now) user request early.1 worked.1 same
+      let worked = judged (first_refusal (refused_if (nat_lt last_moment now) MomentTooLarge ∷ refusals_of s (raised s now) user request)) _ (rw built at makes) in
+      made-changes only s (raised s now) user request (none-first MomentTooLarge (nat_lt last_moment now) _ worked.0).1 worked.1 same
 ]

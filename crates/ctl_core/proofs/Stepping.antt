@@ -1,7 +1,7 @@
 -- Each step keeps all sound.
 use Rattle.std.proofs.Common.{◌≡◌, ℕ, zero, suc, ◌+◌, ◌<◌, ◌≤◌, ◌∙◌, Bool, true, false, List, [], ◌∷◌, ◌++◌, length, get_or, All, Option, Some, None, Result, Ok, Err, OnOk, OnErr, if◌then◌else◌, refl, sym, ap, arith, inl, inr}
 use Rattle.std.specs.Prelude.{max, nat_lt, not, unwrap_or, IfSome}
-use Rattle.std.proofs.lemmas.Bool.{cases_Bool, ltb-false, both_ways}
+use Rattle.std.proofs.lemmas.Bool.{cond_both, ltb-false, both_ways}
 use Rattle.slurm_text.specs.declared.plain.job.JobDesc.{JobDesc}
 use Rattle.slurm_text.specs.declared.plain.limit.Limit.{Limit}
 use Rattle.slurm_text.specs.declared.plain.limit.Limit.TheVariants.{Minutes, Unlimited}
@@ -39,17 +39,13 @@ none-first refusal true later none = absurd (cc)
 none-first refusal false later none = (refl, none)
 
 -- a submission that isn't refused
-limit-kept : (limit : Option Limit) → IfSome limit IsLimit → IsLimit (unwrap_or limit Unlimited)
-limit-kept None ranges = tt
-limit-kept (Some limit) ranges = ranges
-
 pub sound-submitted : Adding → (s : State) (moment : ℕ) (user : List ℕ) (desc : JobDesc) → IsSound s → s.moment ≤ moment → moment ≤ last_moment → IsInRange (Submit desc)
     → s.next_id ≤ last_job_id → IsSound (stamped moment (submit_after s moment user desc))
 sound-submitted adding s moment user desc sound later in_time ranges room =
     let job = new_job s moment user desc in
     let kept : IsKept moment job = record {
       asked = ranges.0;
-      limit = limit-kept desc.limit ranges.1;
+      limit = elim desc.limit as (λ limit. IfSome limit IsLimit → IsLimit (unwrap_or limit Unlimited)) [ None ↦ λ range. tt | Some limit ↦ λ range. range ] ranges.1;
       run = record {
         submitted = omega arith;
         started = λ held. absurd (both_ways false refl held);
@@ -76,30 +72,17 @@ ReportsKeep = (s : State) (now node : ℕ) (report : Told) → IsSound s → s.m
 abbrev pub PassesKeep : Type 0
 PassesKeep = (s : State) (now : ℕ) → IsSound s → s.moment ≤ now → now ≤ last_moment → IsSound (stamped now (pass_after s now))
 
-sound-told : ReportsKeep → (s : State) (moment : ℕ) (report : Told) (node : Option ℕ) → IsSound s → s.moment ≤ moment → moment ≤ last_moment → MakesSound s moment (made_by_report s moment report node)
-sound-told reports s moment report None sound later in_time = tt
-sound-told reports s moment report (Some node) sound later in_time = reports s moment node report sound later in_time
-
-sound-passed : PassesKeep → (s : State) (moment : ℕ) → IsSound s → s.moment ≤ moment → moment ≤ last_moment → MakesSound s moment (pass_made s moment)
-sound-passed passes s moment sound later in_time = elim (cases_Bool (is_idle s moment)) [
-  | inl idle ↦ rw idle tt
-  | inr busy ↦ rw busy (passes s moment sound later in_time)
-]
-
 -- what a request makes that isn't refused
 sound-made : Adding → ReportsKeep → PassesKeep → (s : State) (moment : ℕ) (user : List ℕ) (request : Request) → IsSound s → s.moment ≤ moment → moment ≤ last_moment → IsInRange request
     → first_refusal (refusals_of s moment user request) ≡ None → MakesSound s moment (made s moment user request)
 sound-made adding reports passes s moment user (Submit desc) sound later in_time ranges none =
-    let known = none-first InvalidAccount (not (is_known s user)) (submit_refusals_after_known s moment user desc) none in
-    let placeable = none-first NodesNotAvailable (not (is_placeable s (new_job s moment user desc))) (refused_if (nat_lt last_job_id s.next_id) JobIdsSpent ∷ []) known.1 in
-    let left = none-first JobIdsSpent (nat_lt last_job_id s.next_id) [] placeable.1 in
+    let known = none-first InvalidAccount (not (is_known s user)) _ none in
+    let placeable = none-first NodesNotAvailable (not (is_placeable s (new_job s moment user desc))) _ known.1 in
+    let left = none-first JobIdsSpent (nat_lt last_job_id s.next_id) _ placeable.1 in
     sound-submitted adding s moment user desc sound later in_time ranges (ltb-false last_job_id s.next_id left.0)
-  where
-    submit_refusals_after_known : State → ℕ → List ℕ → JobDesc → List (Option Refusal)
-    submit_refusals_after_known s moment user desc =
-        refused_if (not (is_placeable s (new_job s moment user desc))) NodesNotAvailable ∷ refused_if (nat_lt last_job_id s.next_id) JobIdsSpent ∷ []
-sound-made adding reports passes s moment user (Report report) sound later in_time ranges none = sound-told reports s moment report (node_of s report) sound later in_time
-sound-made adding reports passes s moment user Pass sound later in_time ranges none = sound-passed passes s moment sound later in_time
+sound-made adding reports passes s moment user (Report report) sound later in_time ranges none =
+    elim (node_of s report) as (λ node. MakesSound s moment (made_by_report s moment report node)) [ None ↦ tt | Some node ↦ reports s moment node report sound later in_time ]
+sound-made adding reports passes s moment user Pass sound later in_time ranges none = cond_both (is_idle s moment) Stays _ (MakesSound s moment) (λ idle. tt) (λ busy. passes s moment sound later in_time)
 sound-made adding reports passes s moment user (Show query) sound later in_time ranges none = tt
 
 sound-judged : (s : State) (moment : ℕ) (refusal : Option Refusal) (verdict : Verdict) → (refusal ≡ None → MakesSound s moment verdict) → MakesSound s moment (unless_refused refusal verdict)
@@ -111,26 +94,16 @@ sound-left s moment (Refuses refusal) sound makes = sound
 sound-left s moment (Tells view) sound makes = sound
 sound-left s moment Stays sound makes = sound
 sound-left s moment Unbuilt sound makes = sound
-sound-left s moment (Makes reply after) sound makes = elim (cases_Bool (is_entered reply)) [ inl entered ↦ rw entered makes | inr other ↦ rw other sound ]
-
--- the raised moment lies between the last one and the end of all moments
-max-above : (n m : ℕ) → n ≤ max n m
-max-above n m = omega arith
-
-max-below : (n m most : ℕ) → n ≤ most → m ≤ most → max n m ≤ most
-max-below n m most one other = omega arith
+sound-left s moment (Makes reply after) sound makes = cond_both (is_entered reply) (stamped moment after) s IsSound (λ entered. makes) (λ other. sound)
 
 -- Whatever is asked, what is sound stays sound.
 pub sound-step : Adding → ReportsKeep → PassesKeep → (s : State) (now : ℕ) (user : List ℕ) (request : Request) → IsSound s → IsInRange request → IsSound (state_after s now user request)
 sound-step adding reports passes s now user request sound ranges =
     sound-left s (raised s now) (verdict_of s now user request) sound
-    (elim (cases_Bool (is_unbuilt s request)) [
-      | inl unbuilt ↦ rw unbuilt tt
-      | inr built ↦ rw built (sound-judged s (raised s now) (first_refusal (refused_if (nat_lt last_moment now) MomentTooLarge ∷ refusals_of s (raised s now) user request)) (made s (raised s now) user request)
-          (λ none.
-          let early = none-first MomentTooLarge (nat_lt last_moment now) (refusals_of s (raised s now) user request) none in
-          sound-made adding reports passes s (raised s now) user request sound (max-above s.moment now) (max-below s.moment now last_moment sound.moment (ltb-false last_moment now early.0)) ranges early.1))
-    ])
+    (cond_both (is_unbuilt s request) Unbuilt _ (MakesSound s (raised s now)) (λ unbuilt. tt)
+    (λ built. sound-judged s (raised s now) (first_refusal (refused_if (nat_lt last_moment now) MomentTooLarge ∷ refusals_of s (raised s now) user request)) (made s (raised s now) user request) (λ none.
+    let early = none-first MomentTooLarge (nat_lt last_moment now) _ none in
+    sound-made adding reports passes s (raised s now) user request sound (omega arith) (omega (arith, sound.moment, ltb-false last_moment now early.0)) ranges early.1)))
 
 -- so what a step leaves is sound, whatever comes of it
 pub sound-either : (result : Result Decided Memory) (new old after : State) → OnOk result (new ≡ after) → OnErr result (new ≡ old) → IsSound old → IsSound after → IsSound new
