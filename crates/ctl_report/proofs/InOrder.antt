@@ -6,7 +6,7 @@ use Rattle.std.specs.FinMap.Entries.{find, is_sorted, is_some-find, same_entries
 use Rattle.std.specs.List.{AllByRecursion, AllPairs, Contains, dedup, list_any}
 use Rattle.std.specs.List.Sorted.{IsPermutation, IsSorted, IsStrictlySortedBy}
 use Rattle.std.specs.Ordering.{eq_by_cmp, is_eq, is_lt, ordering_then, nat_cmp}
-use Rattle.std.proofs.lemmas.Bool.{and_from, and_parts, cases_Bool}
+use Rattle.std.proofs.lemmas.Bool.{and_from, and_parts, cond_both}
 use Rattle.std.proofs.lemmas.Bool.Decides.{nat_tests}
 use Rattle.std.proofs.lemmas.Cmp.{eq_by_cmp_equiv, nat_cmp_total, nat_eq_equiv, and_equiv, on_equiv, on_total, then_total}
 use Rattle.std.proofs.lemmas.List.Kept.{Contains-dedup, Contains-from_dedup, IsStrictlySortedBy-dedup}
@@ -37,40 +37,27 @@ same one other e =
     let number : one.number ≡ other.number = grind (arith, nat_tests) in
     ap (λ x. record { id = x; number = one.number }) id ∙ ap (λ y. record { id = other.id; number = y }) number
 
-before : (one other : Start) → by_job one other ≡ Less → is_before one other ≡ true
-before one other e = grind (arith, nat_tests)
-
 less : (one other : Start) → is_before one other ≡ true → by_job one other ≡ Less
 less one other e = grind (arith, nat_tests)
-
-further : (one other third : Start) → by_job one other ≡ Less → by_job other third ≡ Less → by_job one third ≡ Less
-further one other third h k = grind (arith, nat_tests)
 
 -- one more start at its place
 all-further : (one other : Start) (starts : List Start) → by_job one other ≡ Less → AllByRecursion (λ third. by_job other third ≡ Less) starts → AllByRecursion (λ third. by_job one third ≡ Less) starts
 all-further one other [] h all = tt
-all-further one other (third ∷ later) h all = (further one other third h all.0, all-further one other later h all.1)
+all-further one other (third ∷ later) h all = (grind (arith, nat_tests), all-further one other later h all.1)
 
 all-with : (one start : Start) (starts : List Start) → by_job one start ≡ Less → AllByRecursion (λ other. by_job one other ≡ Less) starts → AllByRecursion (λ other. by_job one other ≡ Less) (with_start start starts)
 all-with one start [] h all = (h, tt)
-all-with one start (other ∷ later) h all = elim (cases_Bool (is_before start other)) [
-  | inl first ↦ rw first (h, all)
-  | inr later_on ↦ elim (cases_Bool (is_before other start)) [
-    | inl behind ↦ rw (later_on, behind) (all.0, all-with one start later h all.1)
-    | inr there ↦ rw (later_on, there) all
-  ]
-]
+all-with one start (other ∷ later) h all =
+    let Above = AllByRecursion (λ other. by_job one other ≡ Less) in
+    cond_both (is_before start other) (start ∷ other ∷ later) _ Above (λ first. (h, all)) (λ behind. cond_both (is_before other start) (other ∷ with_start start later) (other ∷ later) Above (λ more. (all.0, all-with one start later h all.1)) (λ there. all))
 
 sorted-with : (start : Start) (starts : List Start) → IsStrictlySortedBy by_job starts → IsStrictlySortedBy by_job (with_start start starts)
 unfolding IsStrictlySortedBy
 sorted-with start [] h = (tt, tt)
-sorted-with start (one ∷ later) h = elim (cases_Bool (is_before start one)) [
-  | inl first ↦ rw first ((less start one first, all-further start one later (less start one first) h.0), h)
-  | inr later_on ↦ elim (cases_Bool (is_before one start)) [
-    | inl behind ↦ rw (later_on, behind) (all-with one start later (less one start behind) h.0, sorted-with start later h.1)
-    | inr there ↦ rw (later_on, there) h
-  ]
-]
+sorted-with start (one ∷ later) h =
+    let Rising = IsStrictlySortedBy by_job in
+    cond_both (is_before start one) (start ∷ one ∷ later) _ Rising (λ first. ((less start one first, all-further start one later (less start one first) h.0), h))
+    (λ behind. cond_both (is_before one start) (one ∷ with_start start later) (one ∷ later) Rising (λ more. (all-with one start later (less one start more) h.0, sorted-with start later h.1)) (λ there. h))
 
 rise : (starts : List Start) → IsStrictlySortedBy by_job (in_order starts)
 unfolding in_order IsStrictlySortedBy
@@ -90,8 +77,7 @@ ordered [] h = refl
 ordered (start ∷ starts) h = above start starts h.0 (ordered starts h.1)
 
 pub in_order_rises : (starts : List Start) → InOrder (in_order starts)
-in_order_rises starts i j d earlier within =
-    before (get_or (in_order starts) i d) (get_or (in_order starts) j d) (Less-from_sorted by_job (in_order starts) i j d (rise starts) earlier within)
+in_order_rises starts i j d earlier within = let below = Less-from_sorted by_job (in_order starts) i j d (rise starts) earlier within in grind (arith, nat_tests)
 
 -- they are those that were given
 unpaired : (starts : List Start) → map (λ e. e.0) (paired starts) ≡ starts
@@ -112,25 +98,7 @@ find-paired one starts = is_some-find by_job one (paired starts) ∙ ap (has one
 
 has-with : (one start : Start) (starts : List Start) → has one (with_start start starts) ≡ (eq_by_cmp by_job one start || has one starts)
 has-with one start [] = refl
-has-with one start (other ∷ later) = elim (cases_Bool (is_before start other)) [
-  | inl first ↦ rw first refl
-  | inr later_on ↦ elim (cases_Bool (is_before other start)) [
-    | inl behind ↦ rw (later_on, behind, has-with one start later) (other-first (eq_by_cmp by_job one other) (eq_by_cmp by_job one start) (has one later))
-    | inr there ↦ rw (later_on, there) (same-twice (eq_by_cmp by_job one other) (eq_by_cmp by_job one start) (has one later) (ap (eq_by_cmp by_job one) (neither start other later_on there)))
-  ]
-]
-  where
-    other-first : (a b c : Bool) → (a || (b || c)) ≡ (b || (a || c))
-    other-first true true c = refl
-    other-first true false c = refl
-    other-first false b c = refl
-
-    same-twice : (a b c : Bool) → b ≡ a → (a || c) ≡ (b || (a || c))
-    same-twice a true c e = rw (← e) refl
-    same-twice a false c e = refl
-
-    neither : (start other : Start) → is_before start other ≡ false → is_before other start ≡ false → start ≡ other
-    neither start other h k = same start other (grind (arith, nat_tests))
+has-with one start (other ∷ later) = grind (arith, nat_tests, has-with one start later)
 
 has-in_order : (one : Start) (starts : List Start) → has one (in_order starts) ≡ has one starts
 unfolding in_order
