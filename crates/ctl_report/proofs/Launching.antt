@@ -2,7 +2,7 @@
 use Rattle.std.proofs.Common.{ℕ, suc, ◌≡◌, ◌<◌, refl, length, true, false, ◌&&◌, not, ◌||◌, is_some, List, [], ◌∷◌, All, AllPairs, Option, Some, None, get_or, ap, sym, arith, inl, inr}
 use Rattle.std.specs.Prelude.{option_map}
 use Rattle.std.specs.List.{find, filter_map, cons_option}
-use Rattle.std.proofs.lemmas.Bool.{cases_Bool}
+use Rattle.std.proofs.lemmas.Bool.{cond_both}
 use Rattle.std.proofs.lemmas.Bool.Decides.{nat_tests}
 use Rattle.std.proofs.lemmas.List.Elements.{All-nil, All-cons, All-head, All-tail}
 use Rattle.std.proofs.lemmas.List.Kept.{AllPairs-cons}
@@ -22,15 +22,9 @@ abbrev IsOf : JobRecord → Option Launch → Type 0
 IsOf job None = Unit {0}
 IsOf job (Some launch) = launch.start.id ≡ job.id
 
-part-of : (node : ℕ) (job : JobRecord) (part : Option Part) → IsOf job (option_map (launch_part node job) part)
-part-of node job None = tt
-part-of node job (Some part) = refl
-
 launch-of : (node : ℕ) (report : Report) (job : JobRecord) → IsOf job (launch_of node report job)
-launch-of node report job = elim (cases_Bool (is_running job.state && not (is_listed report job || is_some (done_of report job)))) [
-  | inl launches ↦ rw launches (part-of node job (find (is_on node) job.parts))
-  | inr other ↦ rw other tt
-]
+launch-of node report job = cond_both (is_running job.state && not (is_listed report job || is_some (done_of report job))) _ None (IsOf job)
+    (λ launches. elim (find (is_on node) job.parts) as (λ part. IsOf job (option_map (launch_part node job) part)) [ None ↦ tt | Some part ↦ refl ]) (λ other. tt)
 
 -- all launches are behind a number that all jobs are behind
 with-one : (low : ℕ) (job : JobRecord) (launch : Option Launch) (later : List Launch) → low < job.id → IsOf job launch → All (λ (one : Launch). low < one.start.id) later → All (λ (one : Launch). low < one.start.id) (cons_option launch later)
@@ -43,13 +37,10 @@ above-all low node report (job ∷ jobs) above =
     let higher : JobRecord → Type 0 = λ one. low < one.id in
     with-one low job (launch_of node report job) (filter_map (launch_of node report) jobs) (All-head higher job jobs above) (launch-of node report job) (above-all low node report jobs (All-tail higher job jobs above))
 
-before-later : (one other : Launch) → one.start.id < other.start.id → is_before one.start other.start ≡ true
-before-later one other above = grind (arith, nat_tests)
-
 in-order-with : (job : JobRecord) (launch : Option Launch) (later : List Launch) → IsOf job launch → All (λ (one : Launch). job.id < one.start.id) later → LaunchesInOrder later → LaunchesInOrder (cons_option launch later)
 in-order-with job None later of above order = order
 in-order-with job (Some launch) later of above order =
-    AllPairs-cons (λ (one other : Launch). is_before one.start other.start ≡ true) launch later (λ k d below. before-later launch (get_or later k d) (omega (arith, of, above k d below))) order
+    AllPairs-cons (λ (one other : Launch). is_before one.start other.start ≡ true) launch later (λ k d below. let further = above k d below in grind (arith, nat_tests)) order
 
 pub launches-rise : (node : ℕ) (report : Report) (jobs : List JobRecord) → HaveRisingIds jobs → LaunchesInOrder (filter_map (launch_of node report) jobs)
 launches-rise node report [] rising = λ i j d before within. absurd (omega (arith, within))
