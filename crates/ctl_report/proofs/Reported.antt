@@ -1,8 +1,9 @@
 -- What a report makes of a job: whether it runs on, that it lets go, and that whoever waits stays as he is.
-use Rattle.std.proofs.Common.{ℕ, ◌≡◌, ◌≤◌, ◌∙◌, Bool, true, false, ◌&&◌, ◌||◌, not, cond, List, [], ◌∷◌, map, All, get_or, Option, Some, None, is_some, refl, sym, ap, inl, inr}
+use Rattle.std.proofs.Common.{ℕ, ◌≡◌, ◌≤◌, ◌∙◌, Bool, true, false, ◌&&◌, ◌||◌, not, cond, List, [], ◌∷◌, map, All, get_or, Option, Some, None, is_some, refl, sym, ap, arith, inl, inr}
 use Rattle.std.specs.List.{list_any, filter, Contains}
 use Rattle.std.proofs.Math.Bool.{and-true, and-false, and_assoc}
 use Rattle.std.proofs.lemmas.Bool.{cases_Bool, both_ways, cond_both}
+use Rattle.std.proofs.lemmas.Bool.Decides.{nat_tests}
 use Rattle.std.proofs.lemmas.List.Elements.{Contains-append_left, Contains-append_right, Contains-append_cases, filter_agree}
 use Rattle.slurm_text.specs.declared.plain.report.Done.{Done}
 use Rattle.slurm_text.specs.declared.plain.report.Start.{Start}
@@ -63,10 +64,7 @@ off-start now node job (Ended final) = refl
 over-runs : (now node : ℕ) (done : Done) (job : JobRecord) (host : Bool)
     → runs_at node (cond host (changed (Leave (final_of done.exit) now (Some done.exit)) job) job) ≡ (runs_at node job && not host)
 over-runs now node done job false = sym (and-true (runs_at node job))
-over-runs now node done job true = elim (cases_Bool (is_running job.state)) [
-  | inl runs ↦ rw runs (sym (and-false (is_at node job)))
-  | inr stopped ↦ rw (stopped, stopped) refl
-]
+over-runs now node done job true = grind (arith, nat_tests)
 
 over-start : (now node : ℕ) (done : Done) (job : JobRecord) → start_of (over now node done job) ≡ start_of job
 over-start now node done job =
@@ -81,12 +79,7 @@ told-runs now node report job (Some done) =
     ∙ ap (λ host. runs_at node job && not host) (sym (and-true (is_batch_host node job.parts)))
 
 reported-runs : (now node : ℕ) (report : Report) (job : JobRecord) → runs_at node (reported now node report job) ≡ stays node report job
-reported-runs now node report job =
-    let ended = not (is_batch_host node job.parts && is_some (done_of report job)) in
-    elim (cases_Bool (is_at node job)) [
-      | inl at ↦ rw at (told-runs now node report job (done_of report job) ∙ and_assoc (is_running job.state) (is_at node job) ended ∙ ap (λ here. is_running job.state && (here && ended)) at)
-      | inr off ↦ rw (off, off) refl
-    ]
+reported-runs now node report job = grind (arith, nat_tests, told-runs now node report job (done_of report job))
 
 reported-start : (now node : ℕ) (report : Report) (job : JobRecord) → start_of (reported now node report job) ≡ start_of job
 reported-start now node report job = cond_both (is_at node job) _ job (λ one. start_of one ≡ start_of job) (λ h. told (done_of report job)) (λ h. refl)
@@ -95,19 +88,10 @@ reported-start now node report job = cond_both (is_at node job) _ job (λ one. s
     told None = cond_both (is_listed report job) job _ (λ one. start_of one ≡ start_of job) (λ h. refl) (λ h. off-start now node job job.state)
     told (Some done) = off-start now node (over now node done job) (over now node done job).state ∙ over-start now node done job
 
-kept-step : (b one : Bool) (start : Start) (job : JobRecord) (jobs : List JobRecord) (rest : Bool) → is_same (start_of job) start ≡ one → list_any (λ other. is_same other start) (map start_of jobs) ≡ rest
-    → list_any (λ other. is_same other start) (map start_of (cond b (job ∷ jobs) jobs)) ≡ ((one && b) || rest)
-kept-step true one start job jobs rest e h = rw (and-true, e, h) refl
-kept-step false one start job jobs rest e h = rw (and-false, h) refl
-
 -- a start is among those that stay exactly where a job runs it once the report is accepted
 kept-starts : (now node : ℕ) (report : Report) (start : Start) (jobs : List JobRecord) → list_any (λ other. is_same other start) (map start_of (filter (stays node report) jobs)) ≡ runs_start node (map (reported now node report) jobs) start
 kept-starts now node report start [] = refl
-kept-starts now node report start (job ∷ jobs) =
-    let one = is_last_start (reported now node report job) start in
-    let rest = runs_start node (map (reported now node report) jobs) start in
-    kept-step (stays node report job) one start job (filter (stays node report) jobs) rest (ap (λ other. is_same other start) (sym (reported-start now node report job))) (kept-starts now node report start jobs)
-    ∙ ap (λ b. (one && b) || rest) (sym (reported-runs now node report job))
+kept-starts now node report start (job ∷ jobs) = grind (arith, nat_tests, kept-starts now node report start jobs, reported-start now node report job, reported-runs now node report job)
 
 pub lost_starts : (now node : ℕ) (report : Report) (jobs : List JobRecord) (starts : List Start)
     → filter (λ start. not (list_any (λ other. is_same other start) (map start_of (filter (stays node report) jobs)))) starts
