@@ -45,8 +45,7 @@ over now node done job = cond (is_batch_host node job.parts) (changed (Leave (fi
 
 -- who leaves a node runs on as it did, and keeps its start
 left-runs : (now node : ℕ) (final : Final) (parts : List Part) (job : JobRecord) → job.state ≡ Completing final → runs_at node (with_left now final parts job) ≡ false
-left-runs now node final [] job is = elim final as (λ f. runs_at node (with_left now f [] job) ≡ false) [ Completed ↦ refl | Cancelled ↦ refl | Failed ↦ refl | Timeout ↦ refl | NodeFail ↦ refl | Requeue ↦ refl ]
-left-runs now node final (part ∷ later) job is = rw is refl
+left-runs now node final parts job is = grind (arith, nat_tests)
 
 off-runs : (now node : ℕ) (job : JobRecord) (state : JobState) → job.state ≡ state → runs_at node (off_node now node job state) ≡ runs_at node job
 off-runs now node job Pending is = refl
@@ -55,10 +54,7 @@ off-runs now node job (Completing final) is = left-runs now node final (parts_of
 off-runs now node job (Ended final) is = refl
 
 off-start : (now node : ℕ) (job : JobRecord) (state : JobState) → start_of (off_node now node job state) ≡ start_of job
-off-start now node job Pending = refl
-off-start now node job Running = refl
-off-start now node job (Completing final) = elim (parts_off node job.parts) as (λ parts. start_of (with_left now final parts job) ≡ start_of job) [ [] ↦ refl | part ∷ later ↦ refl ]
-off-start now node job (Ended final) = refl
+off-start now node job state = grind (arith, nat_tests)
 
 -- who leaves Running doesn't run, and keeps its start
 over-runs : (now node : ℕ) (done : Done) (job : JobRecord) (host : Bool)
@@ -67,26 +63,18 @@ over-runs now node done job false = sym (and-true (runs_at node job))
 over-runs now node done job true = grind (arith, nat_tests)
 
 over-start : (now node : ℕ) (done : Done) (job : JobRecord) → start_of (over now node done job) ≡ start_of job
-over-start now node done job =
-    cond_both (is_batch_host node job.parts) _ job (λ one. start_of one ≡ start_of job) (λ h. cond_both (is_running job.state) _ job (λ one. start_of one ≡ start_of job) (λ r. refl) (λ r. refl)) (λ h. refl)
+over-start now node done job = grind (arith, nat_tests)
 
 told-runs : (now node : ℕ) (report : Report) (job : JobRecord) (done : Option Done) → runs_at node (after_told now node report job done) ≡ (runs_at node job && not (is_batch_host node job.parts && is_some done))
-told-runs now node report job None =
-    cond_both (is_listed report job) job (changed (DropPart node now) job) (λ one. runs_at node one ≡ runs_at node job) (λ h. refl) (λ h. off-runs now node job job.state refl)
-    ∙ sym (and-true (runs_at node job)) ∙ ap (λ host. runs_at node job && not host) (sym (and-false (is_batch_host node job.parts)))
+told-runs now node report job None = grind (arith, nat_tests)
 told-runs now node report job (Some done) =
-    off-runs now node (over now node done job) (over now node done job).state refl ∙ over-runs now node done job (is_batch_host node job.parts)
-    ∙ ap (λ host. runs_at node job && not host) (sym (and-true (is_batch_host node job.parts)))
+    grind (arith, nat_tests, off-runs now node (over now node done job) (over now node done job).state refl, over-runs now node done job (is_batch_host node job.parts))
 
 reported-runs : (now node : ℕ) (report : Report) (job : JobRecord) → runs_at node (reported now node report job) ≡ stays node report job
 reported-runs now node report job = grind (arith, nat_tests, told-runs now node report job (done_of report job))
 
 reported-start : (now node : ℕ) (report : Report) (job : JobRecord) → start_of (reported now node report job) ≡ start_of job
-reported-start now node report job = cond_both (is_at node job) _ job (λ one. start_of one ≡ start_of job) (λ h. told (done_of report job)) (λ h. refl)
-  where
-    told : (done : Option Done) → start_of (after_told now node report job done) ≡ start_of job
-    told None = cond_both (is_listed report job) job _ (λ one. start_of one ≡ start_of job) (λ h. refl) (λ h. off-start now node job job.state)
-    told (Some done) = off-start now node (over now node done job) (over now node done job).state ∙ over-start now node done job
+reported-start now node report job = grind (arith, nat_tests, off-start, over-start)
 
 -- a start is among those that stay exactly where a job runs it once the report is accepted
 kept-starts : (now node : ℕ) (report : Report) (start : Start) (jobs : List JobRecord) → list_any (λ other. is_same other start) (map start_of (filter (stays node report) jobs)) ≡ runs_start node (map (reported now node report) jobs) start
@@ -120,16 +108,7 @@ pending : (state : JobState) → is_pending state ≡ true → state ≡ Pending
 pending state = elim state as (λ one. is_pending one ≡ true → one ≡ Pending) [ Pending ↦ λ h. refl | Running ↦ λ h. cc | Completing final ↦ λ h. cc | Ended final ↦ λ h. cc ]
 
 reported-waits : (now node : ℕ) (report : Report) (job : JobRecord) → is_pending job.state ≡ true → reported now node report job ≡ job
-reported-waits now node report job waits = cond_both (is_at node job) _ job (λ one. one ≡ job) (λ h. told (done_of report job)) (λ h. refl)
-  where
-    off : off_node now node job job.state ≡ job
-    off = ap (off_node now node job) (pending job.state waits)
-
-    told : (done : Option Done) → after_told now node report job done ≡ job
-    told None = cond_both (is_listed report job) job _ (λ one. one ≡ job) (λ h. refl) (λ h. off)
-    told (Some done) =
-        let middle : over now node done job ≡ job = cond_both (is_batch_host node job.parts) _ job (λ one. one ≡ job) (λ h. rw (ap is_running (pending job.state waits)) refl) (λ h. refl) in
-        ap (λ one. off_node now node one one.state) middle ∙ off
+reported-waits now node report job waits = let state = pending job.state waits in grind (arith, nat_tests)
 
 -- so who waits, waits on
 waits-on : (change : JobRecord → JobRecord) (jobs : List JobRecord) (id : ℕ) → ((job : JobRecord) → is_pending job.state ≡ true → change job ≡ job) → Contains (pending_ids jobs) id → Contains (pending_ids (map change jobs)) id
@@ -155,9 +134,7 @@ all-stay (x ∷ xs) = ap (λ rest. x ∷ rest) (all-stay xs)
 
 heard-confs : (now : ℕ) (report : Report) (nodes : List NodeRecord) → map (λ (node : NodeRecord). node.conf) (heard_nodes now report nodes) ≡ map (λ (node : NodeRecord). node.conf) nodes
 heard-confs now report [] = refl
-heard-confs now report (node ∷ nodes) =
-    ap (λ conf. conf ∷ map (λ (node : NodeRecord). node.conf) (heard_nodes now report nodes)) (cond_both (is_named report.node node) _ node (λ one. one.conf ≡ node.conf) (λ h. refl) (λ h. refl))
-    ∙ ap (λ later. node.conf ∷ later) (heard-confs now report nodes)
+heard-confs now report (node ∷ nodes) = grind (arith, nat_tests, heard-confs now report nodes)
 
 -- An accepted report keeps all sound.
 pub sound-reported : LettingGo → KeptLater → NodesStay → Rests → (s : State) (now node : ℕ) (report : Report) → IsSound s → s.moment ≤ now → now ≤ last_moment → IsSound (stamped now (report_after s now node report))
