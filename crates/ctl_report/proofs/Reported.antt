@@ -56,25 +56,15 @@ off-runs now node job (Ended final) is = refl
 off-start : (now node : ℕ) (job : JobRecord) (state : JobState) → start_of (off_node now node job state) ≡ start_of job
 off-start now node job state = grind (arith, nat_tests)
 
--- who leaves Running doesn't run, and keeps its start
-over-runs : (now node : ℕ) (done : Done) (job : JobRecord) (host : Bool)
-    → runs_at node (cond host (changed (Leave (final_of done.exit) now (Some done.exit)) job) job) ≡ (runs_at node job && not host)
-over-runs now node done job false = sym (and-true (runs_at node job))
-over-runs now node done job true = grind (arith, nat_tests)
-
-over-start : (now node : ℕ) (done : Done) (job : JobRecord) → start_of (over now node done job) ≡ start_of job
-over-start now node done job = grind (arith, nat_tests)
-
 told-runs : (now node : ℕ) (report : Report) (job : JobRecord) (done : Option Done) → runs_at node (after_told now node report job done) ≡ (runs_at node job && not (is_batch_host node job.parts && is_some done))
 told-runs now node report job None = grind (arith, nat_tests)
-told-runs now node report job (Some done) =
-    grind (arith, nat_tests, off-runs now node (over now node done job) (over now node done job).state refl, over-runs now node done job (is_batch_host node job.parts))
+told-runs now node report job (Some done) = let off = off-runs now node (over now node done job) (over now node done job).state refl in grind (arith, nat_tests)
 
 reported-runs : (now node : ℕ) (report : Report) (job : JobRecord) → runs_at node (reported now node report job) ≡ stays node report job
 reported-runs now node report job = grind (arith, nat_tests, told-runs now node report job (done_of report job))
 
 reported-start : (now node : ℕ) (report : Report) (job : JobRecord) → start_of (reported now node report job) ≡ start_of job
-reported-start now node report job = grind (arith, nat_tests, off-start, over-start)
+reported-start now node report job = grind (arith, nat_tests, off-start)
 
 -- a start is among those that stay exactly where a job runs it once the report is accepted
 kept-starts : (now node : ℕ) (report : Report) (start : Start) (jobs : List JobRecord) → list_any (λ other. is_same other start) (map start_of (filter (stays node report) jobs)) ≡ runs_start node (map (reported now node report) jobs) start

@@ -16,11 +16,8 @@ pub Any-counted : {X : Type 0} (p : X → Bool) (xs : List X) → 1 ≤ count_by
 Any-counted p [] some = absurd (omega (arith, some))
 Any-counted p (x ∷ xs) some = elim (cases_Bool (p x)) [
   | inl passes ↦ (0, x, omega arith, refl, passes)
-  | inr fails ↦ later (Any-counted p xs (omega (arith, rw (count-cons p x xs, fails) at some)))
+  | inr fails ↦ let (k, y, below, is, passes) = Any-counted p xs (omega (arith, rw (count-cons p x xs, fails) at some)) in (suc k, y, omega (arith, below), is, passes)
 ]
-  where
-    later : Any (λ y. p y ≡ true) xs → Any (λ y. p y ≡ true) (x ∷ xs)
-    later (k, y, below, is, passes) = (suc k, y, omega (arith, below), is, passes)
 
 -- a test that holds of one of each two at most counts once at most, and the other way round
 pub count-once : {X : Type 0} (p : X → Bool) (xs : List X) → AllPairs (λ one other. p one ≡ true → p other ≡ false) xs → count_by p xs ≤ 1

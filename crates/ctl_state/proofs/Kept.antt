@@ -1,6 +1,7 @@
 -- What is kept of a job, as time passes and whatever change but a start happens to it.
 use Rattle.std.proofs.Common.{◌≡◌, ◌≢◌, ℕ, ◌≤◌, true, false, ◌&&◌, not, List, [], ◌∷◌, Some, Bool, filter, refl, sym, ◌∙◌, arith, rules, tests, inl, inr}
-use Rattle.std.proofs.lemmas.Bool.{cases_Bool, both_ways}
+use Rattle.std.proofs.lemmas.Bool.{cond_both, both_ways}
+use Rattle.std.proofs.lemmas.Bool.Decides.{nat_tests}
 use Rattle.std.proofs.lemmas.List.Kept.{AllPairs-filter}
 use Rattle.slurm_text.specs.declared.plain.state.JobState.{JobState}
 use Rattle.slurm_text.specs.declared.plain.state.JobState.TheVariants.{Pending, Running, Completing, Ended}
@@ -60,14 +61,9 @@ off_node-lets_go now node (Ended final) job kept is = lets_go-same now job kept
 
 pub changed-lets_go : (now : ℕ) (change : Change) (job : JobRecord) → is_start change ≡ false → moment_of change ≡ now → IsKept now job → LetsGo now job (changed change job)
 changed-lets_go now (Start moment parts) job never at kept = absurd (both_ways true never refl)
-changed-lets_go now (Leave final moment exit) job other at kept = elim (cases_Bool (is_running job.state)) [
-  | inl runs ↦
-      let running : job.state ≡ Running = search (rules, tests) in
-      let after : JobRecord = record job { state = Completing final; ended = Some now; exit = exit } in
-      let left : IsKept now after = search (rules, tests) in
-      rw (runs, at) (all-stay now job after refl refl left)
-  | inr idle ↦ rw idle (lets_go-same now job kept)
-]
+changed-lets_go now (Leave final moment exit) job other at kept =
+    let after : JobRecord = record job { state = Completing final; ended = Some now; exit = exit } in
+    rw at (cond_both (is_running job.state) after job (LetsGo now job) (λ runs. all-stay now job after refl refl (search (rules, tests))) (λ idle. lets_go-same now job kept))
 changed-lets_go now (DropPart node moment) job other at kept = rw at (off_node-lets_go now node job.state job kept refl)
 
 pub kept-started : (now : ℕ) (parts : List Part) (job : JobRecord) → has_members parts ≡ true → OnNodesApart parts → IsKept now job → IsKept now (changed (Start now parts) job)
@@ -75,10 +71,4 @@ kept-started now parts job some apart kept = search (rules, tests)
 
 -- a waiting job holds nothing
 pub pending-nothing : (now : ℕ) (job : JobRecord) → IsKept now job → is_pending job.state ≡ true → job.parts ≡ []
-pending-nothing now job kept pending =
-    let idle : is_holding job.state ≡ false = search (rules, tests) in
-    empty job.parts (kept.parts.some ∙ idle)
-  where
-    empty : (parts : List Part) → has_members parts ≡ false → parts ≡ []
-    empty [] none = refl
-    empty (part ∷ parts) none = absurd (both_ways true none refl)
+pending-nothing now job kept pending = let some = kept.parts.some in grind (arith, nat_tests)

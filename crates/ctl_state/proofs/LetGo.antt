@@ -1,6 +1,6 @@
 -- Letting go keeps all sound.
 use Rattle.std.proofs.Common.{◌≡◌, ℕ, ◌<◌, ◌≤◌, Bool, true, false, not, List, [], ◌∷◌, map, sum_by, All, get_or, ap, arith, rules, tests, inl, inr}
-use Rattle.std.proofs.lemmas.Bool.{cases_Bool}
+use Rattle.std.proofs.lemmas.Bool.Decides.{nat_tests}
 use Rattle.std.proofs.lemmas.List.Elements.{All-head, All-tail, All-map, All-filter}
 use Rattle.std.proofs.lemmas.List.Filters.{sum_by-filter_both}
 use Rattle.std.proofs.lemmas.List.Kept.{AllPairs-filter}
@@ -31,10 +31,8 @@ left-less amount now change goes (job ∷ jobs) lets =
     let rest = left-less amount now change goes jobs (All-tail (λ one. LetsGo now one (change one)) job jobs lets) in
     let less = part-less amount now job (change job) (All-head (λ one. LetsGo now one (change one)) job jobs lets) in
     let before = sum_by-append amount job.parts (parts_of jobs) in
-    elim (cases_Bool (goes (change job))) [
-      | inl gone ↦ rw gone (omega (arith, rest, before))
-      | inr stays ↦ rw stays (omega (arith, rest, less, before, sum_by-append amount (change job).parts (parts_of (those_left change goes jobs))))
-    ]
+    let stays = sum_by-append amount (change job).parts (parts_of (those_left change goes jobs)) in
+    grind (arith, nat_tests)
 
 held-left : (rooms : List NodeRoom) (now : ℕ) (change : JobRecord → JobRecord) (goes : JobRecord → Bool) (jobs : List JobRecord) → All (λ job. LetsGo now job (change job)) jobs
     → IsHeldOnce rooms (parts_of jobs) → IsHeldOnce rooms (parts_of (those_left change goes jobs))

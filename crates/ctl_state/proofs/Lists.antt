@@ -1,6 +1,6 @@
 -- Lists whose elements change, go or are added: what holds of each element and of each two, and what they contain.
 use Rattle.std.proofs.Common.{◌≡◌, ℕ, zero, suc, ◌+◌, ◌<◌, Bool, true, false, cond, List, [], ◌∷◌, ◌++◌, length, map, filter, flat_map, take, All, AllPairs, Contains, ◌⊎◌, arith, refl, ap, ◌&&◌, inl, inr}
-use Rattle.std.proofs.lemmas.Bool.{cases_Bool}
+use Rattle.std.proofs.lemmas.Bool.Decides.{nat_tests}
 use Rattle.std.proofs.lemmas.List.{length-map, get_or-map}
 use Rattle.std.proofs.lemmas.List.Concat.{get_or-flat_map}
 use Rattle.std.proofs.lemmas.List.Elements.{All-nil, All-head, All-tail, All-append}
@@ -70,7 +70,4 @@ filter-all (x ∷ xs) = ap (λ rest. x ∷ rest) (filter-all xs)
 
 pub filter-filter : {X : Type 0} (p q : X → Bool) (xs : List X) → filter q (filter p xs) ≡ filter (λ x. p x && q x) xs
 filter-filter p q [] = refl
-filter-filter p q (x ∷ xs) = elim (cases_Bool (p x)) [
-  | inl passes ↦ rw (passes, filter-filter p q xs) refl
-  | inr fails ↦ rw (fails, filter-filter p q xs) refl
-]
+filter-filter p q (x ∷ xs) = grind (arith, nat_tests, filter-filter p q xs)

@@ -4,18 +4,11 @@ use Rattle.std.specs.List.{range_with_len}
 use Rattle.std.proofs.lemmas.List.FromFn.{length-range_with_len, get_or-range_with_len, map-range_with_len_more}
 use Rattle.ctl_state.proofs.planning.all_places.Goals as goal
 
-at : (n i d : ℕ) → i < n → get_or (range_with_len 0 n) i d ≡ i
-at n i d inside = omega (arith, get_or-range_with_len 0 n i d inside)
-
 apart : (n : ℕ) → AllPairs (λ one other. one ≢ other) (range_with_len 0 n)
-apart n i j d before below same =
-    let inside : j < n = omega (arith, below, length-range_with_len 0 n) in
-    omega (arith, before, at n i d (omega (arith, before, inside)), same, at n j d inside)
+apart n i j d before below same = grind (arith, length-range_with_len 0 n, get_or-range_with_len 0 n i d, get_or-range_with_len 0 n j d)
 
 all-below : (n : ℕ) → All (λ node. node < n) (range_with_len 0 n)
-all-below n i d below =
-    let inside : i < n = omega (arith, below, length-range_with_len 0 n) in
-    omega (arith, inside, at n i d inside)
+all-below n i d below = grind (arith, length-range_with_len 0 n, get_or-range_with_len 0 n i d)
 
 more : (n : ℕ) → range_with_len 0 n ++ n ∷ [] ≡ range_with_len 0 (n + 1)
 more n = sym (simp map-id at (map-range_with_len_more (λ place. place) 0 n n (omega arith)))
