@@ -75,11 +75,8 @@ made-changes only s moment user (Submit desc) none makes same = omega (arith, ap
 made-changes only s moment user (Report report) none makes same =
     let allowed = none-first AccessDenied (not (is_privileged s user)) _ none in
     let known = none-first UnknownNode (is_none (node_of s report)) _ allowed.1 in
-    told-changes s moment report (node_of s report) refl (alone (staleness report (heard_of s.nodes report.node)) known.1) makes same
-  where
-    alone : (refusal : Option Refusal) → first_refusal (refusal ∷ []) ≡ None → refusal ≡ None
-    alone None none = refl
-    alone (Some refusal) none = none
+    let fresh = elim (staleness report (heard_of s.nodes report.node)) as (λ refusal. first_refusal (refusal ∷ []) ≡ None → refusal ≡ None) [ None ↦ λ none. refl | Some refusal ↦ λ none. none ] known.1 in
+    told-changes s moment report (node_of s report) refl fresh makes same
 made-changes only s moment user Pass none makes same = pass-changes only s moment makes same
 made-changes only s moment user (Show query) none makes same = absurd (cc)
 

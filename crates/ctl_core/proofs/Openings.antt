@@ -39,9 +39,5 @@ sound-opening s ranges nodes no_jobs no_plan next moment = record {
   moment = omega (arith, moment);
   jobs = rw no_jobs (λ k d within. absurd (omega (arith, within)));
   held = rw no_jobs (none-held (map room_of s.nodes));
-  plan = record {
-    pending = rw no_plan (λ k d within. absurd (omega (arith, within)));
-    once = rw no_plan (λ i j d before within. absurd (omega (arith, within)));
-    last = rw no_plan (λ k d within. absurd (omega (arith, within)));
-  };
+  plan = rw no_plan (record { pending = λ k d within. absurd (omega (arith, within)); once = λ i j d before within. absurd (omega (arith, within)); last = λ k d within. absurd (omega (arith, within)) });
 }

@@ -1,5 +1,5 @@
 -- Each step keeps all sound.
-use Rattle.std.proofs.Common.{◌≡◌, ℕ, zero, suc, ◌+◌, ◌<◌, ◌≤◌, ◌∙◌, Bool, true, false, List, [], ◌∷◌, ◌++◌, length, get_or, All, Option, Some, None, Result, Ok, Err, OnOk, OnErr, if◌then◌else◌, refl, sym, ap, arith, inl, inr}
+use Rattle.std.proofs.Common.{◌≡◌, ℕ, zero, suc, ◌+◌, ◌<◌, ◌≤◌, ◌∙◌, Bool, true, false, List, [], ◌∷◌, ◌++◌, length, get_or, All, Option, Some, None, Result, Ok, Err, OnOk, OnErr, if◌then◌else◌, refl, sym, ap, arith, rules, tests, inl, inr}
 use Rattle.std.specs.Prelude.{max, nat_lt, not, unwrap_or, IfSome}
 use Rattle.std.proofs.lemmas.Bool.{cond_both, ltb-false, both_ways}
 use Rattle.slurm_text.specs.declared.plain.job.JobDesc.{JobDesc}
@@ -46,15 +46,7 @@ sound-submitted adding s moment user desc sound later in_time ranges room =
     let kept : IsKept moment job = record {
       asked = ranges.0;
       limit = elim desc.limit as (λ limit. IfSome limit IsLimit → IsLimit (unwrap_or limit Unlimited)) [ None ↦ λ range. tt | Some limit ↦ λ range. range ] ranges.1;
-      run = record {
-        submitted = omega arith;
-        started = λ held. absurd (both_ways false refl held);
-        ended = λ over. absurd (both_ways false refl over);
-        start_passed = omega arith;
-        end_passed = omega arith;
-        in_order = λ has. absurd (both_ways false refl has);
-        final = λ same. cc;
-      };
+      run = search (rules, tests);
       parts = record { some = refl; apart = λ i j d before within. absurd (omega (arith, within)) };
     } in
     adding s moment (s.next_id + 1) (job ∷ []) sound later in_time

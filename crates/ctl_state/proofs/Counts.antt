@@ -1,6 +1,7 @@
 -- How often a test holds in a list, and how a sum grows where one element changes.
 use Rattle.std.proofs.Common.{◌≡◌, ℕ, suc, ◌+◌, ◌<◌, ◌≤◌, Bool, true, false, cond, eqb, List, [], ◌∷◌, length, map, filter, flat_map, get_or, sum_by, All, AllPairs, Any, Contains, arith, refl, ap, inl, inr}
 use Rattle.std.specs.Prelude.{count_by}
+use Rattle.std.proofs.lemmas.Bool.Decides.{nat_tests}
 use Rattle.std.proofs.lemmas.Bool.{both_ways, cases_Bool, eq-eqb, ne_eqb}
 use Rattle.std.proofs.lemmas.List.Elements.{All-head, All-tail, All-map, All-filter, All-contains, filter_passes}
 use Rattle.std.proofs.lemmas.List.Folds.{map_fixed}
@@ -37,12 +38,10 @@ pairs-counted p (x ∷ xs) once =
     AllPairs-cons (λ one other. p one ≡ true → p other ≡ false) x xs others (pairs-counted p xs (omega (arith, once, count-cons p x xs)))
   where
     others : All (λ y. p x ≡ true → p y ≡ false) xs
-    others k d below passes = elim (cases_Bool (p (get_or xs k d))) [
-      | inr fails ↦ fails
-      | inl too ↦
-          let two : cond (p (get_or xs k d)) 1 0 ≤ count_by p xs = get_or-le-sum_by (λ y. cond (p y) 1 0) xs k d below in
-          absurd (omega (arith, rw (count-cons p x xs, passes) at once, rw too at two))
-    ]
+    others k d below passes =
+        let two = get_or-le-sum_by (λ y. cond (p y) 1 0) xs k d below in
+        let all = count-cons p x xs in
+        grind (arith, nat_tests, once)
 
 -- a sum grows by what the one element with a number gets, where the numbers rise and an element that passes has the number
 pub sum-grown : {X : Type 0} (f : X → ℕ) (p : X → Bool) (change : X → X) (amount : X → ℕ) (number extra : ℕ) (xs : List X)
