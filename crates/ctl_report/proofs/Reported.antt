@@ -44,14 +44,8 @@ abbrev over : ℕ → ℕ → Done → JobRecord → JobRecord
 over now node done job = cond (is_batch_host node job.parts) (changed (Leave (final_of done.exit) now (Some done.exit)) job) job
 
 -- who leaves a node runs on as it did, and keeps its start
-left-runs : (now node : ℕ) (final : Final) (parts : List Part) (job : JobRecord) → job.state ≡ Completing final → runs_at node (with_left now final parts job) ≡ false
-left-runs now node final parts job is = grind (arith, nat_tests)
-
 off-runs : (now node : ℕ) (job : JobRecord) (state : JobState) → job.state ≡ state → runs_at node (off_node now node job state) ≡ runs_at node job
-off-runs now node job Pending is = refl
-off-runs now node job Running is = refl
-off-runs now node job (Completing final) is = left-runs now node final (parts_off node job.parts) job is ∙ sym (ap (λ state. is_running state && is_at node job) is)
-off-runs now node job (Ended final) is = refl
+off-runs now node job state is = grind (arith, nat_tests)
 
 off-start : (now node : ℕ) (job : JobRecord) (state : JobState) → start_of (off_node now node job state) ≡ start_of job
 off-start now node job state = grind (arith, nat_tests)
@@ -94,11 +88,8 @@ lets-reported rests now node report job kept = cond_both (is_at node job) _ job 
         rests.twice now job middle (told_over now node done job) first (rests.changes now (DropPart node now) middle refl refl (rests.kept now job middle kept first))
 
 -- a job that waits stays as it is
-pending : (state : JobState) → is_pending state ≡ true → state ≡ Pending
-pending state = elim state as (λ one. is_pending one ≡ true → one ≡ Pending) [ Pending ↦ λ h. refl | Running ↦ λ h. cc | Completing final ↦ λ h. cc | Ended final ↦ λ h. cc ]
-
 reported-waits : (now node : ℕ) (report : Report) (job : JobRecord) → is_pending job.state ≡ true → reported now node report job ≡ job
-reported-waits now node report job waits = let state = pending job.state waits in grind (arith, nat_tests)
+reported-waits now node report job waits = grind (arith, nat_tests)
 
 -- so who waits, waits on
 waits-on : (change : JobRecord → JobRecord) (jobs : List JobRecord) (id : ℕ) → ((job : JobRecord) → is_pending job.state ≡ true → change job ≡ job) → Contains (pending_ids jobs) id → Contains (pending_ids (map change jobs)) id
