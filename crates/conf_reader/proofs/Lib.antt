@@ -1,0 +1,4 @@
+pub mod NameLemmas
+pub mod ProductLemmas
+pub mod SaidLemmas
+pub mod ValueLemmas
