@@ -3,7 +3,11 @@
 
 pub mod conf;
 pub mod keys;
+mod lists;
 mod node_lines;
 mod node_table;
+mod partition_lines;
 pub mod refusal;
+mod scheduler;
+mod setting_lines;
 mod values;

@@ -11,6 +11,7 @@ ghost use Rattle.conf_reader.specs.declared.refusal.ConfKind.{ConfKind};
 
 use crate::conf::{NodeConf, NodeStart};
 use crate::keys::{NodeKey, node_key};
+use crate::lists::{copy_or_none, or_copy};
 use crate::node_table::NodeTable;
 use crate::refusal::{ConfKind, Fault, ValueRefusal};
 use crate::values::{read_names, read_node_start, read_nodes, read_number};
@@ -272,7 +273,7 @@ impl NodeWords {
         ensures { result ≡ few (processors self.now) }
     {
         match self.cpus {
-            Some(cpus) => Some(cpus),
+            Some(cpus) => Some(Ranged::new(cpus.get())),
             None => few_processors(
                 one_or(self.boards),
                 one_or(self.sockets),
@@ -304,13 +305,13 @@ impl NodeWords {
         &self,
         alloc: Global,
         cpus: Ranged<1, 1024>,
-        names: Items<Name>,
+        names: &[Name],
         nodes: &mut NodeTable,
     ) -> Result<(), Memory>
         requires { cpus ≡ processors self.now }
-        ensures { OnOk result (nodes.new ≡ nodes.old ++ map (node_conf self.now) names) }
+        ensures { OnOk result (nodes.new ≡ nodes.old ++ map (node_conf self.now) names.now) }
     {
-        for name in names.as_slice() {
+        for name in names {
             let node = self.node(alloc, cpus, name.copy()?)?;
             nodes.push(node)?;
         }
@@ -355,25 +356,5 @@ fn few_times(number: Option<u64>, factor: u64) -> Option<u64>
         Some(number * factor)
     } else {
         None
-    }
-}
-
-// The first list, or else a copy of the second.
-fn or_copy(own: Option<Items<Name>>, default: &Option<Items<Name>>) -> Result<Option<Items<Name>>, Memory>
-    ensures { IfOk result (λ list. list ≡ option_or own default.now) }
-{
-    match (own, default) {
-        (Some(own), _) => Ok(Some(own)),
-        (None, Some(default)) => Ok(Some(default.copy()?)),
-        (None, None) => Ok(None),
-    }
-}
-
-fn copy_or_none(alloc: Global, names: &Option<Items<Name>>) -> Result<Items<Name>, Memory>
-    ensures { IfOk result (λ list. list ≡ unwrap_or names.now []) }
-{
-    match names {
-        Some(names) => names.copy(),
-        None => Ok(Items::from_vec(Vec::new(alloc))),
     }
 }

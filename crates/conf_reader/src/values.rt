@@ -1,16 +1,20 @@
 //! Values of keys.
 
 ghost use Rattle.std.specs.Prelude.{◌≡◌, ◌≤◌, ◌<◌, ◌^◌, length, map, IfOk, IfSome, IsErrOf, Some, None};
-ghost use Rattle.conf_reader.specs.Values.{number_in, u32_in, name_in, names_in, nodes_in, node_start};
+ghost use Rattle.conf_reader.specs.Values.{number_in, u32_in, name_in, names_in, nodes_in, node_start, part_state, yes_or_no, exclusive_in, allowed_in, most_nodes, mem_per_node, mem_per_cpu};
+ghost use Rattle.slurm_num.specs.Limits.{limit_of};
 
-use crate::conf::NodeStart;
+use crate::conf::{NodeStart, PartState};
 use crate::refusal::ValueRefusal;
+use slurm_num::parse_limit;
 use slurm_text::digits::parse_number;
 use slurm_text::fields::first_field;
 use slurm_text::hosts::{HostRefusal, expand_hosts};
 use slurm_text::items::Items;
 use slurm_text::keywords::is_keyword;
 use slurm_text::name::Name;
+use slurm_text::plain::limit::Limit;
+use slurm_text::plain::mem_ask::MemAsk;
 use slurm_text::ranged::Ranged;
 use std::alloc::Global;
 
@@ -87,5 +91,112 @@ pub(crate) fn read_node_start(text: &[u8]) -> Option<NodeStart>
         Some(NodeStart::Drain)
     } else {
         None
+    }
+}
+
+#[tactic(auto, unfolding(crate::specs::Values::part_state))]
+pub(crate) fn read_part_state(text: &[u8]) -> Option<PartState>
+    ensures { result ≡ part_state text.now }
+{
+    if is_keyword(text, b"UP") {
+        Some(PartState::Up)
+    } else if is_keyword(text, b"DOWN") {
+        Some(PartState::Down)
+    } else if is_keyword(text, b"DRAIN") {
+        Some(PartState::Drain)
+    } else if is_keyword(text, b"INACTIVE") {
+        Some(PartState::Inactive)
+    } else {
+        None
+    }
+}
+
+#[tactic(auto, unfolding(crate::specs::Values::yes_or_no))]
+pub(crate) fn read_yes_or_no(text: &[u8]) -> Option<bool>
+    ensures { result ≡ yes_or_no text.now }
+{
+    if is_keyword(text, b"YES") {
+        Some(true)
+    } else if is_keyword(text, b"NO") {
+        Some(false)
+    } else {
+        None
+    }
+}
+
+#[tactic(auto, unfolding(crate::specs::Values::exclusive_in))]
+pub(crate) fn read_exclusive(text: &[u8]) -> Option<bool>
+    ensures { result ≡ exclusive_in text.now }
+{
+    if text == b"EXCLUSIVE".as_slice() {
+        Some(true)
+    } else if is_keyword(text, b"NO") {
+        Some(false)
+    } else {
+        None
+    }
+}
+
+/// A limit of time.
+pub(crate) fn read_limit(text: &[u8]) -> Option<Limit>
+    ensures { result ≡ limit_of text.now }
+{
+    match parse_limit(text) {
+        Ok(limit) => Some(limit),
+        Err(_) => None,
+    }
+}
+
+/// Names between commas, or None for all.
+#[tactic(auto, unfolding(crate::specs::Values::allowed_in))]
+pub(crate) fn read_allowed(alloc: Global, text: &[u8]) -> Result<Option<Items<Name>>, ValueRefusal>
+    ensures value { IfOk result (λ names. allowed_in text.now ≡ Some names) }
+    ensures refused { IsErrOf result ValueRefusal.BadValue → allowed_in text.now ≡ None }
+{
+    if is_keyword(text, b"ALL") {
+        return Ok(None);
+    }
+    let names = read_names(alloc, text)?;
+    Ok(Some(names))
+}
+
+#[tactic(auto, unfolding(crate::specs::Values::most_nodes))]
+pub(crate) fn read_most_nodes(text: &[u8]) -> Option<Option<u32>>
+    ensures { result ≡ most_nodes text.now }
+{
+    if is_keyword(text, b"UNLIMITED") {
+        return Some(None);
+    }
+    let number = read_u32(text)?;
+    Some(Some(number))
+}
+
+fn read_megabytes(text: &[u8]) -> Option<Ranged<0, 16777216>>
+    ensures { result ≡ number_in 0 16777216 text.now }
+{
+    read_number(text)
+}
+
+#[tactic(auto, unfolding(crate::specs::Values::mem_per_node))]
+pub(crate) fn read_mem_per_node(text: &[u8]) -> Option<MemAsk>
+    ensures { result ≡ mem_per_node text.now }
+{
+    let megabytes = read_megabytes(text)?.get();
+    if megabytes == 0 {
+        Some(MemAsk::All)
+    } else {
+        Some(MemAsk::PerNode(Ranged::new(megabytes)))
+    }
+}
+
+#[tactic(auto, unfolding(crate::specs::Values::mem_per_cpu))]
+pub(crate) fn read_mem_per_cpu(text: &[u8]) -> Option<MemAsk>
+    ensures { result ≡ mem_per_cpu text.now }
+{
+    let megabytes = read_megabytes(text)?.get();
+    if megabytes == 0 {
+        Some(MemAsk::All)
+    } else {
+        Some(MemAsk::PerCpu(Ranged::new(megabytes)))
     }
 }
