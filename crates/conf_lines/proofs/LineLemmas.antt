@@ -1,6 +1,7 @@
 -- The first line of a text, cut off, and the logical lines that go on with what follows it.
 use Rattle.std.proofs.Common.{ℕ, ◌≡◌, ◌==◌, ◌+◌, ◌<◌, ◌++◌, List, [], ◌∷◌, length, if◌then◌else◌, Option, Some, None, true, false, refl, ap, sym, ◌∙◌, arith, append_assoc}
-use Rattle.std.proofs.lemmas.List.Splits.{length-slice_split}
+use Rattle.std.proofs.lemmas.List.Splits.{length-slice_split, join_with_byte-slice_split}
+use Rattle.std.specs.List.{join_with_byte}
 use Rattle.slurm_text.specs.Fields.{fields, fields_of_rest}
 use Rattle.conf_lines.specs.Lines.{NumberedLine, ends_with, without_last, without_return, without_returns, joined, logical_from, lines_of_rest}
 
@@ -16,6 +17,9 @@ first_of_more text line rest cut =
 -- the last line
 pub last_line : (text line : List ℕ) → fields 10 text ≡ line ∷ [] → without_returns (fields 10 text) ≡ line ∷ []
 last_line text line cut = ap without_returns cut
+
+pub last_len : (text line : List ℕ) → fields 10 text ≡ line ∷ [] → length line ≡ length text
+last_len text line cut = ap length (sym (ap (join_with_byte 10) cut) ∙ join_with_byte-slice_split 10 text)
 
 -- two pieces of a line
 pub joined-joined : (number next : ℕ) (a b : List ℕ) (lines : List NumberedLine) → joined number a (joined next b lines) ≡ joined number (a ++ b) lines

@@ -57,7 +57,8 @@ fn without_return(line: &[u8]) -> &[u8]
 
 // What stands before a backslash at the line's end.
 fn before_backslash(line: &[u8]) -> Option<&[u8]>
-    ensures { option_copied result ≡ (if ends_with 92 line.now then Some (without_last line.now) else None) }
+    ensures cut { option_copied result ≡ (if ends_with 92 line.now then Some (without_last line.now) else None) }
+    ensures size { IfSome result (λ front. length front.now ≤ length line.now) }
 {
     match line.split_last() {
         Some((b'\\', front)) => Some(front),
@@ -66,11 +67,11 @@ fn before_backslash(line: &[u8]) -> Option<&[u8]>
 }
 
 // The first line of a text, and what follows its line feed.
-#[tactic(auto, using(crate::proofs::LineLemmas::first_of_more, crate::proofs::LineLemmas::last_line))]
+#[tactic(auto, using(crate::proofs::LineLemmas::first_of_more, crate::proofs::LineLemmas::last_line, crate::proofs::LineLemmas::last_len))]
 fn cut_line(text: &[u8]) -> (&[u8], Option<&[u8]>)
     ensures cut { without_returns (fields 10 text.now)
         ≡ result.0.now ∷ without_returns (fields_of_rest 10 (option_copied result.1)) }
-    ensures size { IfSome result.1 (λ rest. length rest.now < length text.now) }
+    ensures size { length result.0.now + bytes_left (option_copied result.1) ≤ length text.now }
 {
     let (line, rest) = first_field(text, b'\n');
     match rest {
@@ -85,8 +86,10 @@ fn join<'a>(alloc: Global, piece: &[u8], rest: Option<&'a [u8]>) -> Result<First
     ensures cut { IfOk result (λ first. (number : ℕ)
         → joined number piece.now (lines_of_rest (number + 1) (option_copied rest.entry))
         ≡ record { number = number; text = line_bytes first.text } ∷ lines_of_rest (number + first.taken) (option_copied first.rest)) }
-    ensures size { IfOk result (λ first.
-        first.taken + bytes_left (option_copied first.rest) ≤ 1 + bytes_left (option_copied rest.entry)) }
+    ensures size { IfOk result (λ first. (1 ≤ first.taken)
+        × (first.taken + bytes_left (option_copied first.rest) ≤ 1 + bytes_left (option_copied rest.entry))) }
+    ensures fits { IfOk result (λ first.
+        length (line_bytes first.text) ≤ length piece.now + bytes_left (option_copied rest.entry)) }
 {
     let mut joined = Vec::from_slice(alloc, piece)?;
     let mut rest = rest;
@@ -120,7 +123,9 @@ fn join<'a>(alloc: Global, piece: &[u8], rest: Option<&'a [u8]>) -> Result<First
 pub fn first_line(alloc: Global, text: &[u8]) -> Result<FirstLine<'_>, Memory>
     ensures cut { IfOk result (λ first. (number : ℕ) → lines_of_rest number (Some text.now)
         ≡ record { number = number; text = line_bytes first.text } ∷ lines_of_rest (number + first.taken) (option_copied first.rest)) }
-    ensures size { IfOk result (λ first. first.taken + bytes_left (option_copied first.rest) ≤ 1 + length text.now) }
+    ensures size { IfOk result (λ first. (1 ≤ first.taken)
+        × (first.taken + bytes_left (option_copied first.rest) ≤ 1 + length text.now)) }
+    ensures fits { IfOk result (λ first. length (line_bytes first.text) ≤ length text.now) }
 {
     let (line, rest) = cut_line(text);
     match before_backslash(line) {

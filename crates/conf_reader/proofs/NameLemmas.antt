@@ -4,10 +4,7 @@ use Rattle.std.specs.Str.{bytes_eq}
 use Rattle.std.proofs.lemmas.List.Folds.{list_any-append}
 use Rattle.std.proofs.lemmas.Bool.Decides.{same_from_decides}
 use Rattle.std.proofs.lemmas.Slice.Eq.{bytes_eq-Decides}
-use Rattle.std.specs.List.{list_any}
 use Rattle.conf_reader.specs.Values.{has}
-use Rattle.conf_reader.specs.PartitionLines.{partition_names}
-use Rattle.conf_reader.specs.declared.partition_lines.PartLine.{PartLine}
 
 bytes_eq-sym : (a b : List ℕ) → bytes_eq a b ≡ bytes_eq b a
 bytes_eq-sym a b =
@@ -26,8 +23,3 @@ has-insert q name names was now h k = k ∙ (rw (h, bytes_eq-sym name q) (swappe
   swapped true false = refl
   swapped false true = refl
   swapped false false = refl
-
--- a name among those of partitions
-pub has_lines : (q : List ℕ) (lines : List PartLine) → list_any (λ line. bytes_eq q line.conf.name) lines ≡ has q (partition_names lines)
-has_lines q [] = refl
-has_lines q (line ∷ lines) = ap (λ (t : Bool). bytes_eq q line.conf.name || t) (has_lines q lines)

@@ -56,6 +56,11 @@ minutes_in text = limit_of text >>= minutes_of
 abbrev pub only : List (List ℕ) → List ℕ → Option SettingEntry
 only texts text = if list_any (bytes_eq text) texts then Some WithoutEffect else None
 
+-- each of these stands for processors and memory
+unfoldable pub select_parameters : List ℕ → Option SettingEntry
+select_parameters text =
+    only (codes "CR_CPU_Memory" ∷ codes "CR_CPU" ∷ codes "CR_Core" ∷ codes "CR_Core_Memory" ∷ []) text
+
 -- what a key and its value say
 unfoldable pub setting_entry : SettingKey → List ℕ → Option SettingEntry
 setting_entry key.FirstJobId text = option_map FirstJobId (number_in 1 67_043_328 text)
@@ -76,8 +81,7 @@ setting_entry key.WeightQos text = option_map WeightQos (u32_in text)
 setting_entry key.SchedulerType text = only (codes "sched/backfill" ∷ []) text
 setting_entry key.SchedulerParameters text = option_map Plans (scheduler_in text)
 setting_entry key.SelectType text = only (codes "select/cons_tres" ∷ []) text
-setting_entry key.SelectTypeParameters text =
-    only (codes "CR_CPU_Memory" ∷ codes "CR_CPU" ∷ codes "CR_Core" ∷ codes "CR_Core_Memory" ∷ []) text
+setting_entry key.SelectTypeParameters text = select_parameters text
 setting_entry key.PreemptType text = only (codes "preempt/none" ∷ []) text
 setting_entry key.DefMemPerNode text = option_map Mem (mem_per_node text)
 setting_entry key.DefMemPerCpu text = option_map Mem (mem_per_cpu text)

@@ -2,12 +2,17 @@
 #![tactic(auto)]
 
 pub mod conf;
+mod draft;
 pub mod keys;
 mod lists;
 mod node_lines;
 mod node_table;
+mod part_table;
 mod partition_lines;
+mod reader;
 pub mod refusal;
 mod scheduler;
 mod setting_lines;
 mod values;
+
+pub use reader::read_conf;

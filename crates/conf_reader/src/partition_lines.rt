@@ -171,11 +171,15 @@ fn read_entry(alloc: Global, word: &[u8]) -> Result<PartEntry, Fault>
     }
 }
 
-#[tactic(auto, using(crate::proofs::NameLemmas::has_lines))]
 fn has_partition(known: &[PartLine], name: &Name) -> bool
     ensures { result ≡ has name.now (partition_names known.now) }
 {
-    known.iter().any(|line| name.is(&line.conf.name))
+    for line in known {
+        if name.is(&line.conf.name) {
+            return true;
+        }
+    }
+    false
 }
 
 #[tactic(auto, unfolding(crate::specs::PartitionLines::part_fault))]

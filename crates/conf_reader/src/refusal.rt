@@ -66,6 +66,17 @@ impl fmt::Display for ConfRefusal {
 
 impl Error for ConfRefusal {}
 
+impl From<memory_error::Memory> for ConfRefusal {
+    ghost use Rattle.std.specs.Prelude.{◌≡◌};
+    ghost use Rattle.conf_reader.specs.declared.refusal.ConfRefusal.TheVariants.{Memory};
+
+    ghost from_gives = { λ _ e. e ≡ Memory };
+
+    fn from(_error: memory_error::Memory) -> ConfRefusal {
+        ConfRefusal::Memory
+    }
+}
+
 // Why a value wasn't read.
 #[derive(Clone, Copy)]
 pub(crate) enum ValueRefusal {

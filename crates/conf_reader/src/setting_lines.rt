@@ -3,7 +3,7 @@
 ghost use Rattle.std.specs.Prelude.{ℕ, ◌≡◌, ◌≤◌, ◌<◌, ◌^◌, ◌∷◌, [], length, map, unwrap_or, codes, bytes_eq, IfOk, IfSome, OnOk, IsErrOf, Some, None, Ok, Err};
 ghost use Rattle.std.specs.List.{list_any};
 ghost use Rattle.conf_reader.specs.Keys.{setting_key};
-ghost use Rattle.conf_reader.specs.SettingLines.{minutes_in, only, setting_entry, setting_word, setting_line};
+ghost use Rattle.conf_reader.specs.SettingLines.{minutes_in, only, select_parameters, setting_entry, setting_word, setting_line};
 ghost use Rattle.conf_reader.specs.Values.{number_in};
 ghost use Rattle.conf_reader.specs.declared.refusal.ConfKind.{ConfKind};
 
@@ -67,9 +67,10 @@ pub(crate) struct SettingWords {
 fn read_minutes(text: &[u8]) -> Option<Ranged<1, 52560000>>
     ensures { result ≡ minutes_in text.now }
 {
-    match read_limit(text) {
-        Some(Limit::Minutes(minutes)) => Some(minutes),
-        _ => None,
+    let limit = read_limit(text)?;
+    match limit {
+        Limit::Minutes(minutes) => Some(minutes),
+        Limit::Unlimited => None,
     }
 }
 
@@ -102,6 +103,17 @@ fn only(text: &[u8], texts: &[&[u8]]) -> Result<SettingEntry, ValueRefusal>
     }
 }
 
+#[tactic(auto, unfolding(crate::specs::SettingLines::select_parameters))]
+fn read_select_parameters(text: &[u8]) -> Result<SettingEntry, ValueRefusal>
+    ensures value { IfOk result (λ entry. select_parameters text.now ≡ Some entry) }
+    ensures refused { IsErrOf result ValueRefusal.BadValue → select_parameters text.now ≡ None }
+{
+    only(
+        text,
+        &[b"CR_CPU_Memory", b"CR_CPU", b"CR_Core", b"CR_Core_Memory"],
+    )
+}
+
 #[tactic(auto, unfolding(crate::specs::SettingLines::setting_entry))]
 fn read_setting_entry(alloc: Global, key: SettingKey, text: &[u8]) -> Result<SettingEntry, ValueRefusal>
     ensures value { IfOk result (λ entry. setting_entry key text.now ≡ Some entry) }
@@ -127,10 +139,7 @@ fn read_setting_entry(alloc: Global, key: SettingKey, text: &[u8]) -> Result<Set
         SettingKey::SchedulerType => only(text, &[b"sched/backfill"]),
         SettingKey::SchedulerParameters => Ok(SettingEntry::Plans(read_scheduler(text).ok_or(bad)?)),
         SettingKey::SelectType => only(text, &[b"select/cons_tres"]),
-        SettingKey::SelectTypeParameters => only(
-            text,
-            &[b"CR_CPU_Memory", b"CR_CPU", b"CR_Core", b"CR_Core_Memory"],
-        ),
+        SettingKey::SelectTypeParameters => read_select_parameters(text),
         SettingKey::PreemptType => only(text, &[b"preempt/none"]),
         SettingKey::DefMemPerNode => Ok(SettingEntry::Mem(read_mem_per_node(text).ok_or(bad)?)),
         SettingKey::DefMemPerCpu => Ok(SettingEntry::Mem(read_mem_per_cpu(text).ok_or(bad)?)),
