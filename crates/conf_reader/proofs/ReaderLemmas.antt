@@ -1,5 +1,5 @@
 -- The lines of a file, one after the other.
-use Rattle.std.proofs.Common.{ℕ, ◌≡◌, ◌++◌, List, [], ◌∷◌, Ok, Err, Result, Bool, true, false, None, refl, ap, sym, ◌∙◌, append_assoc}
+use Rattle.std.proofs.Common.{ℕ, ◌≡◌, ◌++◌, List, [], ◌∷◌, Ok, Err, Result, IfOk, Bool, true, false, None, refl, ap, sym, ◌∙◌, append_assoc}
 use Rattle.std.specs.Str.{IsUtf8, is_utf8}
 use Rattle.std.proofs.lemmas.Str.{IsUtf8-from_is_utf8, is_utf8-from_IsUtf8}
 use Rattle.conf_lines.specs.Lines.{NumberedLine, lines_of_rest}
@@ -28,3 +28,7 @@ bad_text bytes bad = by_test (is_utf8 bytes) refl where
   by_test : (t : Bool) → is_utf8 bytes ≡ t → is_utf8 bytes ≡ false
   by_test true e = absurd (bad (IsUtf8-from_is_utf8 bytes e))
   by_test false e = e
+
+pub if_ok : {X E : Type 0} (r : Result X E) (P Q : X → Type 0) → ((x : X) → P x → Q x) → IfOk r P → IfOk r Q
+if_ok (Ok x) P Q so h = so x h
+if_ok (Err e) P Q so h = h
