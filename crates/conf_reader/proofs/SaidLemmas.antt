@@ -6,7 +6,6 @@ use Rattle.conf_reader.specs.Words.{all_ok, said_by}
 use Rattle.conf_reader.specs.declared.refusal.ConfKind.{ConfKind}
 
 module _ {K E : Type 0} (with_entry : K → E → K) (entry_of : List ℕ → Result E ConfKind) where
-
   pub said_more : (before : K) (line word behind : List ℕ) (entry : E) → words_in line ≡ word ∷ words_in behind → entry_of word ≡ Ok entry → said_by with_entry entry_of before line ≡ said_by with_entry entry_of (with_entry before entry) behind
   unfolding said_by
   said_more before line word behind entry cut good = rw (cut, good) (by_others (all_ok (map entry_of (words_in behind)))) where

@@ -72,8 +72,16 @@ with_entry words WithoutEffect = words
 -- a line that says nothing
 unfoldable pub no_node_words : NodeWords
 no_node_words = record {
-  names = None; cpus = None; boards = None; sockets = None; cores = None; threads = None;
-  mem = None; weight = None; features = None; state = None
+  names = None;
+  cpus = None;
+  boards = None;
+  sockets = None;
+  cores = None;
+  threads = None;
+  mem = None;
+  weight = None;
+  features = None;
+  state = None;
 }
 
 -- what a line says, where earlier lines named these nodes
@@ -92,7 +100,7 @@ over own defaults = record {
   mem = option_or own.mem defaults.mem;
   weight = option_or own.weight defaults.weight;
   features = option_or own.features defaults.features;
-  state = option_or own.state defaults.state
+  state = option_or own.state defaults.state;
 }
 
 -- the processors of a node: `CPUs`, or else the product of what it is made of
@@ -117,5 +125,5 @@ node_conf words name = record {
   mem = unwrap_or words.mem 1;
   weight = unwrap_or words.weight 1;
   features = unwrap_or words.features [];
-  state = unwrap_or words.state Unknown
+  state = unwrap_or words.state Unknown;
 }

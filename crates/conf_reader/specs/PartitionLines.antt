@@ -85,8 +85,20 @@ with_part words WithoutEffect = words
 -- a line that says nothing
 unfoldable pub no_part_words : PartWords
 no_part_words = record {
-  name = None; nodes = None; is_default = None; max_time = None; default_time = None; state = None; factor = None;
-  tier = None; min_nodes = None; max_nodes = None; accounts = None; qos = None; exclusive = None; mem = None
+  name = None;
+  nodes = None;
+  is_default = None;
+  max_time = None;
+  default_time = None;
+  state = None;
+  factor = None;
+  tier = None;
+  min_nodes = None;
+  max_nodes = None;
+  accounts = None;
+  qos = None;
+  exclusive = None;
+  mem = None;
 }
 
 -- what a line says, where earlier lines named these partitions
@@ -109,7 +121,7 @@ over own defaults = record {
   accounts = option_or own.accounts defaults.accounts;
   qos = option_or own.qos defaults.qos;
   exclusive = option_or own.exclusive defaults.exclusive;
-  mem = option_or own.mem defaults.mem
+  mem = option_or own.mem defaults.mem;
 }
 
 -- a partition by what is said of it, as long as it isn't known which nodes there are, and which partition is the default
@@ -128,7 +140,7 @@ part_conf words name = record {
   accounts = unwrap_or words.accounts None;
   qos = unwrap_or words.qos None;
   exclusive = unwrap_or words.exclusive false;
-  mem_default = words.mem
+  mem_default = words.mem;
 }
 
 -- the partition of a line; one without nodes is none

@@ -110,7 +110,11 @@ after_lines draft (line ∷ lines) = at_line line.number (after_line draft line.
 -- before the first line
 unfoldable pub nothing_said : Draft
 nothing_said = record {
-  settings = no_settings; node_defaults = no_node_words; nodes = []; part_defaults = no_part_words; partitions = []
+  settings = no_settings;
+  node_defaults = no_node_words;
+  nodes = [];
+  part_defaults = no_part_words;
+  partitions = [];
 }
 
 -- whether a partition names a node that isn't there
@@ -133,7 +137,7 @@ partitions_by known [] = []
 partitions_by known (line ∷ lines) =
     record line.conf {
       nodes = nodes_by known line.nodes;
-      is_default = line.conf.is_default && not (list_any (λ later. later.conf.is_default) lines)
+      is_default = line.conf.is_default && not (list_any (λ later. later.conf.is_default) lines);
     } ∷ partitions_by known lines
 
 -- what the lines say together
@@ -141,7 +145,7 @@ unfoldable pub conf_of_lines : Draft → Conf
 conf_of_lines draft = record {
   settings = settings_of draft.settings;
   nodes = draft.nodes;
-  partitions = partitions_by (names_of draft.nodes) draft.partitions
+  partitions = partitions_by (names_of draft.nodes) draft.partitions;
 }
 
 abbrev pub known_all : Draft → Option ℕ → Result Conf ConfRefusal

@@ -112,9 +112,21 @@ with_setting words WithoutEffect = words
 -- a file that says nothing
 unfoldable pub no_settings : SettingWords
 no_settings = record {
-  first_job_id = None; max_job_count = None; max_array_size = None; min_job_age = None; slurmd_timeout = None; job_requeue = None;
-  slurm_user = None; max_age = None; weight_age = None; weight_fairshare = None; weight_job_size = None; weight_partition = None;
-  weight_qos = None; plans = no_items; mem = None
+  first_job_id = None;
+  max_job_count = None;
+  max_array_size = None;
+  min_job_age = None;
+  slurmd_timeout = None;
+  job_requeue = None;
+  slurm_user = None;
+  max_age = None;
+  weight_age = None;
+  weight_fairshare = None;
+  weight_job_size = None;
+  weight_partition = None;
+  weight_qos = None;
+  plans = no_items;
+  mem = None;
 }
 
 -- what the file says up to a line and with it
@@ -139,5 +151,5 @@ settings_of words = record {
   weight_qos = unwrap_or words.weight_qos 0;
   bf_window = unwrap_or words.plans.window 1_440;
   bf_interval = unwrap_or words.plans.interval 30;
-  mem_default = words.mem
+  mem_default = words.mem;
 }

@@ -9,7 +9,10 @@ use slurm_text::name::Name;
 use std::alloc::Global;
 
 /// The first list, or else a copy of the second.
-pub(crate) fn or_copy(own: Option<Items<Name>>, default: &Option<Items<Name>>) -> Result<Option<Items<Name>>, Memory>
+pub(crate) fn or_copy(
+    own: Option<Items<Name>>,
+    default: &Option<Items<Name>>,
+) -> Result<Option<Items<Name>>, Memory>
     ensures { IfOk result (λ list. list ≡ option_or own default.now) }
 {
     match (own, default) {
@@ -20,7 +23,10 @@ pub(crate) fn or_copy(own: Option<Items<Name>>, default: &Option<Items<Name>>) -
 }
 
 /// A copy of the list, or an empty one.
-pub(crate) fn copy_or_none(alloc: Global, names: &Option<Items<Name>>) -> Result<Items<Name>, Memory>
+pub(crate) fn copy_or_none(
+    alloc: Global,
+    names: &Option<Items<Name>>,
+) -> Result<Items<Name>, Memory>
     ensures { IfOk result (λ list. list ≡ unwrap_or names.now []) }
 {
     match names {

@@ -207,7 +207,11 @@ impl NodeWords {
 
 /// What the words of a line say, where earlier lines named the nodes of `known`.
 #[tactic(auto, using(crate::proofs::SaidLemmas::said_more, crate::proofs::SaidLemmas::said_bad, crate::proofs::SaidLemmas::said_all), unfolding(crate::specs::NodeLines::node_line))]
-pub(crate) fn read_node_line(alloc: Global, known: &NodeTable, line: &[u8]) -> Result<NodeWords, Fault>
+pub(crate) fn read_node_line(
+    alloc: Global,
+    known: &NodeTable,
+    line: &[u8],
+) -> Result<NodeWords, Fault>
     requires { length line.now < 2 ^ 32 }
     ensures value { IfOk result (λ words. node_line (names_of known.now) line.now ≡ Ok words) }
     ensures refused { (k : ConfKind) → IsErrOf result (Fault.Refused k) → node_line (names_of known.now) line.now ≡ Err k }

@@ -13,8 +13,8 @@ use crate::keys::{PartitionKey, partition_key};
 use crate::lists::or_copy;
 use crate::refusal::{ConfKind, Fault, ValueRefusal};
 use crate::values::{
-    read_allowed, read_exclusive, read_limit, read_mem_per_cpu, read_mem_per_node, read_most_nodes, read_name,
-    read_nodes, read_number, read_part_state, read_u32, read_yes_or_no,
+    read_allowed, read_exclusive, read_limit, read_mem_per_cpu, read_mem_per_node, read_most_nodes,
+    read_name, read_nodes, read_number, read_part_state, read_u32, read_yes_or_no,
 };
 use conf_lines::pairs::read_pair;
 use conf_lines::words::first_word;
@@ -343,7 +343,10 @@ impl PartWords {
     }
 }
 
-fn nodes_or_copy(own: Option<PartNodes>, default: &Option<PartNodes>) -> Result<Option<PartNodes>, Memory>
+fn nodes_or_copy(
+    own: Option<PartNodes>,
+    default: &Option<PartNodes>,
+) -> Result<Option<PartNodes>, Memory>
     ensures { IfOk result (λ nodes. nodes ≡ option_or own default.now) }
 {
     match (own, default) {
@@ -369,7 +372,11 @@ fn allowed_or_copy(
 
 /// What the words of a line say, where earlier lines gave the partitions of `known`.
 #[tactic(auto, using(crate::proofs::SaidLemmas::said_more, crate::proofs::SaidLemmas::said_bad, crate::proofs::SaidLemmas::said_all), unfolding(crate::specs::PartitionLines::part_line))]
-pub(crate) fn read_part_line(alloc: Global, known: &[PartLine], line: &[u8]) -> Result<PartWords, Fault>
+pub(crate) fn read_part_line(
+    alloc: Global,
+    known: &[PartLine],
+    line: &[u8],
+) -> Result<PartWords, Fault>
     requires { length line.now < 2 ^ 32 }
     ensures value { IfOk result (λ words. part_line (partition_names known.now) line.now ≡ Ok words) }
     ensures refused { (k : ConfKind)

@@ -151,7 +151,11 @@ fn has_default(lines: &[PartLine]) -> bool
 }
 
 // The partitions, of which there are few.
-fn make_partitions(alloc: Global, known: &[NodeConf], lines: Vec<PartLine>) -> Result<Items<PartConf>, Memory>
+fn make_partitions(
+    alloc: Global,
+    known: &[NodeConf],
+    lines: Vec<PartLine>,
+) -> Result<Items<PartConf>, Memory>
     ensures { IfOk result (λ partitions. partitions ≡ partitions_by (names_of known.now) lines.items) }
 {
     let mut lines = lines;

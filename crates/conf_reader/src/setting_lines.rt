@@ -11,7 +11,9 @@ use crate::conf::Settings;
 use crate::keys::{SettingKey, setting_key};
 use crate::refusal::{ConfKind, Fault, ValueRefusal};
 use crate::scheduler::{Scheduler, read_scheduler};
-use crate::values::{read_limit, read_mem_per_cpu, read_mem_per_node, read_name, read_number, read_u32};
+use crate::values::{
+    read_limit, read_mem_per_cpu, read_mem_per_node, read_name, read_number, read_u32,
+};
 use conf_lines::pairs::read_pair;
 use conf_lines::words::first_word;
 use slurm_text::memory_error::Memory;
@@ -115,7 +117,11 @@ fn read_select_parameters(text: &[u8]) -> Result<SettingEntry, ValueRefusal>
 }
 
 #[tactic(auto, unfolding(crate::specs::SettingLines::setting_entry))]
-fn read_setting_entry(alloc: Global, key: SettingKey, text: &[u8]) -> Result<SettingEntry, ValueRefusal>
+fn read_setting_entry(
+    alloc: Global,
+    key: SettingKey,
+    text: &[u8],
+) -> Result<SettingEntry, ValueRefusal>
     ensures value { IfOk result (λ entry. setting_entry key text.now ≡ Some entry) }
     ensures refused { IsErrOf result ValueRefusal.BadValue → setting_entry key text.now ≡ None }
 {
@@ -126,18 +132,26 @@ fn read_setting_entry(alloc: Global, key: SettingKey, text: &[u8]) -> Result<Set
         SettingKey::MaxArraySize => Ok(SettingEntry::MaxArraySize(read_number(text).ok_or(bad)?)),
         SettingKey::MinJobAge => Ok(SettingEntry::MinJobAge(read_number(text).ok_or(bad)?)),
         SettingKey::SlurmdTimeout => Ok(SettingEntry::SlurmdTimeout(read_number(text).ok_or(bad)?)),
-        SettingKey::JobRequeue => Ok(SettingEntry::JobRequeue(read_switch(text).ok_or(bad)?.get() == 1)),
+        SettingKey::JobRequeue => Ok(SettingEntry::JobRequeue(
+            read_switch(text).ok_or(bad)?.get() == 1,
+        )),
         SettingKey::SlurmUser => Ok(SettingEntry::SlurmUser(read_name(alloc, text)?)),
         SettingKey::PriorityType => only(text, &[b"priority/multifactor"]),
         SettingKey::PriorityDecayHalfLife => only(text, &[b"0"]),
         SettingKey::PriorityMaxAge => Ok(SettingEntry::MaxAge(read_minutes(text).ok_or(bad)?)),
         SettingKey::WeightAge => Ok(SettingEntry::WeightAge(read_u32(text).ok_or(bad)?)),
-        SettingKey::WeightFairshare => Ok(SettingEntry::WeightFairshare(read_u32(text).ok_or(bad)?)),
+        SettingKey::WeightFairshare => Ok(SettingEntry::WeightFairshare(read_u32(text).ok_or(
+            bad,
+        )?)),
         SettingKey::WeightJobSize => Ok(SettingEntry::WeightJobSize(read_u32(text).ok_or(bad)?)),
-        SettingKey::WeightPartition => Ok(SettingEntry::WeightPartition(read_u32(text).ok_or(bad)?)),
+        SettingKey::WeightPartition => Ok(SettingEntry::WeightPartition(read_u32(text).ok_or(
+            bad,
+        )?)),
         SettingKey::WeightQos => Ok(SettingEntry::WeightQos(read_u32(text).ok_or(bad)?)),
         SettingKey::SchedulerType => only(text, &[b"sched/backfill"]),
-        SettingKey::SchedulerParameters => Ok(SettingEntry::Plans(read_scheduler(text).ok_or(bad)?)),
+        SettingKey::SchedulerParameters => Ok(SettingEntry::Plans(read_scheduler(text).ok_or(
+            bad,
+        )?)),
         SettingKey::SelectType => only(text, &[b"select/cons_tres"]),
         SettingKey::SelectTypeParameters => read_select_parameters(text),
         SettingKey::PreemptType => only(text, &[b"preempt/none"]),
