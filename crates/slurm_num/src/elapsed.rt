@@ -8,7 +8,7 @@ ghost use Rattle.slurm_num.specs.Elapsed.{elapsed_text};
 use itoa::Buffer;
 use slurm_text::digits::to_two_digits;
 
-/// Writes the length of time to the front of `out`, as `m:ss`, `h:mm:ss` or `d-hh:mm:ss`, and answers how
+/// Writes the length of time, in seconds, to the front of `out`, as `m:ss`, `h:mm:ss` or `d-hh:mm:ss`, and answers how
 /// many bytes that took. The others stay.
 #[tactic(auto, unfolding(crate::specs::Elapsed::elapsed_text))]
 pub fn print_elapsed(seconds: u64, out: &mut [u8; 32]) -> usize

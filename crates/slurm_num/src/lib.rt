@@ -9,6 +9,3 @@ mod ratios;
 pub use elapsed::print_elapsed;
 pub use limits::{BadTime, parse_limit};
 pub use ratios::{Ratio, compare, scaled};
-
-#[cfg(test)]
-mod tests;

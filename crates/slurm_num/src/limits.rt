@@ -10,14 +10,28 @@ use slurm_text::fields::{UpToThree, up_to_three};
 use slurm_text::keywords::is_keyword;
 use slurm_text::plain::limit::Limit;
 use slurm_text::ranged::Ranged;
+use std::error::Error;
+use std::fmt;
 
 /// The text is no time limit.
 #[derive(Clone, Copy, PartialEq, Eq, Debug)]
 pub struct BadTime;
 
+impl fmt::Display for BadTime {
+    ghost use Rattle.std.specs.Prelude.{Some, codes};
+
+    ghost output = { λ _. Some (codes "bad time limit") };
+
+    fn fmt<W: fmt::Write>(&self, f: &mut fmt::Formatter<W>) -> fmt::Result {
+        f.write_str("bad time limit")
+    }
+}
+
+impl Error for BadTime {}
+
 const GREATEST: u64 = 52_560_000;
 
-/// The limit of a text such as `90`, `1:30:00` or `2-12`, in whole minutes: seconds round up. A text of no
+/// The limit of a text such as `90`, `1:30:00` or `2-12`, in whole minutes, at most 52,560,000: seconds round up. A text of no
 /// minutes, `UNLIMITED` and `INFINITE` are no limit.
 #[tactic(auto, unfolding(crate::specs::Limits::limit_of, crate::specs::Limits::limit_of_minutes))]
 pub fn parse_limit(text: &[u8]) -> Result<Limit, BadTime>

@@ -1,19 +1,9 @@
-//! The small texts of a cluster's files, requests and replies, and the plain data that readers make of them.
+//! The small texts of a cluster's files, requests and replies, and the plain data that readers make of them: the front
+//! of four crates, which gives out all that the crates above use of them.
 #![tactic(auto)]
 
-mod civil;
-pub mod digits;
-pub mod fields;
-pub mod folding;
-pub mod hosts;
-pub mod items;
-pub mod keywords;
-pub mod memory;
-pub mod memory_error;
-pub mod moment;
-pub mod name;
-pub mod plain;
-pub mod ranged;
-#[cfg(test)]
-mod tests;
-pub mod words;
+pub use host_lists::{folding, hosts};
+pub use line_words::words;
+pub use plain_data as plain;
+pub use plain_data::{items, ranged};
+pub use small_texts::{digits, fields, keywords, memory, memory_error, moment, name};

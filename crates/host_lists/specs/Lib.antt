@@ -1,0 +1,4 @@
+pub mod Counting
+pub mod Folding
+pub mod Hosts
+pub mod Refusals

@@ -1,0 +1,7 @@
+//! Host expressions: the names that a text stands for, and the text of a set of names.
+#![tactic(auto)]
+
+mod brackets;
+pub mod folding;
+pub mod hosts;
+mod items;

@@ -1,0 +1,124 @@
+//! What the controller orders a node's daemon to do.
+
+ghost use Rattle.std.specs.Prelude.{◌≡◌, ◌<◌, All, AllPairs, IfOk, bytes_eq};
+ghost use Rattle.std.specs.Cmp.{partial_equiv_from_equiv};
+ghost use Rattle.std.specs.Cmp.Lexicographic.{nat_list_eq_equiv};
+
+use crate::Plain;
+use crate::items::Items;
+use crate::report::Start;
+use small_texts::memory_error::Memory;
+use small_texts::name::Name;
+use std::marker::Model;
+
+/// Processor numbers of a node. A contract sees them as a list that rises (own).
+#[derive(Debug, Drop)]
+pub struct CpuIds {
+    numbers: Vec<u32>,
+}
+
+impl Model for CpuIds {
+    ghost use Rattle.std.specs.Prelude.{ℕ, List, ◌<◌, All, AllPairs};
+
+    ghost Value = { List ℕ };
+
+    ghost view = { λ ids. ids.numbers.items };
+
+    ghost invariant = { λ ids. AllPairs (λ a b. a < b) ids.numbers.items × All (λ a. a < 1024) ids.numbers.items };
+}
+
+impl PartialEq for CpuIds {
+    ghost eq = { bytes_eq };
+
+    ghost laws = { partial_equiv_from_equiv nat_list_eq_equiv };
+
+    fn eq(&self, other: &CpuIds) -> bool {
+        self.numbers == other.numbers
+    }
+}
+
+impl CpuIds {
+    /// These numbers. It takes no memory.
+    pub fn from_vec(numbers: Vec<u32>) -> CpuIds
+        requires rising { AllPairs (λ a b. a < b) numbers.items }
+        requires small { All (λ a. a < 1024) numbers.items }
+        ensures { result ≡ numbers.items }
+    {
+        CpuIds { numbers }
+    }
+
+    /// The numbers, rising.
+    pub fn as_slice(&self) -> &[u32]
+        ensures value { result.now ≡ self.now }
+        ensures rising { AllPairs (λ a b. a < b) self.now }
+        ensures small { All (λ a. a < 1024) self.now }
+    {
+        self.numbers.as_slice()
+    }
+
+    /// Equal numbers.
+    pub fn copy(&self) -> Result<CpuIds, Memory>
+        ensures { IfOk result (λ ids. ids ≡ self.now) }
+    {
+        let numbers = Vec::from_slice(*self.numbers.allocator(), self.numbers.as_slice())?;
+        Ok(CpuIds { numbers })
+    }
+}
+
+/// A start that is to be launched on the node.
+#[derive(PartialEq, Debug, Drop)]
+pub struct Launch {
+    pub start: Start,
+    /// The processors that it gets there.
+    pub cpus: CpuIds,
+    /// The memory that it gets there, in megabytes.
+    pub mem: u64,
+    /// How long it runs, in seconds; None elsewhere than on the batch host.
+    pub run: Option<u32>,
+    /// Its exit code; None elsewhere than on the batch host.
+    pub exit: Option<u32>,
+}
+
+impl Plain for Launch {
+    fn copy(&self) -> Result<Launch, Memory> {
+        Ok(Launch {
+            start: self.start,
+            cpus: self.cpus.copy()?,
+            mem: self.mem,
+            run: self.run,
+            exit: self.exit,
+        })
+    }
+}
+
+/// What the controller orders a node's daemon to do, in answer to a report (own).
+#[derive(PartialEq, Debug, Drop)]
+pub struct Orders {
+    pub node: Name,
+    /// The boot number of the report that they answer.
+    pub boot: u64,
+    /// The number of that report.
+    pub number: u64,
+    /// The starts to be killed.
+    pub kills: Items<Start>,
+    /// The starts that the daemon needn't report any more.
+    pub forgets: Items<Start>,
+    /// The starts to be launched.
+    pub launches: Items<Launch>,
+}
+
+impl Orders {
+    /// Equal orders.
+    pub fn copy(&self) -> Result<Orders, Memory>
+        ensures { IfOk result (λ orders. orders ≡ self.now) }
+    {
+        Ok(Orders {
+            node: self.node.copy()?,
+            boot: self.boot,
+            number: self.number,
+            kills: self.kills.copy()?,
+            forgets: self.forgets.copy()?,
+            launches: self.launches.copy()?,
+        })
+    }
+}

@@ -1,7 +1,0 @@
-use Rattle.std.proofs.Common.{◌≡◌, ◌++◌, drop, map}
-use Rattle.slurm_text.specs.Folding.{continued, runs, runs_text}
-use Rattle.slurm_text.proofs.folding.push_runs.Given as goal
-
-abbrev pub invariant-loop-name : goal.invariant-loop-name
-invariant-loop-name l =
-    l.text.items ++ runs_text (continued l.first l.last (runs (drop l.name-index (map (λ name. name.now) l.others)))) ≡ l.initial.text.items ++ runs_text (runs (map (λ name. name.now) l.names))

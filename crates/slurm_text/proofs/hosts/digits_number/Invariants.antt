@@ -1,7 +1,0 @@
-use Rattle.std.proofs.Common.{◌≡◌, ◌<◌, ◌^◌, take}
-use Rattle.slurm_text.specs.Hosts.{digits_number}
-use Rattle.slurm_text.proofs.hosts.digits_number.Given as goal
-
-abbrev pub invariant-loop-b : goal.invariant-loop-b
-invariant-loop-b l =
-    (l.number ≡ digits_number (take l.b-index l.digits)) × (l.number < 10 ^ l.b-index)

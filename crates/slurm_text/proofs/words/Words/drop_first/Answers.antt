@@ -1,6 +1,0 @@
-use Rattle.slurm_text.proofs.WordLemmas.{are_words-drop}
-use Rattle.slurm_text.proofs.words.Words.drop_first.Goals as goal
-
-pub invariant_of-self : goal.invariant_of-self
-invariant_of-self c =
-    rw (c.drop-drain.ensures.items, c.drain.ensures.kept) (are_words-drop _ c.args.count c.self.inside.words.items c.self.invariant)

@@ -1,6 +1,0 @@
-use Rattle.std.proofs.Common.{◌≡◌, ◌++◌, take, flat_map}
-use Rattle.slurm_text.specs.Words.{double_quoted}
-use Rattle.slurm_text.proofs.words.push_quoted.Given as goal
-
-abbrev pub invariant-loop-b : goal.invariant-loop-b
-invariant-loop-b l = l.out.items ≡ l.initial.out.items ++ flat_map double_quoted (take l.b-index l.word)

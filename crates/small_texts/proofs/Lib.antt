@@ -1,0 +1,4 @@
+pub mod CivilLemmas
+pub mod DigitsLemmas
+pub mod FieldsLemmas
+pub mod MomentLemmas
