@@ -74,10 +74,10 @@ pub(crate) fn read_nodes(alloc: Global, text: &[u8]) -> Result<Items<Name>, Valu
     ensures value { IfOk result (λ names. nodes_in text.now ≡ Some names) }
     ensures refused { IsErrOf result ValueRefusal.BadValue → nodes_in text.now ≡ None }
 {
-    match expand_hosts(alloc, text) {
+    match expand_hosts(alloc, text, usize::MAX) {
         Ok(names) => Ok(Items::from_vec(names)),
         Err(HostRefusal::BadHosts { place: _ }) => Err(ValueRefusal::BadValue),
-        Err(HostRefusal::Memory) => Err(ValueRefusal::Memory),
+        Err(HostRefusal::TooMany | HostRefusal::Memory) => Err(ValueRefusal::Memory),
     }
 }
 
