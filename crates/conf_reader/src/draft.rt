@@ -158,7 +158,8 @@ impl Draft {
     #[tactic(auto, unfolding(crate::specs::Reader::after_part_line))]
     fn end_part_line(&mut self, alloc: Global, number: u32, own: PartWords) -> Result<(), Fault>
         ensures value { OnOk result (after_part_line self.old number own ≡ Ok self.new) }
-        ensures refused { (k : ConfKind) → IsErrOf result (Fault.Refused k) → after_part_line self.old number own ≡ Err k }
+        ensures refused { (k : ConfKind)
+            → IsErrOf result (Fault.Refused k) → after_part_line self.old number own ≡ Err k }
     {
         if own.is_for_partitions() {
             let defaults = mem::replace(&mut self.part_defaults, PartWords::new());
@@ -208,7 +209,8 @@ impl Draft {
     pub(crate) fn read_line(&mut self, alloc: Global, number: u32, line: &[u8]) -> Result<(), Fault>
         requires { length line.now < 2 ^ 32 }
         ensures value { OnOk result (after_line self.old number line.now ≡ Ok self.new) }
-        ensures refused { (k : ConfKind) → IsErrOf result (Fault.Refused k) → after_line self.old number line.now ≡ Err k }
+        ensures refused { (k : ConfKind)
+            → IsErrOf result (Fault.Refused k) → after_line self.old number line.now ≡ Err k }
     {
         if !is_text(line) {
             return Err(Fault::Refused(ConfKind::NotUtf8));

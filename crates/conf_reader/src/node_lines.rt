@@ -106,7 +106,8 @@ fn read_node_entry(alloc: Global, key: NodeKey, text: &[u8]) -> Result<NodeEntry
 fn read_entry(alloc: Global, word: &[u8]) -> Result<NodeEntry, Fault>
     requires { length word.now < 2 ^ 32 }
     ensures value { IfOk result (λ entry. entry_in node_key node_entry word.now ≡ Ok entry) }
-    ensures refused { (k : ConfKind) → IsErrOf result (Fault.Refused k) → entry_in node_key node_entry word.now ≡ Err k }
+    ensures refused { (k : ConfKind)
+        → IsErrOf result (Fault.Refused k) → entry_in node_key node_entry word.now ≡ Err k }
 {
     let Some(pair) = read_pair(word) else {
         return Err(Fault::Refused(ConfKind::BadPair));
@@ -154,7 +155,8 @@ fn has_any(known: &NodeTable, names: &[Name]) -> bool
 fn read_node_word(alloc: Global, known: &NodeTable, word: &[u8]) -> Result<NodeEntry, Fault>
     requires { length word.now < 2 ^ 32 }
     ensures value { IfOk result (λ entry. node_word (names_of known.now) word.now ≡ Ok entry) }
-    ensures refused { (k : ConfKind) → IsErrOf result (Fault.Refused k) → node_word (names_of known.now) word.now ≡ Err k }
+    ensures refused { (k : ConfKind)
+        → IsErrOf result (Fault.Refused k) → node_word (names_of known.now) word.now ≡ Err k }
 {
     let entry = read_entry(alloc, word)?;
     match entry_fault(known, &entry) {
@@ -214,7 +216,8 @@ pub(crate) fn read_node_line(
 ) -> Result<NodeWords, Fault>
     requires { length line.now < 2 ^ 32 }
     ensures value { IfOk result (λ words. node_line (names_of known.now) line.now ≡ Ok words) }
-    ensures refused { (k : ConfKind) → IsErrOf result (Fault.Refused k) → node_line (names_of known.now) line.now ≡ Err k }
+    ensures refused { (k : ConfKind)
+        → IsErrOf result (Fault.Refused k) → node_line (names_of known.now) line.now ≡ Err k }
 {
     let mut words = NodeWords::new();
     let mut rest = line;
