@@ -1,0 +1,15 @@
+use Rattle.std.proofs.Common.{◌≡◌, map}
+use Rattle.std.specs.Option.{option_copied}
+use Rattle.slurm_text.specs.Fields.{fields, fields_of_rest}
+use Rattle.conf_lines.specs.Lines.{bytes_left}
+use Rattle.conf_reader.specs.Values.{all_some}
+use Rattle.conf_reader.specs.SettingLines.{scheduler_item, no_items}
+use Rattle.conf_reader.proofs.SchedulerLemmas.{on_top}
+use Rattle.conf_reader.proofs.scheduler.read_scheduler.Given as goal
+
+abbrev pub decreases-loop-rest : goal.decreases-loop-rest
+decreases-loop-rest l = bytes_left (option_copied l.rest)
+
+abbrev pub invariant-loop-rest : goal.invariant-loop-rest
+invariant-loop-rest l =
+    on_top l.plans (all_some (map scheduler_item (fields_of_rest 44 (option_copied l.rest)))) ≡ on_top no_items (all_some (map scheduler_item (fields 44 l.text)))

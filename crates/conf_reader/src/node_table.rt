@@ -1,0 +1,73 @@
+//! Nodes, with an index of their names.
+
+use crate::conf::NodeConf;
+use slurm_text::items::Items;
+use slurm_text::memory_error::Memory;
+use slurm_text::name::Name;
+use std::alloc::Global;
+use std::collections::HashSet;
+use std::marker::Model;
+
+/// Nodes in order. A contract sees the list of them.
+#[derive(Drop)]
+pub(crate) struct NodeTable {
+    nodes: Vec<NodeConf>,
+    seen: HashSet<Name>,
+}
+
+impl Model for NodeTable {
+    ghost use Rattle.std.specs.Prelude.{List, ℕ, ◌≡◌, map, bytes_eq};
+    ghost use Rattle.std.specs.HashSet.{contains};
+    ghost use Rattle.conf_reader.specs.Values.{has};
+    ghost use Rattle.conf_reader.specs.declared.conf.NodeConf.{NodeConf};
+
+    ghost Value = { List NodeConf };
+
+    ghost view = { λ table. table.nodes.items };
+
+    ghost invariant = { λ table. (name : List ℕ)
+        → contains bytes_eq table.seen name ≡ has name (map (λ node. node.name) table.nodes.items) };
+}
+
+impl NodeTable {
+    ghost use Rattle.std.specs.Prelude.{◌≡◌, [], ◌∷◌, ◌++◌, length, map, OnOk};
+    ghost use Rattle.conf_reader.specs.Values.{has};
+
+    pub(crate) fn new(alloc: Global) -> NodeTable
+        ensures { result ≡ [] }
+    {
+        NodeTable {
+            nodes: Vec::new(alloc),
+            seen: HashSet::new(alloc),
+        }
+    }
+
+    pub(crate) fn len(&self) -> usize
+        ensures { result ≡ length self.now }
+    {
+        self.nodes.len()
+    }
+
+    /// Whether a node has this name.
+    pub(crate) fn has(&self, name: &Name) -> bool
+        ensures { result ≡ has name.now (map (λ node. node.name) self.now) }
+    {
+        self.seen.contains(name)
+    }
+
+    pub(crate) fn push(&mut self, node: NodeConf) -> Result<(), Memory>
+        ensures { OnOk result (self.new ≡ self.old ++ node ∷ []) }
+    {
+        let name = node.name.copy()?;
+        self.nodes.reserve(1)?;
+        self.seen.insert(name)?;
+        self.nodes.push(node).unwrap();
+        Ok(())
+    }
+
+    pub(crate) fn into_items(self) -> Items<NodeConf>
+        ensures { result ≡ self }
+    {
+        Items::from_vec(self.nodes)
+    }
+}
