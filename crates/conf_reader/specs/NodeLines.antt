@@ -2,22 +2,22 @@
 use Rattle.std.specs.Prelude.{ℕ, ◌+◌, ◌*◌, nat_lt, nat_le, Bool, ◌||◌, if◌then◌else◌, List, [], ◌∷◌, ◌++◌, length, map, bytes_eq, codes, Option, Some, None, option_map, unwrap_or, Result, Ok, Err}
 use Rattle.std.specs.List.{list_any}
 use Rattle.std.specs.Option.{option_or}
-use Rattle.conf_reader.specs.Values.{has}
-use Rattle.conf_reader.specs.Keys.{node_key}
-use Rattle.conf_reader.specs.Refusal.{◌>>=◌}
-use Rattle.conf_reader.specs.Values.{number_in, names_in, nodes_in, node_start}
+use Rattle.conf_values.specs.Values.{has}
+use Rattle.conf_values.specs.Keys.{node_key}
+use Rattle.conf_values.specs.Refusal.{◌>>=◌}
+use Rattle.conf_values.specs.Values.{number_in, names_in, nodes_in, node_start}
 use Rattle.conf_reader.specs.Words.{entry_in, unless, said_by}
-use Rattle.conf_reader.specs.declared.conf.NodeConf.{NodeConf}
-use Rattle.conf_reader.specs.declared.conf.NodeStart.TheVariants.{Unknown}
-use Rattle.conf_reader.specs.declared.keys.NodeKey.{NodeKey}
-use Rattle.conf_reader.specs.declared.keys.NodeKey.TheVariants as key
+use Rattle.conf_values.specs.declared.conf.NodeConf.{NodeConf}
+use Rattle.conf_values.specs.declared.conf.NodeStart.TheVariants.{Unknown}
+use Rattle.conf_values.specs.declared.keys.NodeKey.{NodeKey}
+use Rattle.conf_values.specs.declared.keys.NodeKey.TheVariants as key
 use Rattle.conf_reader.specs.declared.node_lines.NodeNames.{NodeNames}
 use Rattle.conf_reader.specs.declared.node_lines.NodeNames.TheVariants.{Default, Hosts}
 use Rattle.conf_reader.specs.declared.node_lines.NodeEntry.{NodeEntry}
 use Rattle.conf_reader.specs.declared.node_lines.NodeEntry.TheVariants.{Names, Cpus, Boards, Sockets, Cores, Threads, Mem, Weight, Features, State, WithoutEffect}
 use Rattle.conf_reader.specs.declared.node_lines.NodeWords.{NodeWords}
-use Rattle.conf_reader.specs.declared.refusal.ConfKind.{ConfKind}
-use Rattle.conf_reader.specs.declared.refusal.ConfKind.TheVariants.{TwiceNamed, OverLimit}
+use Rattle.conf_values.specs.declared.refusal.ConfKind.{ConfKind}
+use Rattle.conf_values.specs.declared.refusal.ConfKind.TheVariants.{TwiceNamed, OverLimit}
 
 -- whom a line speaks of: the lines after it, or nodes
 unfoldable pub node_names : List ℕ → Option NodeNames

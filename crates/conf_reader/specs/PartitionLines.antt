@@ -3,14 +3,14 @@ use Rattle.std.specs.Prelude.{ℕ, nat_le, Bool, false, if◌then◌else◌, Lis
 use Rattle.std.specs.Option.{option_or}
 use Rattle.slurm_num.specs.Limits.{limit_of}
 use Rattle.slurm_text.specs.declared.plain.limit.Limit.TheVariants.{Unlimited}
-use Rattle.conf_reader.specs.Keys.{partition_key}
-use Rattle.conf_reader.specs.Refusal.{◌>>=◌}
-use Rattle.conf_reader.specs.Values.{has, name_in, number_in, u32_in, nodes_in, is_word, part_state, yes_or_no, exclusive_in, allowed_in, most_nodes, mem_per_node, mem_per_cpu}
+use Rattle.conf_values.specs.Keys.{partition_key}
+use Rattle.conf_values.specs.Refusal.{◌>>=◌}
+use Rattle.conf_values.specs.Values.{has, name_in, number_in, u32_in, nodes_in, is_word, part_state, yes_or_no, exclusive_in, allowed_in, most_nodes, mem_per_node, mem_per_cpu}
 use Rattle.conf_reader.specs.Words.{entry_in, unless, said_by}
-use Rattle.conf_reader.specs.declared.conf.PartConf.{PartConf}
-use Rattle.conf_reader.specs.declared.conf.PartState.TheVariants.{Up}
-use Rattle.conf_reader.specs.declared.keys.PartitionKey.{PartitionKey}
-use Rattle.conf_reader.specs.declared.keys.PartitionKey.TheVariants as key
+use Rattle.conf_values.specs.declared.conf.PartConf.{PartConf}
+use Rattle.conf_values.specs.declared.conf.PartState.TheVariants.{Up}
+use Rattle.conf_values.specs.declared.keys.PartitionKey.{PartitionKey}
+use Rattle.conf_values.specs.declared.keys.PartitionKey.TheVariants as key
 use Rattle.conf_reader.specs.declared.partition_lines.PartName.{PartName}
 use Rattle.conf_reader.specs.declared.partition_lines.PartName.TheVariants.{Default, Named}
 use Rattle.conf_reader.specs.declared.partition_lines.PartNodes.{PartNodes}
@@ -19,8 +19,8 @@ use Rattle.conf_reader.specs.declared.partition_lines.PartEntry.{PartEntry}
 use Rattle.conf_reader.specs.declared.partition_lines.PartEntry.TheVariants.{Name, Nodes, IsDefault, MaxTime, DefaultTime, State, Factor, Tier, MinNodes, MaxNodes, Accounts, Qos, Exclusive, Mem, WithoutEffect}
 use Rattle.conf_reader.specs.declared.partition_lines.PartWords.{PartWords}
 use Rattle.conf_reader.specs.declared.partition_lines.PartLine.{PartLine}
-use Rattle.conf_reader.specs.declared.refusal.ConfKind.{ConfKind}
-use Rattle.conf_reader.specs.declared.refusal.ConfKind.TheVariants.{TwiceNamed, OverLimit}
+use Rattle.conf_values.specs.declared.refusal.ConfKind.{ConfKind}
+use Rattle.conf_values.specs.declared.refusal.ConfKind.TheVariants.{TwiceNamed, OverLimit}
 
 -- whom a line speaks of: the lines after it, or a partition
 unfoldable pub part_name : List ℕ → Option PartName

@@ -10,11 +10,11 @@ use Rattle.conf_reader.specs.NodeLines.{over as nodes_over}
 use Rattle.conf_reader.specs.PartitionLines.{part_line, partition_names, no_part_words, line_of}
 use Rattle.conf_reader.specs.PartitionLines.{over as parts_over}
 use Rattle.conf_reader.specs.SettingLines.{setting_line, no_settings, settings_of}
-use Rattle.conf_reader.specs.Refusal.{◌>>=◌}
-use Rattle.conf_reader.specs.Values.{has, is_word}
-use Rattle.conf_reader.specs.declared.conf.Conf.{Conf}
-use Rattle.conf_reader.specs.declared.conf.NodeConf.{NodeConf}
-use Rattle.conf_reader.specs.declared.conf.PartConf.{PartConf}
+use Rattle.conf_values.specs.Refusal.{◌>>=◌}
+use Rattle.conf_values.specs.Values.{has, is_word}
+use Rattle.conf_values.specs.declared.conf.Conf.{Conf}
+use Rattle.conf_values.specs.declared.conf.NodeConf.{NodeConf}
+use Rattle.conf_values.specs.declared.conf.PartConf.{PartConf}
 use Rattle.conf_reader.specs.declared.draft.Draft.{Draft}
 use Rattle.conf_reader.specs.declared.draft.LineKind.{LineKind}
 use Rattle.conf_reader.specs.declared.draft.LineKind.TheVariants.{Settings, Node, Partition}
@@ -27,10 +27,10 @@ use Rattle.conf_reader.specs.declared.partition_lines.PartNodes.{PartNodes}
 use Rattle.conf_reader.specs.declared.partition_lines.PartNodes.TheVariants.{All, Listed}
 use Rattle.conf_reader.specs.declared.partition_lines.PartWords.{PartWords}
 use Rattle.conf_reader.specs.declared.partition_lines.PartLine.{PartLine}
-use Rattle.conf_reader.specs.declared.refusal.ConfKind.{ConfKind}
-use Rattle.conf_reader.specs.declared.refusal.ConfKind.TheVariants.{NotUtf8, BadValue, UnknownNode, NoPartition, OverLimit}
-use Rattle.conf_reader.specs.declared.refusal.ConfRefusal.{ConfRefusal}
-use Rattle.conf_reader.specs.declared.refusal.ConfRefusal.TheVariants.{At}
+use Rattle.conf_values.specs.declared.refusal.ConfKind.{ConfKind}
+use Rattle.conf_values.specs.declared.refusal.ConfKind.TheVariants.{NotUtf8, BadValue, UnknownNode, NoPartition, OverLimit}
+use Rattle.conf_values.specs.declared.refusal.ConfRefusal.{ConfRefusal}
+use Rattle.conf_values.specs.declared.refusal.ConfRefusal.TheVariants.{At}
 
 -- the kind of a line, by the key of its first word
 abbrev pub kind_by_key : List ℕ → LineKind

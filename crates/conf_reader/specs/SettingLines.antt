@@ -6,43 +6,20 @@ use Rattle.slurm_text.specs.Fields.{fields}
 use Rattle.slurm_text.specs.Options.{◌>>=◌}
 use Rattle.slurm_text.specs.declared.plain.limit.Limit.{Limit}
 use Rattle.slurm_text.specs.declared.plain.limit.Limit.TheVariants.{Minutes, Unlimited}
-use Rattle.conf_reader.specs.Keys.{setting_key}
-use Rattle.conf_reader.specs.Values.{all_some, name_in, number_in, u32_in, mem_per_node, mem_per_cpu}
+use Rattle.conf_values.specs.Keys.{setting_key}
+use Rattle.conf_values.specs.Values.{all_some, name_in, number_in, u32_in, mem_per_node, mem_per_cpu}
+use Rattle.conf_values.specs.Scheduler.{scheduler_in, no_items}
 use Rattle.conf_reader.specs.Words.{entry_in, said_by}
-use Rattle.conf_reader.specs.declared.conf.Settings.{Settings}
-use Rattle.conf_reader.specs.declared.keys.SettingKey.{SettingKey}
-use Rattle.conf_reader.specs.declared.keys.SettingKey.TheVariants as key
-use Rattle.conf_reader.specs.declared.scheduler.Scheduler.{Scheduler}
-use Rattle.conf_reader.specs.declared.scheduler.SchedulerItem.{SchedulerItem}
-use Rattle.conf_reader.specs.declared.scheduler.SchedulerItem.TheVariants.{Window, Interval}
+use Rattle.conf_values.specs.declared.conf.Settings.{Settings}
+use Rattle.conf_values.specs.declared.keys.SettingKey.{SettingKey}
+use Rattle.conf_values.specs.declared.keys.SettingKey.TheVariants as key
+use Rattle.conf_values.specs.declared.scheduler.Scheduler.{Scheduler}
+use Rattle.conf_values.specs.declared.scheduler.SchedulerItem.{SchedulerItem}
+use Rattle.conf_values.specs.declared.scheduler.SchedulerItem.TheVariants.{Window, Interval}
 use Rattle.conf_reader.specs.declared.setting_lines.SettingEntry.{SettingEntry}
 use Rattle.conf_reader.specs.declared.setting_lines.SettingEntry.TheVariants.{FirstJobId, MaxJobCount, MaxArraySize, MinJobAge, SlurmdTimeout, JobRequeue, SlurmUser, MaxAge, WeightAge, WeightFairshare, WeightJobSize, WeightPartition, WeightQos, Plans, Mem, WithoutEffect}
 use Rattle.conf_reader.specs.declared.setting_lines.SettingWords.{SettingWords}
-use Rattle.conf_reader.specs.declared.refusal.ConfKind.{ConfKind}
-
--- one of the parameters of the scheduler, by its fields at an equals sign
-unfoldable pub scheduler_item_of : List (List ℕ) → Option SchedulerItem
-scheduler_item_of (name ∷ value ∷ []) =
-    if bytes_eq name (codes "bf_window") then option_map Window (number_in 1 43_200 value)
-    else (if bytes_eq name (codes "bf_interval") then option_map Interval (number_in 1 10_800 value)
-    else None)
-scheduler_item_of parts = None
-
--- 61 is an equals sign
-abbrev pub scheduler_item : List ℕ → Option SchedulerItem
-scheduler_item text = scheduler_item_of (fields 61 text)
-
--- a parameter takes the place of an earlier one
-unfoldable pub with_item : Scheduler → SchedulerItem → Scheduler
-with_item plans (Window minutes) = record plans { window = Some minutes }
-with_item plans (Interval seconds) = record plans { interval = Some seconds }
-
-unfoldable pub no_items : Scheduler
-no_items = record { window = None; interval = None }
-
--- the parameters of the scheduler, between commas (44)
-unfoldable pub scheduler_in : List ℕ → Option Scheduler
-scheduler_in text = option_map (fold with_item no_items) (all_some (map scheduler_item (fields 44 text)))
+use Rattle.conf_values.specs.declared.refusal.ConfKind.{ConfKind}
 
 -- a time of at least a minute, with an end
 abbrev pub minutes_of : Limit → Option ℕ

@@ -2,9 +2,9 @@
 use Rattle.std.specs.Prelude.{ℕ, List, [], ◌∷◌, map, fold, Option, Some, None, Result, Ok, Err, ok_or}
 use Rattle.conf_lines.specs.Words.{words_in}
 use Rattle.conf_lines.specs.Pairs.{pair_in}
-use Rattle.conf_reader.specs.Refusal.{◌>>=◌}
-use Rattle.conf_reader.specs.declared.refusal.ConfKind.{ConfKind}
-use Rattle.conf_reader.specs.declared.refusal.ConfKind.TheVariants.{BadPair, UnknownKey, BadValue}
+use Rattle.conf_values.specs.Refusal.{◌>>=◌}
+use Rattle.conf_values.specs.declared.refusal.ConfKind.{ConfKind}
+use Rattle.conf_values.specs.declared.refusal.ConfKind.TheVariants.{BadPair, UnknownKey, BadValue}
 
 -- what a word says, by the keys of its line's kind and by how their values are read
 unfoldable pub entry_in : {K E : Type 0} → (List ℕ → Option K) → (K → List ℕ → Option E) → List ℕ → Result E ConfKind

@@ -3,13 +3,13 @@
 ghost use Rattle.std.specs.Prelude.{ℕ, ◌≡◌, ◌≤◌, ◌<◌, ◌^◌, length, IfOk, OnOk, IsErrOf, Ok, Err};
 ghost use Rattle.std.specs.Str.{is_utf8};
 ghost use Rattle.conf_reader.specs.Reader.{kind_by_key, kind_of, is_for_nodes, listed, is_for_partitions, after_node_line, after_part_line, after_kind, after_line, nothing_said};
-ghost use Rattle.conf_reader.specs.declared.refusal.ConfKind.{ConfKind};
+ghost use Rattle.conf_values.specs.declared.refusal.ConfKind.{ConfKind};
 
 use crate::node_lines::{NodeNames, NodeWords, read_node_line};
 use crate::node_table::NodeTable;
 use crate::part_table::PartTable;
 use crate::partition_lines::{PartName, PartWords, read_part_line};
-use crate::refusal::{ConfKind, Fault};
+use conf_values::refusal::{ConfKind, Fault};
 use crate::setting_lines::SettingWords;
 use conf_lines::pairs::read_pair;
 use conf_lines::words::first_word;
@@ -112,7 +112,7 @@ impl Draft {
     ghost use Rattle.std.specs.Prelude.{ℕ, ◌≡◌, ◌<◌, ◌^◌, length, OnOk, IsErrOf, Ok, Err};
     ghost use Rattle.conf_reader.specs.Reader.{nothing_said, after_node_line, after_part_line, after_kind, after_line};
     ghost use Rattle.conf_reader.specs.Reader.{with_nodes};
-    ghost use Rattle.conf_reader.specs.declared.refusal.ConfKind.{ConfKind};
+    ghost use Rattle.conf_values.specs.declared.refusal.ConfKind.{ConfKind};
     ghost use Rattle.conf_reader.specs.declared.draft.LineKind.TheVariants.{Settings, Node, Partition};
 
     #[tactic(auto, unfolding(crate::specs::Reader::nothing_said))]

@@ -1,20 +1,20 @@
 //! Lines of nodes.
 
 ghost use Rattle.std.specs.Prelude.{ℕ, ◌≡◌, ◌≤◌, ◌<◌, ◌^◌, ◌*◌, [], ◌++◌, unwrap_or, length, map, IfOk, IfSome, OnOk, IsErrOf, Some, None, Ok, Err};
-ghost use Rattle.conf_reader.specs.Keys.{node_key};
+ghost use Rattle.conf_values.specs.Keys.{node_key};
 ghost use Rattle.conf_reader.specs.NodeLines.{node_names, node_entry, names_of, names_fault, entry_fault, node_word, with_entry, no_node_words, node_line, few, few_times, processors, node_conf};
 ghost use Rattle.std.specs.Option.{option_or};
-ghost use Rattle.conf_reader.specs.Values.{has};
+ghost use Rattle.conf_values.specs.Values.{has};
 ghost use Rattle.conf_reader.specs.Words.{entry_in};
 ghost use Rattle.std.specs.List.{list_any};
-ghost use Rattle.conf_reader.specs.declared.refusal.ConfKind.{ConfKind};
+ghost use Rattle.conf_values.specs.declared.refusal.ConfKind.{ConfKind};
 
-use crate::conf::{NodeConf, NodeStart};
-use crate::keys::{NodeKey, node_key};
-use crate::lists::{copy_or_none, or_copy};
+use conf_values::conf::{NodeConf, NodeStart};
+use conf_values::keys::{NodeKey, node_key};
+use conf_values::lists::{copy_or_none, or_copy};
 use crate::node_table::NodeTable;
-use crate::refusal::{ConfKind, Fault, ValueRefusal};
-use crate::values::{read_names, read_node_start, read_nodes, read_number};
+use conf_values::refusal::{ConfKind, Fault, ValueRefusal};
+use conf_values::values::{read_names, read_node_start, read_nodes, read_number};
 use conf_lines::pairs::read_pair;
 use conf_lines::words::first_word;
 use slurm_text::items::Items;

@@ -1,6 +1,6 @@
 //! Nodes, with an index of their names.
 
-use crate::conf::NodeConf;
+use conf_values::conf::NodeConf;
 use slurm_text::items::Items;
 use slurm_text::memory_error::Memory;
 use slurm_text::name::Name;
@@ -18,8 +18,8 @@ pub(crate) struct NodeTable {
 impl Model for NodeTable {
     ghost use Rattle.std.specs.Prelude.{List, ℕ, ◌≡◌, map, bytes_eq};
     ghost use Rattle.std.specs.HashSet.{contains};
-    ghost use Rattle.conf_reader.specs.Values.{has};
-    ghost use Rattle.conf_reader.specs.declared.conf.NodeConf.{NodeConf};
+    ghost use Rattle.conf_values.specs.Values.{has};
+    ghost use Rattle.conf_values.specs.declared.conf.NodeConf.{NodeConf};
 
     ghost Value = { List NodeConf };
 
@@ -31,7 +31,7 @@ impl Model for NodeTable {
 
 impl NodeTable {
     ghost use Rattle.std.specs.Prelude.{◌≡◌, [], ◌∷◌, ◌++◌, length, map, OnOk};
-    ghost use Rattle.conf_reader.specs.Values.{has};
+    ghost use Rattle.conf_values.specs.Values.{has};
 
     pub(crate) fn new(alloc: Global) -> NodeTable
         ensures { result ≡ [] }

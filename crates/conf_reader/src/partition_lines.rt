@@ -2,17 +2,17 @@
 
 ghost use Rattle.std.specs.Prelude.{ℕ, ◌≡◌, ◌≤◌, ◌<◌, ◌^◌, length, map, IfOk, IfSome, OnOk, IsErrOf, Some, None, Ok, Err};
 ghost use Rattle.std.specs.Option.{option_or};
-ghost use Rattle.conf_reader.specs.Keys.{partition_key};
+ghost use Rattle.conf_values.specs.Keys.{partition_key};
 ghost use Rattle.conf_reader.specs.PartitionLines.{part_name, part_nodes, part_entry, partition_names, part_fault, part_word, part_line};
-ghost use Rattle.conf_reader.specs.Values.{has};
+ghost use Rattle.conf_values.specs.Values.{has};
 ghost use Rattle.conf_reader.specs.Words.{entry_in};
-ghost use Rattle.conf_reader.specs.declared.refusal.ConfKind.{ConfKind};
+ghost use Rattle.conf_values.specs.declared.refusal.ConfKind.{ConfKind};
 
-use crate::conf::{PartConf, PartState};
-use crate::keys::{PartitionKey, partition_key};
-use crate::lists::or_copy;
-use crate::refusal::{ConfKind, Fault, ValueRefusal};
-use crate::values::{
+use conf_values::conf::{PartConf, PartState};
+use conf_values::keys::{PartitionKey, partition_key};
+use conf_values::lists::or_copy;
+use conf_values::refusal::{ConfKind, Fault, ValueRefusal};
+use conf_values::values::{
     read_allowed, read_exclusive, read_limit, read_mem_per_cpu, read_mem_per_node, read_most_nodes,
     read_name, read_nodes, read_number, read_part_state, read_u32, read_yes_or_no,
 };

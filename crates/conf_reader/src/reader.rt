@@ -5,14 +5,14 @@ ghost use Rattle.std.specs.List.{list_any};
 ghost use Rattle.conf_lines.specs.Lines.{logical_lines};
 ghost use Rattle.conf_reader.specs.NodeLines.{names_of};
 ghost use Rattle.conf_reader.specs.Reader.{after_lines, nothing_said, has_unknown, first_unknown, nodes_by, partitions_by, conf_of_lines, whole_file, conf_in};
-ghost use Rattle.conf_reader.specs.Values.{has};
-ghost use Rattle.conf_reader.specs.declared.refusal.ConfKind.{ConfKind};
+ghost use Rattle.conf_values.specs.Values.{has};
+ghost use Rattle.conf_values.specs.declared.refusal.ConfKind.{ConfKind};
 
-use crate::conf::{Conf, NodeConf, PartConf};
+use conf_values::conf::{Conf, NodeConf, PartConf};
 use crate::draft::Draft;
 use crate::node_table::NodeTable;
 use crate::partition_lines::{PartLine, PartNodes};
-use crate::refusal::{ConfKind, ConfRefusal, Fault};
+use conf_values::refusal::{ConfKind, ConfRefusal, Fault};
 use conf_lines::lines::first_line;
 use slurm_text::items::Items;
 use slurm_text::memory_error::Memory;

@@ -2,16 +2,16 @@
 
 ghost use Rattle.std.specs.Prelude.{ℕ, ◌≡◌, ◌≤◌, ◌<◌, ◌^◌, ◌∷◌, [], length, map, unwrap_or, codes, bytes_eq, IfOk, IfSome, OnOk, IsErrOf, Some, None, Ok, Err};
 ghost use Rattle.std.specs.List.{list_any};
-ghost use Rattle.conf_reader.specs.Keys.{setting_key};
+ghost use Rattle.conf_values.specs.Keys.{setting_key};
 ghost use Rattle.conf_reader.specs.SettingLines.{minutes_in, only, select_parameters, setting_entry, setting_word, setting_line};
-ghost use Rattle.conf_reader.specs.Values.{number_in};
-ghost use Rattle.conf_reader.specs.declared.refusal.ConfKind.{ConfKind};
+ghost use Rattle.conf_values.specs.Values.{number_in};
+ghost use Rattle.conf_values.specs.declared.refusal.ConfKind.{ConfKind};
 
-use crate::conf::Settings;
-use crate::keys::{SettingKey, setting_key};
-use crate::refusal::{ConfKind, Fault, ValueRefusal};
-use crate::scheduler::{Scheduler, read_scheduler};
-use crate::values::{
+use conf_values::conf::Settings;
+use conf_values::keys::{SettingKey, setting_key};
+use conf_values::refusal::{ConfKind, Fault, ValueRefusal};
+use conf_values::scheduler::{Scheduler, read_scheduler};
+use conf_values::values::{
     read_limit, read_mem_per_cpu, read_mem_per_node, read_name, read_number, read_u32,
 };
 use conf_lines::pairs::read_pair;
@@ -182,7 +182,7 @@ fn read_setting_word(alloc: Global, word: &[u8]) -> Result<SettingEntry, Fault>
 impl SettingWords {
     ghost use Rattle.std.specs.Prelude.{ℕ, ◌≡◌, IfOk, OnOk, IsErrOf, Ok, Err};
     ghost use Rattle.conf_reader.specs.SettingLines.{with_setting, no_settings, setting_line, settings_of};
-    ghost use Rattle.conf_reader.specs.declared.refusal.ConfKind.{ConfKind};
+    ghost use Rattle.conf_values.specs.declared.refusal.ConfKind.{ConfKind};
 
     #[tactic(auto, unfolding(crate::specs::SettingLines::no_settings))]
     pub(crate) fn new() -> SettingWords

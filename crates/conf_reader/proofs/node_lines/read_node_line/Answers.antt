@@ -1,6 +1,6 @@
 use Rattle.std.proofs.Common.{◌≡◌, sym, ◌∙◌, ap, Err}
 use Rattle.conf_reader.specs.NodeLines.{names_of, node_word, with_entry, node_line}
-use Rattle.conf_reader.specs.declared.refusal.Fault.TheVariants.{Refused}
+use Rattle.conf_values.specs.declared.refusal.Fault.TheVariants.{Refused}
 use Rattle.conf_reader.proofs.SaidLemmas.{said_bad}
 use Rattle.conf_reader.proofs.node_lines.read_node_line.Goals as goal
 

@@ -1,6 +1,6 @@
 use Rattle.std.proofs.Common.{rules, ℕ, ◌≡◌, [], ◌∷◌, ◌++◌, map, List, ap, sym, ◌∙◌}
 use Rattle.std.proofs.lemmas.List.{map-append}
-use Rattle.conf_reader.specs.declared.conf.NodeConf.{NodeConf}
+use Rattle.conf_values.specs.declared.conf.NodeConf.{NodeConf}
 use Rattle.conf_reader.proofs.NameLemmas.{has-insert}
 use Rattle.conf_reader.proofs.node_table.NodeTable.push.Goals as goal
 

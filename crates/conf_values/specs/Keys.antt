@@ -1,10 +1,10 @@
 -- The keys of slurm.conf, by the kind of line that they stand on.
 use Rattle.std.specs.Prelude.{ℕ, List, Option, map, option_map, find}
 use Rattle.std.specs.Str.{str_eq_ignore_ascii_case}
-use Rattle.conf_reader.specs.declared.keys.TheConstants.{SETTING_KEYS, NODE_KEYS, PARTITION_KEYS}
-use Rattle.conf_reader.specs.declared.keys.SettingKey.{SettingKey}
-use Rattle.conf_reader.specs.declared.keys.NodeKey.{NodeKey}
-use Rattle.conf_reader.specs.declared.keys.PartitionKey.{PartitionKey}
+use Rattle.conf_values.specs.declared.keys.TheConstants.{SETTING_KEYS, NODE_KEYS, PARTITION_KEYS}
+use Rattle.conf_values.specs.declared.keys.SettingKey.{SettingKey}
+use Rattle.conf_values.specs.declared.keys.NodeKey.{NodeKey}
+use Rattle.conf_values.specs.declared.keys.PartitionKey.{PartitionKey}
 
 -- the key that a text names in a table, in any case of letters
 abbrev pub key_named : {K : Type 0} → List (List ℕ × K) → List ℕ → Option K

@@ -29,7 +29,7 @@ pub enum ConfKind {
 
 impl fmt::Display for ConfKind {
     ghost use Rattle.std.specs.Prelude.{Some};
-    ghost use Rattle.conf_reader.specs.Refusal.{kind_text};
+    ghost use Rattle.conf_values.specs.Refusal.{kind_text};
 
     ghost output = { λ kind. Some (kind_text kind) };
 
@@ -68,7 +68,7 @@ impl Error for ConfRefusal {}
 
 impl From<memory_error::Memory> for ConfRefusal {
     ghost use Rattle.std.specs.Prelude.{◌≡◌};
-    ghost use Rattle.conf_reader.specs.declared.refusal.ConfRefusal.TheVariants.{Memory};
+    ghost use Rattle.conf_values.specs.declared.refusal.ConfRefusal.TheVariants.{Memory};
 
     ghost from_gives = { λ _ e. e ≡ Memory };
 
@@ -77,16 +77,16 @@ impl From<memory_error::Memory> for ConfRefusal {
     }
 }
 
-// Why a value wasn't read.
+/// Why a value wasn't read.
 #[derive(Clone, Copy)]
-pub(crate) enum ValueRefusal {
+pub enum ValueRefusal {
     BadValue,
     Memory,
 }
 
 impl From<memory_error::Memory> for ValueRefusal {
     ghost use Rattle.std.specs.Prelude.{◌≡◌};
-    ghost use Rattle.conf_reader.specs.declared.refusal.ValueRefusal.TheVariants.{Memory};
+    ghost use Rattle.conf_values.specs.declared.refusal.ValueRefusal.TheVariants.{Memory};
 
     ghost from_gives = { λ _ e. e ≡ Memory };
 
@@ -97,7 +97,7 @@ impl From<memory_error::Memory> for ValueRefusal {
 
 impl From<AllocError> for ValueRefusal {
     ghost use Rattle.std.specs.Prelude.{◌≡◌};
-    ghost use Rattle.conf_reader.specs.declared.refusal.ValueRefusal.TheVariants.{Memory};
+    ghost use Rattle.conf_values.specs.declared.refusal.ValueRefusal.TheVariants.{Memory};
 
     ghost from_gives = { λ _ e. e ≡ Memory };
 
@@ -108,7 +108,7 @@ impl From<AllocError> for ValueRefusal {
 
 impl From<NameRefusal> for ValueRefusal {
     ghost use Rattle.std.specs.Prelude.{◌≡◌};
-    ghost use Rattle.conf_reader.specs.Refusal.{of_name};
+    ghost use Rattle.conf_values.specs.Refusal.{of_name};
 
     ghost from_gives = { λ name e. e ≡ of_name name };
 
@@ -120,16 +120,16 @@ impl From<NameRefusal> for ValueRefusal {
     }
 }
 
-// Why a line wasn't read.
+/// Why a line wasn't read.
 #[derive(Clone, Copy)]
-pub(crate) enum Fault {
+pub enum Fault {
     Refused(ConfKind),
     Memory,
 }
 
 impl From<memory_error::Memory> for Fault {
     ghost use Rattle.std.specs.Prelude.{◌≡◌};
-    ghost use Rattle.conf_reader.specs.declared.refusal.Fault.TheVariants.{Memory};
+    ghost use Rattle.conf_values.specs.declared.refusal.Fault.TheVariants.{Memory};
 
     ghost from_gives = { λ _ e. e ≡ Memory };
 
@@ -140,7 +140,7 @@ impl From<memory_error::Memory> for Fault {
 
 impl From<ValueRefusal> for Fault {
     ghost use Rattle.std.specs.Prelude.{◌≡◌};
-    ghost use Rattle.conf_reader.specs.Refusal.{of_value};
+    ghost use Rattle.conf_values.specs.Refusal.{of_value};
 
     ghost from_gives = { λ value e. e ≡ of_value value };
 

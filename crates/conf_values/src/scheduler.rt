@@ -1,7 +1,7 @@
 //! The parameters of the scheduler: one value with parameters between commas.
 
 ghost use Rattle.std.specs.Prelude.{◌≡◌, Some};
-ghost use Rattle.conf_reader.specs.SettingLines.{scheduler_item, scheduler_in};
+ghost use Rattle.conf_values.specs.Scheduler.{scheduler_item, scheduler_in};
 
 use crate::values::read_number;
 use slurm_text::fields::{UpToThree, first_field, up_to_three};
@@ -9,19 +9,21 @@ use slurm_text::ranged::Ranged;
 
 /// The parameters that a value gives.
 #[derive(Clone, Copy)]
-pub(crate) struct Scheduler {
-    pub(crate) window: Option<Ranged<1, 43200>>,
-    pub(crate) interval: Option<Ranged<1, 10800>>,
+pub struct Scheduler {
+    /// Minutes.
+    pub window: Option<Ranged<1, 43200>>,
+    /// Seconds.
+    pub interval: Option<Ranged<1, 10800>>,
 }
 
 /// One parameter.
 #[derive(Clone, Copy)]
-pub(crate) enum SchedulerItem {
+pub enum SchedulerItem {
     Window(Ranged<1, 43200>),
     Interval(Ranged<1, 10800>),
 }
 
-#[tactic(auto, unfolding(crate::specs::SettingLines::scheduler_item_of))]
+#[tactic(auto, unfolding(crate::specs::Scheduler::scheduler_item_of))]
 fn read_item(text: &[u8]) -> Option<SchedulerItem>
     ensures { result ≡ scheduler_item text.now }
 {
@@ -39,10 +41,11 @@ fn read_item(text: &[u8]) -> Option<SchedulerItem>
 
 impl Scheduler {
     ghost use Rattle.std.specs.Prelude.{◌≡◌};
-    ghost use Rattle.conf_reader.specs.SettingLines.{with_item, no_items};
+    ghost use Rattle.conf_values.specs.Scheduler.{with_item, no_items};
 
-    #[tactic(auto, unfolding(crate::specs::SettingLines::no_items))]
-    pub(crate) fn new() -> Scheduler
+    /// No parameter.
+    #[tactic(auto, unfolding(crate::specs::Scheduler::no_items))]
+    pub fn new() -> Scheduler
         ensures { result ≡ no_items }
     {
         Scheduler {
@@ -51,7 +54,7 @@ impl Scheduler {
         }
     }
 
-    #[tactic(auto, unfolding(crate::specs::SettingLines::with_item))]
+    #[tactic(auto, unfolding(crate::specs::Scheduler::with_item))]
     fn with(self, item: SchedulerItem) -> Scheduler
         ensures { result ≡ with_item self item }
     {
@@ -68,8 +71,9 @@ impl Scheduler {
     }
 }
 
-#[tactic(auto, using(crate::proofs::SchedulerLemmas::item_steps), unfolding(crate::specs::SettingLines::scheduler_in))]
-pub(crate) fn read_scheduler(text: &[u8]) -> Option<Scheduler>
+/// The value of `SchedulerParameters`; of a parameter that stands twice the last counts.
+#[tactic(auto, using(crate::proofs::SchedulerLemmas::item_steps), unfolding(crate::specs::Scheduler::scheduler_in))]
+pub fn read_scheduler(text: &[u8]) -> Option<Scheduler>
     ensures { result ≡ scheduler_in text.now }
 {
     let mut plans = Scheduler::new();

@@ -1,7 +1,7 @@
 //! The keys of slurm.conf(5): one table for each kind of line. Keys count in any case of their letters.
 
 ghost use Rattle.std.specs.Prelude.{◌≡◌, map};
-ghost use Rattle.conf_reader.specs.Keys.{key_named, setting_key, node_key, partition_key};
+ghost use Rattle.conf_values.specs.Keys.{key_named, setting_key, node_key, partition_key};
 
 use slurm_text::keywords::is_keyword;
 
@@ -195,22 +195,25 @@ fn key_named<K: Copy>(table: &[(&[u8], K)], text: &[u8]) -> Option<K>
     None
 }
 
+/// A key of a line of settings.
 #[tactic(auto, unfolding(crate::specs::Keys::setting_key))]
-pub(crate) fn setting_key(text: &[u8]) -> Option<SettingKey>
+pub fn setting_key(text: &[u8]) -> Option<SettingKey>
     ensures { result ≡ setting_key text.now }
 {
     key_named(&SETTING_KEYS, text)
 }
 
+/// A key of a node's line.
 #[tactic(auto, unfolding(crate::specs::Keys::node_key))]
-pub(crate) fn node_key(text: &[u8]) -> Option<NodeKey>
+pub fn node_key(text: &[u8]) -> Option<NodeKey>
     ensures { result ≡ node_key text.now }
 {
     key_named(&NODE_KEYS, text)
 }
 
+/// A key of a partition's line.
 #[tactic(auto, unfolding(crate::specs::Keys::partition_key))]
-pub(crate) fn partition_key(text: &[u8]) -> Option<PartitionKey>
+pub fn partition_key(text: &[u8]) -> Option<PartitionKey>
     ensures { result ≡ partition_key text.now }
 {
     key_named(&PARTITION_KEYS, text)

@@ -2,12 +2,12 @@
 use Rattle.std.specs.Prelude.{ℕ, List, codes, Result, Ok, Err}
 use Rattle.slurm_text.specs.declared.name.NameRefusal.{NameRefusal}
 use Rattle.slurm_text.specs.declared.name.NameRefusal.TheVariants.{BadName, Memory as NameMemory}
-use Rattle.conf_reader.specs.declared.refusal.ConfKind.{ConfKind}
-use Rattle.conf_reader.specs.declared.refusal.ConfKind.TheVariants.{NotUtf8, BadPair, UnknownKey, BadValue, TwiceNamed, UnknownNode, NoPartition, OverLimit}
-use Rattle.conf_reader.specs.declared.refusal.ValueRefusal.{ValueRefusal}
-use Rattle.conf_reader.specs.declared.refusal.ValueRefusal.TheVariants.{BadValue as BadText, Memory as ValueMemory}
-use Rattle.conf_reader.specs.declared.refusal.Fault.{Fault}
-use Rattle.conf_reader.specs.declared.refusal.Fault.TheVariants.{Refused, Memory}
+use Rattle.conf_values.specs.declared.refusal.ConfKind.{ConfKind}
+use Rattle.conf_values.specs.declared.refusal.ConfKind.TheVariants.{NotUtf8, BadPair, UnknownKey, BadValue, TwiceNamed, UnknownNode, NoPartition, OverLimit}
+use Rattle.conf_values.specs.declared.refusal.ValueRefusal.{ValueRefusal}
+use Rattle.conf_values.specs.declared.refusal.ValueRefusal.TheVariants.{BadValue as BadText, Memory as ValueMemory}
+use Rattle.conf_values.specs.declared.refusal.Fault.{Fault}
+use Rattle.conf_values.specs.declared.refusal.Fault.TheVariants.{Refused, Memory}
 
 -- how a kind is printed
 abbrev pub kind_text : ConfKind → List ℕ

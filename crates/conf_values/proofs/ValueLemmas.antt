@@ -2,7 +2,7 @@
 use Rattle.std.proofs.Common.{ℕ, ◌≡◌, List, [], ◌∷◌, ◌++◌, map, Option, Some, None, option_map, refl, ap, sym, ◌∙◌, append_assoc}
 use Rattle.std.proofs.lemmas.List.{append-nil}
 use Rattle.slurm_text.specs.Options.{◌>>=◌}
-use Rattle.conf_reader.specs.Values.{all_some, name_in}
+use Rattle.conf_values.specs.Values.{all_some, name_in}
 
 abbrev pub behind : List (List ℕ) → Option (List (List ℕ)) → Option (List (List ℕ))
 behind names others = option_map (λ more. names ++ more) others

@@ -1,7 +1,7 @@
 //! Values of keys.
 
 ghost use Rattle.std.specs.Prelude.{◌≡◌, ◌≤◌, ◌<◌, ◌^◌, length, map, IfOk, IfSome, IsErrOf, Some, None};
-ghost use Rattle.conf_reader.specs.Values.{number_in, u32_in, name_in, names_in, nodes_in, node_start, part_state, yes_or_no, exclusive_in, allowed_in, most_nodes, mem_per_node, mem_per_cpu};
+ghost use Rattle.conf_values.specs.Values.{number_in, u32_in, name_in, names_in, nodes_in, node_start, part_state, yes_or_no, exclusive_in, allowed_in, most_nodes, mem_per_node, mem_per_cpu};
 ghost use Rattle.slurm_num.specs.Limits.{limit_of};
 
 use crate::conf::{NodeStart, PartState};
@@ -20,7 +20,7 @@ use std::alloc::Global;
 
 /// A number of at most ten digits within its range.
 #[tactic(auto, unfolding(crate::specs::Values::number_in))]
-pub(crate) fn read_number<const LEAST: u64, const MOST: u64>(
+pub fn read_number<const LEAST: u64, const MOST: u64>(
     text: &[u8],
 ) -> Option<Ranged<LEAST, MOST>>
     ensures { result ≡ number_in LEAST MOST text.now }
@@ -34,14 +34,15 @@ pub(crate) fn read_number<const LEAST: u64, const MOST: u64>(
 }
 
 /// Any number that 32 bits hold.
-pub(crate) fn read_u32(text: &[u8]) -> Option<u32>
+pub fn read_u32(text: &[u8]) -> Option<u32>
     ensures { result ≡ u32_in text.now }
 {
     let number = parse_number(text, 10, 4_294_967_295)?;
     Some(number as u32)
 }
 
-pub(crate) fn read_name(alloc: Global, text: &[u8]) -> Result<Name, ValueRefusal>
+/// A name as nodes, users and accounts have one.
+pub fn read_name(alloc: Global, text: &[u8]) -> Result<Name, ValueRefusal>
     ensures value { IfOk result (λ name. name_in text.now ≡ Some name) }
     ensures refused { IsErrOf result ValueRefusal.BadValue → name_in text.now ≡ None }
 {
@@ -51,7 +52,7 @@ pub(crate) fn read_name(alloc: Global, text: &[u8]) -> Result<Name, ValueRefusal
 
 /// Names between commas.
 #[tactic(auto, using(crate::proofs::ValueLemmas::list_steps), unfolding(crate::specs::Values::names_in))]
-pub(crate) fn read_names(alloc: Global, text: &[u8]) -> Result<Items<Name>, ValueRefusal>
+pub fn read_names(alloc: Global, text: &[u8]) -> Result<Items<Name>, ValueRefusal>
     ensures value { IfOk result (λ names. names_in text.now ≡ Some names) }
     ensures refused { IsErrOf result ValueRefusal.BadValue → names_in text.now ≡ None }
 {
@@ -69,7 +70,7 @@ pub(crate) fn read_names(alloc: Global, text: &[u8]) -> Result<Items<Name>, Valu
 
 /// The nodes of a host expression.
 #[tactic(auto, unfolding(crate::specs::Values::nodes_in))]
-pub(crate) fn read_nodes(alloc: Global, text: &[u8]) -> Result<Items<Name>, ValueRefusal>
+pub fn read_nodes(alloc: Global, text: &[u8]) -> Result<Items<Name>, ValueRefusal>
     requires { length text.now < 2 ^ 32 }
     ensures value { IfOk result (λ names. nodes_in text.now ≡ Some names) }
     ensures refused { IsErrOf result ValueRefusal.BadValue → nodes_in text.now ≡ None }
@@ -81,8 +82,9 @@ pub(crate) fn read_nodes(alloc: Global, text: &[u8]) -> Result<Items<Name>, Valu
     }
 }
 
+/// How a node begins, in any case of letters.
 #[tactic(auto, unfolding(crate::specs::Values::node_start))]
-pub(crate) fn read_node_start(text: &[u8]) -> Option<NodeStart>
+pub fn read_node_start(text: &[u8]) -> Option<NodeStart>
     ensures { result ≡ node_start text.now }
 {
     if is_keyword(text, b"UNKNOWN") {
@@ -96,8 +98,9 @@ pub(crate) fn read_node_start(text: &[u8]) -> Option<NodeStart>
     }
 }
 
+/// The state of a partition, in any case of letters.
 #[tactic(auto, unfolding(crate::specs::Values::part_state))]
-pub(crate) fn read_part_state(text: &[u8]) -> Option<PartState>
+pub fn read_part_state(text: &[u8]) -> Option<PartState>
     ensures { result ≡ part_state text.now }
 {
     if is_keyword(text, b"UP") {
@@ -113,8 +116,9 @@ pub(crate) fn read_part_state(text: &[u8]) -> Option<PartState>
     }
 }
 
+/// YES or NO, in any case of letters.
 #[tactic(auto, unfolding(crate::specs::Values::yes_or_no))]
-pub(crate) fn read_yes_or_no(text: &[u8]) -> Option<bool>
+pub fn read_yes_or_no(text: &[u8]) -> Option<bool>
     ensures { result ≡ yes_or_no text.now }
 {
     if is_keyword(text, b"YES") {
@@ -126,8 +130,9 @@ pub(crate) fn read_yes_or_no(text: &[u8]) -> Option<bool>
     }
 }
 
+/// Whether jobs have their nodes for themselves; only NO counts in any case of letters.
 #[tactic(auto, unfolding(crate::specs::Values::exclusive_in))]
-pub(crate) fn read_exclusive(text: &[u8]) -> Option<bool>
+pub fn read_exclusive(text: &[u8]) -> Option<bool>
     ensures { result ≡ exclusive_in text.now }
 {
     if text == b"EXCLUSIVE".as_slice() {
@@ -140,7 +145,7 @@ pub(crate) fn read_exclusive(text: &[u8]) -> Option<bool>
 }
 
 /// A limit of time.
-pub(crate) fn read_limit(text: &[u8]) -> Option<Limit>
+pub fn read_limit(text: &[u8]) -> Option<Limit>
     ensures { result ≡ limit_of text.now }
 {
     match parse_limit(text) {
@@ -151,7 +156,7 @@ pub(crate) fn read_limit(text: &[u8]) -> Option<Limit>
 
 /// Names between commas, or None for all.
 #[tactic(auto, unfolding(crate::specs::Values::allowed_in))]
-pub(crate) fn read_allowed(alloc: Global, text: &[u8]) -> Result<Option<Items<Name>>, ValueRefusal>
+pub fn read_allowed(alloc: Global, text: &[u8]) -> Result<Option<Items<Name>>, ValueRefusal>
     ensures value { IfOk result (λ names. allowed_in text.now ≡ Some names) }
     ensures refused { IsErrOf result ValueRefusal.BadValue → allowed_in text.now ≡ None }
 {
@@ -162,8 +167,9 @@ pub(crate) fn read_allowed(alloc: Global, text: &[u8]) -> Result<Option<Items<Na
     Ok(Some(names))
 }
 
+/// How many nodes a job may have; None has no end.
 #[tactic(auto, unfolding(crate::specs::Values::most_nodes))]
-pub(crate) fn read_most_nodes(text: &[u8]) -> Option<Option<u32>>
+pub fn read_most_nodes(text: &[u8]) -> Option<Option<u32>>
     ensures { result ≡ most_nodes text.now }
 {
     if is_keyword(text, b"UNLIMITED") {
@@ -179,8 +185,9 @@ fn read_megabytes(text: &[u8]) -> Option<Ranged<0, 16777216>>
     read_number(text)
 }
 
+/// Megabytes on each node; 0 is all of its memory.
 #[tactic(auto, unfolding(crate::specs::Values::mem_per_node))]
-pub(crate) fn read_mem_per_node(text: &[u8]) -> Option<MemAsk>
+pub fn read_mem_per_node(text: &[u8]) -> Option<MemAsk>
     ensures { result ≡ mem_per_node text.now }
 {
     let megabytes = read_megabytes(text)?.get();
@@ -191,8 +198,9 @@ pub(crate) fn read_mem_per_node(text: &[u8]) -> Option<MemAsk>
     }
 }
 
+/// Megabytes for each processor; 0 is all memory of each node.
 #[tactic(auto, unfolding(crate::specs::Values::mem_per_cpu))]
-pub(crate) fn read_mem_per_cpu(text: &[u8]) -> Option<MemAsk>
+pub fn read_mem_per_cpu(text: &[u8]) -> Option<MemAsk>
     ensures { result ≡ mem_per_cpu text.now }
 {
     let megabytes = read_megabytes(text)?.get();

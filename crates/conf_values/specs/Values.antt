@@ -12,10 +12,10 @@ use Rattle.slurm_text.specs.declared.plain.limit.Limit.{Limit}
 use Rattle.slurm_text.specs.declared.plain.limit.Limit.TheVariants.{Minutes, Unlimited}
 use Rattle.slurm_text.specs.declared.plain.mem_ask.MemAsk.{MemAsk}
 use Rattle.slurm_text.specs.declared.plain.mem_ask.MemAsk.TheVariants.{All, PerNode, PerCpu}
-use Rattle.conf_reader.specs.declared.conf.NodeStart.{NodeStart}
-use Rattle.conf_reader.specs.declared.conf.NodeStart.TheVariants.{Unknown, Down, Drain}
-use Rattle.conf_reader.specs.declared.conf.PartState.{PartState}
-use Rattle.conf_reader.specs.declared.conf.PartState.TheVariants as part
+use Rattle.conf_values.specs.declared.conf.NodeStart.{NodeStart}
+use Rattle.conf_values.specs.declared.conf.NodeStart.TheVariants.{Unknown, Down, Drain}
+use Rattle.conf_values.specs.declared.conf.PartState.{PartState}
+use Rattle.conf_values.specs.declared.conf.PartState.TheVariants as part
 
 -- a number of at most ten digits, from `least` to `most`
 unfoldable pub number_in : ℕ → ℕ → List ℕ → Option ℕ

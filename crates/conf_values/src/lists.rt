@@ -9,7 +9,7 @@ use slurm_text::name::Name;
 use std::alloc::Global;
 
 /// The first list, or else a copy of the second.
-pub(crate) fn or_copy(
+pub fn or_copy(
     own: Option<Items<Name>>,
     default: &Option<Items<Name>>,
 ) -> Result<Option<Items<Name>>, Memory>
@@ -23,7 +23,7 @@ pub(crate) fn or_copy(
 }
 
 /// A copy of the list, or an empty one.
-pub(crate) fn copy_or_none(
+pub fn copy_or_none(
     alloc: Global,
     names: &Option<Items<Name>>,
 ) -> Result<Items<Name>, Memory>

@@ -1,6 +1,6 @@
 use Rattle.std.proofs.Common.{◌≡◌, drop, map}
-use Rattle.conf_reader.specs.Keys.{key_named}
-use Rattle.conf_reader.proofs.keys.key_named.Given as goal
+use Rattle.conf_values.specs.Keys.{key_named}
+use Rattle.conf_values.proofs.keys.key_named.Given as goal
 
 abbrev pub invariant-loop-name : goal.invariant-loop-name
 invariant-loop-name g l =

@@ -1,7 +1,7 @@
 use Rattle.std.proofs.Common.{◌≡◌, Some, Err, ap, refl}
 use Rattle.slurm_text.specs.Hosts.{first_bad_item}
-use Rattle.conf_reader.specs.Values.{nodes_in}
-use Rattle.conf_reader.proofs.values.read_nodes.Goals as goal
+use Rattle.conf_values.specs.Values.{nodes_in}
+use Rattle.conf_values.proofs.values.read_nodes.Goals as goal
 
 pub returns-in-Err-BadHosts-clause-refused : goal.returns-in-Err-BadHosts-clause-refused
 unfolding nodes_in

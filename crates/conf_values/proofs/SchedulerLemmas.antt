@@ -1,10 +1,10 @@
 -- The parameters of the scheduler, read from the left.
 use Rattle.std.proofs.Common.{ℕ, ◌≡◌, List, [], ◌∷◌, map, fold, Option, Some, None, option_map, refl}
 use Rattle.slurm_text.specs.Options.{◌>>=◌}
-use Rattle.conf_reader.specs.Values.{all_some}
-use Rattle.conf_reader.specs.SettingLines.{scheduler_item, with_item}
-use Rattle.conf_reader.specs.declared.scheduler.Scheduler.{Scheduler}
-use Rattle.conf_reader.specs.declared.scheduler.SchedulerItem.{SchedulerItem}
+use Rattle.conf_values.specs.Values.{all_some}
+use Rattle.conf_values.specs.Scheduler.{scheduler_item, with_item}
+use Rattle.conf_values.specs.declared.scheduler.Scheduler.{Scheduler}
+use Rattle.conf_values.specs.declared.scheduler.SchedulerItem.{SchedulerItem}
 
 abbrev pub on_top : Scheduler → Option (List SchedulerItem) → Option Scheduler
 on_top plans items = option_map (fold with_item plans) items

@@ -1,0 +1,2 @@
+pub mod SchedulerLemmas
+pub mod ValueLemmas

@@ -1,0 +1,9 @@
+//! What slurm.conf(5) can say: its keys, how their values are read, and why a file is refused.
+#![tactic(auto)]
+
+pub mod conf;
+pub mod keys;
+pub mod lists;
+pub mod refusal;
+pub mod scheduler;
+pub mod values;
