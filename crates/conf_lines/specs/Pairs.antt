@@ -18,7 +18,8 @@ between_ends text = slice_range text 1 (length text - 1)
 -- whether a text has quotes as its first and last byte, and no others
 abbrev pub is_quoted : List ℕ → Bool
 is_quoted text =
-    nat_le 2 (length text) && (slice_index text 0 == 34 && (slice_index text (length text - 1) == 34 && not (has_quote (between_ends text))))
+    nat_le 2 (length text) && (slice_index text 0 == 34
+    && (slice_index text (length text - 1) == 34 && not (has_quote (between_ends text))))
 
 -- a value is quoted whole or not at all
 unfoldable pub unquoted : List ℕ → Option (List ℕ)
@@ -32,7 +33,9 @@ is_key text = nat_lt 0 (length text) && not (has_quote text)
 
 -- a pair of a key and the text of a value
 unfoldable pub pair_of_parts : List ℕ → List ℕ → Option Pair
-pair_of_parts key text = if is_key key then option_map (λ value. record { key = key; value = value }) (unquoted text) else None
+pair_of_parts key text =
+    if is_key key then option_map (λ value. record { key = key; value = value }) (unquoted text)
+    else None
 
 abbrev pub pair_at : List ℕ → Option ℕ → Option Pair
 pair_at word None = None

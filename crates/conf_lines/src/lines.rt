@@ -85,7 +85,8 @@ fn cut_line(text: &[u8]) -> (&[u8], Option<&[u8]>)
 fn join<'a>(alloc: Global, piece: &[u8], rest: Option<&'a [u8]>) -> Result<FirstLine<'a>, Memory>
     ensures cut { IfOk result (λ first. (number : ℕ)
         → joined number piece.now (lines_of_rest (number + 1) (option_copied rest.entry))
-        ≡ record { number = number; text = line_bytes first.text } ∷ lines_of_rest (number + first.taken) (option_copied first.rest)) }
+        ≡ record { number = number; text = line_bytes first.text }
+        ∷ lines_of_rest (number + first.taken) (option_copied first.rest)) }
     ensures size { IfOk result (λ first. (1 ≤ first.taken)
         × (first.taken + bytes_left (option_copied first.rest) ≤ 1 + bytes_left (option_copied rest.entry))) }
     ensures fits { IfOk result (λ first.
@@ -122,7 +123,8 @@ fn join<'a>(alloc: Global, piece: &[u8], rest: Option<&'a [u8]>) -> Result<First
 #[tactic(auto, using(crate::proofs::LineLemmas::whole_line, crate::proofs::LineLemmas::piece_of_line))]
 pub fn first_line(alloc: Global, text: &[u8]) -> Result<FirstLine<'_>, Memory>
     ensures cut { IfOk result (λ first. (number : ℕ) → lines_of_rest number (Some text.now)
-        ≡ record { number = number; text = line_bytes first.text } ∷ lines_of_rest (number + first.taken) (option_copied first.rest)) }
+        ≡ record { number = number; text = line_bytes first.text }
+        ∷ lines_of_rest (number + first.taken) (option_copied first.rest)) }
     ensures size { IfOk result (λ first. (1 ≤ first.taken)
         × (first.taken + bytes_left (option_copied first.rest) ≤ 1 + length text.now)) }
     ensures fits { IfOk result (λ first. length (line_bytes first.text) ≤ length text.now) }

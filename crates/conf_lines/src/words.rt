@@ -7,8 +7,10 @@ ghost use Rattle.conf_lines.specs.Words.{is_blank, marked, quoted_behind, words_
 /// The first word of a line and what follows it; None where nothing but blanks and a comment is left.
 #[tactic(auto, using(crate::proofs::WordLemmas::no_word, crate::proofs::WordLemmas::first_cut))]
 pub fn first_word(line: &[u8]) -> Option<(&[u8], &[u8])>
-    ensures cut { MatchOption result (words_in line.now ≡ []) (λ word. words_in line.now ≡ word.0.now ∷ words_in word.1.now) }
-    ensures size { IfSome result (λ word. (length word.0.now ≤ length line.now) × (length word.1.now < length line.now)) }
+    ensures cut { MatchOption result (words_in line.now ≡ [])
+        (λ word. words_in line.now ≡ word.0.now ∷ words_in word.1.now) }
+    ensures size { IfSome result (λ word. (length word.0.now ≤ length line.now)
+        × (length word.1.now < length line.now)) }
 {
     let rest = after_blanks(line);
     let len = word_len(rest);

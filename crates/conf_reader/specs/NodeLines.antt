@@ -106,7 +106,8 @@ over own defaults = record {
 -- the processors of a node: `CPUs`, or else the product of what it is made of
 unfoldable pub processors : NodeWords → ℕ
 processors words =
-    unwrap_or words.cpus (unwrap_or words.boards 1 * unwrap_or words.sockets 1 * unwrap_or words.cores 1 * unwrap_or words.threads 1)
+    unwrap_or words.cpus
+    (unwrap_or words.boards 1 * unwrap_or words.sockets 1 * unwrap_or words.cores 1 * unwrap_or words.threads 1)
 
 -- at most 1,024 of them
 abbrev pub few : ℕ → Option ℕ

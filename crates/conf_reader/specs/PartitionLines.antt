@@ -124,7 +124,7 @@ over own defaults = record {
   mem = option_or own.mem defaults.mem;
 }
 
--- a partition by what is said of it, as long as it isn't known which nodes there are, and which partition is the default
+-- a partition by what is said of it, as long as it isn't known which nodes there are and which partition is the default
 unfoldable pub part_conf : PartWords → List ℕ → PartConf
 part_conf words name = record {
   name = name;

@@ -62,7 +62,8 @@ listed _ = []
 -- nodes of too many processors are refused behind the words of their line
 unfoldable pub with_nodes : Draft → NodeWords → Result Draft ConfKind
 with_nodes draft words =
-    if nat_le (processors words) 1024 then Ok (record draft { nodes = draft.nodes ++ map (node_conf words) (listed words.names) })
+    if nat_le (processors words) 1024
+    then Ok (record draft { nodes = draft.nodes ++ map (node_conf words) (listed words.names) })
     else Err OverLimit
 
 unfoldable pub after_node_line : Draft → NodeWords → Result Draft ConfKind
@@ -105,7 +106,8 @@ at_line number (Err kind) = Err (At number kind)
 -- what lines say, up to the first bad one
 abbrev pub after_lines : Draft → List NumberedLine → Result Draft ConfRefusal
 after_lines draft [] = Ok draft
-after_lines draft (line ∷ lines) = at_line line.number (after_line draft line.number line.text) >>= λ next. after_lines next lines
+after_lines draft (line ∷ lines) =
+    at_line line.number (after_line draft line.number line.text) >>= λ next. after_lines next lines
 
 -- before the first line
 unfoldable pub nothing_said : Draft

@@ -25,4 +25,5 @@ all_ok (result ∷ results) = result >>= λ x. all_ok results >>= λ xs. Ok (x �
 
 -- what was said, and what the words of a line say on top of it, the last of a kind counting
 unfoldable pub said_by : {K E : Type 0} → (K → E → K) → (List ℕ → Result E ConfKind) → K → List ℕ → Result K ConfKind
-said_by with_entry entry_of before line = all_ok (map entry_of (words_in line)) >>= λ entries. Ok (fold with_entry before entries)
+said_by with_entry entry_of before line =
+    all_ok (map entry_of (words_in line)) >>= λ entries. Ok (fold with_entry before entries)

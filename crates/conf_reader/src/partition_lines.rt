@@ -8,6 +8,8 @@ ghost use Rattle.conf_values.specs.Values.{has};
 ghost use Rattle.conf_reader.specs.Words.{entry_in};
 ghost use Rattle.conf_values.specs.declared.refusal.ConfKind.{ConfKind};
 
+use conf_lines::pairs::read_pair;
+use conf_lines::words::first_word;
 use conf_values::conf::{PartConf, PartState};
 use conf_values::keys::{PartitionKey, partition_key};
 use conf_values::lists::or_copy;
@@ -16,8 +18,6 @@ use conf_values::values::{
     read_allowed, read_exclusive, read_limit, read_mem_per_cpu, read_mem_per_node, read_most_nodes,
     read_name, read_nodes, read_number, read_part_state, read_u32, read_yes_or_no,
 };
-use conf_lines::pairs::read_pair;
-use conf_lines::words::first_word;
 use slurm_text::items::Items;
 use slurm_text::keywords::is_keyword;
 use slurm_text::memory_error::Memory;

@@ -8,12 +8,12 @@ ghost use Rattle.conf_reader.specs.Reader.{after_lines, nothing_said, has_unknow
 ghost use Rattle.conf_values.specs.Values.{has};
 ghost use Rattle.conf_values.specs.declared.refusal.ConfKind.{ConfKind};
 
-use conf_values::conf::{Conf, NodeConf, PartConf};
 use crate::draft::Draft;
 use crate::node_table::NodeTable;
 use crate::partition_lines::{PartLine, PartNodes};
-use conf_values::refusal::{ConfKind, ConfRefusal, Fault};
 use conf_lines::lines::first_line;
+use conf_values::conf::{Conf, NodeConf, PartConf};
+use conf_values::refusal::{ConfKind, ConfRefusal, Fault};
 use slurm_text::items::Items;
 use slurm_text::memory_error::Memory;
 use slurm_text::name::Name;

@@ -7,6 +7,8 @@ ghost use Rattle.conf_reader.specs.SettingLines.{minutes_in, only, select_parame
 ghost use Rattle.conf_values.specs.Values.{number_in};
 ghost use Rattle.conf_values.specs.declared.refusal.ConfKind.{ConfKind};
 
+use conf_lines::pairs::read_pair;
+use conf_lines::words::first_word;
 use conf_values::conf::Settings;
 use conf_values::keys::{SettingKey, setting_key};
 use conf_values::refusal::{ConfKind, Fault, ValueRefusal};
@@ -14,8 +16,6 @@ use conf_values::scheduler::{Scheduler, read_scheduler};
 use conf_values::values::{
     read_limit, read_mem_per_cpu, read_mem_per_node, read_name, read_number, read_u32,
 };
-use conf_lines::pairs::read_pair;
-use conf_lines::words::first_word;
 use slurm_text::memory_error::Memory;
 use slurm_text::name::Name;
 use slurm_text::plain::limit::Limit;

@@ -23,10 +23,7 @@ pub fn or_copy(
 }
 
 /// A copy of the list, or an empty one.
-pub fn copy_or_none(
-    alloc: Global,
-    names: &Option<Items<Name>>,
-) -> Result<Items<Name>, Memory>
+pub fn copy_or_none(alloc: Global, names: &Option<Items<Name>>) -> Result<Items<Name>, Memory>
     ensures { IfOk result (λ list. list ≡ unwrap_or names.now []) }
 {
     match names {

@@ -20,9 +20,7 @@ use std::alloc::Global;
 
 /// A number of at most ten digits within its range.
 #[tactic(auto, unfolding(crate::specs::Values::number_in))]
-pub fn read_number<const LEAST: u64, const MOST: u64>(
-    text: &[u8],
-) -> Option<Ranged<LEAST, MOST>>
+pub fn read_number<const LEAST: u64, const MOST: u64>(text: &[u8]) -> Option<Ranged<LEAST, MOST>>
     ensures { result ≡ number_in LEAST MOST text.now }
 {
     let number = parse_number(text, 10, MOST)?;
