@@ -1,5 +1,5 @@
 -- The first line of a text, cut off, and the logical lines that go on with what follows it.
-use Rattle.std.proofs.Common.{ℕ, ◌≡◌, ◌==◌, ◌+◌, ◌<◌, ◌++◌, List, [], ◌∷◌, length, if◌then◌else◌, Option, Some, None, true, false, refl, ap, sym, ◌∙◌, arith, append_assoc}
+use Rattle.std.proofs.Common.{ℕ, ◌≡◌, ◌==◌, ◌+◌, ◌<◌, ◌++◌, List, [], ◌∷◌, length, Option, Some, None, true, false, refl, ap, sym, ◌∙◌, arith, append_assoc}
 use Rattle.std.proofs.lemmas.List.Splits.{length-slice_split, join_with_byte-slice_split}
 use Rattle.std.specs.List.{join_with_byte}
 use Rattle.slurm_text.specs.Fields.{fields, fields_of_rest}

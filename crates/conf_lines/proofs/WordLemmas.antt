@@ -1,6 +1,6 @@
 -- The first word of a line, cut off, and the words of what follows it.
-use Rattle.std.proofs.Common.{ℕ, zero, suc, not, ◌&&◌, ◌||◌, ◌==◌, cond, if◌then◌else◌, ◌≡◌, ◌+◌, ◌<◌, ◌≤◌, Bool, true, false, List, [], ◌∷◌, ◌++◌, length, take, drop, map, filter, take_while, sym, refl, ap, ◌∙◌, one-add, arith}
-use Rattle.std.specs.List.{prefix_len, slice_split, onto_first}
+use Rattle.std.proofs.Common.{ℕ, zero, suc, not, cond, ◌≡◌, ◌+◌, ◌<◌, ◌≤◌, Bool, true, false, List, [], ◌∷◌, length, take, drop, map, filter, take_while, sym, refl, ap, ◌∙◌, one-add, arith}
+use Rattle.std.specs.List.{prefix_len, onto_first}
 use Rattle.std.proofs.lemmas.List.Sums.{take_while-cons}
 use Rattle.std.proofs.lemmas.List.Splits.{slice_split-cons_yes, slice_split-cons_no}
 use Rattle.std.proofs.lemmas.Bool.Decides.{nat_tests}

@@ -1,5 +1,5 @@
 -- The key and the value of a word.
-use Rattle.std.specs.Prelude.{ℕ, ◌+◌, ◌-◌, Bool, not, ◌&&◌, ◌||◌, ◌==◌, nat_lt, nat_le, if◌then◌else◌, Option, Some, None, option_map, List, [], ◌∷◌, length, take, drop, position, slice_index, slice_range}
+use Rattle.std.specs.Prelude.{ℕ, ◌+◌, ◌-◌, Bool, not, ◌&&◌, ◌==◌, nat_lt, nat_le, if◌then◌else◌, Option, Some, None, option_map, List, length, take, drop, position, slice_index, slice_range}
 use Rattle.std.specs.List.{list_any}
 use Rattle.conf_lines.specs.declared.pairs.KeyValue.{KeyValue}
 

@@ -1,5 +1,5 @@
 -- The words of a logical line.
-use Rattle.std.specs.Prelude.{ℕ, Bool, true, false, not, ◌&&◌, ◌||◌, ◌==◌, nat_lt, if◌then◌else◌, List, [], ◌∷◌, length, map, filter, take_while}
+use Rattle.std.specs.Prelude.{ℕ, Bool, false, not, ◌&&◌, ◌||◌, ◌==◌, nat_lt, if◌then◌else◌, List, [], ◌∷◌, length, map, filter, take_while}
 use Rattle.std.specs.List.{slice_split}
 
 -- a byte of a line, and whether a double quote (34) is open before it

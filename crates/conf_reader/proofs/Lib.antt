@@ -1,4 +1,3 @@
-pub mod NameLemmas
 pub mod ProductLemmas
 pub mod ReaderLemmas
 pub mod SaidLemmas

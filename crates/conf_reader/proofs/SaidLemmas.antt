@@ -1,5 +1,5 @@
 -- What the words of a line say, read one by one.
-use Rattle.std.proofs.Common.{ℕ, ◌≡◌, List, [], ◌∷◌, map, fold, Result, Ok, Err, refl, ap, sym, ◌∙◌}
+use Rattle.std.proofs.Common.{ℕ, ◌≡◌, List, [], ◌∷◌, map, fold, Result, Ok, Err, refl}
 use Rattle.conf_lines.specs.Words.{words_in}
 use Rattle.conf_values.specs.Refusal.{◌>>=◌}
 use Rattle.conf_reader.specs.Words.{all_ok, said_by}

@@ -1,5 +1,5 @@
 -- What the lines of partitions say.
-use Rattle.std.specs.Prelude.{ℕ, nat_le, Bool, false, if◌then◌else◌, List, [], ◌∷◌, ◌++◌, length, map, bytes_eq, codes, Option, Some, None, option_map, unwrap_or, Result, Ok, Err}
+use Rattle.std.specs.Prelude.{ℕ, nat_le, false, if◌then◌else◌, List, [], length, map, bytes_eq, codes, Option, Some, None, option_map, unwrap_or, Result}
 use Rattle.std.specs.Option.{option_or}
 use Rattle.slurm_num.specs.Limits.{limit_of}
 use Rattle.slurm_text.specs.declared.plain.limit.Limit.TheVariants.{Unlimited}

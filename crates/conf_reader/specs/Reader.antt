@@ -13,7 +13,6 @@ use Rattle.conf_reader.specs.SettingLines.{setting_line, no_settings, settings_o
 use Rattle.conf_values.specs.Refusal.{◌>>=◌}
 use Rattle.conf_values.specs.Values.{has, is_word}
 use Rattle.conf_values.specs.declared.conf.Conf.{Conf}
-use Rattle.conf_values.specs.declared.conf.NodeConf.{NodeConf}
 use Rattle.conf_values.specs.declared.conf.PartConf.{PartConf}
 use Rattle.conf_reader.specs.declared.draft.Draft.{Draft}
 use Rattle.conf_reader.specs.declared.draft.LineKind.{LineKind}
@@ -22,7 +21,7 @@ use Rattle.conf_reader.specs.declared.node_lines.NodeNames.{NodeNames}
 use Rattle.conf_reader.specs.declared.node_lines.NodeNames.TheVariants.{Default as AllNodes, Hosts}
 use Rattle.conf_reader.specs.declared.node_lines.NodeWords.{NodeWords}
 use Rattle.conf_reader.specs.declared.partition_lines.PartName.{PartName}
-use Rattle.conf_reader.specs.declared.partition_lines.PartName.TheVariants.{Default as AllPartitions, Named}
+use Rattle.conf_reader.specs.declared.partition_lines.PartName.TheVariants.{Default as AllPartitions}
 use Rattle.conf_reader.specs.declared.partition_lines.PartNodes.{PartNodes}
 use Rattle.conf_reader.specs.declared.partition_lines.PartNodes.TheVariants.{All, Listed}
 use Rattle.conf_reader.specs.declared.partition_lines.PartWords.{PartWords}

@@ -1,21 +1,17 @@
 -- What the lines of settings say.
-use Rattle.std.specs.Prelude.{ℕ, ◌==◌, Bool, true, not, if◌then◌else◌, List, [], ◌∷◌, map, fold, bytes_eq, codes, Option, Some, None, option_map, unwrap_or, Result}
+use Rattle.std.specs.Prelude.{ℕ, ◌==◌, true, if◌then◌else◌, List, [], ◌∷◌, bytes_eq, codes, Option, Some, None, option_map, unwrap_or, Result}
 use Rattle.std.specs.List.{list_any}
 use Rattle.slurm_num.specs.Limits.{limit_of}
-use Rattle.slurm_text.specs.Fields.{fields}
 use Rattle.slurm_text.specs.Options.{◌>>=◌}
 use Rattle.slurm_text.specs.declared.plain.limit.Limit.{Limit}
 use Rattle.slurm_text.specs.declared.plain.limit.Limit.TheVariants.{Minutes, Unlimited}
 use Rattle.conf_values.specs.Keys.{setting_key}
-use Rattle.conf_values.specs.Values.{all_some, name_in, number_in, u32_in, mem_per_node, mem_per_cpu}
+use Rattle.conf_values.specs.Values.{name_in, number_in, u32_in, mem_per_node, mem_per_cpu}
 use Rattle.conf_values.specs.Scheduler.{scheduler_in, no_items}
 use Rattle.conf_reader.specs.Words.{entry_in, said_by}
 use Rattle.conf_values.specs.declared.conf.Settings.{Settings}
 use Rattle.conf_values.specs.declared.keys.SettingKey.{SettingKey}
 use Rattle.conf_values.specs.declared.keys.SettingKey.TheVariants as key
-use Rattle.conf_values.specs.declared.scheduler.Scheduler.{Scheduler}
-use Rattle.conf_values.specs.declared.scheduler.SchedulerItem.{SchedulerItem}
-use Rattle.conf_values.specs.declared.scheduler.SchedulerItem.TheVariants.{Window, Interval}
 use Rattle.conf_reader.specs.declared.setting_lines.SettingEntry.{SettingEntry}
 use Rattle.conf_reader.specs.declared.setting_lines.SettingEntry.TheVariants.{FirstJobId, MaxJobCount, MaxArraySize, MinJobAge, SlurmdTimeout, JobRequeue, SlurmUser, MaxAge, WeightAge, WeightFairshare, WeightJobSize, WeightPartition, WeightQos, Plans, Mem, WithoutEffect}
 use Rattle.conf_reader.specs.declared.setting_lines.SettingWords.{SettingWords}

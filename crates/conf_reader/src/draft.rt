@@ -6,12 +6,12 @@ ghost use Rattle.conf_reader.specs.Reader.{kind_by_key, kind_of, is_for_nodes, l
 ghost use Rattle.conf_values.specs.declared.refusal.ConfKind.{ConfKind};
 
 use crate::node_lines::{NodeNames, NodeWords, read_node_line};
-use crate::node_table::NodeTable;
 use crate::part_table::PartTable;
 use crate::partition_lines::{PartName, PartWords, read_part_line};
 use crate::setting_lines::SettingWords;
 use conf_lines::pairs::read_pair;
 use conf_lines::words::first_word;
+use conf_values::node_table::NodeTable;
 use conf_values::refusal::{ConfKind, Fault};
 use slurm_text::keywords::is_keyword;
 use slurm_text::name::Name;

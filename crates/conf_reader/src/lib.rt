@@ -3,7 +3,6 @@
 
 mod draft;
 mod node_lines;
-mod node_table;
 mod part_table;
 mod partition_lines;
 mod reader;

@@ -9,12 +9,12 @@ ghost use Rattle.conf_reader.specs.Words.{entry_in};
 ghost use Rattle.std.specs.List.{list_any};
 ghost use Rattle.conf_values.specs.declared.refusal.ConfKind.{ConfKind};
 
-use crate::node_table::NodeTable;
 use conf_lines::pairs::read_pair;
 use conf_lines::words::first_word;
 use conf_values::conf::{NodeConf, NodeStart};
 use conf_values::keys::{NodeKey, node_key};
 use conf_values::lists::{copy_or_none, or_copy};
+use conf_values::node_table::NodeTable;
 use conf_values::refusal::{ConfKind, Fault, ValueRefusal};
 use conf_values::values::{read_names, read_node_start, read_nodes, read_number};
 use slurm_text::items::Items;

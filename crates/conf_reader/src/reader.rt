@@ -9,10 +9,10 @@ ghost use Rattle.conf_values.specs.Values.{has};
 ghost use Rattle.conf_values.specs.declared.refusal.ConfKind.{ConfKind};
 
 use crate::draft::Draft;
-use crate::node_table::NodeTable;
 use crate::partition_lines::{PartLine, PartNodes};
 use conf_lines::lines::first_line;
 use conf_values::conf::{Conf, NodeConf, PartConf};
+use conf_values::node_table::NodeTable;
 use conf_values::refusal::{ConfKind, ConfRefusal, Fault};
 use slurm_text::items::Items;
 use slurm_text::memory_error::Memory;

@@ -1,5 +1,5 @@
 -- The parameters of the scheduler, read from the left.
-use Rattle.std.proofs.Common.{ℕ, ◌≡◌, List, [], ◌∷◌, map, fold, Option, Some, None, option_map, refl}
+use Rattle.std.proofs.Common.{ℕ, ◌≡◌, List, ◌∷◌, map, fold, Option, Some, None, option_map, refl}
 use Rattle.slurm_text.specs.Options.{◌>>=◌}
 use Rattle.conf_values.specs.Values.{all_some}
 use Rattle.conf_values.specs.Scheduler.{scheduler_item, with_item}

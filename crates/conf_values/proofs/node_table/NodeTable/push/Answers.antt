@@ -1,8 +1,8 @@
 use Rattle.std.proofs.Common.{rules, ℕ, ◌≡◌, [], ◌∷◌, ◌++◌, map, List, ap, sym, ◌∙◌}
 use Rattle.std.proofs.lemmas.List.{map-append}
 use Rattle.conf_values.specs.declared.conf.NodeConf.{NodeConf}
-use Rattle.conf_reader.proofs.NameLemmas.{has-insert}
-use Rattle.conf_reader.proofs.node_table.NodeTable.push.Goals as goal
+use Rattle.conf_values.proofs.NameLemmas.{has-insert}
+use Rattle.conf_values.proofs.node_table.NodeTable.push.Goals as goal
 
 pub invariant_of-self-2 : goal.invariant_of-self-2
 invariant_of-self-2 c =

@@ -1,6 +1,6 @@
 //! Nodes, with an index of their names.
 
-use conf_values::conf::NodeConf;
+use crate::conf::NodeConf;
 use slurm_text::items::Items;
 use slurm_text::memory_error::Memory;
 use slurm_text::name::Name;
@@ -10,7 +10,7 @@ use std::marker::Model;
 
 /// Nodes in order. A contract sees the list of them.
 #[derive(Drop)]
-pub(crate) struct NodeTable {
+pub struct NodeTable {
     nodes: Vec<NodeConf>,
     seen: HashSet<Name>,
 }
@@ -30,10 +30,11 @@ impl Model for NodeTable {
 }
 
 impl NodeTable {
-    ghost use Rattle.std.specs.Prelude.{◌≡◌, [], ◌∷◌, ◌++◌, length, map, OnOk};
+    ghost use Rattle.std.specs.Prelude.{◌≡◌, [], ◌∷◌, ◌++◌, length, map, OnOk, OnErr};
     ghost use Rattle.conf_values.specs.Values.{has};
 
-    pub(crate) fn new(alloc: Global) -> NodeTable
+    /// A table of no nodes.
+    pub fn new(alloc: Global) -> NodeTable
         ensures { result ≡ [] }
     {
         NodeTable {
@@ -42,21 +43,24 @@ impl NodeTable {
         }
     }
 
-    pub(crate) fn len(&self) -> usize
+    /// How many nodes it has.
+    pub fn len(&self) -> usize
         ensures { result ≡ length self.now }
     {
         self.nodes.len()
     }
 
     /// Whether a node has this name.
-    pub(crate) fn has(&self, name: &Name) -> bool
+    pub fn has(&self, name: &Name) -> bool
         ensures { result ≡ has name.now (map (λ node. node.name) self.now) }
     {
         self.seen.contains(name)
     }
 
-    pub(crate) fn push(&mut self, node: NodeConf) -> Result<(), Memory>
-        ensures { OnOk result (self.new ≡ self.old ++ node ∷ []) }
+    /// Puts a node behind the others.
+    pub fn push(&mut self, node: NodeConf) -> Result<(), Memory>
+        ensures pushed { OnOk result (self.new ≡ self.old ++ node ∷ []) }
+        ensures kept { OnErr result (self.new ≡ self.old) }
     {
         let name = node.name.copy()?;
         self.nodes.reserve(1)?;
@@ -65,7 +69,8 @@ impl NodeTable {
         Ok(())
     }
 
-    pub(crate) fn into_items(self) -> Items<NodeConf>
+    /// The nodes, without the index.
+    pub fn into_items(self) -> Items<NodeConf>
         ensures { result ≡ self }
     {
         Items::from_vec(self.nodes)
