@@ -2,7 +2,7 @@
 
 ghost use Rattle.std.specs.Prelude.{◌≡◌, ◌≤◌, IfOk, OnOk, OnErr, if◌then◌else◌, Some, None};
 ghost use Rattle.slurm_text.specs.declared.plain.request.Request.TheVariants.{Pass};
-ghost use Rattle.resource_profile.specs.Counts.{ticked};
+ghost use Rattle.resource_profile.specs.Counts.{ticked, IsTickedUpTo};
 ghost use Rattle.ctl_state.specs.State.{state_of, last_moment};
 ghost use Rattle.ctl_state.specs.Soundness.{IsSound};
 ghost use Rattle.ctl_state.specs.Refusals.{first_refusal, unless_refused};
@@ -147,6 +147,7 @@ fn answer_pass<L>(
     ensures after { OnOk result (state_of cluster.new ≡ state_after (state_of cluster.old) now user.now Pass) }
     ensures err { OnErr result (state_of cluster.new ≡ state_of cluster.old) }
     ensures steps { OnOk result (steps.new ≡ ticked steps.old (steps_of (state_of cluster.old) now user.now)) }
+    ensures steps_err { OnErr result (IsTickedUpTo (steps_of (state_of cluster.old) now user.now) steps.old steps.new) }
 {
     let moment = cluster.moment.max(now);
     if now > LAST_MOMENT {
@@ -194,6 +195,7 @@ pub(crate) fn ask_pass<L>(
     ensures after { OnOk result (state_of cluster.new ≡ state_after (state_of cluster.old) now user.now Pass) }
     ensures err { OnErr result (state_of cluster.new ≡ state_of cluster.old) }
     ensures steps { OnOk result (steps.new ≡ ticked steps.old (steps_of (state_of cluster.old) now user.now)) }
+    ensures steps_err { OnErr result (IsTickedUpTo (steps_of (state_of cluster.old) now user.now) steps.old steps.new) }
     ensures sound { IsSound (state_of cluster.new) }
 {
     a_step_keeps_all_sound();

@@ -2,7 +2,7 @@
 
 ghost use Rattle.std.specs.Prelude.{◌≡◌, IfOk, OnOk, OnErr, if◌then◌else◌, Some, None, map, All};
 ghost use Rattle.slurm_text.specs.declared.plain.request.Request.TheVariants.{Pass};
-ghost use Rattle.resource_profile.specs.Counts.{ticked};
+ghost use Rattle.resource_profile.specs.Counts.{ticked, IsTickedUpTo};
 ghost use Rattle.ctl_state.specs.State.{opening};
 ghost use Rattle.ctl_state.specs.Soundness.{IsSound, IsNode, HasRanges};
 ghost use Rattle.ctl_core.specs.Step.{reply_of, state_after, is_entered, raised, steps_of};
@@ -76,7 +76,8 @@ impl Ctl {
         ask(self.alloc, &mut self.cluster, now, user, request)
     }
 
-    /// A pass, whatever plan is at hand. It counts a step for each job that it plans, where it is allowed.
+    /// A pass, whatever plan is at hand. It counts a step for each job that it plans, where it is allowed, and
+    /// after want of memory at most that many.
     pub fn pass<L>(
         &mut self,
         now: u64,
@@ -91,6 +92,7 @@ impl Ctl {
         ensures after { OnOk result (self.new.state ≡ state_after self.old.state now user.now Pass) }
         ensures err { OnErr result (self.new ≡ self.old) }
         ensures steps { OnOk result (steps.new ≡ ticked steps.old (steps_of self.old.state now user.now)) }
+        ensures steps_err { OnErr result (IsTickedUpTo (steps_of self.old.state now user.now) steps.old steps.new) }
         ensures sound { IsSound self.old.state × IsSound self.new.state }
     {
         drop(hint);

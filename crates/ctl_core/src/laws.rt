@@ -1,14 +1,15 @@
 //! What holds of every step. A law is the contract of a function that does nothing.
 
-ghost use Rattle.std.specs.Prelude.{◌≡◌, ℕ, List};
+ghost use Rattle.std.specs.Prelude.{◌≡◌, ◌≢◌, ℕ, List};
 ghost use Rattle.slurm_text.specs.declared.plain.request.Request.{Request};
 ghost use Rattle.slurm_text.specs.declared.plain.request.Request.TheVariants.{Pass};
+ghost use Rattle.slurm_text.specs.declared.plain.reply.Reply.{Reply};
 ghost use Rattle.slurm_text.specs.declared.plain.reply.Reply.TheVariants.{Idle};
 ghost use Rattle.ctl_state.specs.State.{State};
 ghost use Rattle.ctl_state.specs.Soundness.{IsSound};
-ghost use Rattle.ctl_state.specs.Verdicts.{Stays};
+ghost use Rattle.ctl_state.specs.Verdicts.{Stays, Makes};
 ghost use Rattle.ctl_pass.specs.Passing.{pass_after, pass_made};
-ghost use Rattle.ctl_core.specs.Step.{reply_of, state_after, raised, IsInRange};
+ghost use Rattle.ctl_core.specs.Step.{verdict_of, reply_of, state_after, raised, IsInRange};
 
 use ctl_pass::laws::{a_pass_keeps_all_sound, an_idle_pass_changes_nothing};
 use ctl_report::laws::a_report_keeps_all_sound;
@@ -32,11 +33,14 @@ pub fn raised_moments_decide_alike()
         → state_after s (raised s now) user request ≡ state_after s now user request }
 {}
 
-/// A request is idle only where it is a pass that would change nothing but the moment; and such a pass is idle.
+/// A request is idle only where it is a pass that would change nothing but the moment; and such a pass is idle. What an
+/// accepted request makes is another state, also before it bears its moment.
 pub fn idle_requests_change_nothing()
     ensures idle { (s : State) (now : ℕ) (user : List ℕ) (request : Request) → reply_of s now user request ≡ Idle
         → (request ≡ Pass) × (pass_after s (raised s now) ≡ s) }
     ensures only { (s : State) (moment : ℕ) → pass_after s moment ≡ s → pass_made s moment ≡ Stays }
+    ensures made { (s after : State) (now : ℕ) (user : List ℕ) (request : Request) (reply : Reply)
+        → verdict_of s now user request ≡ Makes reply after → after ≢ s }
 {
     an_idle_pass_changes_nothing();
 }

@@ -1,7 +1,7 @@
 //! Passes.
 
 ghost use Rattle.std.specs.Prelude.{◌≡◌, ◌≤◌, IfOk, OnOk, OnErr, if◌then◌else◌, Some, None};
-ghost use Rattle.resource_profile.specs.Counts.{ticked};
+ghost use Rattle.resource_profile.specs.Counts.{ticked, IsTickedUpTo};
 ghost use Rattle.ctl_state.specs.State.{state_of, last_moment};
 ghost use Rattle.ctl_state.specs.Soundness.{IsSound};
 ghost use Rattle.ctl_state.specs.Refusals.{first_refusal, unless_refused, is_privileged};
@@ -68,6 +68,9 @@ pub(crate) fn pass<L>(
     ensures err { OnErr result (state_of cluster.new ≡ state_of cluster.old) }
     ensures steps { OnOk result (steps.new
         ≡ ticked steps.old (if is_privileged (state_of cluster.old) user.now then jobs_planned (state_of cluster.old) moment else 0)) }
+    ensures steps_err { OnErr result (IsTickedUpTo
+        (if is_privileged (state_of cluster.old) user.now then jobs_planned (state_of cluster.old) moment else 0)
+        steps.old steps.new) }
 {
     if let Some(refusal) = refusal_of(cluster, user) {
         return Ok(refused(refusal));

@@ -5,13 +5,13 @@ use Rattle.std.proofs.lemmas.Bool.{cases_Bool, true≢false}
 use Rattle.std.proofs.lemmas.List.{append-nil, take_all, take-append-le, take-append-drop, drop-append-le}
 use Rattle.slurm_text.specs.declared.plain.request.Request.{Request}
 use Rattle.ctl_state.specs.State.{State}
-use Rattle.resource_profile.specs.Counts.{ticked}
+use Rattle.resource_profile.specs.Counts.{ticked, IsTickedUpTo}
 use Rattle.slurm_text.specs.declared.plain.request.Request.TheVariants.{Pass}
 use Rattle.ctl_core.specs.Step.{reply_of, is_entered, steps_of}
 use Rattle.ctl_desk.specs.declared.entry.Answer.{Answer}
 use Rattle.ctl_desk.specs.declared.entry.Entry.{Entry}
-use Rattle.ctl_desk.specs.Desk.{Sight, GoesOn, IsAnswered, seen, later, sight_of, state_at}
-use Rattle.ctl_desk.specs.History.{History, after_all, entry_of}
+use Rattle.ctl_desk.specs.Desk.{Sight, GoesOn, IsAnswered, seen, later, sight_of, history_of, state_at}
+use Rattle.ctl_desk.specs.History.{History, after_all, present, entry_of}
 use Rattle.ctl_desk.proofs.Entering.{where_true, where_false}
 
 -- a desk that was made at a book of so many entries
@@ -137,3 +137,12 @@ own_counted (Ok answer) now user before counted counted' old new place entered c
     ap (λ es. after_all old.opening (take answer.place es)) (all_seen before new) ∙ ap (after_all old.opening) front in
     counts ∙ ap (λ at. ticked counted (steps_of at now user)) (sym there)
 own_counted (Err e) now user before counted counted' old new place entered counts = tt
+
+-- after want of memory the book is as it was, and so is what the desk has seen
+pub own_counted_up_to : {E : Type 0} (result : Result Answer E) (now : ℕ) (user : List ℕ) (before counted counted' : ℕ) (old new : History) → OnErr result (new ≡ old)
+    → OnErr result (IsTickedUpTo (steps_of (present old) now user) counted counted')
+    → OnErr result (IsTickedUpTo (steps_of (present (history_of (at_book before new))) now user) counted counted')
+own_counted_up_to (Ok answer) now user before counted counted' old new stays counts = tt
+own_counted_up_to (Err e) now user before counted counted' old new stays counts =
+    let there : present (history_of (at_book before new)) ≡ present old = ap (after_all new.opening) (all_seen before new) ∙ ap present stays in
+    subst (λ (at : State). IsTickedUpTo (steps_of at now user) counted counted') (sym there) counts

@@ -2,10 +2,10 @@
 
 ghost use Rattle.std.specs.Prelude.{◌≡◌, length, IfOk, OnErr};
 ghost use Rattle.slurm_text.specs.declared.plain.request.Request.TheVariants.{Pass};
-ghost use Rattle.resource_profile.specs.Counts.{ticked};
+ghost use Rattle.resource_profile.specs.Counts.{ticked, IsTickedUpTo};
 ghost use Rattle.ctl_core.specs.Step.{steps_of};
 ghost use Rattle.ctl_desk.specs.Desk.{Sight, GoesOn, IsAnswered, seen, history_of, state_at};
-ghost use Rattle.ctl_desk.specs.History.{IsHistory};
+ghost use Rattle.ctl_desk.specs.History.{IsHistory, present};
 
 use crate::entry::Answer;
 use backfill_planner::Planned;
@@ -27,8 +27,9 @@ pub trait Desk {
             IsAnswered (sight self.old) (sight self.new) now user.now request answer) }
         ensures err { OnErr result ((sight self.new).mine ≡ (sight self.old).mine) };
 
-    /// Makes a pass for a user at a moment, whatever plan is at hand. After want of memory nothing of it is entered. Where it is
-    /// answered it counts a step for each job that it plans at its place.
+    /// Makes a pass for a user at a moment, whatever plan is at hand. Where it is answered it counts a step for each
+    /// job that it plans at its place. After want of memory nothing of it is entered, and it has counted at most a step
+    /// for each job that it would plan after all that the desk has seen.
     fn pass(
         &mut self,
         now: u64,
@@ -41,7 +42,9 @@ pub trait Desk {
             IsAnswered (sight self.old) (sight self.new) now user.now Pass answer) }
         ensures err { OnErr result ((sight self.new).mine ≡ (sight self.old).mine) }
         ensures steps { IfOk result (λ answer. steps.new ≡ ticked steps.old
-            (steps_of (state_at (sight self.old).opening (seen (sight self.new)) answer.place) now user.now)) };
+            (steps_of (state_at (sight self.old).opening (seen (sight self.new)) answer.place) now user.now)) }
+        ensures steps_err { OnErr result (IsTickedUpTo
+            (steps_of (present (history_of (sight self.new))) now user.now) steps.old steps.new) };
 
     /// How many entries the desk has seen.
     fn seen_len(&self) -> u64

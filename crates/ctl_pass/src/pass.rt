@@ -1,8 +1,8 @@
 //! A pass: what it decides, and what it does.
 
-ghost use Rattle.std.specs.Prelude.{◌≡◌, ◌≤◌, ◌&&◌, not, nat_eq, IfOk, OnOk, fold, length};
+ghost use Rattle.std.specs.Prelude.{◌≡◌, ◌≤◌, ◌&&◌, not, nat_eq, IfOk, OnOk, OnErr, fold, length};
 ghost use Rattle.std.specs.List.{list_any};
-ghost use Rattle.resource_profile.specs.Counts.{ticked};
+ghost use Rattle.resource_profile.specs.Counts.{ticked, IsTickedUpTo};
 ghost use Rattle.ctl_state.specs.State.{state_of, last_moment};
 ghost use Rattle.ctl_state.specs.Events.{those_left};
 ghost use Rattle.ctl_state.specs.Soundness.{IsSound, HaveRisingIds};
@@ -48,6 +48,7 @@ pub fn refusal_of(cluster: &Cluster, user: &Name) -> Option<Refusal>
 }
 
 /// What a pass at its raised moment does. Linear in jobs, parts and the nodes' processors, beside what its plan costs.
+/// It counts a step for each job that it plans, and after want of memory at most that many.
 pub fn decide<L>(
     alloc: Global,
     cluster: &Cluster,
@@ -59,6 +60,8 @@ pub fn decide<L>(
     requires in_time { now ≤ last_moment }
     ensures decided { IfOk result (Passing.IsDecided (state_of cluster.now) now) }
     ensures steps { OnOk result (steps.new ≡ ticked steps.old (Passing.jobs_planned (state_of cluster.now) now)) }
+    ensures steps_err { OnErr result (IsTickedUpTo
+        (Passing.jobs_planned (state_of cluster.now) now) steps.old steps.new) }
 {
     let base = base_of(alloc, cluster, now)?;
     let ranked = rank(alloc, cluster, now)?;

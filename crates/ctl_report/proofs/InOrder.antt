@@ -1,13 +1,12 @@
--- The starts in order: sorted and without repeats they are the keys of their map, which rise and are the starts that were given.
-use Rattle.std.proofs.Common.{◌≡◌, ◌∙◌, Ordering, Less, Equal, Greater, Bool, true, false, ◌&&◌, nat_eq, List, [], ◌∷◌, get_or, map, Option, Some, None, is_some, refl, sym, ap, subst, arith}
+-- The starts in order rise and are the starts that were given; sorted and without repeats they are the same.
+use Rattle.std.proofs.Common.{◌≡◌, ◌∙◌, Ordering, Less, Equal, Greater, Bool, true, false, ◌&&◌, ◌||◌, nat_eq, List, [], ◌∷◌, get_or, map, Option, Some, None, is_some, refl, sym, ap, subst, arith, inl, inr}
 use Rattle.std.specs.Prelude.{T}
 use Rattle.std.specs.Cmp.{IsTotalOrder}
-use Rattle.std.specs.FinMap.{FinMap, entries, entries_sorted, from_entries, get-entries, get-from_entries, contains_key-keys}
 use Rattle.std.specs.FinMap.Entries.{find, is_sorted, is_some-find, same_entries}
 use Rattle.std.specs.List.{AllByRecursion, AllPairs, Contains, dedup, list_any}
 use Rattle.std.specs.List.Sorted.{IsPermutation, IsSorted, IsStrictlySortedBy}
-use Rattle.std.specs.Ordering.{eq_by_cmp, is_eq, is_lt}
-use Rattle.std.proofs.lemmas.Bool.{and_from, and_parts}
+use Rattle.std.specs.Ordering.{eq_by_cmp, is_eq, is_lt, ordering_then, nat_cmp}
+use Rattle.std.proofs.lemmas.Bool.{and_from, and_parts, cases_Bool}
 use Rattle.std.proofs.lemmas.Bool.Decides.{nat_tests}
 use Rattle.std.proofs.lemmas.Cmp.{eq_by_cmp_equiv, nat_cmp_total, nat_eq_equiv, and_equiv, on_equiv, on_total, then_total}
 use Rattle.std.proofs.lemmas.List.Kept.{Contains-dedup, Contains-from_dedup, IsStrictlySortedBy-dedup}
@@ -15,7 +14,12 @@ use Rattle.std.proofs.lemmas.List.Sorted.{list_any-IsPermutation}
 use Rattle.std.proofs.lemmas.Map.Keys.{Less-from_sorted}
 use Rattle.std.proofs.lemmas.Map.Views.{Contains-from_any, list_any-from_Contains}
 use Rattle.slurm_text.specs.declared.plain.report.Start.{Start}
-use Rattle.ctl_report.specs.Ordering.{by_job, is_before, in_order}
+use Rattle.slurm_text.specs.Starts.{is_before, InOrder}
+use Rattle.ctl_report.specs.Ordering.{with_start, in_order}
+
+-- the order of the starts
+abbrev by_job : Start → Start → Ordering
+by_job one other = ordering_then (nat_cmp one.id other.id) (nat_cmp one.number other.number)
 
 -- the order is total, and only a start ties with itself
 abbrev pub is_same : Start → Start → Bool
@@ -36,25 +40,42 @@ same one other e =
 before : (one other : Start) → by_job one other ≡ Less → is_before one other ≡ true
 before one other e = grind (arith, nat_tests)
 
--- the keys of a map rise, and what rises may be the keys of a map
-holds : (b : Bool) → T b → b ≡ true
-holds true h = refl
-holds false h = absurd h
+less : (one other : Start) → is_before one other ≡ true → by_job one other ≡ Less
+less one other e = grind (arith, nat_tests)
 
-less : (o : Ordering) → is_lt o ≡ true → o ≡ Less
-less o = elim o as (λ o. is_lt o ≡ true → o ≡ Less) [ Less ↦ λ h. refl | Equal ↦ λ h. cc | Greater ↦ λ h. cc ]
+further : (one other third : Start) → by_job one other ≡ Less → by_job other third ≡ Less → by_job one third ≡ Less
+further one other third h k = grind (arith, nat_tests)
 
-below : (start : Start) (es : List (Start × Unit {0})) → is_sorted by_job ((start, tt) ∷ es) ≡ true → AllByRecursion (λ other. by_job start other ≡ Less) (map (λ e. e.0) es)
-below start [] h = tt
-below start (e ∷ es) h =
-    let p = and_parts _ _ h in
-    let first = and_parts _ _ p.0 in
-    (less _ first.0, below start es (and_from _ _ first.1 (and_parts _ _ p.1).1))
+-- one more start at its place
+all-further : (one other : Start) (starts : List Start) → by_job one other ≡ Less → AllByRecursion (λ third. by_job other third ≡ Less) starts → AllByRecursion (λ third. by_job one third ≡ Less) starts
+all-further one other [] h all = tt
+all-further one other (third ∷ later) h all = (further one other third h all.0, all-further one other later h all.1)
 
-rise : (es : List (Start × Unit {0})) → is_sorted by_job es ≡ true → IsStrictlySortedBy by_job (map (λ e. e.0) es)
+all-with : (one start : Start) (starts : List Start) → by_job one start ≡ Less → AllByRecursion (λ other. by_job one other ≡ Less) starts → AllByRecursion (λ other. by_job one other ≡ Less) (with_start start starts)
+all-with one start [] h all = (h, tt)
+all-with one start (other ∷ later) h all = elim (cases_Bool (is_before start other)) [
+  | inl first ↦ rw first (h, all)
+  | inr later_on ↦ elim (cases_Bool (is_before other start)) [
+    | inl behind ↦ rw (later_on, behind) (all.0, all-with one start later h all.1)
+    | inr there ↦ rw (later_on, there) all
+  ]
+]
+
+sorted-with : (start : Start) (starts : List Start) → IsStrictlySortedBy by_job starts → IsStrictlySortedBy by_job (with_start start starts)
 unfolding IsStrictlySortedBy
-rise [] h = tt
-rise (e ∷ es) h = (below e.0 es h, rise es (and_parts _ _ h).1)
+sorted-with start [] h = (tt, tt)
+sorted-with start (one ∷ later) h = elim (cases_Bool (is_before start one)) [
+  | inl first ↦ rw first ((less start one first, all-further start one later (less start one first) h.0), h)
+  | inr later_on ↦ elim (cases_Bool (is_before one start)) [
+    | inl behind ↦ rw (later_on, behind) (all-with one start later (less one start behind) h.0, sorted-with start later h.1)
+    | inr there ↦ rw (later_on, there) h
+  ]
+]
+
+rise : (starts : List Start) → IsStrictlySortedBy by_job (in_order starts)
+unfolding in_order IsStrictlySortedBy
+rise [] = tt
+rise (start ∷ starts) = sorted-with start (in_order starts) (rise starts)
 
 abbrev paired : List Start → List (Start × Unit {0})
 paired starts = map (λ start. (start, tt)) starts
@@ -68,12 +89,11 @@ unfolding IsStrictlySortedBy
 ordered [] h = refl
 ordered (start ∷ starts) h = above start starts h.0 (ordered starts h.1)
 
-pub in_order_rises : (starts : List Start) → AllPairs (λ one other. is_before one other ≡ true) (in_order starts)
-unfolding in_order
+pub in_order_rises : (starts : List Start) → InOrder (in_order starts)
 in_order_rises starts i j d earlier within =
-    before (get_or (in_order starts) i d) (get_or (in_order starts) j d) (Less-from_sorted by_job (in_order starts) i j d (rise _ (holds _ (entries_sorted (from_entries {R = by_job} (paired starts))))) earlier within)
+    before (get_or (in_order starts) i d) (get_or (in_order starts) j d) (Less-from_sorted by_job (in_order starts) i j d (rise starts) earlier within)
 
--- the keys of a map are those that were given
+-- they are those that were given
 unpaired : (starts : List Start) → map (λ e. e.0) (paired starts) ≡ starts
 unpaired [] = refl
 unpaired (start ∷ starts) = ap (λ later. start ∷ later) (unpaired starts)
@@ -90,9 +110,32 @@ finds one starts = list_any-from_Contains (eq_by_cmp_equiv total) one starts
 find-paired : (one : Start) (starts : List Start) → is_some (find by_job one (paired starts)) ≡ has one starts
 find-paired one starts = is_some-find by_job one (paired starts) ∙ ap (has one) (unpaired starts)
 
+has-with : (one start : Start) (starts : List Start) → has one (with_start start starts) ≡ (eq_by_cmp by_job one start || has one starts)
+has-with one start [] = refl
+has-with one start (other ∷ later) = elim (cases_Bool (is_before start other)) [
+  | inl first ↦ rw first refl
+  | inr later_on ↦ elim (cases_Bool (is_before other start)) [
+    | inl behind ↦ rw (later_on, behind, has-with one start later) (other-first (eq_by_cmp by_job one other) (eq_by_cmp by_job one start) (has one later))
+    | inr there ↦ rw (later_on, there) (same-twice (eq_by_cmp by_job one other) (eq_by_cmp by_job one start) (has one later) (ap (eq_by_cmp by_job one) (neither start other later_on there)))
+  ]
+]
+  where
+    other-first : (a b c : Bool) → (a || (b || c)) ≡ (b || (a || c))
+    other-first true true c = refl
+    other-first true false c = refl
+    other-first false b c = refl
+
+    same-twice : (a b c : Bool) → b ≡ a → (a || c) ≡ (b || (a || c))
+    same-twice a true c e = rw (← e) refl
+    same-twice a false c e = refl
+
+    neither : (start other : Start) → is_before start other ≡ false → is_before other start ≡ false → start ≡ other
+    neither start other h k = same start other (grind (arith, nat_tests))
+
 has-in_order : (one : Start) (starts : List Start) → has one (in_order starts) ≡ has one starts
 unfolding in_order
-has-in_order one starts = sym (contains_key-keys (from_entries {R = by_job} (paired starts)) one) ∙ ap is_some (get-from_entries total (paired starts) one) ∙ find-paired one starts
+has-in_order one [] = refl
+has-in_order one (start ∷ starts) = has-with one start (in_order starts) ∙ ap (λ rest. eq_by_cmp by_job one start || rest) (has-in_order one starts)
 
 pub in_order_given : (starts : List Start) (one : Start) → Contains (in_order starts) one → Contains starts one
 in_order_given starts one h = found one starts (sym (has-in_order one starts) ∙ finds one (in_order starts) h)
@@ -110,17 +153,17 @@ alike (Some u) None h k = absurd (cc (h refl))
 alike (Some u) (Some v) h k = refl
 
 pub in_order-deduped : (starts sorted : List Start) → IsPermutation starts sorted → IsSorted by_job sorted → dedup is_same sorted ≡ in_order starts
-unfolding in_order
 in_order-deduped starts sorted moved up =
     let once = dedup is_same sorted in
-    let keys : FinMap by_job (Unit {0}) = from_entries (paired starts) in
     let equal = and_equiv (on_equiv (λ (start : Start). start.id) nat_eq_equiv) (on_equiv (λ (start : Start). start.number) nat_eq_equiv) in
     let moves : (one : Start) → has one starts ≡ has one sorted = λ one. list_any-IsPermutation (eq_by_cmp by_job one) starts sorted moved in
     let given : (one : Start) → has one once ≡ true → has one starts ≡ true = λ one h. moves one ∙ finds one sorted (Contains-from_dedup is_same sorted one (found one once h)) in
     let kept : (one : Start) → has one starts ≡ true → has one once ≡ true = λ one h. finds one once (Contains-dedup equal same sorted one (found one sorted (sym (moves one) ∙ h))) in
-    let alike_at : (one : Start) → find by_job one (paired once) ≡ find by_job one (entries keys) = λ one.
-    alike _ _ (λ h. find-paired one starts ∙ given one (sym (find-paired one once) ∙ h)) (λ h. find-paired one once ∙ kept one (sym (find-paired one starts) ∙ h))
-    ∙ sym (get-from_entries total (paired starts) one) ∙ get-entries keys one in
+    let alike_at : (one : Start) → find by_job one (paired once) ≡ find by_job one (paired (in_order starts)) = λ one.
+    alike _ _ (λ h. find-paired one (in_order starts) ∙ has-in_order one starts ∙ given one (sym (find-paired one once) ∙ h))
+    (λ h. find-paired one once ∙ kept one (sym (has-in_order one starts) ∙ sym (find-paired one (in_order starts)) ∙ h)) in
     let rises = subst T (sym (ordered once (IsStrictlySortedBy-dedup total ties sorted up))) tt in
+    let rises_too = subst T (sym (ordered (in_order starts) (rise starts))) tt in
     sym (unpaired once)
-    ∙ ap (map (λ e. e.0)) (same_entries by_job total (λ x y e. same x y (ties x y ∙ ap is_eq e)) (paired once) (entries keys) rises (entries_sorted keys) alike_at)
+    ∙ ap (map (λ e. e.0)) (same_entries by_job total (λ x y e. same x y (ties x y ∙ ap is_eq e)) (paired once) (paired (in_order starts)) rises rises_too alike_at)
+    ∙ unpaired (in_order starts)

@@ -1,9 +1,7 @@
 -- What the node is ordered to do in answer to its report.
-use Rattle.std.specs.Prelude.{ℕ, Bool, ◌&&◌, ◌||◌, not, nat_eq, nat_lt, is_some, if◌then◌else◌, List, map, filter, find, filter_map, Option, Some, None, option_map}
+use Rattle.std.specs.Prelude.{ℕ, Bool, ◌&&◌, ◌||◌, not, is_some, if◌then◌else◌, List, [], ◌∷◌, map, filter, find, filter_map, Option, Some, None, option_map}
 use Rattle.std.specs.List.{list_any}
-use Rattle.std.specs.declared.cmp.Ordering.{Ordering}
-use Rattle.std.specs.Ordering.{ordering_then, nat_cmp}
-use Rattle.std.specs.FinMap.{keys, from_entries}
+use Rattle.slurm_text.specs.Starts.{is_before}
 use Rattle.slurm_text.specs.declared.plain.report.Start.{Start}
 use Rattle.slurm_text.specs.declared.plain.report.Done.{Done}
 use Rattle.slurm_text.specs.declared.plain.report.Report.{Report}
@@ -16,16 +14,17 @@ use Rattle.ctl_state.specs.Holding.{is_on}
 use Rattle.ctl_state.specs.State.{State}
 use Rattle.ctl_report.specs.Reporting.{is_last_start, is_listed, done_of, is_at, is_batch_host, reported}
 
--- the order of the starts: by job, then by number
-abbrev pub is_before : Start → Start → Bool
-is_before one other = nat_lt one.id other.id || (nat_eq one.id other.id && nat_lt one.number other.number)
+-- starts in order, with one more at its place, if it isn't there
+abbrev pub with_start : Start → List Start → List Start
+with_start start [] = start ∷ []
+with_start start (one ∷ later) =
+    if is_before start one then start ∷ one ∷ later else
+    (if is_before one start then one ∷ with_start start later else one ∷ later)
 
-abbrev pub by_job : Start → Start → Ordering
-by_job one other = ordering_then (nat_cmp one.id other.id) (nat_cmp one.number other.number)
-
--- the starts in order, each once: the keys of a map in that order
+-- the starts by job, then by number, each once
 unfoldable pub in_order : List Start → List Start
-in_order starts = keys (from_entries {R = by_job} (map (λ start. (start, tt {0})) starts))
+in_order [] = []
+in_order (start ∷ starts) = with_start start (in_order starts)
 
 -- one of the jobs still runs this start on the node
 abbrev pub runs_start : ℕ → List JobRecord → Start → Bool

@@ -7,7 +7,8 @@ ghost use Rattle.ctl_state.specs.State.{State, last_moment};
 ghost use Rattle.ctl_state.specs.Soundness.{IsSound};
 ghost use Rattle.ctl_state.specs.Verdicts.{stamped};
 ghost use Rattle.ctl_report.specs.Reporting.{report_after};
-ghost use Rattle.ctl_report.specs.Ordering.{is_before, in_order};
+ghost use Rattle.slurm_text.specs.Starts.{InOrder};
+ghost use Rattle.ctl_report.specs.Ordering.{in_order};
 
 use ctl_state::laws::{
     every_change_but_a_start_lets_go, jobs_are_kept, letting_go_keeps_all_sound,
@@ -28,6 +29,6 @@ pub fn a_report_keeps_all_sound()
 /// Starts in order rise, each once, and are those that were given.
 #[tactic(auto, using(crate::proofs::InOrder::orders))]
 pub fn orders_are_in_order()
-    ensures rising { (starts : List Start) → AllPairs (λ one other. is_before one other ≡ true) (in_order starts) }
+    ensures rising { (starts : List Start) → InOrder (in_order starts) }
     ensures members { (starts : List Start) (start : Start) → Contains (in_order starts) start ↔ Contains starts start }
 {}

@@ -4,15 +4,15 @@ ghost use Rattle.std.specs.Prelude.{◌≡◌, ◌&&◌, not, is_some, IfOk, map
 ghost use Rattle.ctl_state.specs.Holding.{is_on};
 ghost use Rattle.std.specs.List.{list_any};
 ghost use Rattle.ctl_state.specs.JobStates.{is_running};
+ghost use Rattle.ctl_state.specs.Soundness.{HaveRisingIds};
 ghost use Rattle.ctl_report.specs.Reporting.{is_at, is_listed, is_batch_host, done_of, reported};
 ghost use Rattle.ctl_report.specs.Ordering.{runs_start, in_order, launch_part, launch_of};
 
 use crate::jobs::{done_of, is_at, is_batch_host, is_listed};
 use crate::starts::in_order;
 use ctl_state::record::{JobRecord, Part};
-use slurm_text::items::Items;
 use slurm_text::memory_error::Memory;
-use slurm_text::plain::orders::Launch;
+use slurm_text::plain::orders::{Launch, Launches, Starts};
 use slurm_text::plain::report::{Done, Report, Start};
 use slurm_text::plain::state::JobState;
 use std::alloc::Global;
@@ -24,7 +24,7 @@ pub(crate) fn kills(
     jobs: &[JobRecord],
     node: u32,
     report: &Report,
-) -> Result<Items<Start>, Memory>
+) -> Result<Starts, Memory>
     ensures { IfOk result (λ kills. (now : ℕ) →
         kills ≡ in_order (filter (λ start. not (runs_start node (map (reported now node report.now) jobs.now) start)) report.now.running)) }
 {
@@ -85,7 +85,7 @@ fn start_of(job: &JobRecord) -> Start
 }
 
 /// The starts that the report tells to be over.
-pub(crate) fn forgets(alloc: Global, done: &[Done]) -> Result<Items<Start>, Memory>
+pub(crate) fn forgets(alloc: Global, done: &[Done]) -> Result<Starts, Memory>
     ensures { IfOk result (λ forgets. forgets ≡ in_order (map (λ done. done.start) done.now)) }
 {
     Ok(in_order(starts_over(alloc, done)?))
@@ -103,7 +103,8 @@ pub(crate) fn launches(
     jobs: &[JobRecord],
     node: u32,
     report: &Report,
-) -> Result<Items<Launch>, Memory>
+) -> Result<Launches, Memory>
+    requires { HaveRisingIds jobs.now }
     ensures { IfOk result (λ launches. launches ≡ filter_map (launch_of node report.now) jobs.now) }
 {
     let mut launches = Vec::new(alloc);
@@ -112,7 +113,7 @@ pub(crate) fn launches(
             launches.push(launch)?;
         }
     }
-    Ok(Items::from_vec(launches))
+    Ok(Launches::from_vec(launches))
 }
 
 fn launch_of(job: &JobRecord, node: u32, report: &Report) -> Result<Option<Launch>, Memory>

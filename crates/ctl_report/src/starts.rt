@@ -3,15 +3,15 @@
 ghost use Rattle.std.specs.Prelude.{◌≡◌};
 ghost use Rattle.ctl_report.specs.Ordering.{in_order};
 
-use slurm_text::items::Items;
+use slurm_text::plain::orders::Starts;
 use slurm_text::plain::report::Start;
 
 /// The starts by job and number. It takes no memory, and n log n steps.
-pub(crate) fn in_order(starts: Vec<Start>) -> Items<Start>
+pub(crate) fn in_order(starts: Vec<Start>) -> Starts
     ensures { result ≡ in_order starts.items }
 {
     let mut ordered = starts;
     ordered.sort_unstable_by_key(|start| (start.id, start.number));
     ordered.dedup();
-    Items::from_vec(ordered)
+    Starts::from_vec(ordered)
 }

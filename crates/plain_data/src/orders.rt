@@ -3,6 +3,7 @@
 ghost use Rattle.std.specs.Prelude.{◌≡◌, ◌<◌, All, AllPairs, IfOk, bytes_eq};
 ghost use Rattle.std.specs.Cmp.{partial_equiv_from_equiv};
 ghost use Rattle.std.specs.Cmp.Lexicographic.{nat_list_eq_equiv};
+ghost use Rattle.plain_data.specs.Starts.{InOrder, LaunchesInOrder};
 
 use crate::Plain;
 use crate::items::Items;
@@ -91,6 +92,102 @@ impl Plain for Launch {
     }
 }
 
+/// Starts by job, then by number, each once. A contract sees them as a list in that order (own).
+#[derive(PartialEq, Debug, Drop)]
+pub struct Starts {
+    starts: Items<Start>,
+}
+
+impl Model for Starts {
+    ghost use Rattle.std.specs.Prelude.{List};
+    ghost use Rattle.plain_data.specs.declared.report.Start.{Start};
+    ghost use Rattle.plain_data.specs.Starts.{InOrder};
+
+    ghost Value = { List Start };
+
+    ghost view = { λ s. s.starts };
+
+    ghost invariant = { λ s. InOrder s.starts };
+
+    ghost inverse = { λ starts. record { starts = starts } };
+}
+
+impl Starts {
+    /// These starts. It takes no memory.
+    pub fn from_vec(starts: Vec<Start>) -> Starts
+        requires { InOrder starts.items }
+        ensures { result ≡ starts.items }
+    {
+        Starts {
+            starts: Items::from_vec(starts),
+        }
+    }
+
+    /// The starts in order.
+    pub fn as_slice(&self) -> &[Start]
+        ensures value { result.now ≡ self.now }
+        ensures order { InOrder self.now }
+    {
+        self.starts.as_slice()
+    }
+
+    /// Equal starts.
+    pub fn copy(&self) -> Result<Starts, Memory>
+        ensures { IfOk result (λ starts. starts ≡ self.now) }
+    {
+        let starts = self.starts.copy()?;
+        Ok(Starts { starts })
+    }
+}
+
+/// Launches by job, then by number, each once. A contract sees them as a list in that order (own).
+#[derive(PartialEq, Debug, Drop)]
+pub struct Launches {
+    launches: Items<Launch>,
+}
+
+impl Model for Launches {
+    ghost use Rattle.std.specs.Prelude.{List};
+    ghost use Rattle.plain_data.specs.declared.orders.Launch.{Launch};
+    ghost use Rattle.plain_data.specs.Starts.{LaunchesInOrder};
+
+    ghost Value = { List Launch };
+
+    ghost view = { λ l. l.launches };
+
+    ghost invariant = { λ l. LaunchesInOrder l.launches };
+
+    ghost inverse = { λ launches. record { launches = launches } };
+}
+
+impl Launches {
+    /// These launches. It takes no memory.
+    pub fn from_vec(launches: Vec<Launch>) -> Launches
+        requires { LaunchesInOrder launches.items }
+        ensures { result ≡ launches.items }
+    {
+        Launches {
+            launches: Items::from_vec(launches),
+        }
+    }
+
+    /// The launches in order.
+    pub fn as_slice(&self) -> &[Launch]
+        ensures value { result.now ≡ self.now }
+        ensures order { LaunchesInOrder self.now }
+    {
+        self.launches.as_slice()
+    }
+
+    /// Equal launches.
+    pub fn copy(&self) -> Result<Launches, Memory>
+        ensures { IfOk result (λ launches. launches ≡ self.now) }
+    {
+        let launches = self.launches.copy()?;
+        Ok(Launches { launches })
+    }
+}
+
 /// What the controller orders a node's daemon to do, in answer to a report (own).
 #[derive(PartialEq, Debug, Drop)]
 pub struct Orders {
@@ -100,11 +197,11 @@ pub struct Orders {
     /// The number of that report.
     pub number: u64,
     /// The starts to be killed.
-    pub kills: Items<Start>,
+    pub kills: Starts,
     /// The starts that the daemon needn't report any more.
-    pub forgets: Items<Start>,
+    pub forgets: Starts,
     /// The starts to be launched.
-    pub launches: Items<Launch>,
+    pub launches: Launches,
 }
 
 impl Orders {

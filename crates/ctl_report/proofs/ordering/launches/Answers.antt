@@ -1,6 +1,7 @@
-use Rattle.std.proofs.Common.{ℕ, ◌≡◌, ◌+◌, ◌<◌, ◌∙◌, List, [], ◌∷◌, ◌++◌, length, get_or, take, Option, sym, ap, arith, append-nil}
+use Rattle.std.proofs.Common.{ℕ, ◌≡◌, ◌+◌, ◌<◌, ◌≤◌, ◌∙◌, List, [], ◌∷◌, ◌++◌, length, get_or, take, Option, sym, ap, arith, append-nil}
 use Rattle.std.specs.List.{filter_map, cons_option}
-use Rattle.std.proofs.lemmas.List.{take_more}
+use Rattle.std.proofs.lemmas.List.{take_more, take_all}
+use Rattle.ctl_report.proofs.Launching.{launches-rise}
 use Rattle.std.proofs.lemmas.List.Elements.{filter_map-append}
 use Rattle.ctl_report.specs.Ordering.{launch_of}
 use Rattle.ctl_report.proofs.ordering.launches.Goals as goal
@@ -20,3 +21,8 @@ loop-job-preserved c =
       | in-Some+in_ok-push w ↦ ap (λ v. v.items) w.launches-is ∙ w.in_ok-push.ensures.items ∙ ap (λ y. out ++ cons_option y []) (sym w.in-Some.is) ∙ gathered
       | in_default w ↦ ap (λ v. v.items) w.launches-is ∙ sym (append-nil out) ∙ ap (λ y. out ++ cons_option y []) (sym w.in_default.is) ∙ gathered
     ]
+
+pub from_vec-requires : goal.from_vec-requires
+from_vec-requires c =
+    let past : length c.args.jobs.now ≤ c.loop-job.job-index = omega arith in
+    rw (c.loop-job.invariant, take_all c.loop-job.job-index c.args.jobs.now past) (launches-rise c.args.node c.args.report.now c.args.jobs.now c.requires)

@@ -1,7 +1,7 @@
 use Rattle.slurm_text.specs.declared.plain.request.Request.TheVariants.{Pass}
 use Rattle.std.proofs.Common.{refl}
 use Rattle.ctl_desk.specs.History.{entry_of, after_all}
-use Rattle.ctl_desk.proofs.Owning.{own_goes_on, own_answered, own_counted}
+use Rattle.ctl_desk.proofs.Owning.{own_goes_on, own_answered, own_counted, own_counted_up_to}
 use Rattle.ctl_desk.proofs.own_desk.OwnDeskDesk.pass.Goals as goal
 
 pub returns-clause-goes_on : goal.returns-clause-goes_on
@@ -19,3 +19,8 @@ pub returns-clause-steps : goal.returns-clause-steps
 returns-clause-steps c =
     let called = c.pass.ensures in
     rw (← c.self.view_is) (own_counted _ c.args.now c.args.user.now c.self.inside.before _ _ c.self.inside.book c.pass.new.self called.place called.entries called.steps)
+
+pub returns-clause-steps_err : goal.returns-clause-steps_err
+returns-clause-steps_err c =
+    let called = c.pass.ensures in
+    own_counted_up_to _ c.args.now c.args.user.now c.self.inside.before _ _ c.self.inside.book c.pass.new.self called.err called.steps_err
