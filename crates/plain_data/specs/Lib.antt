@@ -1,2 +1,1 @@
 pub mod Confs
-pub mod Starts

@@ -93,3 +93,9 @@ impl<T: Plain> Items<T> {
         Ok(Items { items: copies })
     }
 }
+
+impl<T: Plain> Plain for Items<T> {
+    fn copy(&self) -> Result<Items<T>, Memory> {
+        self.copy()
+    }
+}

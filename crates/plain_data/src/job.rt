@@ -2,23 +2,95 @@
 
 ghost use Rattle.std.specs.Prelude.{◌≡◌, IfOk};
 
+use crate::array::ArraySpec;
+use crate::dependency::DepSpec;
+use crate::features::FeatureExpr;
+use crate::items::Items;
 use crate::limit::Limit;
+use crate::mem_ask::MemAsk;
+use crate::nice::Nice;
 use crate::ranged::Ranged;
 use small_texts::memory_error::Memory;
-use small_texts::name::JobName;
+use small_texts::name::{JobName, Name};
 
-/// What a submission asks for. sbatch(1).
+/// What a submission asks for. Where a field is None, the submission doesn't say. sbatch(1).
 #[derive(PartialEq, Debug, Drop)]
 pub struct JobDesc {
     pub name: JobName,
-    /// The tasks, each on one processor.
+    pub account: Option<Name>,
+    pub partition: Option<Name>,
+    pub qos: Option<Name>,
+    pub reservation: Option<Name>,
     pub tasks: Ranged<1, 1048576>,
-    /// How long it may run; None asks for the partition's own limit.
+    /// Processors for each task.
+    pub cpus_per_task: Ranged<1, 1024>,
+    /// How many tasks run on one node, at most.
+    pub tasks_per_node: Option<Ranged<1, 1024>>,
+    /// How many nodes it has, at least.
+    pub min_nodes: Ranged<1, 1024>,
+    /// How many nodes it has, at most.
+    pub max_nodes: Option<Ranged<1, 1024>>,
+    pub mem_ask: Option<MemAsk>,
+    /// Whether it has its nodes for itself.
+    pub exclusive: bool,
+    /// How long it may run.
     pub limit: Option<Limit>,
+    /// The second before which it doesn't start.
+    pub begin: Option<Ranged<0, 250000000000>>,
+    pub nice: Nice,
+    /// Whether it is held from the start.
+    pub held: bool,
+    /// Whether it waits again where a node of it fails.
+    pub requeue: Option<bool>,
+    pub features: Option<FeatureExpr>,
+    /// Nodes that it must have.
+    pub required: Items<Name>,
+    /// Nodes that it mustn't have.
+    pub excluded: Items<Name>,
+    pub array: Option<ArraySpec>,
+    pub dependency: Option<DepSpec>,
     /// How many seconds its script takes, where nothing ends it before (own).
     pub run: Ranged<1, 2000000000>,
     /// The exit code of its script (own).
     pub exit: Ranged<0, 255>,
+    /// Whether the answer is its number alone.
+    pub parsable: bool,
+}
+
+fn copy_name(name: &Option<Name>) -> Result<Option<Name>, Memory>
+    ensures { IfOk result (λ copied. copied ≡ name.now) }
+{
+    match name {
+        Some(name) => Ok(Some(name.copy()?)),
+        None => Ok(None),
+    }
+}
+
+fn copy_features(features: &Option<FeatureExpr>) -> Result<Option<FeatureExpr>, Memory>
+    ensures { IfOk result (λ copied. copied ≡ features.now) }
+{
+    match features {
+        Some(features) => Ok(Some(features.copy()?)),
+        None => Ok(None),
+    }
+}
+
+fn copy_array(array: &Option<ArraySpec>) -> Result<Option<ArraySpec>, Memory>
+    ensures { IfOk result (λ copied. copied ≡ array.now) }
+{
+    match array {
+        Some(array) => Ok(Some(array.copy()?)),
+        None => Ok(None),
+    }
+}
+
+fn copy_dependency(dependency: &Option<DepSpec>) -> Result<Option<DepSpec>, Memory>
+    ensures { IfOk result (λ copied. copied ≡ dependency.now) }
+{
+    match dependency {
+        Some(dependency) => Ok(Some(dependency.copy()?)),
+        None => Ok(None),
+    }
 }
 
 impl JobDesc {
@@ -28,10 +100,30 @@ impl JobDesc {
     {
         Ok(JobDesc {
             name: self.name.copy()?,
+            account: copy_name(&self.account)?,
+            partition: copy_name(&self.partition)?,
+            qos: copy_name(&self.qos)?,
+            reservation: copy_name(&self.reservation)?,
             tasks: self.tasks,
+            cpus_per_task: self.cpus_per_task,
+            tasks_per_node: self.tasks_per_node,
+            min_nodes: self.min_nodes,
+            max_nodes: self.max_nodes,
+            mem_ask: self.mem_ask,
+            exclusive: self.exclusive,
             limit: self.limit,
+            begin: self.begin,
+            nice: self.nice,
+            held: self.held,
+            requeue: self.requeue,
+            features: copy_features(&self.features)?,
+            required: self.required.copy()?,
+            excluded: self.excluded.copy()?,
+            array: copy_array(&self.array)?,
+            dependency: copy_dependency(&self.dependency)?,
             run: self.run,
             exit: self.exit,
+            parsable: self.parsable,
         })
     }
 }

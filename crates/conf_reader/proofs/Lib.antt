@@ -1,0 +1,3 @@
+pub mod ProductLemmas
+pub mod ReaderLemmas
+pub mod SaidLemmas

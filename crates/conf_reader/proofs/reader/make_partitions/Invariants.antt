@@ -1,0 +1,10 @@
+use Rattle.std.proofs.Common.{◌≡◌, ◌++◌, length}
+use Rattle.conf_reader.specs.NodeLines.{names_of}
+use Rattle.conf_reader.specs.Reader.{partitions_by}
+use Rattle.conf_reader.proofs.reader.make_partitions.Given as goal
+
+abbrev pub decreases-loop-alloc : goal.decreases-loop-alloc
+decreases-loop-alloc l = length l.lines.items
+
+abbrev pub invariant-loop-alloc : goal.invariant-loop-alloc
+invariant-loop-alloc l = l.partitions.items ++ partitions_by (names_of l.known) l.lines.items ≡ partitions_by (names_of l.known) l.initial.lines.items

@@ -1,0 +1,5 @@
+pub mod NodeLines
+pub mod PartitionLines
+pub mod Reader
+pub mod SettingLines
+pub mod Words

@@ -1,0 +1,395 @@
+//! Lines of partitions.
+
+ghost use Rattle.std.specs.Prelude.{ℕ, ◌≡◌, ◌≤◌, ◌<◌, ◌^◌, length, map, IfOk, IfSome, OnOk, IsErrOf, Some, None, Ok, Err};
+ghost use Rattle.std.specs.Option.{option_or};
+ghost use Rattle.conf_values.specs.Keys.{partition_key};
+ghost use Rattle.conf_reader.specs.PartitionLines.{part_name, part_nodes, part_entry, partition_names, part_fault, part_word, part_line};
+ghost use Rattle.conf_values.specs.Values.{has};
+ghost use Rattle.conf_reader.specs.Words.{entry_in};
+ghost use Rattle.conf_values.specs.declared.refusal.ConfKind.{ConfKind};
+
+use conf_lines::pairs::read_pair;
+use conf_lines::words::first_word;
+use conf_values::conf::{PartConf, PartState};
+use conf_values::keys::{PartitionKey, partition_key};
+use conf_values::lists::or_copy;
+use conf_values::refusal::{ConfKind, Fault, ValueRefusal};
+use conf_values::values::{
+    read_allowed, read_exclusive, read_limit, read_mem_per_cpu, read_mem_per_node, read_most_nodes,
+    read_name, read_nodes, read_number, read_part_state, read_u32, read_yes_or_no,
+};
+use slurm_text::items::Items;
+use slurm_text::keywords::is_keyword;
+use slurm_text::memory_error::Memory;
+use slurm_text::name::Name;
+use slurm_text::plain::limit::Limit;
+use slurm_text::plain::mem_ask::MemAsk;
+use slurm_text::ranged::Ranged;
+use std::alloc::Global;
+
+const MOST_PARTITIONS: usize = 64;
+
+/// Whom a line speaks of.
+#[derive(Drop)]
+pub(crate) enum PartName {
+    /// The lines after it.
+    Default,
+    Named(Name),
+}
+
+/// The nodes of a partition.
+#[derive(Drop)]
+pub(crate) enum PartNodes {
+    All,
+    Listed(Items<Name>),
+}
+
+/// What one word of a line says.
+#[derive(Drop)]
+pub(crate) enum PartEntry {
+    Name(PartName),
+    Nodes(PartNodes),
+    IsDefault(bool),
+    MaxTime(Limit),
+    DefaultTime(Limit),
+    State(PartState),
+    Factor(Ranged<0, 65533>),
+    Tier(Ranged<0, 65533>),
+    MinNodes(u32),
+    MaxNodes(Option<u32>),
+    Accounts(Option<Items<Name>>),
+    Qos(Option<Items<Name>>),
+    Exclusive(bool),
+    Mem(MemAsk),
+    WithoutEffect,
+}
+
+/// What the words of a line say.
+#[derive(Drop)]
+pub(crate) struct PartWords {
+    pub(crate) name: Option<PartName>,
+    pub(crate) nodes: Option<PartNodes>,
+    pub(crate) is_default: Option<bool>,
+    pub(crate) max_time: Option<Limit>,
+    pub(crate) default_time: Option<Limit>,
+    pub(crate) state: Option<PartState>,
+    pub(crate) factor: Option<Ranged<0, 65533>>,
+    pub(crate) tier: Option<Ranged<0, 65533>>,
+    pub(crate) min_nodes: Option<u32>,
+    pub(crate) max_nodes: Option<Option<u32>>,
+    pub(crate) accounts: Option<Option<Items<Name>>>,
+    pub(crate) qos: Option<Option<Items<Name>>>,
+    pub(crate) exclusive: Option<bool>,
+    pub(crate) mem: Option<MemAsk>,
+}
+
+/// A partition as its line gives it: its nodes aren't looked up yet, and it says itself whether it is the default.
+#[derive(Drop)]
+pub(crate) struct PartLine {
+    pub(crate) number: u32,
+    pub(crate) nodes: PartNodes,
+    pub(crate) conf: PartConf,
+}
+
+#[tactic(auto, unfolding(crate::specs::PartitionLines::part_name))]
+fn read_part_name(alloc: Global, text: &[u8]) -> Result<PartName, ValueRefusal>
+    ensures value { IfOk result (λ name. part_name text.now ≡ Some name) }
+    ensures refused { IsErrOf result ValueRefusal.BadValue → part_name text.now ≡ None }
+{
+    if text == b"DEFAULT".as_slice() {
+        return Ok(PartName::Default);
+    }
+    let name = read_name(alloc, text)?;
+    Ok(PartName::Named(name))
+}
+
+#[tactic(auto, unfolding(crate::specs::PartitionLines::part_nodes))]
+fn read_part_nodes(alloc: Global, text: &[u8]) -> Result<PartNodes, ValueRefusal>
+    requires { length text.now < 2 ^ 32 }
+    ensures value { IfOk result (λ nodes. part_nodes text.now ≡ Some nodes) }
+    ensures refused { IsErrOf result ValueRefusal.BadValue → part_nodes text.now ≡ None }
+{
+    if is_keyword(text, b"ALL") {
+        return Ok(PartNodes::All);
+    }
+    let names = read_nodes(alloc, text)?;
+    Ok(PartNodes::Listed(names))
+}
+
+#[tactic(auto, unfolding(crate::specs::PartitionLines::part_entry))]
+fn read_part_entry(alloc: Global, key: PartitionKey, text: &[u8]) -> Result<PartEntry, ValueRefusal>
+    requires { length text.now < 2 ^ 32 }
+    ensures value { IfOk result (λ entry. part_entry key text.now ≡ Some entry) }
+    ensures refused { IsErrOf result ValueRefusal.BadValue → part_entry key text.now ≡ None }
+{
+    let bad = ValueRefusal::BadValue;
+    match key {
+        PartitionKey::PartitionName => Ok(PartEntry::Name(read_part_name(alloc, text)?)),
+        PartitionKey::Nodes => Ok(PartEntry::Nodes(read_part_nodes(alloc, text)?)),
+        PartitionKey::Default => Ok(PartEntry::IsDefault(read_yes_or_no(text).ok_or(bad)?)),
+        PartitionKey::MaxTime => Ok(PartEntry::MaxTime(read_limit(text).ok_or(bad)?)),
+        PartitionKey::DefaultTime => Ok(PartEntry::DefaultTime(read_limit(text).ok_or(bad)?)),
+        PartitionKey::State => Ok(PartEntry::State(read_part_state(text).ok_or(bad)?)),
+        PartitionKey::JobFactor => Ok(PartEntry::Factor(read_number(text).ok_or(bad)?)),
+        PartitionKey::Tier => Ok(PartEntry::Tier(read_number(text).ok_or(bad)?)),
+        PartitionKey::MinNodes => Ok(PartEntry::MinNodes(read_u32(text).ok_or(bad)?)),
+        PartitionKey::MaxNodes => Ok(PartEntry::MaxNodes(read_most_nodes(text).ok_or(bad)?)),
+        PartitionKey::AllowAccounts => Ok(PartEntry::Accounts(read_allowed(alloc, text)?)),
+        PartitionKey::AllowQos => Ok(PartEntry::Qos(read_allowed(alloc, text)?)),
+        PartitionKey::AllowGroups => {
+            if is_keyword(text, b"ALL") {
+                Ok(PartEntry::WithoutEffect)
+            } else {
+                Err(bad)
+            }
+        }
+        PartitionKey::OverSubscribe => Ok(PartEntry::Exclusive(read_exclusive(text).ok_or(bad)?)),
+        PartitionKey::DefMemPerNode => Ok(PartEntry::Mem(read_mem_per_node(text).ok_or(bad)?)),
+        PartitionKey::DefMemPerCpu => Ok(PartEntry::Mem(read_mem_per_cpu(text).ok_or(bad)?)),
+        PartitionKey::WithoutEffect => Ok(PartEntry::WithoutEffect),
+    }
+}
+
+// What a word says by itself.
+#[tactic(auto, unfolding(crate::specs::Words::entry_in))]
+fn read_entry(alloc: Global, word: &[u8]) -> Result<PartEntry, Fault>
+    requires { length word.now < 2 ^ 32 }
+    ensures value { IfOk result (λ entry. entry_in partition_key part_entry word.now ≡ Ok entry) }
+    ensures refused { (k : ConfKind)
+        → IsErrOf result (Fault.Refused k) → entry_in partition_key part_entry word.now ≡ Err k }
+{
+    let Some(pair) = read_pair(word) else {
+        return Err(Fault::Refused(ConfKind::BadPair));
+    };
+    let Some(key) = partition_key(pair.key) else {
+        return Err(Fault::Refused(ConfKind::UnknownKey));
+    };
+    match read_part_entry(alloc, key, pair.value) {
+        Ok(entry) => Ok(entry),
+        Err(ValueRefusal::BadValue) => Err(Fault::Refused(ConfKind::BadValue)),
+        Err(ValueRefusal::Memory) => Err(Fault::Memory),
+    }
+}
+
+fn has_partition(known: &[PartLine], name: &Name) -> bool
+    ensures { result ≡ has name.now (partition_names known.now) }
+{
+    for line in known {
+        if name.is(&line.conf.name) {
+            return true;
+        }
+    }
+    false
+}
+
+#[tactic(auto, unfolding(crate::specs::PartitionLines::part_fault))]
+fn part_fault(known: &[PartLine], entry: &PartEntry) -> Option<ConfKind>
+    ensures { result ≡ part_fault (partition_names known.now) entry.now }
+{
+    match entry {
+        PartEntry::Name(PartName::Named(name)) => {
+            if has_partition(known, name) {
+                Some(ConfKind::TwiceNamed)
+            } else if known.len() >= MOST_PARTITIONS {
+                Some(ConfKind::OverLimit)
+            } else {
+                None
+            }
+        }
+        _ => None,
+    }
+}
+
+#[tactic(auto, unfolding(crate::specs::PartitionLines::part_word))]
+fn read_part_word(alloc: Global, known: &[PartLine], word: &[u8]) -> Result<PartEntry, Fault>
+    requires { length word.now < 2 ^ 32 }
+    ensures value { IfOk result (λ entry. part_word (partition_names known.now) word.now ≡ Ok entry) }
+    ensures refused { (k : ConfKind)
+        → IsErrOf result (Fault.Refused k) → part_word (partition_names known.now) word.now ≡ Err k }
+{
+    let entry = read_entry(alloc, word)?;
+    match part_fault(known, &entry) {
+        Some(kind) => Err(Fault::Refused(kind)),
+        None => Ok(entry),
+    }
+}
+
+impl PartWords {
+    ghost use Rattle.std.specs.Prelude.{◌≡◌, IfOk, IfSome};
+    ghost use Rattle.conf_reader.specs.PartitionLines.{with_part, no_part_words, over, part_conf, line_of};
+
+    #[tactic(auto, unfolding(crate::specs::PartitionLines::no_part_words))]
+    pub(crate) fn new() -> PartWords
+        ensures { result ≡ no_part_words }
+    {
+        PartWords {
+            name: None,
+            nodes: None,
+            is_default: None,
+            max_time: None,
+            default_time: None,
+            state: None,
+            factor: None,
+            tier: None,
+            min_nodes: None,
+            max_nodes: None,
+            accounts: None,
+            qos: None,
+            exclusive: None,
+            mem: None,
+        }
+    }
+
+    #[tactic(auto, unfolding(crate::specs::PartitionLines::with_part))]
+    fn put(&mut self, entry: PartEntry)
+        ensures { self.new ≡ with_part self.old entry }
+    {
+        match entry {
+            PartEntry::Name(name) => self.name = Some(name),
+            PartEntry::Nodes(nodes) => self.nodes = Some(nodes),
+            PartEntry::IsDefault(yes) => self.is_default = Some(yes),
+            PartEntry::MaxTime(limit) => self.max_time = Some(limit),
+            PartEntry::DefaultTime(limit) => self.default_time = Some(limit),
+            PartEntry::State(state) => self.state = Some(state),
+            PartEntry::Factor(number) => self.factor = Some(number),
+            PartEntry::Tier(number) => self.tier = Some(number),
+            PartEntry::MinNodes(number) => self.min_nodes = Some(number),
+            PartEntry::MaxNodes(number) => self.max_nodes = Some(number),
+            PartEntry::Accounts(names) => self.accounts = Some(names),
+            PartEntry::Qos(names) => self.qos = Some(names),
+            PartEntry::Exclusive(yes) => self.exclusive = Some(yes),
+            PartEntry::Mem(ask) => self.mem = Some(ask),
+            PartEntry::WithoutEffect => {}
+        }
+    }
+
+    /// What this line says, before what DEFAULT lines said.
+    #[tactic(auto, unfolding(crate::specs::PartitionLines::over))]
+    pub(crate) fn over(self, defaults: PartWords) -> PartWords
+        ensures { result ≡ over self defaults }
+    {
+        PartWords {
+            name: self.name,
+            nodes: self.nodes.or(defaults.nodes),
+            is_default: self.is_default.or(defaults.is_default),
+            max_time: self.max_time.or(defaults.max_time),
+            default_time: self.default_time.or(defaults.default_time),
+            state: self.state.or(defaults.state),
+            factor: self.factor.or(defaults.factor),
+            tier: self.tier.or(defaults.tier),
+            min_nodes: self.min_nodes.or(defaults.min_nodes),
+            max_nodes: self.max_nodes.or(defaults.max_nodes),
+            accounts: self.accounts.or(defaults.accounts),
+            qos: self.qos.or(defaults.qos),
+            exclusive: self.exclusive.or(defaults.exclusive),
+            mem: self.mem.or(defaults.mem),
+        }
+    }
+
+    /// The same, where the defaults stay.
+    #[tactic(auto, unfolding(crate::specs::PartitionLines::over))]
+    pub(crate) fn over_copy(self, defaults: &PartWords) -> Result<PartWords, Memory>
+        ensures { IfOk result (λ words. words ≡ over self defaults.now) }
+    {
+        let nodes = nodes_or_copy(self.nodes, &defaults.nodes)?;
+        let accounts = allowed_or_copy(self.accounts, &defaults.accounts)?;
+        let qos = allowed_or_copy(self.qos, &defaults.qos)?;
+        Ok(PartWords {
+            name: self.name,
+            nodes,
+            is_default: self.is_default.or(defaults.is_default),
+            max_time: self.max_time.or(defaults.max_time),
+            default_time: self.default_time.or(defaults.default_time),
+            state: self.state.or(defaults.state),
+            factor: self.factor.or(defaults.factor),
+            tier: self.tier.or(defaults.tier),
+            min_nodes: self.min_nodes.or(defaults.min_nodes),
+            max_nodes: self.max_nodes.or(defaults.max_nodes),
+            accounts,
+            qos,
+            exclusive: self.exclusive.or(defaults.exclusive),
+            mem: self.mem.or(defaults.mem),
+        })
+    }
+
+    /// The partition that these words of a line make; None without nodes.
+    #[tactic(auto, unfolding(crate::specs::PartitionLines::line_of, crate::specs::PartitionLines::part_conf))]
+    pub(crate) fn into_line(self, alloc: Global, number: u32) -> Option<PartLine>
+        ensures { result ≡ line_of number self }
+    {
+        match (self.name, self.nodes) {
+            (Some(PartName::Named(name)), Some(nodes)) => Some(PartLine {
+                number,
+                nodes,
+                conf: PartConf {
+                    name,
+                    nodes: Items::from_vec(Vec::new(alloc)),
+                    is_default: self.is_default.unwrap_or(false),
+                    max_time: self.max_time.unwrap_or(Limit::Unlimited),
+                    default_time: self.default_time,
+                    state: self.state.unwrap_or(PartState::Up),
+                    factor: self.factor.unwrap_or(Ranged::new(1)),
+                    tier: self.tier.unwrap_or(Ranged::new(1)),
+                    min_nodes: self.min_nodes.unwrap_or(0),
+                    max_nodes: self.max_nodes.unwrap_or(None),
+                    accounts: self.accounts.unwrap_or(None),
+                    qos: self.qos.unwrap_or(None),
+                    exclusive: self.exclusive.unwrap_or(false),
+                    mem_default: self.mem,
+                },
+            }),
+            _ => None,
+        }
+    }
+}
+
+fn nodes_or_copy(
+    own: Option<PartNodes>,
+    default: &Option<PartNodes>,
+) -> Result<Option<PartNodes>, Memory>
+    ensures { IfOk result (λ nodes. nodes ≡ option_or own default.now) }
+{
+    match (own, default) {
+        (Some(own), _) => Ok(Some(own)),
+        (None, Some(PartNodes::All)) => Ok(Some(PartNodes::All)),
+        (None, Some(PartNodes::Listed(names))) => Ok(Some(PartNodes::Listed(names.copy()?))),
+        (None, None) => Ok(None),
+    }
+}
+
+fn allowed_or_copy(
+    own: Option<Option<Items<Name>>>,
+    default: &Option<Option<Items<Name>>>,
+) -> Result<Option<Option<Items<Name>>>, Memory>
+    ensures { IfOk result (λ names. names ≡ option_or own default.now) }
+{
+    match (own, default) {
+        (Some(own), _) => Ok(Some(own)),
+        (None, Some(default)) => Ok(Some(or_copy(None, default)?)),
+        (None, None) => Ok(None),
+    }
+}
+
+/// What the words of a line say, where earlier lines gave the partitions of `known`.
+#[tactic(auto, using(crate::proofs::SaidLemmas::said_more, crate::proofs::SaidLemmas::said_bad, crate::proofs::SaidLemmas::said_all), unfolding(crate::specs::PartitionLines::part_line))]
+pub(crate) fn read_part_line(
+    alloc: Global,
+    known: &[PartLine],
+    line: &[u8],
+) -> Result<PartWords, Fault>
+    requires { length line.now < 2 ^ 32 }
+    ensures value { IfOk result (λ words. part_line (partition_names known.now) line.now ≡ Ok words) }
+    ensures refused { (k : ConfKind)
+        → IsErrOf result (Fault.Refused k) → part_line (partition_names known.now) line.now ≡ Err k }
+{
+    let mut words = PartWords::new();
+    let mut rest = line;
+    while let Some((word, behind)) = first_word(rest) {
+        match read_part_word(alloc, known, word) {
+            Ok(entry) => words.put(entry),
+            Err(fault) => return Err(fault),
+        }
+        rest = behind;
+    }
+    Ok(words)
+}

@@ -1,0 +1,174 @@
+//! A file, read line by line.
+
+ghost use Rattle.std.specs.Prelude.{ℕ, ◌≡◌, ◌≤◌, ◌<◌, ◌^◌, ◌++◌, length, not, IfOk, IsErrOf, Ok, Err, OnOk};
+ghost use Rattle.std.specs.List.{list_any};
+ghost use Rattle.conf_lines.specs.Lines.{logical_lines};
+ghost use Rattle.conf_reader.specs.NodeLines.{names_of};
+ghost use Rattle.conf_reader.specs.Reader.{after_lines, nothing_said, has_unknown, first_unknown, nodes_by, partitions_by, conf_of_lines, whole_file, conf_in};
+ghost use Rattle.conf_values.specs.Values.{has};
+ghost use Rattle.conf_values.specs.declared.refusal.ConfKind.{ConfKind};
+
+use crate::draft::Draft;
+use crate::partition_lines::{PartLine, PartNodes};
+use conf_lines::lines::first_line;
+use conf_values::conf::{Conf, NodeConf, PartConf};
+use conf_values::node_table::NodeTable;
+use conf_values::refusal::{ConfKind, ConfRefusal, Fault};
+use slurm_text::items::Items;
+use slurm_text::memory_error::Memory;
+use slurm_text::name::Name;
+use std::alloc::Global;
+
+const LONGEST_FILE: usize = 1_048_576;
+
+/// What a file slurm.conf(5) of at most 1,048,576 bytes says. An error names the first bad line; where each line is
+/// good by itself, a partition's unknown node comes next, and then the want of a partition. The bytes are read once,
+/// at a cost of a few steps each, and beside what is kept only joined lines are copied.
+#[tactic(auto, unfolding(crate::specs::Reader::conf_in))]
+pub fn read_conf(alloc: Global, file: &[u8]) -> Result<Conf, ConfRefusal>
+    ensures value { IfOk result (λ conf. conf_in file.now ≡ Ok conf) }
+    ensures refused { (line : ℕ) → (kind : ConfKind)
+        → IsErrOf result (ConfRefusal.At line kind) → conf_in file.now ≡ Err (ConfRefusal.At line kind) }
+{
+    if file.len() > LONGEST_FILE {
+        return Err(ConfRefusal::At {
+            line: 0,
+            kind: ConfKind::OverLimit,
+        });
+    }
+    match read_lines(alloc, file) {
+        Ok(draft) => end_file(alloc, draft),
+        Err(refusal) => Err(refusal),
+    }
+}
+
+#[tactic(auto, using(crate::proofs::ReaderLemmas::line_more, crate::proofs::ReaderLemmas::line_bad, crate::proofs::ReaderLemmas::no_lines))]
+fn read_lines(alloc: Global, file: &[u8]) -> Result<Draft, ConfRefusal>
+    requires { length file.now ≤ 1_048_576 }
+    ensures value { IfOk result (λ draft. after_lines nothing_said (logical_lines file.now) ≡ Ok draft) }
+    ensures refused { (line : ℕ) → (kind : ConfKind)
+        → IsErrOf result (ConfRefusal.At line kind)
+        → after_lines nothing_said (logical_lines file.now) ≡ Err (ConfRefusal.At line kind) }
+{
+    let mut draft = Draft::new(alloc);
+    let mut rest = Some(file);
+    let mut number = 1u32;
+    while let Some(text) = rest {
+        let first = first_line(alloc, text)?;
+        match draft.read_line(alloc, number, first.text.as_bytes()) {
+            Ok(()) => {}
+            Err(Fault::Refused(kind)) => return Err(ConfRefusal::At { line: number, kind }),
+            Err(Fault::Memory) => return Err(ConfRefusal::Memory),
+        }
+        number += first.taken as u32;
+        rest = first.rest;
+    }
+    Ok(draft)
+}
+
+// What holds of the file as a whole.
+#[tactic(auto, unfolding(crate::specs::Reader::whole_file, crate::specs::Reader::conf_of_lines))]
+fn end_file(alloc: Global, draft: Draft) -> Result<Conf, ConfRefusal>
+    ensures value { IfOk result (λ conf. whole_file draft ≡ Ok conf) }
+    ensures refused { (line : ℕ) → (kind : ConfKind)
+        → IsErrOf result (ConfRefusal.At line kind) → whole_file draft ≡ Err (ConfRefusal.At line kind) }
+{
+    if let Some(line) = first_unknown(&draft.nodes, draft.partitions.as_slice()) {
+        return Err(ConfRefusal::At {
+            line,
+            kind: ConfKind::UnknownNode,
+        });
+    }
+    if draft.partitions.as_slice().is_empty() {
+        return Err(ConfRefusal::At {
+            line: 0,
+            kind: ConfKind::NoPartition,
+        });
+    }
+    let settings = draft.settings.into_settings(alloc)?;
+    let nodes = draft.nodes.into_items();
+    let partitions = make_partitions(alloc, nodes.as_slice(), draft.partitions.into_vec())?;
+    Ok(Conf {
+        settings,
+        nodes,
+        partitions,
+    })
+}
+
+#[tactic(auto, unfolding(crate::specs::Reader::has_unknown))]
+fn has_unknown(known: &NodeTable, nodes: &PartNodes) -> bool
+    ensures { result ≡ has_unknown (names_of known.now) nodes.now }
+{
+    match nodes {
+        PartNodes::All => false,
+        PartNodes::Listed(names) => lacks_any(known, names.as_slice()),
+    }
+}
+
+fn lacks_any(known: &NodeTable, names: &[Name]) -> bool
+    ensures { result ≡ list_any (λ name. not (has name (names_of known.now))) names.now }
+{
+    names.iter().any(|name| !known.has(name))
+}
+
+// The number of the first line with an unknown node.
+#[tactic(auto, unfolding(crate::specs::Reader::first_unknown))]
+fn first_unknown(known: &NodeTable, lines: &[PartLine]) -> Option<u32>
+    ensures { result ≡ first_unknown (names_of known.now) lines.now }
+{
+    for line in lines {
+        if has_unknown(known, &line.nodes) {
+            return Some(line.number);
+        }
+    }
+    None
+}
+
+fn copy_names(alloc: Global, nodes: &[NodeConf]) -> Result<Items<Name>, Memory>
+    ensures { IfOk result (λ names. names ≡ names_of nodes.now) }
+{
+    let mut names = Vec::with_capacity(alloc, nodes.len())?;
+    for node in nodes {
+        names.push(node.name.copy()?)?;
+    }
+    Ok(Items::from_vec(names))
+}
+
+#[tactic(auto, unfolding(crate::specs::Reader::nodes_by))]
+fn find_nodes(alloc: Global, known: &[NodeConf], nodes: PartNodes) -> Result<Items<Name>, Memory>
+    ensures { IfOk result (λ names. names ≡ nodes_by (names_of known.now) nodes) }
+{
+    match nodes {
+        PartNodes::All => copy_names(alloc, known),
+        PartNodes::Listed(names) => Ok(names),
+    }
+}
+
+fn has_default(lines: &[PartLine]) -> bool
+    ensures { result ≡ list_any (λ line. line.conf.is_default) lines.now }
+{
+    lines.iter().any(|line| line.conf.is_default)
+}
+
+// The partitions, of which there are few.
+fn make_partitions(
+    alloc: Global,
+    known: &[NodeConf],
+    lines: Vec<PartLine>,
+) -> Result<Items<PartConf>, Memory>
+    ensures { IfOk result (λ partitions. partitions ≡ partitions_by (names_of known.now) lines.items) }
+{
+    let mut lines = lines;
+    let mut partitions = Vec::with_capacity(alloc, lines.len())?;
+    while !lines.is_empty() {
+        let PartLine {
+            number: _,
+            nodes,
+            mut conf,
+        } = lines.remove(0);
+        conf.nodes = find_nodes(alloc, known, nodes)?;
+        conf.is_default = conf.is_default && !has_default(lines.as_slice());
+        partitions.push(conf)?;
+    }
+    Ok(Items::from_vec(partitions))
+}

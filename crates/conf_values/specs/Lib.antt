@@ -1,0 +1,4 @@
+pub mod Keys
+pub mod Refusal
+pub mod Scheduler
+pub mod Values

@@ -1,0 +1,35 @@
+-- Why a file was refused.
+use Rattle.std.specs.Prelude.{ℕ, List, codes, Result, Ok, Err}
+use Rattle.slurm_text.specs.declared.name.NameRefusal.{NameRefusal}
+use Rattle.slurm_text.specs.declared.name.NameRefusal.TheVariants.{BadName, Memory as NameMemory}
+use Rattle.conf_values.specs.declared.refusal.ConfKind.{ConfKind}
+use Rattle.conf_values.specs.declared.refusal.ConfKind.TheVariants.{NotUtf8, BadPair, UnknownKey, BadValue, TwiceNamed, UnknownNode, NoPartition, OverLimit}
+use Rattle.conf_values.specs.declared.refusal.ValueRefusal.{ValueRefusal}
+use Rattle.conf_values.specs.declared.refusal.ValueRefusal.TheVariants.{BadValue as BadText, Memory as ValueMemory}
+use Rattle.conf_values.specs.declared.refusal.Fault.{Fault}
+use Rattle.conf_values.specs.declared.refusal.Fault.TheVariants.{Refused, Memory}
+
+-- how a kind is printed
+abbrev pub kind_text : ConfKind → List ℕ
+kind_text NotUtf8 = codes "NotUtf8"
+kind_text BadPair = codes "BadPair"
+kind_text UnknownKey = codes "UnknownKey"
+kind_text BadValue = codes "BadValue"
+kind_text TwiceNamed = codes "TwiceNamed"
+kind_text UnknownNode = codes "UnknownNode"
+kind_text NoPartition = codes "NoPartition"
+kind_text OverLimit = codes "OverLimit"
+
+abbrev pub of_name : NameRefusal → ValueRefusal
+of_name BadName = BadText
+of_name NameMemory = ValueMemory
+
+abbrev pub of_value : ValueRefusal → Fault
+of_value BadText = Refused BadValue
+of_value ValueMemory = Memory
+
+-- steps of which each may be refused, one after the other: what a definition writes as `do`
+infixl 10 ◌>>=◌
+abbrev pub ◌>>=◌ : {A B E : Type 0} → Result A E → (A → Result B E) → Result B E
+Ok a >>= f = f a
+Err e >>= f = Err e

@@ -1,0 +1,78 @@
+//! Nodes, with an index of their names.
+
+use crate::conf::NodeConf;
+use slurm_text::items::Items;
+use slurm_text::memory_error::Memory;
+use slurm_text::name::Name;
+use std::alloc::Global;
+use std::collections::HashSet;
+use std::marker::Model;
+
+/// Nodes in order. A contract sees the list of them.
+#[derive(Drop)]
+pub struct NodeTable {
+    nodes: Vec<NodeConf>,
+    seen: HashSet<Name>,
+}
+
+impl Model for NodeTable {
+    ghost use Rattle.std.specs.Prelude.{List, ℕ, ◌≡◌, map, bytes_eq};
+    ghost use Rattle.std.specs.HashSet.{contains};
+    ghost use Rattle.conf_values.specs.Values.{has};
+    ghost use Rattle.conf_values.specs.declared.conf.NodeConf.{NodeConf};
+
+    ghost Value = { List NodeConf };
+
+    ghost view = { λ table. table.nodes.items };
+
+    ghost invariant = { λ table. (name : List ℕ)
+        → contains bytes_eq table.seen name ≡ has name (map (λ node. node.name) table.nodes.items) };
+}
+
+impl NodeTable {
+    ghost use Rattle.std.specs.Prelude.{◌≡◌, [], ◌∷◌, ◌++◌, length, map, OnOk, OnErr};
+    ghost use Rattle.conf_values.specs.Values.{has};
+
+    /// A table of no nodes.
+    pub fn new(alloc: Global) -> NodeTable
+        ensures { result ≡ [] }
+    {
+        NodeTable {
+            nodes: Vec::new(alloc),
+            seen: HashSet::new(alloc),
+        }
+    }
+
+    /// How many nodes it has.
+    pub fn len(&self) -> usize
+        ensures { result ≡ length self.now }
+    {
+        self.nodes.len()
+    }
+
+    /// Whether a node has this name.
+    pub fn has(&self, name: &Name) -> bool
+        ensures { result ≡ has name.now (map (λ node. node.name) self.now) }
+    {
+        self.seen.contains(name)
+    }
+
+    /// Puts a node behind the others.
+    pub fn push(&mut self, node: NodeConf) -> Result<(), Memory>
+        ensures pushed { OnOk result (self.new ≡ self.old ++ node ∷ []) }
+        ensures kept { OnErr result (self.new ≡ self.old) }
+    {
+        let name = node.name.copy()?;
+        self.nodes.reserve(1)?;
+        self.seen.insert(name)?;
+        self.nodes.push(node).unwrap();
+        Ok(())
+    }
+
+    /// The nodes, without the index.
+    pub fn into_items(self) -> Items<NodeConf>
+        ensures { result ≡ self }
+    {
+        Items::from_vec(self.nodes)
+    }
+}

@@ -1,0 +1,27 @@
+//! What users and daemons ask the controller, and what it answers, as plain data.
+#![tactic(auto)]
+
+use crate::report::{Done, Start};
+use plain_data::Plain;
+use small_texts::memory_error::Memory;
+
+pub mod orders;
+pub mod query;
+pub mod refusal;
+pub mod reply;
+pub mod report;
+pub mod request;
+pub mod state;
+pub mod view;
+
+impl Plain for Start {
+    fn copy(&self) -> Result<Start, Memory> {
+        Ok(*self)
+    }
+}
+
+impl Plain for Done {
+    fn copy(&self) -> Result<Done, Memory> {
+        Ok(*self)
+    }
+}

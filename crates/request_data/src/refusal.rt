@@ -1,0 +1,53 @@
+//! Why the controller refuses a request.
+
+ghost use Rattle.std.specs.Prelude.{◌≡◌, IfOk};
+
+use small_texts::memory_error::Memory;
+
+/// Why a request was refused. The numbers are those that its text shows (own).
+#[derive(PartialEq, Debug, Drop)]
+pub enum Refusal {
+    /// 1: the partition takes no jobs.
+    PartitionClosed,
+    /// 2: the user has no association, or none with the account asked for.
+    InvalidAccount,
+    /// 3: there is no such partition, or none was named and there is no default.
+    InvalidPartition,
+    /// 5: no choice of nodes could ever give the job what it asks for.
+    NodesNotAvailable,
+    /// 6: the partition doesn't take jobs of this account.
+    NotAllowedHere,
+    /// 11: only privileged users may ask for this.
+    AccessDenied,
+    /// 16: a name is no node.
+    UnknownNode,
+    /// 17: the node's last accepted report, which is given, isn't before this one.
+    StaleReport { boot: u64, number: u64 },
+    /// 19: the last job id was handed out.
+    JobIdsSpent,
+    /// 20: the request's moment is past the last one that the controller counts.
+    MomentTooLarge,
+}
+
+impl Refusal {
+    /// An equal refusal.
+    pub fn copy(&self) -> Result<Refusal, Memory>
+        ensures { IfOk result (λ refusal. refusal ≡ self.now) }
+    {
+        match self {
+            Refusal::PartitionClosed => Ok(Refusal::PartitionClosed),
+            Refusal::InvalidAccount => Ok(Refusal::InvalidAccount),
+            Refusal::InvalidPartition => Ok(Refusal::InvalidPartition),
+            Refusal::NodesNotAvailable => Ok(Refusal::NodesNotAvailable),
+            Refusal::NotAllowedHere => Ok(Refusal::NotAllowedHere),
+            Refusal::AccessDenied => Ok(Refusal::AccessDenied),
+            Refusal::UnknownNode => Ok(Refusal::UnknownNode),
+            Refusal::StaleReport { boot, number } => Ok(Refusal::StaleReport {
+                boot: *boot,
+                number: *number,
+            }),
+            Refusal::JobIdsSpent => Ok(Refusal::JobIdsSpent),
+            Refusal::MomentTooLarge => Ok(Refusal::MomentTooLarge),
+        }
+    }
+}
