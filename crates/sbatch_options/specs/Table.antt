@@ -1,0 +1,11 @@
+-- The options of sbatch, as they stand in their table.
+use Rattle.std.specs.Prelude.{ℕ, List, Option}
+use Rattle.option_words.specs.Arguments.{rows}
+use Rattle.option_words.specs.declared.arguments.Takes.{Takes}
+use Rattle.sbatch_options.specs.declared.table.TheConstants.{OPTIONS}
+use Rattle.sbatch_options.specs.declared.table.FlagOption.{FlagOption}
+use Rattle.sbatch_options.specs.declared.table.ValueOption.{ValueOption}
+
+-- of each option the long name, the letter, if it has one, and what it takes
+unfoldable pub options : List (List ℕ × Option ℕ × Takes FlagOption ValueOption)
+options = rows OPTIONS
