@@ -1,0 +1,2 @@
+pub mod DependencyLemmas
+pub mod PartLemmas

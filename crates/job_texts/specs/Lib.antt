@@ -1,0 +1,3 @@
+pub mod Dependency
+pub mod Features
+pub mod Parts
