@@ -2,6 +2,7 @@
 //! features that it wants of its nodes.
 #![tactic(auto)]
 
+pub mod array;
 pub mod dependency;
 pub mod features;
 mod parts;
