@@ -1,0 +1,5 @@
+pub mod Array
+pub mod Dependency
+pub mod Features
+pub mod Marks
+pub mod Parts
