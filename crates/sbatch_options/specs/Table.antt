@@ -1,6 +1,5 @@
 -- The options of sbatch, as they stand in their table.
-use Rattle.std.specs.Prelude.{ℕ, List, Option}
-use Rattle.option_words.specs.Arguments.{rows}
+use Rattle.std.specs.Prelude.{ℕ, List, Option, map}
 use Rattle.option_words.specs.declared.arguments.Takes.{Takes}
 use Rattle.sbatch_options.specs.declared.table.TheConstants.{OPTIONS}
 use Rattle.sbatch_options.specs.declared.table.FlagOption.{FlagOption}
@@ -8,4 +7,4 @@ use Rattle.sbatch_options.specs.declared.table.ValueOption.{ValueOption}
 
 -- of each option the long name, the letter, if it has one, and what it takes
 unfoldable pub options : List (List ℕ × Option ℕ × Takes FlagOption ValueOption)
-options = rows OPTIONS
+options = map (λ row. (row.0.now, row.1, row.2)) OPTIONS

@@ -2,5 +2,6 @@
 #![tactic(auto)]
 
 pub mod entries;
+pub mod node_names;
 pub mod table;
 pub mod values;

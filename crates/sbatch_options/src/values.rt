@@ -8,6 +8,7 @@ ghost use Rattle.slurm_num.specs.Limits.{limit_of};
 ghost use Rattle.slurm_text.specs.Moment.{moment_of};
 ghost use Rattle.sbatch_options.specs.Values.{number_in, name_in, job_name_in, node_range_in, mem_per_node, mem_per_cpu, nice_in, nodes_in};
 
+use crate::node_names::NodeNames;
 use job_texts::array::{ArrayRefusal, read_array};
 use job_texts::dependency::{DepRefusal, read_dependency};
 use job_texts::features::{FeaturesRefusal, read_features};
@@ -15,9 +16,7 @@ use slurm_num::parse_limit;
 use slurm_text::digits::parse_number;
 use slurm_text::fields::{UpToThree, up_to_three};
 use slurm_text::hosts::{HostRefusal, expand_hosts};
-use slurm_text::items::Items;
 use slurm_text::memory::parse_mem;
-use slurm_text::memory_error;
 use slurm_text::moment::parse_moment;
 use slurm_text::name::{JobName, Name, NameRefusal};
 use slurm_text::plain::array::ArraySpec;
@@ -40,17 +39,6 @@ const LONGEST_TEXT: usize = 4_294_967_295;
 pub enum ValueRefusal {
     BadValue,
     Memory,
-}
-
-impl From<memory_error::Memory> for ValueRefusal {
-    ghost use Rattle.std.specs.Prelude.{◌≡◌};
-    ghost use Rattle.sbatch_options.specs.declared.values.ValueRefusal.TheVariants.{Memory};
-
-    ghost from_gives = { λ _ e. e ≡ Memory };
-
-    fn from(_error: memory_error::Memory) -> ValueRefusal {
-        ValueRefusal::Memory
-    }
 }
 
 /// How many nodes a job wants.
@@ -185,8 +173,8 @@ pub fn read_nice(text: &[u8]) -> Option<Nice>
 }
 
 /// The nodes of a host expression, 1,024 at most. A text of 4 GiB or more counts as want of memory.
-#[tactic(auto, unfolding(crate::specs::Values::nodes_in))]
-pub fn read_nodes(alloc: Global, text: &[u8]) -> Result<Items<Name>, ValueRefusal>
+#[tactic(auto, using(crate::proofs::ValueLemmas::too_many), unfolding(crate::specs::Values::nodes_in))]
+pub fn read_nodes(alloc: Global, text: &[u8]) -> Result<NodeNames, ValueRefusal>
     ensures value { IfOk result (λ names. nodes_in text.now ≡ Some names) }
     ensures refused { IsErrOf result ValueRefusal.BadValue → nodes_in text.now ≡ None }
 {
@@ -194,10 +182,9 @@ pub fn read_nodes(alloc: Global, text: &[u8]) -> Result<Items<Name>, ValueRefusa
         return Err(ValueRefusal::Memory);
     }
     match expand_hosts(alloc, text, MOST_HOSTS) {
-        Ok(names) => Ok(Items::from_vec(names)),
-        Err(HostRefusal::BadHosts { place: _ } | HostRefusal::TooMany) => Err(
-            ValueRefusal::BadValue,
-        ),
+        Ok(names) => Ok(NodeNames::from_vec(names)),
+        Err(HostRefusal::BadHosts { place: _ }) => Err(ValueRefusal::BadValue),
+        Err(HostRefusal::TooMany) => Err(ValueRefusal::BadValue),
         Err(HostRefusal::Memory) => Err(ValueRefusal::Memory),
     }
 }
