@@ -23,8 +23,12 @@ pub data Part (F V : Type 0) : Type 0 where
   -- an option that wants a value where no word is left
   lacking : ℕ → V → Part F V
 
+-- options: of each the long name, the letter, if it has one, and what it takes
+abbrev pub Table : Type 0 → Type 0 → Type 0
+Table F V = List (List ℕ × Option ℕ × Takes F V)
+
 -- the option of a long name
-abbrev pub named : {F V : Type 0} → List (List ℕ × Option ℕ × Takes F V) → List ℕ → Option (Takes F V)
+abbrev pub named : {F V : Type 0} → Table F V → List ℕ → Option (Takes F V)
 named table name = option_map (λ row. row.2) (find (λ row. bytes_eq name row.0) table)
 
 abbrev pub is_letter : ℕ → Option ℕ → Bool
@@ -32,7 +36,7 @@ is_letter letter None = false
 is_letter letter (Some own) = own == letter
 
 -- the option of a letter
-abbrev pub lettered : {F V : Type 0} → List (List ℕ × Option ℕ × Takes F V) → ℕ → Option (Takes F V)
+abbrev pub lettered : {F V : Type 0} → Table F V → ℕ → Option (Takes F V)
 lettered table letter = option_map (λ row. row.2) (find (λ row. is_letter letter row.1) table)
 
 -- whether a word begins with a dash (45) and goes on
@@ -61,7 +65,7 @@ unless_empty (b ∷ text) = Some (b ∷ text)
 
 -- The option that a word with a dash names, and the value in that word: what stands behind `=` (61) of `--name=value`,
 -- or behind the letter of `-xvalue`.
-abbrev pub option_in : {F V : Type 0} → List (List ℕ × Option ℕ × Takes F V) → List ℕ → Option (Takes F V) × Option (List ℕ)
+abbrev pub option_in : {F V : Type 0} → Table F V → List ℕ → Option (Takes F V) × Option (List ℕ)
 option_in table (mark ∷ next ∷ text) =
     if next == 45 then (named table (up_to (equals_place text) text), behind (equals_place text) text)
     else (lettered table next, unless_empty text)
@@ -88,7 +92,7 @@ plains number [] = []
 plains number (word ∷ words) = plain number word ∷ plains (number + 1) words
 
 -- what words from a number on are, where an option before them may want the first as its value
-abbrev pub parts : {F V : Type 0} → List (List ℕ × Option ℕ × Takes F V) → ℕ → Option (ℕ × V) → List (List ℕ) → List (Part F V)
+abbrev pub parts : {F V : Type 0} → Table F V → ℕ → Option (ℕ × V) → List (List ℕ) → List (Part F V)
 parts table number None [] = []
 parts table number (Some wanted) [] = lacking wanted.0 wanted.1 ∷ []
 parts table number (Some wanted) (value ∷ words) =
@@ -101,14 +105,14 @@ parts table number None (word ∷ words) =
     else plain number word ∷ parts table (number + 1) None words)
 
 -- what the words from a place on are, where no option stands before them; the word at place 0 has number 1
-abbrev pub parts_from : {F V : Type 0} → List (List ℕ × Option ℕ × Takes F V) → List (List ℕ) → ℕ → List (Part F V)
+abbrev pub parts_from : {F V : Type 0} → Table F V → List (List ℕ) → ℕ → List (Part F V)
 parts_from table words place = parts table (place + 1) None (drop place words)
 
 abbrev pub plains_from : {F V : Type 0} → List (List ℕ) → ℕ → List (Part F V)
 plains_from words place = plains (place + 1) (drop place words)
 
 -- what is left of a command
-unfoldable pub parts_left : {F V : Type 0} → List (List ℕ × Option ℕ × Takes F V) → List (List ℕ) → Cursor → List (Part F V)
+unfoldable pub parts_left : {F V : Type 0} → Table F V → List (List ℕ) → Cursor → List (Part F V)
 parts_left table words cursor =
     if cursor.ended then plains_from words cursor.place else parts_from table words cursor.place
 
@@ -129,5 +133,5 @@ last_number (valued number option place text) = place
 last_number (lacking number option) = number
 
 -- the rows of a table
-abbrev pub rows : {F V : Type 0} → List (Bor (List ℕ) × Option ℕ × Takes F V) → List (List ℕ × Option ℕ × Takes F V)
+abbrev pub rows : {F V : Type 0} → List (Bor (List ℕ) × Option ℕ × Takes F V) → Table F V
 rows table = map (λ row. (row.0.now, row.1, row.2)) table

@@ -3,7 +3,7 @@
 
 ghost use Rattle.std.specs.Prelude.{ℕ, ◌≡◌, ◌+◌, ◌∷◌, ◌<◌, ◌≤◌, ◌^◌, List, [], length, drop, Option, Some, None, option_copied, OnSome, IfSome, MatchOption, position};
 ghost use Rattle.std.specs.List.{cons_option};
-ghost use Rattle.option_words.specs.Arguments.{named, lettered, is_dashed, is_end, up_to, behind, equals_place, unless_empty, option_in, wanting, alone, parts, parts_from, plains_from, parts_left, part_of, last_number, rows};
+ghost use Rattle.option_words.specs.Arguments.{Table, named, lettered, is_dashed, is_end, up_to, behind, equals_place, unless_empty, option_in, wanting, alone, parts, parts_from, plains_from, parts_left, part_of, last_number, rows};
 ghost use Rattle.option_words.specs.declared.arguments.Takes.{Takes};
 
 use crate::refusal::WordKind;
@@ -184,7 +184,7 @@ fn take_value<'a, F: Copy, V: Copy>(
     option: V,
 ) -> Argument<'a, F, V>
     requires { cursor.old.place ≤ length words.now }
-    ensures part { (table : List (List ℕ × Option ℕ × Takes F V))
+    ensures part { (table : Table F V)
         → parts table (cursor.old.place + 1) (Some (cursor.old.place, option)) (drop cursor.old.place words.entry.now)
         ≡ part_of result ∷ parts_from table words.entry.now cursor.new.place }
     ensures within { last_number (part_of result) ≤ length words.entry.now }
@@ -258,9 +258,9 @@ fn take_option<'a, F: Copy, V: Copy>(
     }
 }
 
-/// The next argument of a command, by a table of its options: of each the long name, the letter, if it has one, and what
-/// it takes. `--` ends the options, and behind it each word is plain. Only words are looked at, at a cost of one step for
-/// each byte and each row of the table.
+/// The next argument of a command, by a table of its options: of each the long name, the letter, if it has one, and
+/// what it takes. `--` ends the options, and behind it each word is plain. It takes no memory, and costs a few steps for
+/// each byte of a word and each row of the table.
 #[tactic(auto, unfolding(crate::specs::Arguments::parts_left))]
 pub fn next_argument<'a, F: Copy, V: Copy>(
     table: &[(&[u8], Option<u8>, Takes<F, V>)],

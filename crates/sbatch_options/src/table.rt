@@ -1,5 +1,5 @@
-//! The options of sbatch(1), in one table: of each the long name, the letter, if it has one, and what it takes. An option
-//! is added by a row here, with what it says in `entries`.
+//! The options of sbatch(1), in one table: of each the long name, the letter, if it has one, and what it takes. An
+//! option is added by a row here, with what it says in `entries`.
 
 ghost use Rattle.std.specs.Prelude.{◌≡◌, ◌∷◌, [], MatchOption};
 ghost use Rattle.option_words.specs.Arguments.{parts_left, part_of};

@@ -29,8 +29,8 @@ abbrev pub is_stray : Bool → ValueOption → Bool
 is_stray has_script Wrap = has_script
 is_stray has_script option = false
 
--- What an argument says: of a value at the value's word, of all else at the argument's first word. A missing value would
--- be the word behind its option.
+-- What an argument says: of a value at the value's word, of all else at the argument's first word. A missing value
+-- would be the word behind its option.
 abbrev pub said_of : Reading → Part FlagOption ValueOption → Said
 said_of reading (plain number text) = fault_at reading.source number StrayWord
 said_of reading (bad number kind) = fault_at reading.source number kind
@@ -70,4 +70,5 @@ line_says now line words =
 -- what the words of a command say
 abbrev pub command_says : ℕ → Bool → List (List ℕ) → List Said
 command_says now has_script words =
-    map (said_of (record { source = Command; has_script = has_script; now = now })) (before_script (command_parts words))
+    map (said_of (record { source = Command; has_script = has_script; now = now }))
+    (before_script (command_parts words))

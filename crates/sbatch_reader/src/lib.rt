@@ -1,5 +1,5 @@
-//! The reader of sbatch(1): the job that the words of a command and its script ask for, or the first place at which they
-//! are wrong.
+//! The reader of sbatch(1): the job that the words of a command and its script ask for, or the first place at which
+//! they are wrong.
 #![tactic(auto)]
 
 mod command;

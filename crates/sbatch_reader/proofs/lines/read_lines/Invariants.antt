@@ -12,4 +12,5 @@ abbrev pub invariant-loop-rest : goal.invariant-loop-rest
 invariant-loop-rest l =
     (fold after l.draft (lines_say l.now l.number (fields_of_rest 10 (option_copied l.rest)))
     ≡ fold after l.initial.draft (lines_say l.now 2 (fields_of_rest 10 (option_copied l.initial.rest))))
-    × (l.number + option_map_or (λ r. length r.now + 1) l.rest 0 ≤ 2 + option_map_or (λ r. length r.now + 1) l.initial.rest 0)
+    × (l.number + option_map_or (λ r. length r.now + 1) l.rest 0
+    ≤ 2 + option_map_or (λ r. length r.now + 1) l.initial.rest 0)
