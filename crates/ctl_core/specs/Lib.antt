@@ -1,4 +1,5 @@
 pub mod Submission
+pub mod Standing
 pub mod Showing
 pub mod Step
 pub mod Views
