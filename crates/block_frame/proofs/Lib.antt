@@ -1,4 +1,5 @@
-pub mod Lines
+pub mod FirstLines
+pub mod Readings
 pub mod Plain
 pub mod Owing
 pub mod Cutting
