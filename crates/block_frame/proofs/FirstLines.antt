@@ -28,7 +28,7 @@ line_grows text more =
       | inr e ↦ rw (prefix_len-append _ text more, e.0) (omega arith)
     ]
 
-is_other : (byte : ℕ) → byte ≢ 10 → is_line_feed byte ≡ false
+pub is_other : (byte : ℕ) → byte ≢ 10 → is_line_feed byte ≡ false
 is_other byte apart = elim (eqb_tells byte 10) [ inl e ↦ absurd (apart e.1) | inr e ↦ e.0 ]
 
 -- a line that is ended, and what follows

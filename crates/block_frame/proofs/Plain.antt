@@ -1,18 +1,18 @@
 -- What the plain form owes: what stands behind a header line makes a block, can begin one, or does neither.
-use Rattle.std.proofs.Common.{◌≡◌, ◌≢◌, ℕ, ◌+◌, ◌-◌, ◌*◌, ◌<◌, ◌≤◌, List, [], ◌∷◌, ◌++◌, length, take, drop, get_or, Option, Some, None, Bool, true, false, ◌⊎◌, inl, inr, arith, sym, ap, ◌∙◌, subst, refl, cond, append_assoc, lit<, lit≤, codes, leb, is_some, IfSome}
+use Rattle.std.proofs.Common.{◌≡◌, ◌≢◌, ℕ, ◌+◌, ◌-◌, ◌<◌, ◌≤◌, List, [], ◌∷◌, ◌++◌, length, take, drop, Option, Some, None, Bool, true, false, ◌⊎◌, inl, inr, arith, sym, ap, ◌∙◌, subst, refl, cond, append_assoc, lit<, lit≤, codes, leb, is_some, IfSome}
 use Rattle.std.proofs.lemmas.Bool.{cases_lt}
 use Rattle.std.proofs.lemmas.Bool.Decides.{nat_tests, leb_tells, Decides-eqb}
-use Rattle.std.proofs.lemmas.List.Elements.{All-nil, All-cons, All-append}
+use Rattle.std.proofs.lemmas.List.Elements.{All-nil, All-cons}
 use Rattle.std.proofs.lemmas.List.Prefix.{front_rest}
-use Rattle.std.proofs.lemmas.List.{append-nil, length-append, length-drop, take_at, drop_at, take_all, length-take, length-take-le, get_or_append_left, take-append-drop}
+use Rattle.std.proofs.lemmas.List.{append-nil, length-append, take_at, drop_at, take_all, length-take-le}
 use Rattle.std.proofs.lemmas.Slice.Eq.{ends_is}
 use Rattle.block_frame.specs.declared.block.Block.{Block}
 use Rattle.block_frame.specs.declared.form.Form.TheVariants.{Plain}
 use Rattle.block_frame.specs.Attachments.{IsAttachment, dotted, attachment_lines, Place, LineStart, FirstDot, InLine, Reading, Ended, Unended, Off, reading_at}
-use Rattle.block_frame.specs.Grammar.{IsHeaderLine, IsPlainBlock, IsBlock, IsPartial, IsBad, BeginsWithBlock, spelled, header_line, is_marked, is_header_len, block_of, with_attachment, first_block, longest_block}
+use Rattle.block_frame.specs.Grammar.{IsHeaderLine, IsPlainBlock, IsBlock, IsPartial, IsBad, spelled, header_line, is_marked, is_header_len, block_of, with_attachment, first_block, longest_block}
 use Rattle.block_frame.specs.Looking.{owed, has_room}
-use Rattle.block_frame.proofs.FirstLines.{IsOneLine, line_len, line_len-line, line_len-open, line_fits, line_grows, line_stays, first_line, ended_line, front_of, same_lines}
-use Rattle.block_frame.proofs.Readings.{goes_on, reading_at-append, ends, reading_at-attachment, ended_is_spelled, completes, gained, ending, no_room_stays, ends_from_last, last_from_ends, length-dotted_lines}
+use Rattle.block_frame.proofs.FirstLines.{IsOneLine, line_len, line_len-line, line_fits, line_grows, line_stays, first_line, ended_line, same_lines}
+use Rattle.block_frame.proofs.Readings.{goes_on, reading_at-append, reading_at-attachment, ended_is_spelled, completes, gained, ending, no_room_stays, ends_from_last, last_from_ends, length-dotted_lines}
 
 -- a header line's end tells whether it is marked
 

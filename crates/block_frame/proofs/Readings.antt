@@ -6,7 +6,7 @@ use Rattle.std.proofs.lemmas.List.{append-nil, length-append}
 use Rattle.block_frame.specs.Attachments.{dotted, Place, LineStart, FirstDot, InLine, Reading, Ended, Unended, Off, behind, place_of, reading_at}
 use Rattle.block_frame.specs.Looking.{owed, has_room, undotted}
 
-behind-nil : (r : Reading) → behind [] r ≡ r
+pub behind-nil : (r : Reading) → behind [] r ≡ r
 behind-nil (Ended bytes) = refl
 behind-nil (Unended at bytes) = refl
 behind-nil Off = refl

@@ -39,7 +39,7 @@ kind_of (byte ∷ bytes) = if byte == 46 then kind_behind_dot bytes else kind.Pl
 -- what a line of this length is, if it stands for so many bytes and there is room for so many
 abbrev pub sized : ℕ → Bool → ℕ → ℕ → Seen
 sized len is_ended size room =
-    if nat_lt room size then seen.Bad else (if is_ended then seen.Line len size else seen.Open len)
+    if nat_lt room size then seen.Bad len else (if is_ended then seen.Line len size else seen.Open len)
 
 -- what is next in an attachment, at the beginning of a line
 abbrev pub IsSeen : ℕ → List ℕ → Seen → Type 0
@@ -50,7 +50,8 @@ IsSeen room text (seen.Line len size) =
     (bytes : List ℕ) × (reading_at LineStart (take (len + 1) text) ≡ Unended LineStart bytes)
     × (length bytes ≡ size) × (size ≤ room) × (len < length text)
 IsSeen room text seen.Last = text ≡ 46 ∷ 10 ∷ drop 2 text
-IsSeen room text seen.Bad = has_room room (reading_at LineStart text) ≡ false
+IsSeen room text (seen.Bad searched) =
+    (has_room room (reading_at LineStart text) ≡ false) × (searched ≤ position_or_len is_line_feed text)
 
 -- A text is a marked header line, lines of an attachment and a rest, and these numbers say where.
 pub record IsUnderWay (text : List ℕ) (lines : Lines) : Type 0 where

@@ -15,7 +15,7 @@ use std::marker::Model;
 
 const ROOM: usize = 8193;
 
-/// A reader of blocks, in whatever pieces the bytes come. It looks at each byte once, and copies those of whole blocks.
+/// A reader of blocks, in whatever pieces the bytes come. It searches each byte once, and copies those of whole blocks.
 /// Contracts see it as its form, the place up to which it has handed out blocks, and the bytes that are pending.
 #[derive(Drop)]
 pub struct Blocks {
@@ -108,7 +108,9 @@ impl Blocks {
     fn skip(&mut self, count: usize)
         requires { count ≤ length self.old.pending }
         ensures { self.new ≡ record self.old {
-            place = place_after self.old.place count; pending = drop count self.old.pending } }
+          place = place_after self.old.place count;
+          pending = drop count self.old.pending;
+        } }
     {
         self.pending.advance(count);
         self.scan = Scan::Header { searched: 0 };

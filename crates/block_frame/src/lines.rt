@@ -7,7 +7,7 @@ ghost use Rattle.block_frame.specs.Looking.{IsSeen, kind_of, sized};
 use memchr::memchr;
 
 /// How a line of an attachment is spelled.
-#[derive(Clone, Copy, Debug, PartialEq, Eq)]
+#[derive(Clone, Copy)]
 pub enum Kind {
     /// It doesn't begin with a dot.
     Plain,
@@ -20,7 +20,7 @@ pub enum Kind {
 }
 
 /// What is next in an attachment.
-#[derive(Clone, Copy, Debug, PartialEq, Eq)]
+#[derive(Clone, Copy)]
 pub enum Seen {
     /// A line that has no end yet, of so many bytes.
     Open(usize),
@@ -28,8 +28,8 @@ pub enum Seen {
     Line { len: usize, size: usize },
     /// The line that ends the attachment.
     Last,
-    /// No line of an attachment.
-    Bad,
+    /// No line of an attachment; so many bytes of it are known to be no LF.
+    Bad(usize),
 }
 
 /// The length of the first line, of which so many bytes are known to be no LF.
@@ -61,7 +61,7 @@ fn sized(len: usize, is_ended: bool, size: usize, room: usize) -> Seen
     ensures { result ≡ sized len is_ended size room }
 {
     if size > room {
-        Seen::Bad
+        Seen::Bad(len)
     } else if is_ended {
         Seen::Line { len, size }
     } else {
@@ -81,7 +81,7 @@ pub fn see_line(text: &[u8], searched: usize, room: usize) -> Seen
     let len = line_len(text, searched);
     let is_ended = len < text.len();
     match kind_of(text.split_at(len).0) {
-        Kind::Off => Seen::Bad,
+        Kind::Off => Seen::Bad(len),
         Kind::Dot if is_ended => Seen::Last,
         Kind::Dot => Seen::Open(len),
         Kind::Dotted => sized(len, is_ended, len, room),

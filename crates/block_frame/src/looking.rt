@@ -11,7 +11,7 @@ const MAX_HEADER_LINE: usize = 8192;
 const MAX_ATTACHMENT: usize = 65536;
 
 /// How far an attachment was looked at.
-#[derive(Clone, Copy, Debug, PartialEq, Eq)]
+#[derive(Clone, Copy)]
 pub struct Lines {
     /// The length of the header line.
     pub header: usize,
@@ -24,7 +24,7 @@ pub struct Lines {
 }
 
 /// How far a text was looked at.
-#[derive(Clone, Copy, Debug, PartialEq, Eq)]
+#[derive(Clone, Copy)]
 pub enum Scan {
     /// So many bytes of the header line are known to be no LF.
     Header { searched: usize },
@@ -32,7 +32,7 @@ pub enum Scan {
 }
 
 /// What a text begins with.
-#[derive(Clone, Copy, Debug, PartialEq, Eq)]
+#[derive(Clone, Copy)]
 pub enum Sight {
     NotYet,
     Bad,
@@ -87,7 +87,10 @@ fn look_at_lines(text: &[u8], lines: Lines) -> (Scan, Sight)
     loop {
         let rest = text.split_at(lines.at).1;
         match see_line(rest, lines.searched, MAX_ATTACHMENT - lines.size) {
-            Seen::Bad => return (Scan::Attachment(lines), Sight::Bad),
+            Seen::Bad(searched) => {
+                lines.searched = searched;
+                return (Scan::Attachment(lines), Sight::Bad);
+            }
             Seen::Last => {
                 let sight = Sight::Attached {
                     header: lines.header,

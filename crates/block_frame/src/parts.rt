@@ -34,12 +34,7 @@ pub fn line_block(alloc: Global, text: &[u8], line: usize) -> Result<Block, Memo
 }
 
 /// The block of a marked header line of this length, and an attachment whose last line begins at `end`.
-pub fn attached_block(
-    alloc: Global,
-    text: &[u8],
-    line: usize,
-    end: usize,
-) -> Result<Block, Memory>
+pub fn attached_block(alloc: Global, text: &[u8], line: usize, end: usize) -> Result<Block, Memory>
     requires marked { 2 ≤ line }
     requires in_order { line + 1 ≤ end }
     requires within { end ≤ length text.now }
