@@ -3,7 +3,7 @@ use Rattle.std.proofs.Common.{◌≡◌, ◌≢◌, ℕ, ◌<◌, ◌≤◌, Lis
 use Rattle.std.proofs.lemmas.List.{length-map, get_or-map}
 use Rattle.slurm_text.specs.declared.plain.conf.NodeConf.{NodeConf}
 use Rattle.resource_profile.specs.declared.NodeRoom.{NodeRoom}
-use Rattle.ctl_state.specs.declared.record.NodeRecord.{NodeRecord}
+use Rattle.node_state.specs.declared.record.NodeRecord.{NodeRecord}
 use Rattle.ctl_state.specs.State.{State}
 use Rattle.ctl_state.specs.Holding.{times_held, mem_held, IsHeldOnce, parts_of}
 use Rattle.ctl_state.specs.Planning.{room_of}

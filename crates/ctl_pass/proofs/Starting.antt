@@ -16,7 +16,7 @@ use Rattle.ctl_pass.proofs.Lists.{sum_by-map, Any-kept}
 use Rattle.std.proofs.lemmas.List.{get_or-take, get_or_default, length-take, length-append, map-id, take_all, take-append-le, append-nil, length-map, length-take-le, get_or-map}
 use Rattle.std.proofs.lemmas.List.Folds.{list_any-append, list_any_none}
 use Rattle.backfill_planner.specs.declared.Share.{Share}
-use Rattle.ctl_state.specs.declared.record.NodeRecord.{NodeRecord}
+use Rattle.node_state.specs.declared.record.NodeRecord.{NodeRecord}
 use Rattle.ctl_state.specs.declared.record.JobRecord.{JobRecord}
 use Rattle.ctl_state.specs.Planning.{room_of}
 use Rattle.ctl_state.specs.Soundness.{IsNode, HaveRisingIds, IsSound, PlansPending, pending_ids}

@@ -7,7 +7,7 @@ use Rattle.slurm_text.specs.declared.plain.conf.NodeConf.{NodeConf}
 use Rattle.resource_profile.specs.declared.NodeRoom.{NodeRoom}
 use Rattle.backfill_planner.specs.declared.Placed.{Placed}
 use Rattle.ctl_state.specs.declared.record.Part.{Part}
-use Rattle.ctl_state.specs.declared.record.NodeRecord.{NodeRecord}
+use Rattle.node_state.specs.declared.record.NodeRecord.{NodeRecord}
 use Rattle.ctl_state.specs.declared.record.JobRecord.{JobRecord}
 use Rattle.ctl_state.specs.State.{State, last_job_id, last_moment}
 use Rattle.ctl_state.specs.JobStates.{is_pending}

@@ -2,16 +2,15 @@
 use Rattle.std.specs.Prelude.{◌≡◌, ◌≢◌, ℕ, ◌+◌, ◌≤◌, Bool, true, false, List, map, ◌++◌, All, Contains}
 use Rattle.backfill_planner.specs.declared.Placed.{Placed}
 use Rattle.ctl_state.specs.declared.record.Part.{Part}
-use Rattle.ctl_state.specs.declared.record.NodeRecord.{NodeRecord}
+use Rattle.node_state.specs.declared.record.NodeRecord.{NodeRecord}
 use Rattle.ctl_state.specs.declared.record.JobRecord.{JobRecord}
 use Rattle.ctl_state.specs.declared.change.Change.{Change}
 use Rattle.ctl_state.specs.State.{State, last_moment, last_job_id}
 use Rattle.ctl_state.specs.JobStates.{is_pending, is_holding}
 use Rattle.ctl_state.specs.Changes.{changed, is_start, moment_of}
 use Rattle.ctl_state.specs.Holding.{parts_of, times_held, mem_held}
-use Rattle.ctl_state.specs.Planning.{room_of}
 use Rattle.ctl_state.specs.Events.{LetsGo, MayTake, started_as, those_left}
-use Rattle.ctl_state.specs.Soundness.{IsSound, IsKept, HaveRisingIds, PlansPending, pending_ids}
+use Rattle.ctl_state.specs.Soundness.{AreOfPartitions, IsSound, IsKept, HaveRisingIds, PlansPending, is_up_at, pending_ids}
 
 -- An event that starts nothing keeps all sound: each job keeps some of its parts, and only jobs that hold nothing go.
 abbrev pub LettingGo : Type 0
@@ -25,7 +24,7 @@ LettingGo = (s : State) (now : ℕ) (change : JobRecord → JobRecord) (goes : J
 -- A waiting job that takes free parts keeps all sound.
 abbrev pub Taking : Type 0
 Taking = (s : State) (id : ℕ) (parts : List Part) (plan : List Placed)
-    → IsSound s → MayTake (map room_of s.nodes) s.jobs id parts
+    → IsSound s → MayTake s.nodes s.jobs id parts
     → PlansPending (map (started_as s.moment id parts) s.jobs) plan
     → IsSound (record s { jobs = map (started_as s.moment id parts) s.jobs; plan = plan })
 
@@ -45,20 +44,21 @@ TakenMem = (s : State) (now id node : ℕ) (parts : List Part)
 -- Whoever waited before a start of another waits after it.
 abbrev pub OthersWait : Type 0
 OthersWait = (jobs : List JobRecord) (now id other : ℕ) (parts : List Part)
-    → HaveRisingIds jobs → Contains (pending_ids jobs) other → other ≢ id
+    → Contains (pending_ids jobs) other → other ≢ id
     → Contains (pending_ids (map (started_as now id parts) jobs)) other
 
--- Nodes whose rooms and names stay keep all sound.
+-- Nodes that stay as they are configured, of which none goes down, keep all sound.
 abbrev pub NodesStay : Type 0
 NodesStay = (s : State) (nodes : List NodeRecord)
     → IsSound s → map (λ (node : NodeRecord). node.conf) nodes ≡ map (λ (node : NodeRecord). node.conf) s.nodes
+    → ((place : ℕ) → is_up_at s.nodes place ≡ true → is_up_at nodes place ≡ true)
     → IsSound (record s { nodes = nodes })
 
 -- Pending jobs that are added with the next numbers keep all sound.
 abbrev pub Adding : Type 0
 Adding = (s : State) (now next : ℕ) (more : List JobRecord)
     → IsSound s → s.moment ≤ now → now ≤ last_moment
-    → All (IsKept now) more → All (λ (job : JobRecord). is_pending job.state ≡ true) more
+    → AreOfPartitions s.partitions more → All (IsKept now) more → All (λ (job : JobRecord). is_pending job.state ≡ true) more
     → HaveRisingIds more → All (λ (job : JobRecord). s.next_id ≤ job.id) more
     → All (λ (job : JobRecord). job.id + 1 ≤ next) more → s.next_id ≤ next → next ≤ last_job_id + 1
     → IsSound (record s { jobs = s.jobs ++ more; next_id = next; moment = now })

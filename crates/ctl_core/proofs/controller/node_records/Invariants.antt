@@ -1,6 +1,6 @@
 use Rattle.std.proofs.Common.{◌≡◌, map, All, None}
 use Rattle.slurm_text.specs.declared.plain.conf.NodeConf.{NodeConf}
-use Rattle.ctl_state.specs.declared.record.NodeRecord.{NodeRecord}
+use Rattle.node_state.specs.declared.record.NodeRecord.{NodeRecord}
 use Rattle.ctl_state.specs.Soundness.{IsNode}
 use Rattle.ctl_core.proofs.controller.node_records.Given as goal
 

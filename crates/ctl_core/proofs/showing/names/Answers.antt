@@ -3,7 +3,7 @@ use Rattle.std.specs.Prelude.{slice_get, option_map}
 use Rattle.std.proofs.lemmas.Option.{slice_get_read, slice_get_past}
 use Rattle.std.proofs.lemmas.Bool.{ltb-true, ltb-false}
 use Rattle.ctl_state.specs.declared.record.Part.{Part}
-use Rattle.ctl_state.specs.declared.record.NodeRecord.{NodeRecord}
+use Rattle.node_state.specs.declared.record.NodeRecord.{NodeRecord}
 use Rattle.ctl_core.specs.Showing.{names_of}
 use Rattle.ctl_core.proofs.Rows.{filter_map-more}
 use Rattle.ctl_core.proofs.showing.names.Goals as goal

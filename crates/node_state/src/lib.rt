@@ -1,0 +1,5 @@
+//! The nodes of the cluster, and how each stands.
+#![tactic(auto)]
+
+pub mod nodes;
+pub mod record;

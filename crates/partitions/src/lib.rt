@@ -1,0 +1,5 @@
+//! The partitions of the cluster.
+#![tactic(auto)]
+
+pub mod partitions;
+pub mod record;
