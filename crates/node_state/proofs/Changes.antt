@@ -1,7 +1,7 @@
 -- The nodes after a change of one.
-use Rattle.std.proofs.Common.{◌≡◌, ◌≢◌, ℕ, zero, suc, ◌<◌, ◌≤◌, Bool, true, List, [], ◌∷◌, length, map, get_or, set, AllPairs, bytes_eq, refl, ap, arith}
-use Rattle.std.specs.List.{AllZip, position}
-use Rattle.std.proofs.lemmas.List.{length-map}
+use Rattle.std.proofs.Common.{◌≡◌, ◌≢◌, ℕ, zero, suc, ◌+◌, ◌<◌, ◌≤◌, Bool, true, cond, not, List, [], ◌∷◌, length, map, get_or, set, AllPairs, bytes_eq, refl, ap, arith}
+use Rattle.std.specs.List.{AllZip, position_or_len}
+use Rattle.std.proofs.lemmas.List.{length-map, get_or-map}
 use Rattle.slurm_text.specs.declared.plain.conf.NodeConf.{NodeConf}
 use Rattle.node_state.specs.declared.record.Heard.{Heard}
 use Rattle.node_state.specs.declared.record.DownBy.{DownBy}
@@ -9,18 +9,19 @@ use Rattle.node_state.specs.declared.record.DownBy.TheVariants as down
 use Rattle.node_state.specs.declared.record.NodeRecord.{NodeRecord}
 use Rattle.node_state.specs.declared.record.NodeChange.{NodeChange}
 use Rattle.node_state.specs.declared.record.NodeChange.TheVariants.{Silent, Down, Drain, Resume, Heard as Report}
-use Rattle.node_state.specs.Nodes.{opened, is_up, silent, set_down, resumed, noted, changed, change_at, place_named, AreNamedOnce}
+use Rattle.node_state.specs.Nodes.{opened, is_up, silent, set_down, resumed, noted, changed, change_at, is_named, AreNamedOnce}
 use Rattle.node_state.specs.Laws.{ConfsStay, PlacesStay, NamesStay, ReportsSetNoneDown}
-use Rattle.node_state.proofs.Places.{position-map, pairs-map, pairs-from_map}
 
 -- nodes that are named once in slurm.conf
 pub named_once-opened : (confs : List NodeConf) → length confs ≤ 1024 → AllPairs (λ (one other : NodeConf). one.name ≢ other.name) confs → AreNamedOnce (map opened confs)
 named_once-opened confs few once = record {
   few = rw (length-map confs opened) few;
-  once = pairs-map (λ (one other : NodeRecord). one.conf.name ≢ other.conf.name) opened confs once;
+  once = λ i j d before inside.
+      let within : j < length confs = rw (length-map confs opened) at inside in
+      rw (get_or-map opened confs i d.conf d (omega (arith, before, within)), get_or-map opened confs j d.conf d within) (once i j d.conf before within);
 }
 
--- what the place of a list is set to
+-- the list with the changed node set in its place
 pub set-changed : (place : ℕ) (change : NodeChange) (nodes : List NodeRecord) (node d : NodeRecord) → place < length nodes → node ≡ changed change (get_or nodes place d) → set nodes place node ≡ change_at place change nodes
 set-changed place change [] node d inside is = refl
 set-changed zero change (first ∷ later) node d inside is = ap (λ head. head ∷ later) is
@@ -58,19 +59,28 @@ confs-stay place change [] = refl
 confs-stay zero change (node ∷ later) = ap (λ conf. conf ∷ map (λ (node : NodeRecord). node.conf) later) (conf-changed change node)
 confs-stay (suc place) change (node ∷ later) = ap (λ confs. node.conf ∷ confs) (confs-stay place change later)
 
+conf-at : (place : ℕ) (change : NodeChange) (nodes : List NodeRecord) (k : ℕ) (d : NodeRecord) → (get_or (change_at place change nodes) k d).conf ≡ (get_or nodes k d).conf
+conf-at place change [] k d = refl
+conf-at zero change (node ∷ later) zero d = conf-changed change node
+conf-at zero change (node ∷ later) (suc k) d = refl
+conf-at (suc place) change (node ∷ later) zero d = refl
+conf-at (suc place) change (node ∷ later) (suc k) d = conf-at place change later k d
+
 length-stays : (place : ℕ) (change : NodeChange) (nodes : List NodeRecord) → length (change_at place change nodes) ≡ length nodes
 length-stays place change nodes = simp length-map at (ap length (confs-stay place change nodes))
 
+first-stays : (name : List ℕ) (place : ℕ) (change : NodeChange) (nodes : List NodeRecord) → position_or_len (is_named name) (change_at place change nodes) ≡ position_or_len (is_named name) nodes
+first-stays name place change [] = refl
+first-stays name zero change (node ∷ later) = ap (λ (conf : NodeConf). cond (not (bytes_eq conf.name name)) (1 + position_or_len (is_named name) later) 0) (conf-changed change node)
+first-stays name (suc place) change (node ∷ later) = ap (λ (n : ℕ). cond (not (is_named name node)) (1 + n) 0) (first-stays name place change later)
+
 pub places-stay : PlacesStay
-places-stay name place change nodes = rw (← by_confs (change_at place change nodes), ← by_confs nodes, confs-stay place change nodes) refl where
-  by_confs : (nodes : List NodeRecord) → position (λ (conf : NodeConf). bytes_eq conf.name name) (map (λ (node : NodeRecord). node.conf) nodes) ≡ place_named name nodes
-  by_confs nodes = position-map (λ (conf : NodeConf). bytes_eq conf.name name) (λ (node : NodeRecord). node.conf) nodes
+places-stay name place change nodes = rw (first-stays name place change nodes, length-stays place change nodes) refl
 
 pub names-stay : NamesStay
 names-stay place change nodes once = record {
   few = rw (length-stays place change nodes) once.few;
-  once = pairs-from_map (λ (one other : NodeConf). one.name ≢ other.name) (λ (node : NodeRecord). node.conf) (change_at place change nodes)
-      (rw (confs-stay place change nodes) (pairs-map (λ (one other : NodeConf). one.name ≢ other.name) (λ (node : NodeRecord). node.conf) nodes once.once));
+  once = λ i j d before inside. rw (conf-at place change nodes i d, conf-at place change nodes j d) (once.once i j d before (rw (length-stays place change nodes) at inside));
 }
 
 up-noted : (node : NodeRecord) (heard : Heard) (empty : Bool) (by : DownBy) → node.down ≡ by → is_up by ≡ true → is_up (noted node empty by).down ≡ true

@@ -1,9 +1,9 @@
 -- The places that names lead to.
-use Rattle.std.proofs.Common.{◌≡◌, ℕ, ◌+◌, ◌<◌, ◌≤◌, Bool, true, false, cond, if◌then◌else◌, not, ltb, eqb, List, [], ◌∷◌, ◌++◌, length, map, take, get_or, AllPairs, HoldsAt, bytes_eq, Option, Some, None, refl, sym, ap, ◌∙◌, arith}
+use Rattle.std.proofs.Common.{◌≡◌, ℕ, ◌+◌, ◌<◌, ◌≤◌, Bool, true, false, cond, if◌then◌else◌, not, ltb, eqb, List, [], ◌∷◌, ◌++◌, length, take, get_or, HoldsAt, bytes_eq, Option, Some, None, refl, sym, ap, ◌∙◌, arith}
 use Rattle.std.specs.List.{position, position_or_len}
 use Rattle.std.proofs.lemmas.Bool.Decides.{nat_tests}
 use Rattle.std.proofs.lemmas.Slice.Eq.{bytes_eq-Decides}
-use Rattle.std.proofs.lemmas.List.{length-map, get_or-map, length_push, length-take-le, get_or-take, take_more}
+use Rattle.std.proofs.lemmas.List.{length_push, length-take-le, get_or-take, take_more}
 use Rattle.std.proofs.lemmas.List.Folds.{position_or_len_push}
 use Rattle.std.proofs.lemmas.List.Sums.{position_or_len_is, prefix_len-le-length}
 use Rattle.std.proofs.lemmas.List.Quantifiers.{position-Some}
@@ -11,31 +11,13 @@ use Rattle.node_state.specs.declared.record.NodeRecord.{NodeRecord}
 use Rattle.node_state.specs.Nodes.{is_named, place_named, AreNamedOnce}
 
 -- the first element that passes, with one more behind the others
-pub position-push : {X : Type 0} (p : X → Bool) (xs : List X) (y : X) → (p y ≡ true → position p xs ≡ None) → position p (xs ++ y ∷ []) ≡ (if p y then Some (length xs) else position p xs)
+position-push : {X : Type 0} (p : X → Bool) (xs : List X) (y : X) → (p y ≡ true → position p xs ≡ None) → position p (xs ++ y ∷ []) ≡ (if p y then Some (length xs) else position p xs)
 position-push p xs y alone =
     rw (position_or_len_push p xs y, length_push xs y) (at (p y) (position_or_len p xs) (length xs) (prefix_len-le-length (λ x. not (p x)) xs) alone) where
       at : (b : Bool) (n m : ℕ) → n ≤ m → (b ≡ true → cond (ltb n m) (Some n) None ≡ None)
           → cond (ltb (cond (eqb n m) (m + cond b 0 1) n) (m + 1)) (Some (cond (eqb n m) (m + cond b 0 1) n)) None ≡ cond b (Some m) (cond (ltb n m) (Some n) None)
       at true n m within alone = grind (arith, nat_tests, alone refl)
       at false n m within alone = grind (arith, nat_tests)
-
-position_or_len-map : {X Y : Type 0} (p : Y → Bool) (f : X → Y) (xs : List X) → position_or_len p (map f xs) ≡ position_or_len (λ x. p (f x)) xs
-position_or_len-map p f [] = refl
-position_or_len-map p f (x ∷ xs) = ap (λ (n : ℕ). cond (not (p (f x))) (1 + n) 0) (position_or_len-map p f xs)
-
-pub position-map : {X Y : Type 0} (p : Y → Bool) (f : X → Y) (xs : List X) → position p (map f xs) ≡ position (λ x. p (f x)) xs
-position-map p f xs = rw (position_or_len-map p f xs, length-map) refl
-
-pub pairs-map : {X Y : Type 0} (R : Y → Y → Type 0) (f : X → Y) (xs : List X) → AllPairs (λ one other. R (f one) (f other)) xs → AllPairs R (map f xs)
-pairs-map R f [] pairs i j d before inside = absurd (omega (arith, inside))
-pairs-map R f (x ∷ xs) pairs i j d before inside =
-    let within : j < length (x ∷ xs) = rw (length-map (x ∷ xs) f) at inside in
-    rw (get_or-map f (x ∷ xs) i x d (omega (arith, before, within)), get_or-map f (x ∷ xs) j x d within) (pairs i j x before within)
-
-pub pairs-from_map : {X Y : Type 0} (R : Y → Y → Type 0) (f : X → Y) (xs : List X) → AllPairs R (map f xs) → AllPairs (λ one other. R (f one) (f other)) xs
-pairs-from_map R f xs pairs i j d before inside =
-    let within : j < length (map f xs) = rw (length-map xs f) inside in
-    rw (get_or-map f xs i d (f d) (omega (arith, before, inside)), get_or-map f xs j d (f d) inside) at (pairs i j (f d) before within)
 
 -- no earlier node has a later one's name
 none-before : (name : List ℕ) (nodes : List NodeRecord) (k place : ℕ) (d : NodeRecord) → AreNamedOnce nodes → k < place → place < length nodes → is_named name (get_or nodes place d) ≡ true → is_named name (get_or nodes k d) ≡ false

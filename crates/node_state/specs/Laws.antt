@@ -19,12 +19,14 @@ PlacesStay = (name : List ℕ) (place : ℕ) (change : NodeChange) (nodes : List
 
 -- There are as many nodes as before, each named once.
 abbrev pub NamesStay : Type 0
-NamesStay = (place : ℕ) (change : NodeChange) (nodes : List NodeRecord) → AreNamedOnce nodes → AreNamedOnce (change_at place change nodes)
+NamesStay = (place : ℕ) (change : NodeChange) (nodes : List NodeRecord)
+    → AreNamedOnce nodes → AreNamedOnce (change_at place change nodes)
 
 -- Each node that was up is up after a report of one.
 abbrev pub ReportsSetNoneDown : Type 0
 ReportsSetNoneDown = (place : ℕ) (heard : Heard) (empty : Bool) (nodes : List NodeRecord)
-    → AllZip (λ (before after : NodeRecord). is_up before.down ≡ true → is_up after.down ≡ true) nodes (change_at place (change.Heard heard empty) nodes)
+    → AllZip (λ (before after : NodeRecord). is_up before.down ≡ true → is_up after.down ≡ true)
+    nodes (change_at place (change.Heard heard empty) nodes)
 
 -- A node's name leads to its place.
 abbrev pub NamesLeadToPlaces : Type 0
@@ -33,5 +35,6 @@ NamesLeadToPlaces = (place : ℕ) (nodes : List NodeRecord) → AreNamedOnce nod
 
 -- Where a name leads, a node is that has it.
 abbrev pub PlacesAreNamed : Type 0
-PlacesAreNamed = (name : List ℕ) (place : ℕ) (nodes : List NodeRecord) → place_named name nodes ≡ Some place
+PlacesAreNamed = (name : List ℕ) (place : ℕ) (nodes : List NodeRecord)
+    → place_named name nodes ≡ Some place
     → (place < length nodes) × HoldsAt (λ (node : NodeRecord). node.conf.name ≡ name) nodes place

@@ -15,7 +15,10 @@ struct Standing {
 }
 
 fn standing_of(node: &NodeRecord) -> Standing
-    ensures { result ≡ record { down = node.now.down; drain = node.now.drain; empty = node.now.empty; heard = node.now.heard } }
+    ensures down { result.down ≡ node.now.down }
+    ensures drain { result.drain ≡ node.now.drain }
+    ensures empty { result.empty ≡ node.now.empty }
+    ensures heard { result.heard ≡ node.now.heard }
 {
     Standing {
         down: node.down,

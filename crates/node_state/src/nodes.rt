@@ -124,7 +124,8 @@ impl Nodes {
         has_features(&self.records[place as usize], features)
     }
 
-    /// Changes the node at a place, and tells whether it is another one than before. It takes no memory, and constant time.
+    /// Changes the node at a place, and tells whether it is another one than before. It takes constant time, and no
+    /// memory.
     pub fn set_state(&mut self, place: u32, change: NodeChange) -> bool
         requires { place < length self.old.records }
         ensures changed { self.new.records ≡ spec.change_at place change self.old.records }
