@@ -3,9 +3,9 @@ use Rattle.std.proofs.Common.{◌≡◌, ◌≢◌, ℕ, ◌<◌, Bool, true, fa
 use Rattle.std.specs.Cmp.{IsStrictWeakOrder}
 use Rattle.std.specs.List.Sorted.{IsSortedByKey, IsStableByKey, ties}
 use Rattle.std.specs.Ordering.{is_lt, nat_cmp, ordering_then}
-use Rattle.std.proofs.lemmas.Bool.{both_ways}
+use Rattle.std.proofs.lemmas.Bool.{both_ways, cond_both}
 use Rattle.std.proofs.lemmas.Bool.Decides.{nat_tests}
-use Rattle.std.proofs.lemmas.List.Elements.{All-append, All-filter, All-head, All-tail, filter_agree, filter_passes}
+use Rattle.std.proofs.lemmas.List.Elements.{All-append, All-filter, All-head, All-nil, All-tail, filter_agree, filter_passes}
 use Rattle.std.proofs.lemmas.List.Kept.{AllPairs-filter}
 use Rattle.std.proofs.lemmas.List.Sorted.{All-permutation}
 use Rattle.std.proofs.lemmas.Option.{slice_get-get_or}
@@ -48,8 +48,7 @@ pub order-there : (nodes : List NodeRecord) (partition : PartRecord) → IsOnNod
 unfolding node_order
 order-there nodes partition on = All-permutation (λ place. place < length nodes) _ _ (ordered-moves (is_taken_before nodes) partition.nodes) on.there
 
-pub order-once : (nodes : List NodeRecord) (partition : PartRecord) → IsOnNodes (length nodes) partition
-    → AllPairs (λ one other. one ≢ other) (node_order nodes partition)
+order-once : (nodes : List NodeRecord) (partition : PartRecord) → IsOnNodes (length nodes) partition → AllPairs (λ one other. one ≢ other) (node_order nodes partition)
 unfolding node_order
 order-once nodes partition on = ordered-pairs (is_taken_before nodes) (λ one other. one ≢ other) (λ one other differ same. differ (sym same)) partition.nodes on.once
 
@@ -91,21 +90,32 @@ any-among nodes desc order says there =
     let known : are_there nodes desc (filter may order) ≡ true = rw says.0 refl in
     rw (known, all) (first-none nodes desc order says.0)
 
--- the required ones and the others are those that there were, each once
-pub first-there : (nodes : List NodeRecord) (desc : JobDesc) (P : ℕ → Type 0) (places : List ℕ) → All P places → All P (required_first nodes desc places)
-first-there nodes desc P places all =
-    let must = is_at (must_have desc) nodes in
-    All-append P (filter must places) (filter (λ place. not (must place)) places) (All-filter must P places all) (All-filter (λ place. not (must place)) P places all)
+-- those that a job may get are nodes that there are, each once
+pub among-there : (nodes : List NodeRecord) (desc : JobDesc) (partition : PartRecord) → IsOnNodes (length nodes) partition
+    → All (λ place. place < length nodes) (nodes_among nodes desc (node_order nodes partition))
+among-there nodes desc partition on =
+    let there : ℕ → Type 0 = λ place. place < length nodes in
+    let must : ℕ → Bool = is_at (must_have desc) nodes in
+    let rest : ℕ → Bool = λ place. not (must place) in
+    let places = filter (is_at (may_run desc) nodes) (node_order nodes partition) in
+    let all = All-filter (is_at (may_run desc) nodes) there (node_order nodes partition) (order-there nodes partition on) in
+    cond_both (are_there nodes desc places) (required_first nodes desc places) [] (All there)
+    (λ known. All-append there (filter must places) (filter rest places) (All-filter must there places all) (All-filter rest there places all))
+    (λ unknown. All-nil there)
 
 failed : (b : Bool) → not b ≡ true → b ≡ false
 failed b h = grind (arith, nat_tests)
 
-pub first-once : (nodes : List NodeRecord) (desc : JobDesc) (places : List ℕ) → AllPairs (λ one other. one ≢ other) places
-    → AllPairs (λ one other. one ≢ other) (required_first nodes desc places)
-first-once nodes desc places once =
+pub among-once : (nodes : List NodeRecord) (desc : JobDesc) (partition : PartRecord) → IsOnNodes (length nodes) partition
+    → AllPairs (λ one other. one ≢ other) (nodes_among nodes desc (node_order nodes partition))
+among-once nodes desc partition on =
+    let differ : ℕ → ℕ → Type 0 = λ one other. one ≢ other in
     let must : ℕ → Bool = is_at (must_have desc) nodes in
     let rest : ℕ → Bool = λ place. not (must place) in
-    let differ : ℕ → ℕ → Type 0 = λ one other. one ≢ other in
-    pairs-append differ (filter must places) (filter rest places) (AllPairs-filter differ must places once) (AllPairs-filter differ rest places once)
+    let places = filter (is_at (may_run desc) nodes) (node_order nodes partition) in
+    let once = AllPairs-filter differ (is_at (may_run desc) nodes) (node_order nodes partition) (order-once nodes partition on) in
+    cond_both (are_there nodes desc places) (required_first nodes desc places) [] (AllPairs differ)
+    (λ known. pairs-append differ (filter must places) (filter rest places) (AllPairs-filter differ must places once) (AllPairs-filter differ rest places once)
     (λ k d below j e within same. both_ways (must (get_or (filter must places) k d)) (ap must same ∙ failed _ (filter_passes rest places j e within))
-    (filter_passes must places k d below))
+    (filter_passes must places k d below)))
+    (λ unknown i j d before below. absurd (omega (arith, below)))

@@ -186,20 +186,18 @@ fn nodes_among(
     nodes: &[NodeRecord],
     desc: &JobDesc,
     order: &[u32],
-) -> Result<NodeList, Memory>
-    requires there { All (λ place. place < length nodes.now) order.now }
-    requires once { AllPairs (λ one other. one ≢ other) order.now }
-    ensures list { IfOk result (λ places. places ≡ Planning.nodes_among nodes.now desc.now order.now) }
-    ensures there { IfOk result (λ places. All (λ place. place < length nodes.now) places) }
+) -> Result<Vec<u32>, Memory>
+    requires { All (λ place. place < length nodes.now) order.now }
+    ensures { IfOk result (λ places. places.items ≡ Planning.nodes_among nodes.now desc.now order.now) }
 {
     if takes_any(desc) {
-        return Ok(NodeList::from_vec(Vec::from_slice(alloc, order)?));
+        return Ok(Vec::from_slice(alloc, order)?);
     }
     let places = allowed(alloc, nodes, desc, order)?;
     if !are_there(nodes, desc, &places) {
-        return Ok(NodeList::from_vec(Vec::new(alloc)));
+        return Ok(Vec::new(alloc));
     }
-    Ok(NodeList::from_vec(required_first(alloc, nodes, desc, &places)?))
+    required_first(alloc, nodes, desc, &places)
 }
 
 fn need_of(desc: &JobDesc, bounds: (u32, u32)) -> Result<Need, Memory>
@@ -251,7 +249,7 @@ pub fn plan_job(
             .map_or(desc.tasks.get() as u32, |count| count.get() as u32),
         mem_ask: job.mem_ask,
         exclusive: desc.exclusive || partition.conf.exclusive,
-        nodes: nodes_among(alloc, nodes, desc, order)?,
+        nodes: NodeList::from_vec(nodes_among(alloc, nodes, desc, order)?),
         seconds: seconds_of(job.limit),
     })
 }
