@@ -1,5 +1,5 @@
 -- A submission: its refusals, and the job that it makes.
-use Rattle.std.specs.Prelude.{ℕ, ◌+◌, min, Bool, true, ◌&&◌, ◌||◌, not, is_none, is_some, nat_lt, unwrap_or, List, [], ◌∷◌, ◌++◌, map, find, slice_get, bytes_eq, codes, Option, Some, None, option_map, option_and_then}
+use Rattle.std.specs.Prelude.{◌≡◌, ◌≤◌, ℕ, ◌+◌, min, Bool, true, false, ◌&&◌, not, is_none, is_some, nat_lt, unwrap_or, List, [], ◌∷◌, ◌++◌, map, find, slice_get, bytes_eq, codes, Option, Some, None, option_map, option_and_then, Result, Ok, Err}
 use Rattle.std.specs.List.{list_any}
 use Rattle.std.specs.Option.{option_or}
 use Rattle.slurm_text.specs.declared.plain.conf.PartState.{PartState}
@@ -18,8 +18,8 @@ use Rattle.partitions.specs.Partitions.{place_meant}
 use Rattle.ctl_state.specs.declared.record.AssocRecord.{AssocRecord}
 use Rattle.ctl_state.specs.declared.record.JobRecord.{JobRecord}
 use Rattle.ctl_state.specs.Planning.{open_room, plan_job}
-use Rattle.ctl_state.specs.Refusals.{refused_if}
-use Rattle.ctl_state.specs.State.{State, last_job_id, partition_of}
+use Rattle.ctl_state.specs.Refusals.{first_refusal, refused_if}
+use Rattle.ctl_state.specs.State.{State, last_job_id}
 use Rattle.ctl_state.specs.Verdicts.{Verdict, Refuses, Makes}
 
 -- the account that an association belongs to; there is one, root, that no association stands for
@@ -45,10 +45,6 @@ place_for s desc = place_meant desc.partition s.partitions
 
 abbrev pub partition_for : State → JobDesc → Option PartRecord
 partition_for s desc = option_and_then (slice_get s.partitions) (place_for s desc)
-
--- what stands of the partition, where there is one
-abbrev pub of_partition : State → JobDesc → (PartRecord → Bool) → Bool
-of_partition s desc test = unwrap_or (option_map test (partition_for s desc)) true
 
 -- a partition that takes no jobs
 abbrev pub is_closed : PartState → Bool
@@ -101,33 +97,45 @@ unfoldable pub is_placeable : State → PartRecord → JobRecord → Bool
 is_placeable s partition job =
     is_some (placed_of (map open_room s.nodes) [] (plan_job s.nodes partition (own_bounds job.desc) job) 0 0)
 
-abbrev pub could_run : State → ℕ → List ℕ → JobDesc → PartRecord → Bool
-could_run s moment user desc partition = is_placeable s partition (new_job s moment user desc 0 partition)
+-- why a job may be refused in its partition, in their order
+abbrev pub refusals_of_job : State → AssocRecord → PartRecord → JobRecord → List (Option Refusal)
+refusals_of_job s assoc partition job =
+    refused_if (is_closed partition.state) PartitionClosed
+    ∷ refused_if (not (is_allowed s assoc partition)) NotAllowedHere
+    ∷ refused_if (not (is_placeable s partition job)) NodesNotAvailable
+    ∷ refused_if (nat_lt last_job_id s.next_id) JobIdsSpent
+    ∷ []
+
+-- the refusals of a submission for an association, to the partition at a place
+abbrev pub refusals_there : State → ℕ → List ℕ → JobDesc → Option AssocRecord → Option ℕ → Option PartRecord → List (Option Refusal)
+refusals_there s moment user desc (Some assoc) (Some place) (Some partition) =
+    refusals_of_job s assoc partition (new_job s moment user desc place partition)
+refusals_there s moment user desc assoc place partition = []
 
 -- why a submission may be refused, in their order
 abbrev pub submit_refusals : State → ℕ → List ℕ → JobDesc → List (Option Refusal)
 submit_refusals s moment user desc =
     refused_if (is_none (assoc_for s user desc)) InvalidAccount
-    ∷ refused_if (is_none (place_for s desc)) InvalidPartition
-    ∷ refused_if (of_partition s desc (λ partition. is_closed partition.state)) PartitionClosed
-    ∷ refused_if (not (unwrap_or (option_map (λ assoc. of_partition s desc (is_allowed s assoc)) (assoc_for s user desc)) true)) NotAllowedHere
-    ∷ refused_if (not (of_partition s desc (could_run s moment user desc))) NodesNotAvailable
-    ∷ refused_if (nat_lt last_job_id s.next_id) JobIdsSpent
-    ∷ []
+    ∷ refused_if (is_none (partition_for s desc)) InvalidPartition
+    ∷ refusals_there s moment user desc (assoc_for s user desc) (place_for s desc) (partition_for s desc)
 
 -- the state with that job
 abbrev pub submit_after : State → JobRecord → State
 submit_after s job = record s { jobs = s.jobs ++ job ∷ []; next_id = s.next_id + 1 }
 
-abbrev pub made_in : State → ℕ → List ℕ → JobDesc → ℕ → Option PartRecord → Verdict
-made_in s moment user desc place None = Refuses InvalidPartition
-made_in s moment user desc place (Some partition) =
+-- what an accepted submission makes in its partition
+abbrev pub made_in : State → ℕ → List ℕ → JobDesc → Option ℕ → Option PartRecord → Verdict
+made_in s moment user desc (Some place) (Some partition) =
     Makes (Submitted s.next_id) (submit_after s (new_job s moment user desc place partition))
-
--- what an accepted submission makes
-abbrev pub made_at : State → ℕ → List ℕ → JobDesc → Option ℕ → Verdict
-made_at s moment user desc None = Refuses InvalidPartition
-made_at s moment user desc (Some place) = made_in s moment user desc place (slice_get s.partitions place)
+made_in s moment user desc place partition = Refuses InvalidPartition
 
 abbrev pub submit_made : State → ℕ → List ℕ → JobDesc → Verdict
-submit_made s moment user desc = made_at s moment user desc (place_for s desc)
+submit_made s moment user desc = made_in s moment user desc (place_for s desc) (partition_for s desc)
+
+-- a submission is refused for its first refusal, or makes a job
+abbrev pub IsDecided : State → ℕ → List ℕ → JobDesc → Result JobRecord Refusal → Type 0
+IsDecided s moment user desc (Err refusal) = first_refusal (submit_refusals s moment user desc) ≡ Some refusal
+IsDecided s moment user desc (Ok job) =
+    (first_refusal (submit_refusals s moment user desc) ≡ None)
+    × (submit_made s moment user desc ≡ Makes (Submitted s.next_id) (submit_after s job))
+    × (job.id ≡ s.next_id) × (s.next_id ≤ last_job_id)
