@@ -4,7 +4,7 @@ use Rattle.std.specs.List.{position_or_len}
 use Rattle.memchr.specs.Find.{IsFirstByte, is_byte}
 use Rattle.std.proofs.lemmas.Bool.{cases_lt, eqb-true, eqb-false, false_from_ne_true}
 use Rattle.std.proofs.lemmas.Bool.Decides.{eqb_tells}
-use Rattle.std.proofs.lemmas.List.{take-append-drop, take-append-le, get_or-take, get_or_append_left, get_or_at, length-append, length-take, length-drop, get_or-drop}
+use Rattle.std.proofs.lemmas.List.{take-append-drop, take-append-le, get_or-take, get_or_append_left, get_or_at, length-append, length-take, length-drop, get_or-drop, drop_at}
 use Rattle.std.proofs.lemmas.List.Folds.{prefix_len-append}
 use Rattle.std.proofs.lemmas.List.Sums.{position_or_len_is, fails_before_first, passes_at_first, split_at_first, prefix_len-le-length}
 use Rattle.block_frame.specs.Grammar.{is_line_feed}
@@ -28,7 +28,7 @@ line_grows text more =
       | inr e ↦ rw (prefix_len-append _ text more, e.0) (omega arith)
     ]
 
-is_other : (byte : ℕ) → byte ≢ 10 → is_line_feed byte ≡ false
+pub is_other : (byte : ℕ) → byte ≢ 10 → is_line_feed byte ≡ false
 is_other byte apart = elim (eqb_tells byte 10) [ inl e ↦ absurd (apart e.1) | inr e ↦ e.0 ]
 
 -- a line that is ended, and what follows
@@ -92,3 +92,19 @@ pub front_of : (us vs xs ys : List ℕ) → us ++ vs ≡ xs ++ ys → length us 
 front_of us vs xs ys e l =
     let front : us ≡ take (length us) xs = sym (take_at us vs (length us) refl) ∙ ap (take (length us)) e ∙ take-append-le (length us) xs ys l in
     sym (take-append-drop (length us) xs) ∙ ap (λ t. t ++ drop (length us) xs) (sym front)
+
+-- a first line that is ended stays, whatever follows
+pub line_stays : (text more : List ℕ) → line_len text < length text → line_len (text ++ more) ≡ line_len text
+line_stays text more ended =
+    elim (eqb_tells (line_len text) (length text)) [
+      | inl e ↦ absurd (omega arith)
+      | inr e ↦ rw (prefix_len-append _ text more, e.0) refl
+    ]
+
+-- two lines that are ended are one where they begin one text
+pub same_lines : (a b x y : List ℕ) → IsOneLine a → IsOneLine b → a ++ 10 ∷ x ≡ b ++ 10 ∷ y → (a ≡ b) × (x ≡ y)
+same_lines a b x y one other e =
+    let len : length a ≡ length b = sym (line_len-line a x one) ∙ ap line_len e ∙ line_len-line b y other in
+    let same : a ≡ b = sym (take_at a (10 ∷ x) (length a) refl) ∙ ap (take (length a)) e ∙ take_at b (10 ∷ y) (length a) (sym len) in
+    let rests : 10 ∷ x ≡ 10 ∷ y = sym (drop_at a (10 ∷ x) (length a) refl) ∙ ap (drop (length a)) e ∙ drop_at b (10 ∷ y) (length a) (sym len) in
+    (same, cc)

@@ -1,27 +1,27 @@
-// A line of a block.
+// The bytes of a part of a block.
 ghost use Rattle.std.specs.Prelude.{◌≡◌};
 
 use std::marker::Model;
 
-/// The bytes of a line, without what ends it. Contracts see it as the list of its bytes.
+/// The bytes of a header or of an attachment. Contracts see it as the list of its bytes.
 #[derive(Drop)]
-pub struct Line {
+pub struct Text {
     bytes: Vec<u8>,
 }
 
-impl Model for Line {
+impl Model for Text {
     ghost use Rattle.std.specs.Prelude.{List, ℕ};
 
     ghost Value = { List ℕ };
 
-    ghost view = { λ line. line.bytes.items };
+    ghost view = { λ text. text.bytes.items };
 }
 
-impl Line {
-    pub fn new(bytes: Vec<u8>) -> Line
+impl Text {
+    pub fn new(bytes: Vec<u8>) -> Text
         ensures { result ≡ bytes.items }
     {
-        Line { bytes }
+        Text { bytes }
     }
 
     pub fn as_bytes(&self) -> &[u8]
@@ -33,7 +33,7 @@ impl Line {
     pub fn into_vec(self) -> Vec<u8>
         ensures { result.items ≡ self }
     {
-        let Line { bytes } = self;
+        let Text { bytes } = self;
         bytes
     }
 }

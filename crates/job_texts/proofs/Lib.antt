@@ -1,0 +1,4 @@
+pub mod ArrayLemmas
+pub mod DependencyLemmas
+pub mod MarkLemmas
+pub mod PartLemmas
