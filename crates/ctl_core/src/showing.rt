@@ -24,8 +24,20 @@ use slurm_text::plain::view::{JobRow, Row, View};
 use slurm_text::ranged::Ranged;
 use std::alloc::Global;
 
+/// Why a query is refused, if it is.
+fn refusal_of(cluster: &Cluster, query: &Query) -> Option<Refusal>
+    ensures { result ≡ first_refusal (Showing.show_refusals (state_of cluster.now) query.now) }
+{
+    match query {
+        Query::Sinfo { partition: Some(name), .. } => match cluster.partitions.find(Some(name)) {
+            Some(_) => None,
+            None => Some(Refusal::InvalidPartition),
+        },
+        _ => None,
+    }
+}
+
 /// What a query asks for, at its raised moment.
-#[tactic(auto, unfolding(crate::specs::Showing::view_of))]
 pub(crate) fn show(
     alloc: Global,
     cluster: &Cluster,
@@ -35,18 +47,36 @@ pub(crate) fn show(
     requires sound { IsSound (state_of cluster.now) }
     requires raised { cluster.now.moment ≤ moment }
     requires in_time { moment ≤ last_moment }
-    ensures reply { IfOk result (λ answered. answered.reply ≡ Shown (Showing.view_of (state_of cluster.now) moment query.now)) }
-    ensures entered { IfOk result (λ answered. answered.entered ≡ None) }
+    ensures { IfOk result (Answers (state_of cluster.now) (state_of cluster.now)
+        (unless_refused (first_refusal (Showing.show_refusals (state_of cluster.now) query.now))
+        (Tells (Showing.view_of (state_of cluster.now) moment query.now)))) }
+{
+    match refusal_of(cluster, query) {
+        Some(refusal) => Ok(refused(refusal)),
+        None => {
+            let view = view_of(alloc, cluster, moment, query)?;
+            Ok(Answered {
+                reply: Reply::Shown(view),
+                entered: None,
+            })
+        }
+    }
+}
+
+// What a query shows.
+#[tactic(auto, unfolding(crate::specs::Showing::view_of))]
+fn view_of(alloc: Global, cluster: &Cluster, moment: u64, query: &Query) -> Result<View, Memory>
+    requires sound { IsSound (state_of cluster.now) }
+    requires raised { cluster.now.moment ≤ moment }
+    requires in_time { moment ≤ last_moment }
+    ensures { IfOk result (λ view. view ≡ Showing.view_of (state_of cluster.now) moment query.now) }
 {
     let rows = match query {
-        Query::Squeue { titles: _, starts } => job_rows(alloc, cluster, moment, *starts)?,
+        Query::Squeue { starts, .. } => job_rows(alloc, cluster, moment, *starts)?,
+        Query::Sinfo { partition, .. } => state_rows(alloc, cluster, partition)?,
     };
-    let view = View {
+    Ok(View {
         rows: Items::from_vec(rows),
-    };
-    Ok(Answered {
-        reply: Reply::Shown(view),
-        entered: None,
     })
 }
 
@@ -58,7 +88,7 @@ fn job_rows(alloc: Global, cluster: &Cluster, moment: u64, starts: bool) -> Resu
     ensures { IfOk result (λ rows. rows.items
         ≡ map (λ job. Row.Job (Showing.row_of (state_of cluster.now) moment job)) (filter (Showing.is_shown starts) cluster.now.jobs.items)) }
 {
-    let highest = highest(&cluster.jobs);
+    let highest = highest(cluster);
     let mut rows = Vec::new(alloc);
     for job in &cluster.jobs {
         if is_shown(starts, job) {
@@ -104,12 +134,12 @@ fn pending_row(
         id: job.id,
         name: job.desc.name.copy()?,
         user: job.user.copy()?,
-        partition: cluster.partition.name.copy()?,
+        partition: partition_name(cluster, job)?,
         state: job.state,
         elapsed: Ranged::new(0),
-        nodes: 1,
+        nodes: job.desc.min_nodes.get(),
         node_names: Items::from_vec(Vec::new(alloc)),
-        reason: Some(reason(highest, job)),
+        reason: Some(reason(cluster, highest, job)),
         start: planned_start(&cluster.plan, job.id),
     })
 }
@@ -129,7 +159,7 @@ fn holding_row(
         id: job.id,
         name: job.desc.name.copy()?,
         user: job.user.copy()?,
-        partition: cluster.partition.name.copy()?,
+        partition: partition_name(cluster, job)?,
         state: job.state,
         elapsed: Ranged::new(moment.saturating_sub(job.started.unwrap_or(0))),
         nodes: job.parts.as_slice().len() as u64,
@@ -153,20 +183,34 @@ fn is_shown(starts: bool, job: &JobRecord) -> bool
     }
 }
 
-// The number of the candidate that is highest in rank.
-#[tactic(auto, unfolding(crate::specs::Showing::highest))]
-fn highest(jobs: &[JobRecord]) -> Option<u32>
-    ensures { result ≡ option_map (λ (job : JobRecord). job.id) (find (λ (job : JobRecord). JobStates.is_pending job.state) jobs.now) }
+// Why the pending job waits.
+fn reason(cluster: &Cluster, highest: Option<u32>, job: &JobRecord) -> Reason
+    requires { highest ≡ Showing.highest (state_of cluster.now) moment }
+    ensures { result ≡ Showing.reason_of (state_of cluster.now) moment job.now }
 {
-    jobs.iter().find(|job| is_pending(job)).map(|job| job.id)
+    match hindrance(cluster, job) {
+        Some(reason) => reason,
+        None => reason_by_rank(highest, job),
+    }
 }
 
-fn reason(highest: Option<u32>, job: &JobRecord) -> Reason
-    ensures { result ≡ Showing.reason_of highest job.now }
+fn reason_by_rank(highest: Option<u32>, job: &JobRecord) -> Reason
+    ensures { result ≡ Showing.reason_by_rank highest job.now }
 {
     match highest {
         Some(id) if id == job.id => Reason::Resources,
         _ => Reason::Priority,
+    }
+}
+
+// The name of the job's partition.
+fn partition_name(cluster: &Cluster, job: &JobRecord) -> Result<Name, Memory>
+    requires { job.now.partition < length cluster.now.partitions }
+    ensures { IfOk result (λ name. name ≡ Showing.partition_name (state_of cluster.now) job.now) }
+{
+    match cluster.partitions.at(job.partition) {
+        Some(partition) => partition.conf.name.copy(),
+        None => Err(Memory),
     }
 }
 

@@ -2,5 +2,6 @@ pub mod Field
 pub mod Orders
 pub mod Ranges
 pub mod Refusal
+pub mod Sinfo
 pub mod Squeue
 pub mod Text

@@ -6,5 +6,6 @@ mod line;
 mod orders;
 mod ranges;
 mod refusal;
+mod sinfo;
 mod squeue;
 pub mod text;

@@ -6,6 +6,7 @@ ghost use Rattle.slurm_print.specs.Text.{text_of, not_built_text, command_of, su
 use crate::line::{push_labelled, push_text};
 use crate::orders::push_orders;
 use crate::refusal::push_refusal;
+use crate::sinfo::push_sinfo;
 use crate::squeue::push_view;
 use slurm_text::memory_error::Memory;
 use slurm_text::plain::query::Query;
@@ -81,6 +82,7 @@ fn push_shown(
         Request::Show(Query::Squeue { titles, starts }) => push_view(
             alloc, out, *titles, *starts, view,
         ),
+        Request::Show(Query::Sinfo { titles, .. }) => push_sinfo(alloc, out, *titles, view),
         _ => Ok(()),
     }
 }
@@ -93,5 +95,6 @@ fn command(request: &Request) -> &'static [u8]
         Request::Report(_) => b"report",
         Request::Pass => b"pass",
         Request::Show(Query::Squeue { .. }) => b"squeue",
+        Request::Show(Query::Sinfo { .. }) => b"sinfo",
     }
 }
