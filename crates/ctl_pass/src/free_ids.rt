@@ -11,7 +11,8 @@ ghost use Rattle.ctl_state.specs.Soundness.{IsNode};
 ghost use Rattle.ctl_pass.specs.HeldIds.{ShowsParts, AddsParts, is_held, part_by};
 
 use backfill_planner::Share;
-use ctl_state::record::{JobRecord, NodeRecord, Part};
+use ctl_state::record::{JobRecord, Part};
+use node_state::record::NodeRecord;
 use slurm_text::memory_error::Memory;
 use slurm_text::plain::orders::CpuIds;
 use std::alloc::Global;
