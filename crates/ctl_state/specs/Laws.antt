@@ -6,18 +6,17 @@ use Rattle.node_state.specs.declared.record.NodeRecord.{NodeRecord}
 use Rattle.ctl_state.specs.declared.record.JobRecord.{JobRecord}
 use Rattle.ctl_state.specs.declared.change.Change.{Change}
 use Rattle.ctl_state.specs.State.{State, last_moment, last_job_id}
-use Rattle.ctl_state.specs.JobStates.{is_pending, is_holding}
+use Rattle.ctl_state.specs.JobStates.{is_pending}
 use Rattle.ctl_state.specs.Changes.{changed, is_start, moment_of}
 use Rattle.ctl_state.specs.Holding.{parts_of, times_held, mem_held}
 use Rattle.ctl_state.specs.Events.{LetsGo, MayTake, started_as, those_left}
 use Rattle.ctl_state.specs.Soundness.{AreOfPartitions, IsSound, IsKept, HaveRisingIds, PlansPending, is_up_at, pending_ids}
 
--- An event that starts nothing keeps all sound: each job keeps some of its parts, and only jobs that hold nothing go.
+-- An event that starts nothing keeps all sound: each job that stays keeps some of its parts.
 abbrev pub LettingGo : Type 0
 LettingGo = (s : State) (now : ℕ) (change : JobRecord → JobRecord) (goes : JobRecord → Bool) (plan : List Placed)
     → IsSound s → now ≤ last_moment
     → All (λ job. LetsGo now job (change job)) s.jobs
-    → All (λ job. goes (change job) ≡ true → is_holding (change job).state ≡ false) s.jobs
     → PlansPending (those_left change goes s.jobs) plan
     → IsSound (record s { jobs = those_left change goes s.jobs; plan = plan; moment = now })
 

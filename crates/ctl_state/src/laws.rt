@@ -6,7 +6,7 @@ ghost use Rattle.ctl_state.specs.Holding.{AreApart, parts_of};
 ghost use Rattle.ctl_state.specs.Laws;
 ghost use Rattle.ctl_state.specs.Soundness.{IsSound};
 
-/// An event that starts nothing keeps all sound: each job keeps some of its parts, and only jobs that hold nothing go.
+/// An event that starts nothing keeps all sound: each job that stays keeps some of its parts.
 pub fn letting_go_keeps_all_sound()
     ensures { Laws.LettingGo }
 {}
@@ -27,7 +27,7 @@ pub fn others_wait_on()
     ensures { Laws.OthersWait }
 {}
 
-/// Nodes whose rooms and names stay keep all sound.
+/// Nodes that stay as they are configured, of which none goes down, keep all sound.
 pub fn nodes_that_stay_keep_all_sound()
     ensures { Laws.NodesStay }
 {}

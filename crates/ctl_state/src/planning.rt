@@ -7,7 +7,7 @@ ghost use Rattle.ctl_state.specs.Planning;
 use crate::record::JobRecord;
 use backfill_planner::{NodeList, PlanJob};
 use node_pick::Need;
-use node_state::nodes::{has_features, is_available};
+use node_state::standing::{has_features, is_available};
 use node_state::record::NodeRecord;
 use partitions::record::PartRecord;
 use resource_profile::NodeRoom;

@@ -7,7 +7,7 @@ use Rattle.std.proofs.lemmas.Bool.Decides.{nat_tests}
 use Rattle.std.proofs.lemmas.Cmp.{ranked}
 use Rattle.std.proofs.lemmas.List.Sorted.{answers_always}
 use Rattle.ctl_state.specs.declared.record.JobRecord.{JobRecord}
-use Rattle.ctl_state.proofs.jobs.place_of.Goals as goal
+use Rattle.ctl_state.proofs.jobs.place_of_job.Goals as goal
 
 searched : {X : Type 0} (f : X → ℕ) (xs : List X) (number : ℕ) (r : Result ℕ ℕ) → AllPairs (λ one other. f one < f other) xs → IsBinarySearchResult (λ x. nat_cmp (f x) number) xs r
     → MatchResult r (HoldsAt (λ x. f x ≡ number) xs) (λ place. All (λ x. f x ≢ number) xs)
