@@ -23,7 +23,7 @@ use std::alloc::Global;
 fn count_of(cpus: &CpuIds) -> u32
     ensures { result ≡ length cpus.now }
 {
-    cpus.as_slice().len() as u32
+    cpus.iter().len() as u32
 }
 
 // Adds what the job holds.

@@ -26,7 +26,7 @@ fn hold(held: &mut [bool], part: &Part)
     ensures { AddsParts held.old (part.now ∷ []) held.new }
 {
     let first = part.node as usize * WIDTH;
-    for cpu in part.cpus.as_slice() {
+    for cpu in part.cpus.iter() {
         held[first + *cpu as usize] = true;
     }
 }
