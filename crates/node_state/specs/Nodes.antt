@@ -5,7 +5,6 @@ use Rattle.slurm_text.specs.declared.plain.conf.NodeConf.{NodeConf}
 use Rattle.slurm_text.specs.declared.plain.conf.NodeStart.{NodeStart}
 use Rattle.slurm_text.specs.declared.plain.conf.NodeStart.TheVariants as start
 use Rattle.slurm_text.specs.declared.plain.features.FeatureExpr.{FeatureExpr}
-use Rattle.node_state.specs.declared.record.Heard.{Heard}
 use Rattle.node_state.specs.declared.record.DownBy.{DownBy}
 use Rattle.node_state.specs.declared.record.DownBy.TheVariants as down
 use Rattle.node_state.specs.declared.record.NodeRecord.{NodeRecord}

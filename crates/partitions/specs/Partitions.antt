@@ -1,5 +1,5 @@
 -- Partitions, and what they allow.
-use Rattle.std.specs.Prelude.{◌≢◌, ◌≤◌, ◌<◌, ℕ, min, max, Bool, nat_le, if◌then◌else◌, unwrap_or, List, length, filter_map, position, bytes_eq, All, AllPairs, Option, Some, None}
+use Rattle.std.specs.Prelude.{◌≡◌, ◌≢◌, ◌≤◌, ◌<◌, ℕ, zero, suc, min, max, Bool, true, false, nat_le, if◌then◌else◌, unwrap_or, List, [], ◌∷◌, length, filter_map, position, bytes_eq, All, AllPairs, Option, Some, None}
 use Rattle.slurm_text.specs.declared.plain.conf.PartConf.{PartConf}
 use Rattle.slurm_text.specs.declared.plain.conf.PartState.{PartState}
 use Rattle.slurm_text.specs.declared.plain.job.JobDesc.{JobDesc}
@@ -34,9 +34,22 @@ bounds_of partition desc =
     within (max desc.min_nodes partition.conf.min_nodes)
     (min desc.tasks (min (unwrap_or desc.max_nodes desc.tasks) (unwrap_or partition.conf.max_nodes desc.tasks)))
 
--- the partitions with one of them in another state
+-- a partition in another state
 abbrev pub in_state : PartState → PartRecord → PartRecord
 in_state state partition = record partition { state = state }
+
+-- the partitions with the one at a place in another state
+abbrev pub in_state_at : ℕ → PartState → List PartRecord → List PartRecord
+in_state_at place state [] = []
+in_state_at zero state (partition ∷ later) = in_state state partition ∷ later
+in_state_at (suc place) state (partition ∷ later) = partition ∷ in_state_at place state later
+
+-- There are 1 to 64 partitions, each named once; one at most is the default.
+pub record ArePartitions (partitions : List PartRecord) : Type 0 where
+  pub some : 1 ≤ length partitions
+  pub few : length partitions ≤ 64
+  pub once : AllPairs (λ (one other : PartRecord). one.conf.name ≢ other.conf.name) partitions
+  pub one_default : AllPairs (λ (one other : PartRecord). one.conf.is_default ≡ true → other.conf.is_default ≡ false) partitions
 
 -- a partition's nodes are nodes that there are, each once
 pub record IsOnNodes (count : ℕ) (partition : PartRecord) : Type 0 where
