@@ -61,7 +61,7 @@ held-stays nodes old parts same held =
     let long : length (map room_of nodes) ≡ length (map room_of old) = length-map nodes room_of ∙ long-stays nodes old same ∙ sym (length-map old room_of) in
     record {
       each = All-weaker (IsPartOf (map room_of old)) (IsPartOf (map room_of nodes))
-      (λ part is. record { node = rw long is.node; rising = is.rising; cpus = rw (cpus part.node) is.cpus }) parts held.each;
+          (λ part is. record { node = rw long is.node; rising = is.rising; cpus = rw (cpus part.node) is.cpus }) parts held.each;
       once = held.once;
       mem = λ place. rw (mem place) (held.mem place);
     }

@@ -1,5 +1,5 @@
 -- What is kept of a job, as time passes and whatever change but a start happens to it.
-use Rattle.std.proofs.Common.{◌≡◌, ◌≢◌, ℕ, ◌≤◌, true, false, ◌&&◌, not, List, [], ◌∷◌, Some, Bool, filter, refl, sym, ◌∙◌, arith, rules, tests, inl, inr}
+use Rattle.std.proofs.Common.{◌≡◌, ◌≢◌, ℕ, ◌≤◌, true, false, ◌&&◌, not, List, [], ◌∷◌, Some, Bool, filter, refl, sym, ◌∙◌, arith, rules, tests}
 use Rattle.std.proofs.lemmas.Bool.{cond_both, both_ways}
 use Rattle.std.proofs.lemmas.Bool.Decides.{nat_tests}
 use Rattle.std.proofs.lemmas.List.Kept.{AllPairs-filter}
@@ -32,7 +32,14 @@ all-stay now job after same of held kept =
     let keep : Part → Bool = λ part. true in
     let parts : after.parts ≡ filter keep job.parts = held ∙ sym (filter-all job.parts) in
     record {
-      id = same; partition = of; keep = keep; parts = parts; some = kept.parts.some; asked = kept.asked; limit = kept.limit; run = kept.run
+      id = same;
+      partition = of;
+      keep = keep;
+      parts = parts;
+      some = kept.parts.some;
+      asked = kept.asked;
+      limit = kept.limit;
+      run = kept.run;
     }
 
 pub lets_go-same : (now : ℕ) (job : JobRecord) → IsKept now job → LetsGo now job job
@@ -43,8 +50,14 @@ lets_go-twice now job middle after one two =
     let keep : Part → Bool = λ part. one.keep part && two.keep part in
     let parts : after.parts ≡ filter keep job.parts = rw (two.parts, one.parts) (filter-filter one.keep two.keep job.parts) in
     record {
-      id = two.id ∙ one.id; partition = two.partition ∙ one.partition; keep = keep; parts = parts;
-      some = two.some; asked = two.asked; limit = two.limit; run = two.run
+      id = two.id ∙ one.id;
+      partition = two.partition ∙ one.partition;
+      keep = keep;
+      parts = parts;
+      some = two.some;
+      asked = two.asked;
+      limit = two.limit;
+      run = two.run;
     }
 
 -- a completing job that holds nothing any more
@@ -57,13 +70,25 @@ leaves-node : (now node : ℕ) (final : Final) (job : JobRecord) (rest : List Pa
 leaves-node now node final job [] kept completing off =
     let settled = settles now final job kept in
     record {
-      id = refl; partition = refl; keep = λ part. not (is_on node part); parts = off;
-      some = settled.0; asked = kept.asked; limit = kept.limit; run = settled.1
+      id = refl;
+      partition = refl;
+      keep = λ part. not (is_on node part);
+      parts = off;
+      some = settled.0;
+      asked = kept.asked;
+      limit = kept.limit;
+      run = settled.1;
     }
 leaves-node now node final job (part ∷ later) kept completing off =
     record {
-      id = refl; partition = refl; keep = λ part. not (is_on node part); parts = off;
-      some = rw completing refl; asked = kept.asked; limit = kept.limit; run = search rules
+      id = refl;
+      partition = refl;
+      keep = λ part. not (is_on node part);
+      parts = off;
+      some = rw completing refl;
+      asked = kept.asked;
+      limit = kept.limit;
+      run = search rules;
     }
 
 off_node-lets_go : (now node : ℕ) (state : JobState) (job : JobRecord) → IsKept now job → job.state ≡ state → LetsGo now job (off_node now node job state)

@@ -99,9 +99,11 @@ held-taken s id parts sound may =
           elim (cases_eq (times_held parts node cpu) 0) [
             | inl none ↦ omega (arith, sum, none, sound.held.once node cpu)
             | inr some ↦ omega (
-                arith, sum, parts-once node cpu parts may.apart,
-                was-free (times_held (parts_of s.jobs)) node cpu parts may.unheld (was-held node cpu parts (omega (arith, some))),
-              )
+              arith,
+              sum,
+              parts-once node cpu parts may.apart,
+              was-free (times_held (parts_of s.jobs)) node cpu parts may.unheld (was-held node cpu parts (omega (arith, some))),
+            )
           ];
       mem = λ node. omega (arith, mem-taken s s.moment id node parts sound may.waits, may.mem node);
     }

@@ -1,14 +1,20 @@
 -- What stays true of every state, whatever happens. Each is proved as the contract of a law.
-use Rattle.std.specs.Prelude.{◌≡◌, ◌≢◌, ℕ, ◌+◌, ◌≤◌, Bool, true, false, List, map, ◌++◌, All, Contains}
+use Rattle.std.specs.Prelude.{◌≡◌, ◌≢◌, ℕ, ◌+◌, ◌<◌, ◌≤◌, Bool, true, false, List, length, map, ◌++◌, All, AllPairs, Contains}
+use Rattle.std.specs.Cmp.{IsStrictWeakOrder}
+use Rattle.std.specs.List.Sorted.{IsPermutation, IsSortedBy, IsStableBy}
 use Rattle.backfill_planner.specs.declared.Placed.{Placed}
 use Rattle.ctl_state.specs.declared.record.Part.{Part}
 use Rattle.node_state.specs.declared.record.NodeRecord.{NodeRecord}
+use Rattle.partitions.specs.declared.record.PartRecord.{PartRecord}
+use Rattle.partitions.specs.Partitions.{IsOnNodes}
 use Rattle.ctl_state.specs.declared.record.JobRecord.{JobRecord}
 use Rattle.ctl_state.specs.declared.change.Change.{Change}
 use Rattle.ctl_state.specs.State.{State, last_moment, last_job_id}
 use Rattle.ctl_state.specs.JobStates.{is_pending}
 use Rattle.ctl_state.specs.Changes.{changed, is_start, moment_of}
 use Rattle.ctl_state.specs.Holding.{parts_of, times_held, mem_held}
+use Rattle.ctl_state.specs.Ordered.{ordered_by}
+use Rattle.ctl_state.specs.Planning.{plan_job}
 use Rattle.ctl_state.specs.Events.{LetsGo, MayTake, started_as, those_left}
 use Rattle.ctl_state.specs.Soundness.{AreOfPartitions, IsSound, IsKept, HaveRisingIds, PlansPending, is_up_at, pending_ids}
 
@@ -83,3 +89,24 @@ LetsGoNothing = (now : ℕ) (job : JobRecord) → IsKept now job → LetsGo now 
 
 abbrev pub LetsGoTwice : Type 0
 LetsGoTwice = (now : ℕ) (job middle after : JobRecord) → LetsGo now job middle → LetsGo now middle after → LetsGo now job after
+
+-- The nodes that a job may get are nodes that there are, each once.
+abbrev pub JobNodes : Type 0
+JobNodes = (nodes : List NodeRecord) (partition : PartRecord) (bounds : ℕ × ℕ) (job : JobRecord)
+    → IsOnNodes (length nodes) partition
+    → All (λ node. node < length nodes) (plan_job nodes partition bounds job).nodes
+    × AllPairs (λ one other. one ≢ other) (plan_job nodes partition bounds job).nodes
+
+-- A list in order has the elements of the list.
+abbrev pub OrderMoves : Type 0 → Type 0
+OrderMoves X = (before : X → X → Bool) (xs : List X) → IsPermutation xs (ordered_by before xs)
+
+-- Keys that differ differ in order too.
+abbrev pub OrderKeepsApart : Type 0 → Type 0
+OrderKeepsApart X = (before : X → X → Bool) (key : X → ℕ) (xs : List X)
+    → AllPairs (λ (one other : X). key one ≢ key other) xs → AllPairs (λ (one other : X). key one ≢ key other) (ordered_by before xs)
+
+-- What a stable sort makes of a list is the list in order.
+abbrev pub SortOrders : Type 0 → Type 0
+SortOrders X = (before : X → X → Bool) (xs ys : List X)
+    → IsStrictWeakOrder before → IsSortedBy before ys → IsStableBy before xs ys → ys ≡ ordered_by before xs

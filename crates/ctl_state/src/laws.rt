@@ -60,3 +60,15 @@ pub fn jobs_are_kept()
 pub fn no_two_parts_share_a_processor()
     ensures { (s : State) → IsSound s → AllPairs AreApart (parts_of s.jobs) }
 {}
+
+/// The nodes that a job may get are nodes that there are, each once.
+pub fn jobs_get_nodes_that_are_there()
+    ensures { Laws.JobNodes }
+{}
+
+/// A list in order has the elements of the list, and a stable sort makes it.
+pub fn a_stable_sort_makes_the_order<T>()
+    ensures moves { Laws.OrderMoves T }
+    ensures apart { Laws.OrderKeepsApart T }
+    ensures sorted { Laws.SortOrders T }
+{}
