@@ -5,6 +5,7 @@ ghost use Rattle.std.specs.List.{list_any};
 ghost use Rattle.conf_lines.specs.Lines.{logical_lines};
 ghost use Rattle.slurm_text.specs.Confs.{node_names};
 ghost use Rattle.conf_reader.specs.Reader.{after_lines, nothing_said, has_unknown, first_unknown, nodes_by, partitions_by, conf_of_lines, whole_file, conf_in};
+ghost use Rattle.conf_reader.specs.Sound.{IsSound};
 ghost use Rattle.slurm_text.specs.Hosts.{has};
 ghost use Rattle.conf_values.specs.declared.refusal.ConfKind.{ConfKind};
 
@@ -69,6 +70,7 @@ fn read_lines(alloc: Global, file: &[u8]) -> Result<Draft, ConfRefusal>
 // What holds of the file as a whole.
 #[tactic(auto, unfolding(crate::specs::Reader::whole_file, crate::specs::Reader::conf_of_lines))]
 fn end_file(alloc: Global, draft: Draft) -> Result<Conf, ConfRefusal>
+    requires { IsSound draft }
     ensures value { IfOk result (λ conf. whole_file draft ≡ Ok conf) }
     ensures refused { (line : ℕ) → (kind : ConfKind)
         → IsErrOf result (ConfRefusal.At line kind) → whole_file draft ≡ Err (ConfRefusal.At line kind) }
