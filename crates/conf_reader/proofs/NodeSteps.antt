@@ -1,5 +1,5 @@
 -- What is true of a draft behind the line of nodes.
-use Rattle.std.proofs.Common.{ℕ, ◌≡◌, ◌+◌, ◌≤◌, Bool, true, false, if◌then◌else◌, nat_lt, nat_le, List, [], ◌∷◌, ◌++◌, length, map, Option, Some, None, option_map, IfSome, Ok, Err, IfOk, bytes_eq, codes, refl, ap, sym, ◌∙◌, arith}
+use Rattle.std.proofs.Common.{ℕ, ◌≡◌, ◌+◌, ◌≤◌, Bool, true, false, if◌then◌else◌, nat_lt, nat_le, List, [], ◌∷◌, ◌++◌, length, map, Option, Some, None, option_map, IfSome, Ok, Err, IfOk, bytes_eq, codes, refl, ap, ◌∙◌, arith}
 use Rattle.std.proofs.lemmas.Bool.Decides.{nat_tests}
 use Rattle.std.proofs.lemmas.List.{map-append, length-append, length-map}
 use Rattle.std.specs.List.{list_any}
@@ -18,7 +18,7 @@ use Rattle.conf_reader.specs.declared.draft.Draft.{Draft}
 use Rattle.conf_reader.specs.declared.node_lines.NodeNames.{NodeNames}
 use Rattle.conf_reader.specs.declared.node_lines.NodeNames.TheVariants.{Default, Hosts}
 use Rattle.conf_reader.specs.declared.node_lines.NodeEntry.{NodeEntry}
-use Rattle.conf_reader.specs.declared.node_lines.NodeEntry.TheVariants.{Names, Cpus, Boards, Sockets, Cores, Threads, Mem, Weight, Features, State, WithoutEffect}
+use Rattle.conf_reader.specs.declared.node_lines.NodeEntry.TheVariants.{Names, Cpus, Boards, Sockets, Cores, Threads, Mem, Weight, Features, State}
 use Rattle.conf_reader.specs.declared.node_lines.NodeWords.{NodeWords}
 use Rattle.conf_reader.proofs.OnceLemmas.{once-nil, once-append, nodes_in-once}
 use Rattle.conf_reader.proofs.StepLemmas.{ok-then, some-mapped, some-any, entry-is, unless-is, said-is}
@@ -100,9 +100,8 @@ line-comes known line =
 with_nodes-sound : (draft : Draft) (words : NodeWords) (names : List (List ℕ)) → IsSound draft → MayCome (node_names draft.nodes) names → IsSound (record draft { nodes = draft.nodes ++ map (node_conf words) names })
 unfolding node_conf
 with_nodes-sound draft words names sound come =
-    let own : (names : List (List ℕ)) → node_names (map (node_conf words) names) ≡ names = named in
     let all : node_names (draft.nodes ++ map (node_conf words) names) ≡ node_names draft.nodes ++ names =
-    map-append (λ (node : NodeConf). node.name) draft.nodes (map (node_conf words) names) ∙ ap (λ (more : List (List ℕ)). node_names draft.nodes ++ more) (own names) in
+    map-append (λ (node : NodeConf). node.name) draft.nodes (map (node_conf words) names) ∙ ap (λ (more : List (List ℕ)). node_names draft.nodes ++ more) (named names) in
     record {
       few_nodes = rw (length-append draft.nodes (map (node_conf words) names), length-map names (node_conf words), ← length-map draft.nodes (λ (node : NodeConf). node.name)) come.few;
       nodes_once = rw all (once-append (node_names draft.nodes) names sound.nodes_once come.once come.apart);
@@ -111,9 +110,9 @@ with_nodes-sound draft words names sound come =
       lists_once = sound.lists_once;
       default_once = sound.default_once;
     } where
-  named : (names : List (List ℕ)) → node_names (map (node_conf words) names) ≡ names
-  named [] = refl
-  named (name ∷ names) = ap (λ (more : List (List ℕ)). name ∷ more) (named names)
+      named : (names : List (List ℕ)) → node_names (map (node_conf words) names) ≡ names
+      named [] = refl
+      named (name ∷ names) = ap (λ (more : List (List ℕ)). name ∷ more) (named names)
 
 listed-come : (known : List (List ℕ)) (names : Option NodeNames) → length known ≤ 1024 → NamesCome known names → MayCome known (listed names)
 unfolding listed

@@ -1,5 +1,5 @@
 -- Lists of names, each once.
-use Rattle.std.proofs.Common.{ℕ, ◌≡◌, ◌≢◌, ◌+◌, ◌-◌, ◌<◌, ◌≤◌, Bool, true, false, if◌then◌else◌, nat_lt, List, [], ◌∷◌, ◌++◌, length, map, fold, get_or, AllPairs, IfSome, is_some, Some, None, refl, sym, ◌∙◌, ap, subst, arith}
+use Rattle.std.proofs.Common.{ℕ, ◌≡◌, ◌≢◌, ◌+◌, ◌-◌, ◌<◌, ◌≤◌, Bool, true, false, if◌then◌else◌, nat_lt, List, [], ◌∷◌, ◌++◌, length, map, fold, get_or, AllPairs, IfSome, is_some, Some, None, refl, sym, arith}
 use Rattle.std.proofs.lemmas.Bool.Decides.{nat_tests}
 use Rattle.std.proofs.lemmas.List.{get_or_append_left, get_or-map, length-append, length-map}
 use Rattle.std.proofs.lemmas.List.Folds.{list_any_at}
@@ -38,8 +38,10 @@ pub once-append : (names others : List (List ℕ)) → AreOnce names → AreOnce
 once-append names others once also apart i j d before within = by_places (nat_lt j (length names)) (nat_lt i (length names)) refl refl where
   behind : (k : ℕ) → length names ≤ k → get_or (names ++ others) k d ≡ get_or others (k - length names) d
   behind k h = get_or-append_right names others k d h
+
   total : length (names ++ others) ≡ length names + length others
   total = length-append names others
+
   by_places : (a b : Bool) → nat_lt j (length names) ≡ a → nat_lt i (length names) ≡ b → get_or (names ++ others) i d ≢ get_or (names ++ others) j d
   by_places true b e f =
       let first : get_or (names ++ others) i d ≡ get_or names i d = get_or_append_left names others d i (grind (arith, nat_tests)) in

@@ -1,15 +1,15 @@
 -- What is true of a draft behind the line of a partition.
-use Rattle.std.proofs.Common.{ℕ, ◌≡◌, ◌+◌, ◌<◌, ◌≤◌, Bool, true, false, if◌then◌else◌, nat_le, List, [], ◌∷◌, ◌++◌, length, map, Option, Some, None, option_map, IfSome, Ok, Err, IfOk, bytes_eq, codes, refl, arith}
+use Rattle.std.proofs.Common.{ℕ, ◌≡◌, ◌<◌, Bool, true, false, if◌then◌else◌, nat_le, List, [], ◌∷◌, ◌++◌, length, Option, Some, None, option_map, IfSome, Ok, IfOk, codes, refl, arith}
 use Rattle.std.proofs.lemmas.Bool.Decides.{nat_tests}
 use Rattle.std.proofs.lemmas.List.{map-append, length-append, length-map}
 use Rattle.std.proofs.lemmas.List.Elements.{All-push}
 use Rattle.slurm_text.specs.Hosts.{has}
 use Rattle.conf_values.specs.Keys.{partition_key}
-use Rattle.conf_values.specs.Values.{nodes_in, name_in, is_word}
+use Rattle.conf_values.specs.Values.{nodes_in, is_word}
 use Rattle.conf_values.specs.declared.keys.PartitionKey.{PartitionKey}
 use Rattle.conf_values.specs.declared.keys.PartitionKey.TheVariants as key
-use Rattle.conf_values.specs.declared.refusal.ConfKind.TheVariants.{TwiceNamed, OverLimit, BadValue}
-use Rattle.conf_reader.specs.PartitionLines.{part_name, part_nodes, part_entry, partition_names, part_fault, part_word, with_part, no_part_words, part_line, over, part_conf, line_by, line_of}
+use Rattle.conf_values.specs.declared.refusal.ConfKind.TheVariants.{TwiceNamed, OverLimit}
+use Rattle.conf_reader.specs.PartitionLines.{part_nodes, part_entry, partition_names, part_fault, part_word, with_part, no_part_words, part_line, over, part_conf, line_by, line_of}
 use Rattle.conf_reader.specs.Reader.{is_for_partitions, with_partition, after_part_line}
 use Rattle.conf_reader.specs.Sound.{AreOnce, ListsOnce, IsSound}
 use Rattle.conf_reader.specs.declared.draft.Draft.{Draft}
@@ -131,6 +131,7 @@ unfolding after_part_line line_of over
 after_part_line-sound draft number own sound come = by_test (is_for_partitions own.name) where
   once : IfSome (over own draft.part_defaults).nodes ListsOnce
   once = some-or ListsOnce own.nodes draft.part_defaults.nodes come.nodes sound.default_once
+
   by_test : (t : Bool) → IfOk (if t then Ok (record draft { part_defaults = over own draft.part_defaults }) else with_partition draft (line_of number (over own draft.part_defaults))) IsSound
   by_test true = record {
     few_nodes = sound.few_nodes;

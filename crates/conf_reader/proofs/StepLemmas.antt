@@ -36,9 +36,11 @@ entry-is {K} {E} key_named value_of P every word = by_pair (pair_in word) where
   by_value : (o : Option E) → IfSome o P → IfOk (ok_or o BadValue) P
   by_value (Some e) h = h
   by_value None h = tt
+
   by_key : (o : Option K) (text : List ℕ) → IfOk (ok_or o UnknownKey >>= λ key. ok_or (value_of key text) BadValue) P
   by_key (Some key) text = by_value (value_of key text) (every key text)
   by_key None text = tt
+
   by_pair : (o : Option Pair) → IfOk (ok_or o BadPair >>= λ pair. ok_or (key_named pair.key) UnknownKey >>= λ key. ok_or (value_of key pair.value) BadValue) P
   by_pair (Some pair) = by_key (key_named pair.key) pair.value
   by_pair None = tt

@@ -30,9 +30,9 @@ contains-from-has names name found =
 known-nodes : (known names : List (List ℕ)) → list_any (λ name. not (has name known)) names ≡ false → All (λ name. Contains known name) names
 known-nodes known names none =
     λ k d within. contains-from-has known (get_or names k d) (there (has (get_or names k d) known) (fails_at (λ name. not (has name known)) names k d none within)) where
-  there : (t : Bool) → not t ≡ false → t ≡ true
-  there true e = refl
-  there false e = cc
+      there : (t : Bool) → not t ≡ false → t ≡ true
+      there true e = refl
+      there false e = cc
 
 nodes_by-known : (known : List (List ℕ)) (nodes : PartNodes) → has_unknown known nodes ≡ false → All (λ name. Contains known name) (nodes_by known nodes)
 unfolding has_unknown nodes_by
@@ -55,7 +55,6 @@ of-nodes : (known : List (List ℕ)) → AreOnce known → (lines : List PartLin
 of-nodes known once [] lists none = All-nil (IsOfNodes known)
 of-nodes known once (line ∷ lines) lists none =
     let rest = not-found (λ (l : PartLine). has_unknown known l.nodes) line lines none in
-    let lists_all : (l : PartLine) → Type 0 = λ l. ListsOnce l.nodes in
     All-cons (IsOfNodes known) _ (partitions_by known lines) (record {
       known = nodes_by-known known line.nodes rest.0;
       once = nodes_by-once known line.nodes once (All-head (λ (l : PartLine). ListsOnce l.nodes) line lines lists);
@@ -67,9 +66,9 @@ none-default known [] none = All-nil (λ (p : PartConf). p.is_default ≡ false)
 none-default known (line ∷ lines) none =
     let both = neither line.conf.is_default (list_any (λ (later : PartLine). later.conf.is_default) lines) none in
     All-cons (λ (p : PartConf). p.is_default ≡ false) _ (partitions_by known lines) (rw (both.0) refl) (none-default known lines both.1) where
-  neither : (a b : Bool) → (a || b) ≡ false → (a ≡ false) × (b ≡ false)
-  neither true b e = cc
-  neither false b e = (refl, e)
+      neither : (a b : Bool) → (a || b) ≡ false → (a ≡ false) × (b ≡ false)
+      neither true b e = cc
+      neither false b e = (refl, e)
 
 pairs-cons : {X : Type 0} (R : X → X → Type 0) (x : X) (xs : List X) → All (R x) xs → AllPairs R xs → AllPairs R (x ∷ xs)
 pairs-cons R x xs head tail zero zero d before within = absurd (omega arith)
@@ -86,6 +85,7 @@ one-default known (line ∷ lines) = pairs-cons OneDefault _ (partitions_by know
   never : (a : Bool) → (a && false) ≡ true → ⊥
   never true e = cc
   never false e = cc
+
   by_later : (t : Bool) → list_any (λ later. later.conf.is_default) lines ≡ t → All (λ (other : PartConf). (line.conf.is_default && not t) ≡ true → other.is_default ≡ false) (partitions_by known lines)
   by_later true e = λ k d within. λ h. absurd (never line.conf.is_default h)
   by_later false e = All-weaker (λ (p : PartConf). p.is_default ≡ false) (λ (p : PartConf). (line.conf.is_default && not false) ≡ true → p.is_default ≡ false) (λ p none _. none) (partitions_by known lines) (none-default known lines e)
@@ -112,8 +112,9 @@ draft-is-conf draft sound none some =
       of_nodes = of-nodes (node_names draft.nodes) sound.nodes_once draft.partitions sound.lists_once (unmapped (find (λ (line : PartLine). has_unknown (node_names draft.nodes) line.nodes) draft.partitions) none);
       one_default = one-default (node_names draft.nodes) draft.partitions;
     } where
-  at-least-one : (n : ℕ) → (n == 0) ≡ false → 1 ≤ n
-  at-least-one n e = grind (arith, nat_tests)
-  unmapped : (o : Option PartLine) → option_map (λ (line : PartLine). line.number) o ≡ None → o ≡ None
-  unmapped (Some line) e = cc
-  unmapped None e = refl
+      at-least-one : (n : ℕ) → (n == 0) ≡ false → 1 ≤ n
+      at-least-one n e = grind (arith, nat_tests)
+
+      unmapped : (o : Option PartLine) → option_map (λ (line : PartLine). line.number) o ≡ None → o ≡ None
+      unmapped (Some line) e = cc
+      unmapped None e = refl

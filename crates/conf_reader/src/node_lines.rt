@@ -12,7 +12,6 @@ ghost use Rattle.conf_values.specs.declared.refusal.ConfKind.{ConfKind};
 
 use conf_lines::pairs::read_pair;
 use conf_lines::words::first_word;
-use slurm_text::plain::conf::{NodeConf, NodeStart};
 use conf_values::keys::{NodeKey, node_key};
 use conf_values::lists::{copy_or_none, or_copy};
 use conf_values::node_table::NodeTable;
@@ -21,6 +20,7 @@ use conf_values::values::{read_names, read_node_start, read_nodes, read_number};
 use slurm_text::items::Items;
 use slurm_text::memory_error::Memory;
 use slurm_text::name::Name;
+use slurm_text::plain::conf::{NodeConf, NodeStart};
 use slurm_text::ranged::Ranged;
 use std::alloc::Global;
 

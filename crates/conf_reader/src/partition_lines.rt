@@ -10,7 +10,6 @@ ghost use Rattle.conf_values.specs.declared.refusal.ConfKind.{ConfKind};
 
 use conf_lines::pairs::read_pair;
 use conf_lines::words::first_word;
-use slurm_text::plain::conf::{PartConf, PartState};
 use conf_values::keys::{PartitionKey, partition_key};
 use conf_values::lists::or_copy;
 use conf_values::refusal::{ConfKind, Fault, ValueRefusal};
@@ -22,6 +21,7 @@ use slurm_text::items::Items;
 use slurm_text::keywords::is_keyword;
 use slurm_text::memory_error::Memory;
 use slurm_text::name::Name;
+use slurm_text::plain::conf::{PartConf, PartState};
 use slurm_text::plain::limit::Limit;
 use slurm_text::plain::mem_ask::MemAsk;
 use slurm_text::ranged::Ranged;

@@ -12,19 +12,21 @@ ghost use Rattle.conf_values.specs.declared.refusal.ConfKind.{ConfKind};
 use crate::draft::Draft;
 use crate::partition_lines::{PartLine, PartNodes};
 use conf_lines::lines::first_line;
-use slurm_text::plain::conf::{Conf, NodeConf, PartConf};
 use conf_values::node_table::NodeTable;
 use conf_values::refusal::{ConfKind, ConfRefusal, Fault};
 use slurm_text::items::Items;
 use slurm_text::memory_error::Memory;
 use slurm_text::name::Name;
+use slurm_text::plain::conf::{Conf, NodeConf, PartConf};
 use std::alloc::Global;
 
 const LONGEST_FILE: usize = 1_048_576;
 
 /// What a file slurm.conf(5) of at most 1,048,576 bytes says. An error names the first bad line; where each line is
-/// good by itself, a partition's unknown node comes next, and then the want of a partition. The bytes are read once,
-/// at a cost of a few steps each, and beside what is kept only joined lines are copied.
+/// good by itself, a partition's unknown node comes next, and then the want of a partition. It costs a few steps for
+/// each byte, a look through the keys of its line's kind for each word, and for each name that an item of a host
+/// expression makes a look through the names which that item made before. Beside what is kept only joined lines are
+/// copied, and the names of a line, which are made before they are counted.
 #[tactic(auto, unfolding(crate::specs::Reader::conf_in))]
 pub fn read_conf(alloc: Global, file: &[u8]) -> Result<Conf, ConfRefusal>
     ensures value { IfOk result (λ conf. conf_in file.now ≡ Ok conf) }

@@ -1,5 +1,5 @@
 -- The values of keys.
-use Rattle.std.specs.Prelude.{ℕ, ◌==◌, Bool, true, false, nat_le, if◌then◌else◌, List, [], ◌∷◌, map, codes, bytes_eq, Option, Some, None, is_some, option_map}
+use Rattle.std.specs.Prelude.{ℕ, ◌==◌, Bool, true, false, nat_le, if◌then◌else◌, List, map, codes, bytes_eq, Option, Some, None, is_some, option_map}
 use Rattle.std.specs.Str.{str_eq_ignore_ascii_case}
 use Rattle.slurm_text.specs.Digits.{number_within}
 use Rattle.slurm_text.specs.Fields.{fields}

@@ -1,9 +1,9 @@
 //! Nodes, with an index of their names.
 
-use slurm_text::plain::conf::NodeConf;
 use slurm_text::items::Items;
 use slurm_text::memory_error::Memory;
 use slurm_text::name::Name;
+use slurm_text::plain::conf::NodeConf;
 use std::alloc::Global;
 use std::collections::HashSet;
 use std::marker::Model;
