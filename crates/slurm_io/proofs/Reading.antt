@@ -31,30 +31,3 @@ pub IsFrontIn-more : (told : Option (List ShelfFile)) (name bytes into : List �
     → ReadsFile {E = ℕ} told name (length bytes) (Ok count) into → IsFrontIn told name (bytes ++ take count into)
 IsFrontIn-more None name bytes into count within front at = tt
 IsFrontIn-more (Some files) name bytes into count within front at = found_grows (bytes_named files name) bytes into count within front at
-
--- the front of a list from its end on is the list, and each longer front
-front_ends : (file bytes : List ℕ) (most : ℕ) → length bytes ≤ most → length file ≤ length bytes → bytes ≡ take (length bytes) file → bytes ≡ take most file
-front_ends file bytes most small end front = front ∙ take_all (length bytes) file end ∙ sym (take_all most file (omega arith))
-
-found_ends : (found : Option (List ℕ)) (bytes into : List ℕ) (most : ℕ) → length bytes ≤ most → 0 < length into → IsFrontOf found bytes
-    → IsSomeAnd found (λ file. IsFileAt file (length bytes) 0 into) → IsSomeAnd found (λ file. bytes ≡ take most file)
-found_ends None bytes into most small room front at = absurd at
-found_ends (Some file) bytes into most small room front at = front_ends file bytes most small ((at.1 room).0 refl) front
-
--- a read that gave nothing has found the end
-pub IsFrontIn-end : (told : Option (List ShelfFile)) (name bytes into : List ℕ) (most : ℕ) → length bytes ≤ most → 0 < length into
-    → IsFrontIn told name bytes → ReadsFile {E = ℕ} told name (length bytes) (Ok 0) into
-    → IfSome told (λ files. IsSomeAnd (bytes_named files name) (λ file. bytes ≡ take most file))
-IsFrontIn-end None name bytes into most small room front at = tt
-IsFrontIn-end (Some files) name bytes into most small room front at = found_ends (bytes_named files name) bytes into most small room front at
-
-found_full : (found : Option (List ℕ)) (bytes : List ℕ) (most : ℕ) → length bytes ≡ most + 1 → IsFrontOf found bytes
-    → IsSomeAnd found (λ file. bytes ≡ take (most + 1) file)
-found_full None bytes most full front = absurd (omega (arith, ap length front))
-found_full (Some file) bytes most full front = rw full at front
-
--- some bytes were read, so there is a file
-pub IsFrontIn-full : (told : Option (List ShelfFile)) (name bytes : List ℕ) (most : ℕ) → length bytes ≡ most + 1 → IsFrontIn told name bytes
-    → IfSome told (λ files. IsSomeAnd (bytes_named files name) (λ file. bytes ≡ take (most + 1) file))
-IsFrontIn-full None name bytes most full front = tt
-IsFrontIn-full (Some files) name bytes most full front = found_full (bytes_named files name) bytes most full front

@@ -2,15 +2,13 @@
 ghost use Rattle.std.specs.Prelude.{◌≡◌, ◌≤◌, length, IfOk, None};
 
 use crate::copy::copy_front;
+use crate::shelf::PIECE_LEN;
 use crate::system::{MOST_TRIES, is_interrupted};
 use crate::{Failed, Shelf};
 use std::fs::File;
 use std::io;
 use std::io::{Read, Seek, SeekFrom};
 use std::rt::Files;
-
-/// The most bytes that one read gives.
-const PIECE_LEN: usize = 65_536;
 
 /// The system's files as a shelf. Each read opens the file that is named, so it gives what stands there at that call;
 /// a pipe and what else has no offsets is a fault. A read that a signal interrupts (`ErrorKind::Interrupted`) is tried

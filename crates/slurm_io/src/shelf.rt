@@ -1,5 +1,5 @@
 // Files, by their names.
-ghost use Rattle.std.specs.Prelude.{◌≡◌, ℕ, ◌+◌, ◌++◌, ◌≤◌, min, List, length, take, vec_len, Option, IfSome, IsSomeAnd, IfOk, MatchResult};
+ghost use Rattle.std.specs.Prelude.{◌≡◌, ℕ, ◌+◌, ◌++◌, ◌≤◌, min, List, length, take, vec_len, Option, Some, IfSome, IsSomeAnd, IfOk, MatchResult};
 ghost use Rattle.slurm_io.specs.Faults.{CountsFault};
 ghost use Rattle.slurm_io.specs.Shelf.{ShelfFile, ReadsFile, KeepsRest, bytes_named};
 ghost use Rattle.slurm_io.specs.ShelfRefusal.{CountsRefusal};
@@ -8,7 +8,7 @@ use crate::Failed;
 use std::alloc::{AllocError, Global};
 
 /// How many bytes `read_file` asks for at a time.
-const PIECE_LEN: usize = 65_536;
+pub(crate) const PIECE_LEN: usize = 65_536;
 
 /// Where files are read (own).
 pub trait Shelf {
@@ -107,6 +107,9 @@ pub fn read_file<Q: Shelf>(
 ) -> Result<Vec<u8>, ShelfRefusal>
     ensures read { IfSome (Q.files shelf.old) (λ files. IfOk result (λ bytes.
         IsSomeAnd (bytes_named files name.now) (λ file. bytes.items ≡ take (most + 1) file))) }
+    // A file of no more than `most` bytes comes whole.
+    ensures whole { IfSome (Q.files shelf.old) (λ files. IfOk result (λ bytes.
+        vec_len bytes ≤ most → bytes_named files name.now ≡ Some bytes.items)) }
     ensures small { IfOk result (λ bytes. vec_len bytes ≤ most + 1) }
     ensures faults { MatchResult result
         (λ _. Q.shelf_faults shelf.new ≡ Q.shelf_faults shelf.old)

@@ -1,6 +1,6 @@
 use Rattle.std.proofs.Common.{◌∙◌, arith}
 use Rattle.std.proofs.lemmas.List.{length-take}
-use Rattle.slurm_io.proofs.Reading.{IsFrontIn-more, IsFrontIn-end, IsFrontIn-full}
+use Rattle.slurm_io.proofs.Reading.{IsFrontIn-more}
 use Rattle.slurm_io.proofs.shelf.read_file.Goals as goal
 
 pub loop-piece-preserved : goal.loop-piece-preserved
