@@ -11,7 +11,7 @@ use std::io::{Read, Seek, SeekFrom};
 use std::rt::Files;
 
 /// The system's files as a shelf. Each read opens the file that is named, so it gives what stands there at that call;
-/// a pipe and what else has no offsets is a fault. A read that a signal interrupts (`ErrorKind::Interrupted`) is tried
+/// what has no offsets, such as a pipe, is a fault. A read that a signal interrupts (`ErrorKind::Interrupted`) is tried
 /// again, up to 1,024 times in all; each other error, and the last interruption, is a fault.
 #[derive(Drop)]
 pub struct FileShelf<R> {
@@ -34,7 +34,7 @@ impl<R: Files> Shelf for FileShelf<R> {
 
     ghost shelf_faults = { λ shelf. shelf.faults };
 
-    // A reader of std doesn't say that the rest of a buffer stays, so the bytes come through one of its own.
+    // std doesn't say that a read leaves the rest of its buffer, so the bytes come through a buffer of the shelf's own.
     fn read_at(&mut self, name: &str, offset: u64, into: &mut [u8]) -> Result<usize, Failed> {
         let mut piece = [0; PIECE_LEN];
         let room = into.len().min(PIECE_LEN);

@@ -1,13 +1,13 @@
 // Files, by their names.
-ghost use Rattle.std.specs.Prelude.{◌≡◌, ℕ, ◌+◌, ◌++◌, ◌≤◌, min, List, length, take, vec_len, Option, Some, IfSome, IsSomeAnd, IfOk, MatchResult};
+ghost use Rattle.std.specs.Prelude.{◌≡◌, ℕ, ◌+◌, ◌++◌, ◌≤◌, min, List, length, take, vec_len, Option, Some, IfSome, IsSomeAnd, IfOk};
 ghost use Rattle.slurm_io.specs.Faults.{CountsFault};
 ghost use Rattle.slurm_io.specs.Shelf.{ShelfFile, ReadsFile, KeepsRest, bytes_named};
-ghost use Rattle.slurm_io.specs.ShelfRefusal.{CountsRefusal};
+ghost use Rattle.slurm_io.specs.ShelfRefusal.{CountsReading};
 
 use crate::Failed;
 use std::alloc::{AllocError, Global};
 
-/// How many bytes `read_file` asks for at a time.
+/// The most bytes of a file that are read at once.
 pub(crate) const PIECE_LEN: usize = 65_536;
 
 /// Where files are read (own).
@@ -71,7 +71,7 @@ impl From<AllocError> for ShelfRefusal {
 
 // How many bytes to ask for where so many and one more are wanted.
 fn room_for(left: u64) -> usize
-    ensures { result ≡ min (left + 1) 65536 }
+    ensures { result ≡ min (left + 1) PIECE_LEN }
 {
     left.saturating_add(1).min(PIECE_LEN as u64) as usize
 }
@@ -87,9 +87,7 @@ fn read_more<Q: Shelf>(
     ensures added { IfOk result (λ count. bytes.new.items ≡ bytes.old.items ++ take count piece.new) }
     ensures len { IfOk result (λ count. vec_len bytes.new ≡ vec_len bytes.old + count) }
     ensures read { ReadsFile (Q.files shelf.old) name.now (length bytes.old.items) result piece.new }
-    ensures faults { MatchResult result
-        (λ _. Q.shelf_faults shelf.new ≡ Q.shelf_faults shelf.old)
-        (CountsRefusal (Q.shelf_faults shelf.old) (Q.shelf_faults shelf.new)) }
+    ensures faults { CountsReading (Q.shelf_faults shelf.old) (Q.shelf_faults shelf.new) result }
     ensures kept { Q.files shelf.new ≡ Q.files shelf.old }
 {
     let count = shelf.read_at(name, bytes.len() as u64, piece)?;
@@ -98,7 +96,8 @@ fn read_more<Q: Shelf>(
 }
 
 /// The bytes of a file (own): all of them where there are at most `most`, and else the first `most + 1`, so that a
-/// file that is too long is told by the length of what was read and not read to its end.
+/// file that is too long is told by the length of what was read and not read to its end. It asks for at most 64 KiB at
+/// a time, and until nothing comes.
 pub fn read_file<Q: Shelf>(
     alloc: Global,
     shelf: &mut Q,
@@ -107,13 +106,12 @@ pub fn read_file<Q: Shelf>(
 ) -> Result<Vec<u8>, ShelfRefusal>
     ensures read { IfSome (Q.files shelf.old) (λ files. IfOk result (λ bytes.
         IsSomeAnd (bytes_named files name.now) (λ file. bytes.items ≡ take (most + 1) file))) }
+
     // A file of no more than `most` bytes comes whole.
     ensures whole { IfSome (Q.files shelf.old) (λ files. IfOk result (λ bytes.
         vec_len bytes ≤ most → bytes_named files name.now ≡ Some bytes.items)) }
     ensures small { IfOk result (λ bytes. vec_len bytes ≤ most + 1) }
-    ensures faults { MatchResult result
-        (λ _. Q.shelf_faults shelf.new ≡ Q.shelf_faults shelf.old)
-        (CountsRefusal (Q.shelf_faults shelf.old) (Q.shelf_faults shelf.new)) }
+    ensures faults { CountsReading (Q.shelf_faults shelf.old) (Q.shelf_faults shelf.new) result }
     ensures kept { Q.files shelf.new ≡ Q.files shelf.old }
 {
     let mut piece = [0; PIECE_LEN];

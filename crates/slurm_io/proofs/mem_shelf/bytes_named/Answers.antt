@@ -1,5 +1,4 @@
-use Rattle.std.proofs.Common.{◌≡◌, sym, ap, ◌∙◌}
-use Rattle.std.specs.Prelude.{option_copied}
+use Rattle.std.proofs.Common.{sym, ◌∙◌}
 use Rattle.slurm_io.proofs.Finds.{bytes_found}
 use Rattle.slurm_io.proofs.mem_shelf.bytes_named.Goals as goal
 

@@ -1,4 +1,4 @@
-use Rattle.std.proofs.Common.{◌≡◌, map, ap, ◌∙◌, sym, refl}
+use Rattle.std.proofs.Common.{◌≡◌, map, ap, ◌∙◌, refl}
 use Rattle.slurm_io.specs.MemShelf.{told_file}
 use Rattle.slurm_io.specs.Shelf.{bytes_named}
 use Rattle.slurm_io.specs.Faults.{next_count}
