@@ -21,7 +21,7 @@ IsFileAt file offset count into =
     (take count into ≡ take count (drop offset file))
     × (0 < length into → ((count ≡ 0) ↔ (length file ≤ offset)))
 
--- where the files are told, a read that didn't fail found a file of this name, and gave what it holds from the offset on
+-- where the files are told, a read that didn't fail found a file of this name and gave its bytes from the offset on
 abbrev pub ReadsFile : {E : Type 0} → Option (List ShelfFile) → List ℕ → ℕ → Result ℕ E → List ℕ → Type 0
 ReadsFile told name offset result into =
     IfSome told (λ files. IfOk result (λ count.
