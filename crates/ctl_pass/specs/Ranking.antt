@@ -14,8 +14,13 @@ is_ahead one other = nat_lt other.tier one.tier
 abbrev pub job_at : List JobRecord → Candidate → Option JobRecord
 job_at jobs candidate = slice_get jobs candidate.place
 
+-- what a candidate tells of its job, and what is true of the job
+abbrev pub told_by : State → Candidate → ℕ × Option JobRecord
+told_by s candidate = (candidate.tier, job_at s.jobs candidate)
+
+abbrev pub told_of : State → JobRecord → ℕ × Option JobRecord
+told_of s job = (tier_of s job, Some job)
+
 -- the candidates stand for these jobs, one for each, with their tiers
 abbrev pub StandFor : State → List Candidate → List JobRecord → Type 0
-StandFor s candidates jobs =
-    map (λ (candidate : Candidate). (candidate.tier, job_at s.jobs candidate)) candidates
-    ≡ map (λ (job : JobRecord). (tier_of s job, Some job)) jobs
+StandFor s candidates jobs = map (told_by s) candidates ≡ map (told_of s) jobs

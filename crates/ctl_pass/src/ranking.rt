@@ -1,6 +1,6 @@
 //! The jobs that a pass can plan, by rank, and what they need.
 
-ghost use Rattle.std.specs.Prelude.{◌≡◌, ◌<◌, All, IfOk, IfSome, OnOk, length, map, filter, filter_map, option_map, slice_get, List, ℕ};
+ghost use Rattle.std.specs.Prelude.{◌≡◌, ◌≤◌, ◌<◌, All, IfOk, IfSome, OnOk, length, map, filter, filter_map, option_map, slice_get, List, ℕ};
 ghost use Rattle.backfill_planner.specs.declared.job.PlanJob.{PlanJob};
 ghost use Rattle.ctl_state.specs.declared.record.JobRecord.{JobRecord};
 ghost use Rattle.ctl_state.specs.Ordered.{ordered_by};
@@ -16,10 +16,11 @@ use crate::reasons::hindrance;
 use backfill_planner::PlanJob;
 use ctl_state::cluster::Cluster;
 use ctl_state::jobs::is_pending;
+use ctl_state::laws::a_stable_sort_makes_the_order;
 use ctl_state::planning::{node_order, plan_job};
 use ctl_state::record::JobRecord;
 use node_state::record::NodeRecord;
-use partitions::partitions::bounds_of;
+use partitions::bounds::bounds_of;
 use partitions::record::PartRecord;
 use slurm_text::items::Items;
 use slurm_text::memory_error::Memory;
@@ -69,6 +70,7 @@ fn candidates_of(alloc: Global, cluster: &Cluster) -> Result<Vec<Candidate>, Mem
 fn sort_by_rank(candidates: &mut Vec<Candidate>) -> Result<(), Memory>
     ensures { OnOk result (candidates.new.items ≡ ordered_by is_ahead candidates.old.items) }
 {
+    a_stable_sort_makes_the_order::<Candidate>();
     candidates.sort_by(|one, other| other.tier.cmp(&one.tier))?;
     Ok(())
 }
