@@ -24,13 +24,12 @@ use Rattle.ctl_pass.proofs.Ranks.{waiting, candidates-wait, ranked-all, ranked-w
 use Rattle.ctl_state.specs.Ordered.{ordered_by}
 use Rattle.partitions.specs.Partitions.{IsOnNodes}
 use Rattle.std.specs.Prelude.{filter_map, is_none, slice_get}
-use Rattle.std.proofs.lemmas.Option.{get_or_from_slice_get, slice_get_within}
 use Rattle.std.specs.List.{list_any}
 use Rattle.std.proofs.lemmas.List.{take_more, map-append, append-nil, length-map, get_or_default}
 use Rattle.std.proofs.lemmas.List.Sums.{length-filter, count_by-le-length, sum_by-cons, sum_by-le-sum_by}
 use Rattle.std.proofs.lemmas.List.Kept.{AllPairs-filter}
 use Rattle.ctl_state.specs.Holding.{parts_of, has_members, is_on, mem_held, IsPartOf}
-use Rattle.ctl_pass.proofs.Lists.{pairs-map, sum_by-larger, sum_by-map, joined-larger, range-rises, range-below, Any-kept, length-rising, sum_by-more, All-joins, All-joined}
+use Rattle.ctl_pass.proofs.Lists.{pairs-map, sum_by-larger, sum_by-map, joined-larger, range-rises, range-below, Any-kept, length-rising, sum_by-more, at-place, All-joins, All-joined}
 use Rattle.slurm_text.specs.declared.plain.limit.Limit.{Limit}
 use Rattle.slurm_text.specs.declared.plain.limit.Limit.TheVariants.{Minutes, Unlimited}
 use Rattle.resource_profile.specs.declared.Hold.{Hold}
@@ -230,10 +229,7 @@ base-within s sound =
       mem = λ node moment. omega (arith, held-most (λ cpus mem. mem) node moment s.moment s.jobs, sound.held.mem node);
     }
 
--- what holds of the partition at a place, and what is planned for a job there
-at-place : {X : Type 0} (P : X → Type 0) (xs : List X) (place : ℕ) (x : X) → All P xs → slice_get xs place ≡ Some x → P x
-at-place P xs place x each is = rw (get_or_from_slice_get xs place x x is) at (each place x (slice_get_within xs place x is))
-
+-- what is planned for a job can be
 record CanBePlanned (s : State) (need : PlanJob) : Type 0 where
   tasks : 1 ≤ need.need.tasks
   nodes : IsOnRooms (map room_of s.nodes) need

@@ -4,7 +4,7 @@ use Rattle.std.specs.Prelude.{IfSome, is_none, slice_get, filter_map, option_map
 use Rattle.std.specs.List.{cons_option}
 use Rattle.std.proofs.lemmas.Bool.{cases_Bool}
 use Rattle.std.proofs.lemmas.Bool.Decides.{nat_tests}
-use Rattle.std.proofs.lemmas.Option.{slice_get_read}
+use Rattle.std.proofs.lemmas.Option.{slice_get_read, slice_get-map, get_or_from_slice_get}
 use Rattle.std.proofs.lemmas.List.{get_or-map, length-map, length-append, map-append, append-nil}
 use Rattle.std.proofs.lemmas.List.Elements.{All-append, All-cons, All-filter, All-head, All-map, All-nil, All-tail, All-weaker, filter_more, filter_passes}
 use Rattle.std.proofs.lemmas.List.Kept.{AllPairs-cons, AllPairs-filter}
@@ -17,11 +17,12 @@ use Rattle.ctl_state.specs.declared.record.JobRecord.{JobRecord}
 use Rattle.ctl_state.specs.JobStates.{is_pending}
 use Rattle.ctl_state.specs.Ordered.{put, ordered_by}
 use Rattle.ctl_state.specs.Laws.{OrderMoves, OrderKeepsApart}
-use Rattle.ctl_state.specs.Planning.{plan_job}
+use Rattle.ctl_state.specs.Planning.{node_order, plan_job}
+use Rattle.node_state.specs.declared.record.NodeRecord.{NodeRecord}
 use Rattle.ctl_state.specs.Soundness.{HaveRisingIds, pending_ids}
 use Rattle.ctl_state.specs.State.{State, partition_of}
 use Rattle.ctl_pass.specs.declared.ranking.Candidate.{Candidate}
-use Rattle.ctl_pass.specs.Ranking.{is_ahead, job_at, told_by, told_of, StandFor}
+use Rattle.ctl_pass.specs.Ranking.{is_ahead, job_at, told_by, told_of, StandFor, higher_of}
 use Rattle.ctl_pass.specs.Readiness.{is_candidate, is_higher, tier_of, candidates, needs_of, ranked}
 use Rattle.ctl_pass.specs.Reasons.{hindrance}
 use Rattle.ctl_pass.proofs.Lists.{pairs-head, pairs-tail, pairs-map}
@@ -53,21 +54,21 @@ first-put f x [] = refl
 first-put f x (y ∷ ys) = elim (cases_Bool (ltb (f x) (f y))) [ inl behind ↦ rw behind refl | inr ahead ↦ rw ahead refl ]
 
 -- one more element at the end of a list comes first where its number is the highest
-abbrev pub higher : {X : Type 0} → (X → ℕ) → X → Option X → Option X
+abbrev higher : {X : Type 0} → (X → ℕ) → X → Option X → Option X
 higher f x None = Some x
 higher f x (Some y) = cond (ltb (f y) (f x)) (Some x) (Some y)
 
-pub first-more : {X : Type 0} (f : X → ℕ) (x : X) (xs : List X)
+first-more : {X : Type 0} (f : X → ℕ) (x : X) (xs : List X)
     → slice_get (ordered_by (λ one other. ltb (f other) (f one)) (xs ++ x ∷ [])) 0
     ≡ higher f x (slice_get (ordered_by (λ one other. ltb (f other) (f one)) xs) 0)
 unfolding ordered_by
 first-more f x [] = refl
-first-more f x (y ∷ ys) =
+first-more {X = X} f x (y ∷ ys) =
     let sorted = ordered_by (λ one other. ltb (f other) (f one)) ys in
     first-put f y (ordered_by (λ one other. ltb (f other) (f one)) (ys ++ x ∷ []))
     ∙ ap (first-of f y) (first-more f x ys) ∙ turned (slice_get sorted 0) ∙ ap (higher f x) (sym (first-put f y sorted))
   where
-    turned : (some : Option _) → first-of f y (higher f x some) ≡ higher f x (first-of f y some)
+    turned : (some : Option X) → first-of f y (higher f x some) ≡ higher f x (first-of f y some)
     turned None = grind (arith, nat_tests)
     turned (Some z) = grind (arith, nat_tests)
 
@@ -124,6 +125,43 @@ stand-more s some place job within is so =
       | inl can ↦ rw (more, can, map-append (told_by s) some (one ∷ []), map-append (told_of s) before (job ∷ []), so, there) refl
       | inr other ↦ rw (more, other, append-nil before) so
     ]
+
+-- the tier and the number of the job that is highest in rank
+pub highest_of : State → List JobRecord → Option (ℕ × ℕ)
+highest_of s jobs = option_map (λ (job : JobRecord). (tier_of s job, job.id)) (slice_get (ordered_by (is_higher s) (filter (is_candidate s) jobs)) 0)
+
+pub highest-none : (s : State) → highest_of s [] ≡ None
+unfolding highest_of ordered_by
+highest-none s = refl
+
+pub highest-more : (s : State) (i : ℕ) (job : JobRecord) → i < length s.jobs → job ≡ get_or s.jobs i job
+    → highest_of s (take (i + 1) s.jobs)
+    ≡ cond (is_candidate s job) (Some (higher_of (highest_of s (take i s.jobs)) (tier_of s job, job.id))) (highest_of s (take i s.jobs))
+unfolding highest_of
+highest-more s i job within is =
+    let before = filter (is_candidate s) (take i s.jobs) in
+    let told : JobRecord → ℕ × ℕ = λ one. (tier_of s one, one.id) in
+    let more : filter (is_candidate s) (take (i + 1) s.jobs) ≡ before ++ cond (is_candidate s job) (job ∷ []) [] = rw (filter_more (is_candidate s) s.jobs i job within, ← is) refl in
+    elim (cases_Bool (is_candidate s job)) [
+      | inl can ↦ rw (more, can) (ap (option_map told) (first-more (tier_of s) job before) ∙ turned (slice_get (ordered_by (is_higher s) before) 0))
+      | inr other ↦ rw (more, other, append-nil before) refl
+    ]
+  where
+    turned : (some : Option JobRecord)
+        → option_map (λ (one : JobRecord). (tier_of s one, one.id)) (higher (tier_of s) job some)
+        ≡ Some (higher_of (option_map (λ (one : JobRecord). (tier_of s one, one.id)) some) (tier_of s job, job.id))
+    turned None = refl
+    turned (Some one) = elim (cases_Bool (ltb (tier_of s one) (tier_of s job))) [ inl lower ↦ rw lower refl | inr first ↦ rw first refl ]
+
+pub highest-is : (s : State) (now : ℕ) (some : Option (ℕ × ℕ)) → some ≡ highest_of s s.jobs
+    → option_map (λ (one : ℕ × ℕ). one.1) some ≡ option_map (λ (job : JobRecord). job.id) (slice_get (candidates s now) 0)
+unfolding highest_of candidates
+highest-is s now some is = ap (option_map (λ (one : ℕ × ℕ). one.1)) is ∙ by (slice_get (ordered_by (is_higher s) (filter (is_candidate s) s.jobs)) 0)
+  where
+    by : (first : Option JobRecord)
+        → option_map (λ (one : ℕ × ℕ). one.1) (option_map (λ (job : JobRecord). (tier_of s job, job.id)) first) ≡ option_map (λ (job : JobRecord). job.id) first
+    by None = refl
+    by (Some job) = refl
 
 -- candidates in order stand for the jobs in order
 pub stand-ordered : (s : State) (some : List Candidate) (jobs : List JobRecord) → StandFor s some jobs → StandFor s (ordered_by is_ahead some) (ordered_by (is_higher s) jobs)
@@ -200,3 +238,9 @@ ranked-apart keeps s now rising =
     let other = get_or (ordered_by (is_higher s) (filter (is_candidate s) s.jobs)) j d in
     needs-all (λ (need : PlanJob). IfSome (needs_of s other) (λ (later : PlanJob). need.id ≢ later.id)) s one
     (λ partition bounds is. needs-all (λ (later : PlanJob). one.id ≢ later.id) s other (λ part most same. sorted i j d before below)))
+
+-- the order of the nodes of a partition, among those of all
+pub order-at : (nodes : List NodeRecord) (partitions : List PartRecord) (orders : List (List ℕ)) (place : ℕ) (partition : PartRecord) (order : List ℕ)
+    → orders ≡ map (node_order nodes) partitions → slice_get partitions place ≡ Some partition → order ≡ get_or orders place order → order ≡ node_order nodes partition
+order-at nodes partitions orders place partition order are at is =
+    is ∙ get_or_from_slice_get orders place (node_order nodes partition) order (rw are (slice_get-map (node_order nodes) partitions place ∙ ap (option_map (node_order nodes)) at))

@@ -9,6 +9,7 @@ ghost use Rattle.ctl_state.specs.Soundness.{IsSound};
 ghost use Rattle.ctl_state.specs.State.{state_of};
 ghost use Rattle.partitions.specs.Partitions.{IsOnNodes};
 ghost use Rattle.ctl_pass.specs.declared.ranking.Candidate.{Candidate};
+ghost use Rattle.ctl_pass.specs.Ranking;
 ghost use Rattle.ctl_pass.specs.Ranking.{is_ahead, job_at, StandFor};
 ghost use Rattle.ctl_pass.specs.Readiness;
 
@@ -92,6 +93,7 @@ fn node_orders(
 }
 
 // What a job needs in its partition, if it can be had there.
+#[tactic(auto, unfolding(crate::specs::Readiness::needs_of))]
 fn need_of(
     alloc: Global,
     cluster: &Cluster,
@@ -160,19 +162,26 @@ pub(crate) fn rank(alloc: Global, cluster: &Cluster, now: u64) -> Result<Vec<Pla
     needs_of(alloc, cluster, orders.as_slice(), candidates.as_slice())
 }
 
+// The higher in rank of two jobs, each by its tier and its number, where the other one has the higher number.
+fn higher_of(highest: Option<(u64, u32)>, other: (u64, u32)) -> (u64, u32)
+    ensures { result ≡ Ranking.higher_of highest other }
+{
+    match highest {
+        Some(highest) if highest.0 >= other.0 => highest,
+        _ => other,
+    }
+}
+
 /// The number of the candidate that is highest in rank, None where there is no candidate. Linear in the jobs.
 pub fn highest(cluster: &Cluster) -> Option<u32>
     ensures { (now : ℕ) → result
         ≡ option_map (λ (job : JobRecord). job.id) (slice_get (Readiness.candidates (state_of cluster.now) now) 0) }
 {
-    let mut highest: Option<(u64, u32)> = None;
+    let mut highest = None;
     for job in &cluster.jobs {
         if is_candidate(cluster, job) {
-            let tier = tier_of(cluster, job);
-            if highest.is_none_or(|(highest_tier, _)| tier > highest_tier) {
-                highest = Some((tier, job.id));
-            }
+            highest = Some(higher_of(highest, (tier_of(cluster, job), job.id)));
         }
     }
-    highest.map(|(_, id)| id)
+    Some(highest?.1)
 }
