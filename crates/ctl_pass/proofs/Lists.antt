@@ -1,13 +1,13 @@
 -- What holds of lists: each two elements, sums, ranges, and steps of loops.
 use Rattle.std.proofs.lemmas.List.Concat.{get_or-flat_map}
 use Rattle.std.proofs.lemmas.Bool.Decides.{nat_tests}
-use Rattle.std.proofs.Common.{◌≡◌, ◌≢◌, ℕ, zero, suc, ◌+◌, ◌≤◌, ◌<◌, Bool, true, false, cond, eqb, List, [], ◌∷◌, length, map, filter, flat_map, sum_by, take, get_or, All, AllPairs, Any, Contains, arith, refl}
+use Rattle.std.proofs.Common.{◌≡◌, ℕ, zero, suc, ◌+◌, ◌≤◌, ◌<◌, Bool, true, false, cond, eqb, List, [], ◌∷◌, length, map, filter, flat_map, sum_by, take, get_or, All, AllPairs, Any, Contains, arith, refl}
 use Rattle.std.proofs.Common.{◌&&◌, ◌++◌, drop, set, ap, sym, ◌∙◌}
 use Rattle.std.specs.List.{list_any, range_with_len, list_all, zip, HoldsAt}
 use Rattle.std.proofs.lemmas.Bool.{ne_eqb}
 use Rattle.std.proofs.lemmas.List.{get_or-map, length-map, get_or-take, length-take, take-map, take_more, drop_more, map-append, get_or_default, same_lists, length-set, get_or-set_same, get_or-set_other}
 use Rattle.std.proofs.lemmas.List.Sums.{sum_by-cons, sum_by-append}
-use Rattle.std.proofs.lemmas.List.Folds.{fold-map, list_any_none, map_fixed, length-flat_map-take}
+use Rattle.std.proofs.lemmas.List.Folds.{fold-map, list_any_none, length-flat_map-take}
 use Rattle.std.proofs.lemmas.List.Elements.{All-head, All-tail, All-nil, filter_more, All-map, All-filter, All-contains, filter_passes, All-append}
 use Rattle.std.proofs.lemmas.List.FromFn.{length-range_with_len, get_or-range_with_len}
 use Rattle.std.specs.Cmp.Lexicographic.{pointwise}

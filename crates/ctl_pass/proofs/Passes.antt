@@ -23,13 +23,13 @@ use Rattle.ctl_pass.specs.Reasons.{hindrance}
 use Rattle.ctl_pass.proofs.Ranks.{waiting, candidates-wait, ranked-all, ranked-waits, ranked-apart}
 use Rattle.ctl_state.specs.Ordered.{ordered_by}
 use Rattle.partitions.specs.Partitions.{IsOnNodes}
-use Rattle.std.specs.Prelude.{filter_map, is_none, slice_get}
+use Rattle.std.specs.Prelude.{filter_map, is_none}
 use Rattle.std.specs.List.{list_any}
 use Rattle.std.proofs.lemmas.List.{take_more, map-append, append-nil, length-map, get_or_default}
 use Rattle.std.proofs.lemmas.List.Sums.{length-filter, count_by-le-length, sum_by-cons, sum_by-le-sum_by}
 use Rattle.std.proofs.lemmas.List.Kept.{AllPairs-filter}
 use Rattle.ctl_state.specs.Holding.{parts_of, has_members, is_on, mem_held, IsPartOf}
-use Rattle.ctl_pass.proofs.Lists.{pairs-map, sum_by-larger, sum_by-map, joined-larger, range-rises, range-below, Any-kept, length-rising, sum_by-more, at-place, All-joins, All-joined}
+use Rattle.ctl_pass.proofs.Lists.{pairs-map, sum_by-larger, sum_by-map, joined-larger, Any-kept, length-rising, sum_by-more, at-place, All-joins, All-joined}
 use Rattle.slurm_text.specs.declared.plain.limit.Limit.{Limit}
 use Rattle.slurm_text.specs.declared.plain.limit.Limit.TheVariants.{Minutes, Unlimited}
 use Rattle.resource_profile.specs.declared.Hold.{Hold}

@@ -1,12 +1,12 @@
 -- What a pass ranks: the candidates in their order, and what they need.
-use Rattle.std.proofs.Common.{◌≡◌, ◌≢◌, ℕ, zero, suc, ◌+◌, ◌≤◌, ◌<◌, Bool, true, false, not, cond, ltb, List, [], ◌∷◌, ◌++◌, length, map, filter, take, get_or, All, AllPairs, Contains, Option, Some, None, is_some, arith, refl, ap, sym, ◌∙◌, inl, inr}
-use Rattle.std.specs.Prelude.{IfSome, is_none, slice_get, filter_map, option_map, unwrap_or}
+use Rattle.std.proofs.Common.{◌≡◌, ◌≢◌, ℕ, zero, suc, ◌+◌, ◌≤◌, ◌<◌, Bool, true, cond, ltb, List, [], ◌∷◌, ◌++◌, length, map, filter, take, get_or, All, AllPairs, Contains, Option, Some, None, is_some, arith, refl, ap, sym, ◌∙◌, inl, inr}
+use Rattle.std.specs.Prelude.{IfSome, is_none, slice_get, filter_map, option_map}
 use Rattle.std.specs.List.{cons_option}
 use Rattle.std.proofs.lemmas.Bool.{cases_Bool}
 use Rattle.std.proofs.lemmas.Bool.Decides.{nat_tests}
 use Rattle.std.proofs.lemmas.Option.{slice_get_read, slice_get-map, get_or_from_slice_get}
-use Rattle.std.proofs.lemmas.List.{get_or-map, length-map, length-append, map-append, append-nil}
-use Rattle.std.proofs.lemmas.List.Elements.{All-append, All-cons, All-filter, All-head, All-map, All-nil, All-tail, All-weaker, filter_more, filter_passes}
+use Rattle.std.proofs.lemmas.List.{get_or-map, take_more, length-map, map-append, append-nil}
+use Rattle.std.proofs.lemmas.List.Elements.{All-cons, All-filter, All-head, All-map, All-nil, All-tail, filter_more, filter_map-append}
 use Rattle.std.proofs.lemmas.List.Kept.{AllPairs-cons, AllPairs-filter}
 use Rattle.std.proofs.lemmas.List.Sorted.{All-permutation}
 use Rattle.backfill_planner.specs.declared.job.PlanJob.{PlanJob}
@@ -25,7 +25,7 @@ use Rattle.ctl_pass.specs.declared.ranking.Candidate.{Candidate}
 use Rattle.ctl_pass.specs.Ranking.{is_ahead, job_at, told_by, told_of, StandFor, higher_of}
 use Rattle.ctl_pass.specs.Readiness.{is_candidate, is_higher, tier_of, candidates, needs_of, ranked}
 use Rattle.ctl_pass.specs.Reasons.{hindrance}
-use Rattle.ctl_pass.proofs.Lists.{pairs-head, pairs-tail, pairs-map}
+use Rattle.ctl_pass.proofs.Lists.{pairs-head, pairs-tail}
 
 -- an order of mapped elements
 put-map : {X Y : Type 0} (before : Y → Y → Bool) (f : X → Y) (x : X) (xs : List X)
@@ -126,6 +126,22 @@ stand-more s some place job within is so =
       | inr other ↦ rw (more, other, append-nil before) so
     ]
 
+-- what one more candidate needs
+pub needs-more : (s : State) (some : List Candidate) (i : ℕ) (d : Candidate) (job : JobRecord) (need : Option PlanJob)
+    → i < length some → (get_or some i d).place < length s.jobs → job ≡ get_or s.jobs (get_or some i d).place job → need ≡ needs_of s job
+    → filter_map (needs_of s) (filter_map (job_at s.jobs) (take (i + 1) some))
+    ≡ filter_map (needs_of s) (filter_map (job_at s.jobs) (take i some)) ++ cons_option need []
+needs-more s some i d job need within there is said =
+    let one = get_or some i d in
+    let at : slice_get s.jobs one.place ≡ Some job = slice_get_read s.jobs (length s.jobs) one.place job refl there is in
+    rw (
+      take_more some i d within,
+      filter_map-append (job_at s.jobs) (take i some) (one ∷ []),
+      at,
+      filter_map-append (needs_of s) (filter_map (job_at s.jobs) (take i some)) (job ∷ []),
+      said,
+    ) refl
+
 -- the tier and the number of the job that is highest in rank
 pub highest_of : State → List JobRecord → Option (ℕ × ℕ)
 highest_of s jobs = option_map (λ (job : JobRecord). (tier_of s job, job.id)) (slice_get (ordered_by (is_higher s) (filter (is_candidate s) jobs)) 0)
@@ -204,6 +220,7 @@ needs-all P s job each = by (partition_of s job) refl
         → IfSome (some >>= λ bounds. Some (plan_job s.nodes partition bounds job)) P
     by_bounds partition None is = tt
     by_bounds partition (Some bounds) is = each partition bounds is
+
     by : (some : Option PartRecord) → slice_get s.partitions job.partition ≡ some
         → IfSome (some >>= λ partition. bounds_of partition job.desc >>= λ bounds. Some (plan_job s.nodes partition bounds job)) P
     by None is = tt
