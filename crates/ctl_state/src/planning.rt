@@ -201,7 +201,8 @@ fn nodes_among(
 }
 
 fn need_of(desc: &JobDesc, bounds: (u32, u32)) -> Result<Need, Memory>
-    ensures { IfOk result (λ need. need ≡ record { tasks = desc.now.tasks; least = bounds.0; most = bounds.1; required = length desc.now.required }) }
+    ensures { IfOk result (λ need. need
+        ≡ record { tasks = desc.now.tasks; least = bounds.0; most = bounds.1; required = length desc.now.required }) }
 {
     let (least, most) = bounds;
     let required = u32::try_from(desc.required.as_slice().len()).map_err(|_| Memory)?;
@@ -222,8 +223,8 @@ fn seconds_of(limit: Limit) -> Option<Ranged<1, 3153600000>>
     }
 }
 
-/// What the job needs in its partition, whose nodes stand in this order, on so many nodes at least and at most. Linear in
-/// the nodes of the partition, and for a job that names nodes or features in what it names for each of them.
+/// What the job needs in its partition, whose nodes stand in this order, on so many nodes at least and at most. Linear
+/// in the nodes of the partition, and for a job that names nodes or features in what it names for each of them.
 #[tactic(auto, unfolding(crate::specs::Planning::plan_job))]
 pub fn plan_job(
     alloc: Global,

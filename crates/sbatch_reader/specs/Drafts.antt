@@ -1,0 +1,31 @@
+-- What the reader keeps as it goes over what is said. Of the proof alone.
+use Rattle.std.specs.Prelude.{ℕ, Bool, if◌then◌else◌, List, fold, Option, Some, None, option_map, is_none, Result, Ok, Err}
+use Rattle.std.specs.Option.{option_or}
+use Rattle.option_words.specs.declared.refusal.WordKind.TheVariants.{BadValue}
+use Rattle.sbatch_options.specs.Entries.{with_entry, no_words}
+use Rattle.sbatch_reader.specs.Job.{is_nodes}
+use Rattle.sbatch_reader.specs.Refusal.{refusal_at}
+use Rattle.sbatch_reader.specs.declared.draft.Draft.{Draft}
+use Rattle.sbatch_reader.specs.declared.refusal.JobRefusal.{JobRefusal}
+use Rattle.sbatch_reader.specs.declared.refusal.Place.{Place}
+use Rattle.sbatch_reader.specs.declared.said.Said.{Said}
+
+unfoldable pub nothing_said : Draft
+nothing_said = record { words = no_words; fault = None; nodes_at = None }
+
+-- where the last number of nodes stands, as long as no fault stands before it
+abbrev pub nodes_after : Draft → Said → Option Place
+nodes_after draft said =
+    if is_nodes said.what then (if is_none draft.fault then Some said.place else None) else draft.nodes_at
+
+unfoldable pub after : Draft → Said → Draft
+after draft said = elim said.what as (λ _. Draft) [
+    Ok entry ↦ record { words = with_entry draft.words entry; fault = draft.fault; nodes_at = nodes_after draft said }
+  | Err kind ↦ record draft { fault = option_or draft.fault (Some (refusal_at said.place kind)) }
+  ]
+
+-- the first fault
+abbrev pub verdict : Bool → Draft → Option JobRefusal
+verdict crossed draft =
+    if crossed then option_or (option_map (λ place. refusal_at place BadValue) draft.nodes_at) draft.fault
+    else draft.fault
