@@ -3,7 +3,9 @@ use Rattle.std.specs.Prelude.{ℕ, Bool, if◌then◌else◌, List, fold, Option
 use Rattle.std.specs.Option.{option_or}
 use Rattle.option_words.specs.declared.refusal.WordKind.TheVariants.{BadValue}
 use Rattle.sbatch_options.specs.Entries.{with_entry, no_words}
-use Rattle.sbatch_reader.specs.Job.{is_nodes}
+use Rattle.slurm_text.specs.declared.plain.job.JobDesc.{JobDesc}
+use Rattle.sbatch_reader.specs.Description.{are_crossed, job_name, named}
+use Rattle.sbatch_reader.specs.Job.{is_nodes, unless_refused}
 use Rattle.sbatch_reader.specs.Refusal.{refusal_at}
 use Rattle.sbatch_reader.specs.declared.draft.Draft.{Draft}
 use Rattle.sbatch_reader.specs.declared.refusal.JobRefusal.{JobRefusal}
@@ -20,12 +22,17 @@ nodes_after draft said =
 
 unfoldable pub after : Draft → Said → Draft
 after draft said = elim said.what as (λ _. Draft) [
-    Ok entry ↦ record { words = with_entry draft.words entry; fault = draft.fault; nodes_at = nodes_after draft said }
+  | Ok entry ↦ record { words = with_entry draft.words entry; fault = draft.fault; nodes_at = nodes_after draft said }
   | Err kind ↦ record draft { fault = option_or draft.fault (Some (refusal_at said.place kind)) }
-  ]
+]
 
 -- the first fault
 abbrev pub verdict : Bool → Draft → Option JobRefusal
 verdict crossed draft =
     if crossed then option_or (option_map (λ place. refusal_at place BadValue) draft.nodes_at) draft.fault
     else draft.fault
+
+-- the job of what is kept, or the first fault
+unfoldable pub draft_job : Draft → Option (ℕ × List ℕ) → Result JobDesc JobRefusal
+draft_job draft script =
+    unless_refused (verdict (are_crossed draft.words) draft) (named draft.words (job_name draft.words script))

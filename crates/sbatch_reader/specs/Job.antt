@@ -46,9 +46,9 @@ is_crossed crossed said later = crossed && is_nodes said.what && not (says_nodes
 
 abbrev pub fault_of : Bool → Said → List Said → Option JobRefusal
 fault_of crossed said later = elim said.what as (λ _. Option JobRefusal) [
-    Ok entry ↦ if is_crossed crossed said later then Some (refusal_at said.place BadValue) else None
+  | Ok entry ↦ if is_crossed crossed said later then Some (refusal_at said.place BadValue) else None
   | Err kind ↦ Some (refusal_at said.place kind)
-  ]
+]
 
 -- the first fault of what is said, where the most nodes may be below the least
 abbrev pub first_fault : Bool → List Said → Option JobRefusal
