@@ -295,7 +295,7 @@ unfolding base_of
 base-rooms s now base is = ap (λ (one : BaseView). one.rooms) is
 
 -- the candidates are those of the state before
-pub ranked_is : (s : State) (now : ℕ) → ranked (ready s now) now ≡ filter_map (needs_of s) (ordered_by (is_higher s) (filter (is_candidate s) s.jobs))
+pub ranked_is : (s : State) (now : ℕ) → ranked (ready s now) now ≡ filter_map (needs_of s) (candidates s now)
 unfolding ranked candidates needs_of hindrance
 ranked_is s now =
     let jobs = (ready s now).jobs in

@@ -1,12 +1,12 @@
 -- What a pass ranks: the candidates in their order, and what they need.
-use Rattle.std.proofs.Common.{◌≡◌, ◌≢◌, ℕ, zero, suc, ◌+◌, ◌≤◌, ◌<◌, Bool, true, cond, ltb, List, [], ◌∷◌, ◌++◌, length, map, filter, take, get_or, All, AllPairs, Contains, Option, Some, None, is_some, arith, refl, ap, sym, ◌∙◌, inl, inr}
+use Rattle.std.proofs.Common.{◌≡◌, ◌≢◌, ℕ, ◌+◌, ◌≤◌, ◌<◌, Bool, cond, ltb, List, [], ◌∷◌, ◌++◌, length, map, filter, take, get_or, All, AllPairs, Contains, Option, Some, None, arith, refl, ap, sym, ◌∙◌, inl, inr}
 use Rattle.std.specs.Prelude.{IfSome, is_none, slice_get, filter_map, option_map}
 use Rattle.std.specs.List.{cons_option}
 use Rattle.std.proofs.lemmas.Bool.{cases_Bool}
 use Rattle.std.proofs.lemmas.Bool.Decides.{nat_tests}
-use Rattle.std.proofs.lemmas.Option.{slice_get_read, slice_get-map, get_or_from_slice_get}
-use Rattle.std.proofs.lemmas.List.{get_or-map, take_more, length-map, map-append, append-nil}
-use Rattle.std.proofs.lemmas.List.Elements.{All-cons, All-filter, All-head, All-map, All-nil, All-tail, filter_more, filter_map-append}
+use Rattle.std.proofs.lemmas.Option.{slice_get-map, get_or_from_slice_get}
+use Rattle.std.proofs.lemmas.List.{get_or-map, length-map, append-nil}
+use Rattle.std.proofs.lemmas.List.Elements.{All-cons, All-filter, All-head, All-nil, All-tail, filter_more}
 use Rattle.std.proofs.lemmas.List.Kept.{AllPairs-cons, AllPairs-filter}
 use Rattle.std.proofs.lemmas.List.Sorted.{All-permutation}
 use Rattle.backfill_planner.specs.declared.job.PlanJob.{PlanJob}
@@ -21,8 +21,7 @@ use Rattle.ctl_state.specs.Planning.{node_order, plan_job}
 use Rattle.node_state.specs.declared.record.NodeRecord.{NodeRecord}
 use Rattle.ctl_state.specs.Soundness.{HaveRisingIds, pending_ids}
 use Rattle.ctl_state.specs.State.{State, partition_of}
-use Rattle.ctl_pass.specs.declared.ranking.Candidate.{Candidate}
-use Rattle.ctl_pass.specs.Ranking.{is_ahead, job_at, told_by, told_of, StandFor, higher_of}
+use Rattle.ctl_pass.specs.Ranking.{higher_of}
 use Rattle.ctl_pass.specs.Readiness.{is_candidate, is_higher, tier_of, candidates, needs_of, ranked}
 use Rattle.ctl_pass.specs.Reasons.{hindrance}
 use Rattle.ctl_pass.proofs.Lists.{pairs-head, pairs-tail}
@@ -36,7 +35,7 @@ put-map before f x (y ∷ ys) = elim (cases_Bool (before (f y) (f x))) [
   | inr ahead ↦ rw ahead refl
 ]
 
-ordered-map : {X Y : Type 0} (before : Y → Y → Bool) (f : X → Y) (xs : List X)
+pub ordered-map : {X Y : Type 0} (before : Y → Y → Bool) (f : X → Y) (xs : List X)
     → ordered_by before (map f xs) ≡ map f (ordered_by (λ one other. before (f one) (f other)) xs)
 unfolding ordered_by
 ordered-map before f [] = refl
@@ -103,45 +102,6 @@ filter_map-less {Y = Y} h (x ∷ xs) = by (h x) (filter_map-less h xs)
     by None less = omega (arith, less)
     by (Some y) less = omega (arith, less)
 
-filter_map-map : {X Y Z : Type 0} (h : Y → Option Z) (f : X → Y) (xs : List X)
-    → filter_map h (map f xs) ≡ filter_map (λ x. h (f x)) xs
-filter_map-map h f [] = refl
-filter_map-map h f (x ∷ xs) = ap (cons_option (h (f x))) (filter_map-map h f xs)
-
-filter_map-itself : {X : Type 0} (xs : List X) → filter_map (λ x. Some x) xs ≡ xs
-filter_map-itself [] = refl
-filter_map-itself (x ∷ xs) = ap (λ later. x ∷ later) (filter_map-itself xs)
-
--- one more job of those that have candidates
-pub stand-more : (s : State) (some : List Candidate) (place : ℕ) (job : JobRecord) → place < length s.jobs → job ≡ get_or s.jobs place job
-    → StandFor s some (filter (is_candidate s) (take place s.jobs))
-    → StandFor s (cond (is_candidate s job) (some ++ record { tier = tier_of s job; place = place } ∷ []) some) (filter (is_candidate s) (take (place + 1) s.jobs))
-stand-more s some place job within is so =
-    let one : Candidate = record { tier = tier_of s job; place = place } in
-    let before = filter (is_candidate s) (take place s.jobs) in
-    let there : slice_get s.jobs place ≡ Some job = slice_get_read s.jobs (length s.jobs) place job refl within is in
-    let more : filter (is_candidate s) (take (place + 1) s.jobs) ≡ before ++ cond (is_candidate s job) (job ∷ []) [] = rw (filter_more (is_candidate s) s.jobs place job within, ← is) refl in
-    elim (cases_Bool (is_candidate s job)) [
-      | inl can ↦ rw (more, can, map-append (told_by s) some (one ∷ []), map-append (told_of s) before (job ∷ []), so, there) refl
-      | inr other ↦ rw (more, other, append-nil before) so
-    ]
-
--- what one more candidate needs
-pub needs-more : (s : State) (some : List Candidate) (i : ℕ) (d : Candidate) (job : JobRecord) (need : Option PlanJob)
-    → i < length some → (get_or some i d).place < length s.jobs → job ≡ get_or s.jobs (get_or some i d).place job → need ≡ needs_of s job
-    → filter_map (needs_of s) (filter_map (job_at s.jobs) (take (i + 1) some))
-    ≡ filter_map (needs_of s) (filter_map (job_at s.jobs) (take i some)) ++ cons_option need []
-needs-more s some i d job need within there is said =
-    let one = get_or some i d in
-    let at : slice_get s.jobs one.place ≡ Some job = slice_get_read s.jobs (length s.jobs) one.place job refl there is in
-    rw (
-      take_more some i d within,
-      filter_map-append (job_at s.jobs) (take i some) (one ∷ []),
-      at,
-      filter_map-append (needs_of s) (filter_map (job_at s.jobs) (take i some)) (job ∷ []),
-      said,
-    ) refl
-
 -- the tier and the number of the job that is highest in rank
 pub highest_of : State → List JobRecord → Option (ℕ × ℕ)
 highest_of s jobs = option_map (λ (job : JobRecord). (tier_of s job, job.id)) (slice_get (ordered_by (is_higher s) (filter (is_candidate s) jobs)) 0)
@@ -178,28 +138,6 @@ highest-is s now some is = ap (option_map (λ (one : ℕ × ℕ). one.1)) is ∙
         → option_map (λ (one : ℕ × ℕ). one.1) (option_map (λ (job : JobRecord). (tier_of s job, job.id)) first) ≡ option_map (λ (job : JobRecord). job.id) first
     by None = refl
     by (Some job) = refl
-
--- candidates in order stand for the jobs in order
-pub stand-ordered : (s : State) (some : List Candidate) (jobs : List JobRecord) → StandFor s some jobs → StandFor s (ordered_by is_ahead some) (ordered_by (is_higher s) jobs)
-stand-ordered s some jobs so =
-    let ahead : ℕ × Option JobRecord → ℕ × Option JobRecord → Bool = λ one other. ltb other.0 one.0 in
-    sym (ordered-map ahead (told_by s) some) ∙ ap (ordered_by ahead) so ∙ ordered-map ahead (told_of s) jobs
-
-pub stand-jobs : (s : State) (some : List Candidate) (jobs : List JobRecord) → StandFor s some jobs → filter_map (job_at s.jobs) some ≡ jobs
-stand-jobs s some jobs so =
-    let job : ℕ × Option JobRecord → Option JobRecord = λ told. told.1 in
-    sym (filter_map-map job (told_by s) some) ∙ ap (filter_map job) so ∙ filter_map-map job (told_of s) jobs ∙ filter_map-itself jobs
-
-pub stand-there : (s : State) (some : List Candidate) (jobs : List JobRecord) → StandFor s some jobs → All (λ (one : Candidate). one.place < length s.jobs) some
-stand-there s some jobs so k d below =
-    let is_there : ℕ × Option JobRecord → Type 0 = λ told. is_some told.1 ≡ true in
-    let all : All is_there (map (told_by s) some) = rw so (All-map is_there (told_of s) jobs (λ i e inside. refl)) in
-    within s.jobs (get_or some k d).place (rw (get_or-map (told_by s) some k d (told_by s d) below) at (all k (told_by s d) (omega (arith, below, length-map some (told_by s)))))
-  where
-    within : {X : Type 0} (xs : List X) (i : ℕ) → is_some (slice_get xs i) ≡ true → i < length xs
-    within [] i is = absurd (cc)
-    within (x ∷ xs) zero is = omega arith
-    within (x ∷ xs) (suc i) is = omega (arith, within xs i is)
 
 -- the candidates are some of those that wait
 abbrev pub waiting : List JobRecord → List JobRecord

@@ -1,15 +1,12 @@
-use Rattle.std.proofs.Common.{sym, ◌∙◌}
+use Rattle.std.proofs.Common.{rules}
+use Rattle.std.proofs.lemmas.Iterator.{YieldsList-from_slice}
+use Rattle.std.proofs.lemmas.Iterator.Consumers.{YieldsList-from_filter, map_from_collect}
+use Rattle.std.proofs.lemmas.Result.{IfOk-at_ok}
 use Rattle.ctl_state.specs.State.{state_of}
-use Rattle.ctl_pass.proofs.Ranks.{stand-more}
+use Rattle.ctl_pass.specs.Readiness.{is_candidate}
 use Rattle.ctl_pass.proofs.ranking.candidates_of.Goals as goal
-use Rattle.ctl_pass.proofs.ranking.candidates_of.Goals.{then-is_candidate+in_ok-push, else-is_candidate}
 
-pub loop-place-preserved : goal.loop-place-preserved
-loop-place-preserved c =
-    let more = stand-more (state_of c.args.cluster.now) c.loop-place.candidates.items c.loop-place.place c.job-item.result
-    (rw c.deref-job-items.ensures.value at c.loop-place-test.true) (rw c.deref-job-items.ensures.value at c.job-item.is) c.loop-place.invariant in
-    elim c.if-is_candidate.branch [
-      | then-is_candidate+in_ok-push w ↦
-          rw (w.candidates-is, w.in_ok-push.ensures.items, w.tier_of-tier.ensures) (rw (sym c.is_candidate.ensures ∙ w.if-is_candidate.true) at more)
-      | else-is_candidate w ↦ rw w.candidates-is (rw (sym c.is_candidate.ensures ∙ w.if-is_candidate.false) at more)
-    ]
+pub returns : goal.returns
+returns c =
+    IfOk-at_ok _ c.in_ok-collect.was (map_from_collect _ c.collect.ensures.ran
+    (YieldsList-from_filter _ (is_candidate (state_of c.args.cluster.now)) (YieldsList-from_slice c.args.cluster.now.jobs.items cc) c.filter.ensures.closure (λ x b q k. search rules)))
