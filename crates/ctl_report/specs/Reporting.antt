@@ -37,7 +37,8 @@ heard_by now report = record { boot = report.boot; number = report.number; momen
 
 -- the nodes once the report of the one at a place is accepted
 abbrev pub heard_nodes : ℕ → ℕ → Report → List NodeRecord → List NodeRecord
-heard_nodes now node report nodes = change_at node (HeardFrom (heard_by now report) (lists_nothing report.running)) nodes
+heard_nodes now node report nodes =
+    change_at node (HeardFrom (heard_by now report) (lists_nothing report.running)) nodes
 
 -- the start is this job's last one
 abbrev pub is_last_start : JobRecord → Start → Bool

@@ -40,8 +40,8 @@ pub record IsAsked (desc : JobDesc) : Type 0 where
   pub run : (1 ≤ desc.run) × (desc.run ≤ 2000000000)
   pub exit : desc.exit ≤ 255
 
--- The job's times fit its state: what runs or completes has a start, what has left Running has an end, none comes before
--- the other or lies ahead.
+-- The job's times fit its state: what runs or completes has a start, what has left Running has an end, none comes
+-- before the other or lies ahead.
 pub record IsWellRun (moment : ℕ) (job : JobRecord) : Type 0 where
   pub submitted : job.submit ≤ moment
   pub started : is_holding job.state ≡ true → is_some job.started ≡ true

@@ -1,6 +1,6 @@
 use Rattle.std.proofs.Common.{◌∙◌, refl, sym}
 use Rattle.ctl_state.proofs.Choosing.{any-among}
-use Rattle.ctl_state.proofs.planning.nodes_among.Goals as goal
+use Rattle.ctl_state.proofs.job_nodes.nodes_among.Goals as goal
 
 pub returns-then-takes_any : goal.returns-then-takes_any
 returns-then-takes_any c =
