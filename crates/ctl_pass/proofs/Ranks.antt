@@ -21,7 +21,6 @@ use Rattle.ctl_state.specs.Planning.{node_order, plan_job}
 use Rattle.node_state.specs.declared.record.NodeRecord.{NodeRecord}
 use Rattle.ctl_state.specs.Soundness.{HaveRisingIds, pending_ids}
 use Rattle.ctl_state.specs.State.{State, partition_of}
-use Rattle.ctl_pass.specs.Ranking.{higher_of}
 use Rattle.ctl_pass.specs.Readiness.{is_candidate, is_higher, tier_of, candidates, needs_of, ranked}
 use Rattle.ctl_pass.specs.Reasons.{hindrance}
 use Rattle.ctl_pass.proofs.Lists.{pairs-head, pairs-tail}
@@ -53,7 +52,7 @@ first-put f x [] = refl
 first-put f x (y ∷ ys) = elim (cases_Bool (ltb (f x) (f y))) [ inl behind ↦ rw behind refl | inr ahead ↦ rw ahead refl ]
 
 -- one more element at the end of a list comes first where its number is the highest
-abbrev higher : {X : Type 0} → (X → ℕ) → X → Option X → Option X
+abbrev pub higher : {X : Type 0} → (X → ℕ) → X → Option X → Option X
 higher f x None = Some x
 higher f x (Some y) = cond (ltb (f y) (f x)) (Some x) (Some y)
 
@@ -102,42 +101,28 @@ filter_map-less {Y = Y} h (x ∷ xs) = by (h x) (filter_map-less h xs)
     by None less = omega (arith, less)
     by (Some y) less = omega (arith, less)
 
--- the tier and the number of the job that is highest in rank
-pub highest_of : State → List JobRecord → Option (ℕ × ℕ)
-highest_of s jobs = option_map (λ (job : JobRecord). (tier_of s job, job.id)) (slice_get (ordered_by (is_higher s) (filter (is_candidate s) jobs)) 0)
+-- the candidate that is highest in rank
+pub highest_of : State → List JobRecord → Option JobRecord
+highest_of s jobs = slice_get (ordered_by (is_higher s) (filter (is_candidate s) jobs)) 0
 
 pub highest-none : (s : State) → highest_of s [] ≡ None
 unfolding highest_of ordered_by
 highest-none s = refl
 
 pub highest-more : (s : State) (i : ℕ) (job : JobRecord) → i < length s.jobs → job ≡ get_or s.jobs i job
-    → highest_of s (take (i + 1) s.jobs)
-    ≡ cond (is_candidate s job) (Some (higher_of (highest_of s (take i s.jobs)) (tier_of s job, job.id))) (highest_of s (take i s.jobs))
+    → highest_of s (take (i + 1) s.jobs) ≡ cond (is_candidate s job) (higher (tier_of s) job (highest_of s (take i s.jobs))) (highest_of s (take i s.jobs))
 unfolding highest_of
 highest-more s i job within is =
     let before = filter (is_candidate s) (take i s.jobs) in
-    let told : JobRecord → ℕ × ℕ = λ one. (tier_of s one, one.id) in
     let more : filter (is_candidate s) (take (i + 1) s.jobs) ≡ before ++ cond (is_candidate s job) (job ∷ []) [] = rw (filter_more (is_candidate s) s.jobs i job within, ← is) refl in
     elim (cases_Bool (is_candidate s job)) [
-      | inl can ↦ rw (more, can) (ap (option_map told) (first-more (tier_of s) job before) ∙ turned (slice_get (ordered_by (is_higher s) before) 0))
+      | inl can ↦ rw (more, can) (first-more (tier_of s) job before)
       | inr other ↦ rw (more, other, append-nil before) refl
     ]
-  where
-    turned : (some : Option JobRecord)
-        → option_map (λ (one : JobRecord). (tier_of s one, one.id)) (higher (tier_of s) job some)
-        ≡ Some (higher_of (option_map (λ (one : JobRecord). (tier_of s one, one.id)) some) (tier_of s job, job.id))
-    turned None = refl
-    turned (Some one) = elim (cases_Bool (ltb (tier_of s one) (tier_of s job))) [ inl lower ↦ rw lower refl | inr first ↦ rw first refl ]
 
-pub highest-is : (s : State) (now : ℕ) (some : Option (ℕ × ℕ)) → some ≡ highest_of s s.jobs
-    → option_map (λ (one : ℕ × ℕ). one.1) some ≡ option_map (λ (job : JobRecord). job.id) (slice_get (candidates s now) 0)
+pub highest-is : (s : State) (now : ℕ) → highest_of s s.jobs ≡ slice_get (candidates s now) 0
 unfolding highest_of candidates
-highest-is s now some is = ap (option_map (λ (one : ℕ × ℕ). one.1)) is ∙ by (slice_get (ordered_by (is_higher s) (filter (is_candidate s) s.jobs)) 0)
-  where
-    by : (first : Option JobRecord)
-        → option_map (λ (one : ℕ × ℕ). one.1) (option_map (λ (job : JobRecord). (tier_of s job, job.id)) first) ≡ option_map (λ (job : JobRecord). job.id) first
-    by None = refl
-    by (Some job) = refl
+highest-is s now = refl
 
 -- the candidates are some of those that wait
 abbrev pub waiting : List JobRecord → List JobRecord

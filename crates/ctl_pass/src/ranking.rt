@@ -7,7 +7,6 @@ ghost use Rattle.ctl_state.specs.Planning;
 ghost use Rattle.ctl_state.specs.Soundness.{IsSound};
 ghost use Rattle.ctl_state.specs.State.{state_of};
 ghost use Rattle.partitions.specs.Partitions.{IsOnNodes};
-ghost use Rattle.ctl_pass.specs.Ranking;
 ghost use Rattle.ctl_pass.specs.Readiness;
 
 use crate::reasons::hindrance;
@@ -147,14 +146,10 @@ pub(crate) fn rank(alloc: Global, cluster: &Cluster, now: u64) -> Result<Vec<Pla
     needs_of(alloc, cluster, orders.as_slice(), jobs.as_slice())
 }
 
-// The higher in rank of two jobs, each by its tier and its number, where the other one has the higher number.
-fn higher_of(highest: Option<(u64, u32)>, other: (u64, u32)) -> (u64, u32)
-    ensures { result ≡ Ranking.higher_of highest other }
+fn is_higher(cluster: &Cluster, one: &JobRecord, other: &JobRecord) -> bool
+    ensures { result ≡ Readiness.is_higher (state_of cluster.now) one.now other.now }
 {
-    match highest {
-        Some(highest) if highest.0 >= other.0 => highest,
-        _ => other,
-    }
+    tier_of(cluster, one) > tier_of(cluster, other)
 }
 
 /// The number of the candidate that is highest in rank, None where there is no candidate. Linear in the jobs.
@@ -162,11 +157,15 @@ pub fn highest(cluster: &Cluster) -> Option<u32>
     ensures { (now : ℕ) → result
         ≡ option_map (λ (job : JobRecord). job.id) (slice_get (Readiness.candidates (state_of cluster.now) now) 0) }
 {
-    let mut highest = None;
+    let mut highest: Option<&JobRecord> = None;
     for job in &cluster.jobs {
-        if is_candidate(cluster, job) {
-            highest = Some(higher_of(highest, (tier_of(cluster, job), job.id)));
+        let comes_first = match highest {
+            Some(first) => is_higher(cluster, job, first),
+            None => true,
+        };
+        if comes_first && is_candidate(cluster, job) {
+            highest = Some(job);
         }
     }
-    Some(highest?.1)
+    Some(highest?.id)
 }

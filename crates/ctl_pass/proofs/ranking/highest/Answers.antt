@@ -1,6 +1,8 @@
-use Rattle.std.proofs.Common.{sym, ◌∙◌, arith}
+use Rattle.std.proofs.Common.{ap, sym, ◌∙◌, arith}
+use Rattle.std.specs.Prelude.{option_map}
 use Rattle.std.proofs.lemmas.List.{take_all}
 use Rattle.std.proofs.lemmas.Bool.Decides.{nat_tests}
+use Rattle.ctl_state.specs.declared.record.JobRecord.{JobRecord}
 use Rattle.ctl_state.specs.State.{state_of}
 use Rattle.ctl_pass.proofs.Ranks.{highest-none, highest-more, highest-is}
 use Rattle.ctl_pass.proofs.ranking.highest.Goals as goal
@@ -18,10 +20,10 @@ pub returns-in_err-highest : goal.returns-in_err-highest
 returns-in_err-highest c = λ now.
     let s = state_of c.args.cluster.now in
     let all = rw (take_all c.loop-job.job-index s.jobs (rw c.deref-job-items.ensures.value at c.loop-job-test.false)) at c.loop-job.invariant in
-    c.from_residual.ensures ∙ (rw c.in_err-highest.was at (highest-is s now c.loop-job.highest all))
+    c.from_residual.ensures ∙ ap (option_map (λ (job : JobRecord). job.id)) (rw c.in_err-highest.was at (all ∙ highest-is s now))
 
 pub returns : goal.returns
 returns c = λ now.
     let s = state_of c.args.cluster.now in
     let all = rw (take_all c.loop-job.job-index s.jobs (rw c.deref-job-items.ensures.value at c.loop-job-test.false)) at c.loop-job.invariant in
-    rw c.in_ok-highest.was at (highest-is s now c.loop-job.highest all)
+    ap (option_map (λ (job : JobRecord). job.id)) (rw c.in_ok-highest.was at (all ∙ highest-is s now))
