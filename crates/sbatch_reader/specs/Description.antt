@@ -55,11 +55,13 @@ usual_name wrap (Some word) =
     if is_job_name (last_part word.1) then Ok (last_part word.1) else Err (refusal_at (Word (told word.0)) BadValue)
 usual_name wrap None = Ok (if wrap then codes "wrap" else codes "sbatch")
 
-unfoldable pub job_name : JobWords → Option (ℕ × List ℕ) → Result (List ℕ) JobRefusal
-job_name words script = name_or words.name (usual_name words.wrap script) where
-  name_or : Option (List ℕ) → Result (List ℕ) JobRefusal → Result (List ℕ) JobRefusal
-  name_or None usual = usual
-  name_or (Some name) usual = Ok name
+-- a name of its own comes first
+abbrev pub own_or : Option (List ℕ) → Result (List ℕ) JobRefusal → Result (List ℕ) JobRefusal
+own_or None usual = usual
+own_or (Some name) usual = Ok name
+
+abbrev pub job_name : JobWords → Option (ℕ × List ℕ) → Result (List ℕ) JobRefusal
+job_name words script = own_or words.name (usual_name words.wrap script)
 
 -- the job of a name
 unfoldable pub job_of : JobWords → List ℕ → JobDesc

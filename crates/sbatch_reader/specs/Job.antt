@@ -15,12 +15,14 @@ use Rattle.sbatch_reader.specs.Lines.{script_says}
 use Rattle.sbatch_reader.specs.Refusal.{refusal_at}
 use Rattle.sbatch_reader.specs.Said.{command_parts, script_in, command_says}
 use Rattle.sbatch_reader.specs.declared.refusal.JobRefusal.{JobRefusal}
+use Rattle.sbatch_reader.specs.declared.refusal.Place.{Place}
 use Rattle.sbatch_reader.specs.declared.said.Said.{Said}
 
 abbrev pub says_script : ℕ → Option (List ℕ) → List Said
 says_script now None = []
 says_script now (Some script) = script_says now script
 
+-- the number and the text of the word that names the script
 abbrev pub script_word : List (List ℕ) → Option (ℕ × List ℕ)
 script_word words = script_in (command_parts words)
 
@@ -40,20 +42,19 @@ is_nodes what = false
 abbrev pub says_nodes : List Said → Bool
 says_nodes said = list_any (λ (s : Said). is_nodes s.what) said
 
--- whether something that is good by itself asks for fewer nodes at most than at least: the last that says how many
+-- whether it is the number of nodes that counts, where that asks for fewer nodes at most than at least
 abbrev pub is_crossed : Bool → Said → List Said → Bool
 is_crossed crossed said later = crossed && is_nodes said.what && not (says_nodes later)
 
-abbrev pub fault_of : Bool → Said → List Said → Option JobRefusal
-fault_of crossed said later = elim said.what as (λ _. Option JobRefusal) [
-    Ok entry ↦ if is_crossed crossed said later then Some (refusal_at said.place BadValue) else None
-  | Err kind ↦ Some (refusal_at said.place kind)
-  ]
+abbrev pub fault_of : Bool → Place → Result Entry WordKind → Option JobRefusal
+fault_of crossed place (Ok entry) = if crossed then Some (refusal_at place BadValue) else None
+fault_of crossed place (Err kind) = Some (refusal_at place kind)
 
--- the first fault of what is said, where the most nodes may be below the least
+-- the first fault of what is said, where the most nodes are below the least or aren't
 abbrev pub first_fault : Bool → List Said → Option JobRefusal
 first_fault crossed [] = None
-first_fault crossed (said ∷ later) = option_or (fault_of crossed said later) (first_fault crossed later)
+first_fault crossed (said ∷ later) =
+    option_or (fault_of (is_crossed crossed said later) said.place said.what) (first_fault crossed later)
 
 abbrev pub unless_refused : {X : Type 0} → Option JobRefusal → Result X JobRefusal → Result X JobRefusal
 unless_refused None good = good

@@ -49,11 +49,17 @@ run_of _ = None
 abbrev pub run_says : ℕ → List ℕ → Said
 run_says number line = record { place = Line (told number); what = ok_or (run_of (fields 32 line)) BadValue }
 
--- what stands behind `#SBATCH`, up to a comment; where it is no list of words, the line is bad
-unfoldable pub options_say : ℕ → ℕ → List ℕ → List Said
-options_say now number text =
-    if is_some (first_bad (before_comment text)) then record { place = Line (told number); what = Err BadValue } ∷ []
-    else line_says now number (words_in (before_comment text))
+-- the words of a text, where it is a list of words
+unfoldable pub split_text : List ℕ → Option (List (List ℕ))
+split_text text = if is_some (first_bad text) then None else Some (words_in text)
+
+abbrev pub split_says : ℕ → ℕ → Option (List (List ℕ)) → List Said
+split_says now number None = record { place = Line (told number); what = Err BadValue } ∷ []
+split_says now number (Some words) = line_says now number words
+
+-- what stands behind `#SBATCH` says, up to a comment
+abbrev pub options_say : ℕ → ℕ → List ℕ → List Said
+options_say now number text = split_says now number (split_text (before_comment text))
 
 -- what a line says, which is nothing where it is a comment
 unfoldable pub one_line_says : ℕ → ℕ → List ℕ → List Said

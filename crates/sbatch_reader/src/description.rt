@@ -166,7 +166,7 @@ fn job_of(words: JobWords, name: JobName) -> JobDesc
 }
 
 /// The job that options describe, named by the word of its script where it has no name of its own.
-#[tactic(auto, unfolding(crate::specs::Description::job_name, crate::specs::Description::job_of))]
+#[tactic(auto, unfolding(crate::specs::Description::job_of, crate::specs::Description::all_tasks, crate::specs::Description::least_nodes))]
 pub(crate) fn describe(
     alloc: Global,
     words: JobWords,

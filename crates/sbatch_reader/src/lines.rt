@@ -1,13 +1,13 @@
 //! The lines of a script.
 
-ghost use Rattle.std.specs.Prelude.{◌≡◌, ◌∷◌, ◌++◌, [], true, false, drop, fold, option_copied, MatchOption, OnOk};
+ghost use Rattle.std.specs.Prelude.{◌≡◌, ◌∷◌, ◌++◌, [], true, false, drop, fold, option_copied, MatchOption, IfOk, OnOk};
 ghost use Rattle.std.specs.List.{list_all};
 ghost use Rattle.slurm_text.specs.Fields.{fields, fields_of_rest};
 ghost use Rattle.slurm_text.specs.Words.{is_blank};
 ghost use Rattle.sbatch_reader.specs.Drafts.{after};
 ghost use Rattle.sbatch_reader.specs.Said.{fault_at};
 ghost use Rattle.sbatch_reader.specs.declared.said.Source.TheVariants.{ScriptLine};
-ghost use Rattle.sbatch_reader.specs.Lines.{is_read, begins_blank, begins_or_ends, has_options, has_run, keyed, run_of, run_says, options_say, one_line_says, lines_say, first_says, script_says};
+ghost use Rattle.sbatch_reader.specs.Lines.{is_read, begins_blank, begins_or_ends, has_options, has_run, keyed, run_of, run_says, split_text, options_say, one_line_says, lines_say, first_says, script_says};
 
 use crate::command::read_line_words;
 use crate::draft::Draft;
@@ -17,7 +17,7 @@ use sbatch_options::entries::Entry;
 use sbatch_options::values::read_number;
 use slurm_text::fields::{UpToThree, first_field, up_to_three};
 use slurm_text::memory_error::Memory;
-use slurm_text::words::{WordsRefusal, before_comment, split_words};
+use slurm_text::words::{Words, WordsRefusal, before_comment, split_words};
 use std::alloc::Global;
 
 // A longer line of options isn't held.
@@ -70,11 +70,7 @@ fn keyed<'a>(key: &[u8], text: &'a [u8]) -> Option<&'a [u8]>
     ensures { option_copied result ≡ keyed key.now (fields 61 text.entry.now) }
 {
     match up_to_three(text, b'=') {
-        UpToThree::Two(name, value) => if name == key {
-            Some(value)
-        } else {
-            None
-        },
+        UpToThree::Two(name, value) => if name == key { Some(value) } else { None },
         _ => None,
     }
 }
@@ -116,8 +112,22 @@ fn bad_line(number: usize, kind: WordKind) -> Said
     }
 }
 
-// Reads what stands behind `#SBATCH`. A line of 4 GiB or more counts as want of memory.
-#[tactic(auto, unfolding(crate::specs::Lines::options_say))]
+// The words of a text. A text of 4 GiB or more counts as want of memory.
+#[tactic(auto, unfolding(crate::specs::Lines::split_text))]
+fn split_text(alloc: Global, text: &[u8]) -> Result<Option<Words>, Memory>
+    ensures { IfOk result (λ words. words ≡ split_text text.now) }
+{
+    if text.len() > LONGEST_LINE {
+        return Err(Memory);
+    }
+    match split_words(alloc, text) {
+        Ok(words) => Ok(Some(words)),
+        Err(WordsRefusal::BadWords { place: _ }) => Ok(None),
+        Err(WordsRefusal::BadWord { place: _ } | WordsRefusal::Memory) => Err(Memory),
+    }
+}
+
+// Reads what stands behind `#SBATCH`.
 fn read_options(
     alloc: Global,
     number: usize,
@@ -127,17 +137,12 @@ fn read_options(
 ) -> Result<(), Memory>
     ensures { OnOk result (draft.new ≡ fold after draft.old (options_say now number text.now)) }
 {
-    let front = before_comment(text);
-    if front.len() > LONGEST_LINE {
-        return Err(Memory);
-    }
-    match split_words(alloc, front) {
-        Ok(words) => read_line_words(alloc, &words, number, now, draft),
-        Err(WordsRefusal::BadWords { place: _ }) => {
+    match split_text(alloc, before_comment(text))? {
+        Some(words) => read_line_words(alloc, &words, number, now, draft),
+        None => {
             draft.take(bad_line(number, WordKind::BadValue));
             Ok(())
         }
-        Err(WordsRefusal::BadWord { place: _ } | WordsRefusal::Memory) => Err(Memory),
     }
 }
 
@@ -161,12 +166,7 @@ fn read_line(
 }
 
 // Reads the lines behind the first one.
-fn read_lines(
-    alloc: Global,
-    rest: Option<&[u8]>,
-    now: u64,
-    draft: &mut Draft,
-) -> Result<(), Memory>
+fn read_lines(alloc: Global, rest: Option<&[u8]>, now: u64, draft: &mut Draft) -> Result<(), Memory>
     ensures { OnOk result (draft.new
         ≡ fold after draft.old (lines_say now 2 (fields_of_rest 10 (option_copied rest.entry)))) }
 {

@@ -1,10 +1,11 @@
 //! A command and its script, read whole.
 
-ghost use Rattle.std.specs.Prelude.{ℕ, ◌≡◌, option_copied, option_map, fold, IfOk, IsErrOf, Ok, Err};
-ghost use Rattle.sbatch_reader.specs.Drafts.{nothing_said, after};
-ghost use Rattle.sbatch_reader.specs.Job.{all_said, job_in};
+ghost use Rattle.std.specs.Prelude.{ℕ, ◌≡◌, is_some, option_copied, option_map, fold, OnOk, IfOk, IsErrOf, Ok, Err};
+ghost use Rattle.sbatch_reader.specs.Drafts.{after, draft_job};
+ghost use Rattle.sbatch_reader.specs.Job.{script_word, says_script, all_said, job_in};
 ghost use Rattle.option_words.specs.declared.refusal.WordKind.{WordKind};
 
+pub use crate::command::script_word;
 use crate::command::{find_script, read_command};
 use crate::description::{are_crossed, describe};
 use crate::draft::Draft;
@@ -15,29 +16,56 @@ use slurm_text::plain::job::JobDesc;
 use slurm_text::words::Words;
 use std::alloc::Global;
 
-pub use crate::command::script_word;
+// Reads the script, where there is one.
+fn read_attached(
+    alloc: Global,
+    script: Option<&[u8]>,
+    now: u64,
+    draft: &mut Draft,
+) -> Result<(), Memory>
+    ensures { OnOk result (draft.new ≡ fold after draft.old (says_script now (option_copied script.entry))) }
+{
+    match script {
+        Some(script) => read_script(alloc, script, now, draft),
+        None => Ok(()),
+    }
+}
 
-// Reads all that a command says.
-#[tactic(auto, unfolding(crate::specs::Job::all_said))]
+// Reads all that a command says; a word may name its script.
+#[tactic(auto, using(crate::proofs::JobLemmas::said_behind), unfolding(crate::specs::Job::all_said))]
 fn read_all(
     alloc: Global,
     words: &Words,
     script: Option<&[u8]>,
+    is_named: bool,
     now: u64,
-) -> Result<Draft, Memory>
-    ensures { IfOk result (λ draft. draft
-        ≡ fold after nothing_said (all_said now words.now (option_copied script.entry))) }
+    draft: &mut Draft,
+) -> Result<(), Memory>
+    requires { is_named ≡ is_some (script_word words.now) }
+    ensures { OnOk result (draft.new ≡ fold after draft.old (all_said now words.now (option_copied script.entry))) }
 {
-    let mut draft = Draft::new(alloc);
-    let has_script = script.is_some() || find_script(words).is_some();
-    if let Some(script) = script {
-        read_script(alloc, script, now, &mut draft)?;
+    let has_script = script.is_some() || is_named;
+    read_attached(alloc, script, now, draft)?;
+    read_command(alloc, words, has_script, now, draft)
+}
+
+// The job of what was read, or the first fault.
+#[tactic(auto, unfolding(crate::specs::Drafts::draft_job))]
+fn end_draft(
+    alloc: Global,
+    draft: Draft,
+    name: Option<(usize, &[u8])>,
+) -> Result<Result<JobDesc, JobRefusal>, Memory>
+    ensures { IfOk result (λ job. job ≡ draft_job draft (option_map (λ word. (word.0, word.1.now)) name.entry)) }
+{
+    match draft.verdict(are_crossed(&draft.words)) {
+        Some(refusal) => Ok(Err(refusal)),
+        None => describe(alloc, draft.words, name),
     }
-    read_command(alloc, words, has_script, now, &mut draft)?;
-    Ok(draft)
 }
 
 // The job, or the first fault.
+#[tactic(auto, using(crate::proofs::JobLemmas::judged), unfolding(crate::specs::Job::job_in))]
 fn judge(
     alloc: Global,
     words: &Words,
@@ -46,17 +74,19 @@ fn judge(
 ) -> Result<Result<JobDesc, JobRefusal>, Memory>
     ensures { IfOk result (λ job. job ≡ job_in now words.now (option_copied script.entry)) }
 {
-    let draft = read_all(alloc, words, script, now)?;
-    match draft.verdict(are_crossed(&draft.words)) {
-        Some(refusal) => Ok(Err(refusal)),
-        None => describe(alloc, draft.words, find_script(words)),
+    let name = find_script(words);
+    let mut draft = Draft::new(alloc);
+    match read_all(alloc, words, script, name.is_some(), now, &mut draft) {
+        Ok(()) => end_draft(alloc, draft, name),
+        Err(memory) => Err(memory),
     }
 }
 
 /// The job that the words of sbatch(1), the first of them the command's name, and its script ask for, read at the moment
 /// `now`: the options of the script's first lines come before those of the words, and of each kind the last counts. An
-/// error names the first bad place. It goes over the words twice and over the script's option lines once, and copies no
-/// more than what it keeps and the words of one line. A text of 4 GiB or more counts as want of memory.
+/// error names the first bad place; words and lines behind it are read too, since the nodes that they require may make
+/// an earlier `--nodes` bad. It goes over the words twice and over the lines of options once, and copies what it keeps and
+/// the words of one line at a time. A text of 4 GiB or more counts as want of memory (own).
 pub fn read_job(
     alloc: Global,
     words: &Words,

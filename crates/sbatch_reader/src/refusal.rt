@@ -3,11 +3,10 @@
 ghost use Rattle.std.specs.Prelude.{◌≡◌};
 ghost use Rattle.sbatch_reader.specs.Refusal.{told};
 
+pub use option_words::refusal::WordKind;
 use slurm_text::memory_error;
 use std::error::Error;
 use std::fmt;
-
-pub use option_words::refusal::WordKind;
 
 /// A place of a command. Words and lines count from 1.
 #[derive(Clone, Copy)]

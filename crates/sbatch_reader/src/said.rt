@@ -77,7 +77,9 @@ fn lacking(reading: Reading, number: usize, option: ValueOption) -> Said
     if is_stray(reading.has_script, option) {
         reading.source.fault(number, WordKind::StrayWord)
     } else {
-        reading.source.fault(number.saturating_add(1), WordKind::MissingValue)
+        reading
+            .source
+            .fault(number.saturating_add(1), WordKind::MissingValue)
     }
 }
 
