@@ -1,6 +1,6 @@
 -- What a report makes of a job: whether it runs on, that it lets go, and that whoever waits stays as he is.
-use Rattle.std.proofs.Common.{ℕ, ◌≡◌, ◌≤◌, ◌∙◌, Bool, true, false, ◌&&◌, ◌||◌, not, cond, List, [], ◌∷◌, map, All, get_or, Option, Some, None, is_some, refl, sym, ap, arith, inl, inr}
-use Rattle.std.specs.List.{list_any, filter, Contains}
+use Rattle.std.proofs.Common.{ℕ, zero, suc, ◌≡◌, ◌≤◌, ◌∙◌, Bool, true, false, ◌&&◌, ◌||◌, not, cond, List, [], ◌∷◌, map, All, get_or, Option, Some, None, is_some, refl, sym, ap, arith, inl, inr}
+use Rattle.std.specs.List.{AllZip, list_any, filter, Contains}
 use Rattle.std.proofs.Math.Bool.{and-true, and-false, and_assoc}
 use Rattle.std.proofs.lemmas.Bool.{cases_Bool, both_ways, cond_both}
 use Rattle.std.proofs.lemmas.Bool.Decides.{nat_tests}
@@ -13,6 +13,8 @@ use Rattle.slurm_text.specs.declared.plain.state.JobState.TheVariants.{Pending, 
 use Rattle.slurm_text.specs.declared.plain.state.Final.{Final}
 use Rattle.slurm_text.specs.declared.plain.state.Final.TheVariants.{Completed, Cancelled, Failed, Timeout, NodeFail, Requeue}
 use Rattle.node_state.specs.declared.record.NodeRecord.{NodeRecord}
+use Rattle.node_state.specs.Laws.{ConfsStay, ReportsSetNoneDown}
+use Rattle.node_state.specs.Nodes.{is_up}
 use Rattle.ctl_state.specs.declared.record.Part.{Part}
 use Rattle.ctl_state.specs.declared.record.JobRecord.{JobRecord}
 use Rattle.ctl_state.specs.declared.change.Change.TheVariants.{Leave, DropPart}
@@ -21,10 +23,10 @@ use Rattle.ctl_state.specs.Events.{LetsGo, those_left}
 use Rattle.ctl_state.specs.Holding.{parts_off}
 use Rattle.ctl_state.specs.JobStates.{is_pending, is_running}
 use Rattle.ctl_state.specs.Laws.{LettingGo, ChangesLetGo, KeptLater, KeptOn, LetsGoNothing, LetsGoTwice, NodesStay}
-use Rattle.ctl_state.specs.Soundness.{IsSound, IsKept, PlansPending, pending_ids}
+use Rattle.ctl_state.specs.Soundness.{IsSound, IsKept, PlansPending, is_up_at, pending_ids}
 use Rattle.ctl_state.specs.State.{State, last_moment}
 use Rattle.ctl_state.specs.Verdicts.{stamped}
-use Rattle.ctl_report.specs.Reporting.{is_named, heard_nodes, is_last_start, is_listed, done_of, is_at, is_batch_host, final_of, told_over, after_told, reported, report_after}
+use Rattle.ctl_report.specs.Reporting.{heard_nodes, is_last_start, is_listed, done_of, is_at, is_batch_host, final_of, told_over, after_told, reported, report_after}
 use Rattle.ctl_report.specs.Ordering.{runs_start}
 use Rattle.ctl_report.proofs.InOrder.{is_same}
 
@@ -113,13 +115,18 @@ all-stay : {X : Type 0} (xs : List X) → filter (λ x. not false) xs ≡ xs
 all-stay [] = refl
 all-stay (x ∷ xs) = ap (λ rest. x ∷ rest) (all-stay xs)
 
-heard-confs : (now : ℕ) (report : Report) (nodes : List NodeRecord) → map (λ (node : NodeRecord). node.conf) (heard_nodes now report nodes) ≡ map (λ (node : NodeRecord). node.conf) nodes
-heard-confs now report [] = refl
-heard-confs now report (node ∷ nodes) = grind (arith, nat_tests, heard-confs now report nodes)
+-- nodes of which none goes down, place by place
+up-after : (nodes after : List NodeRecord) → AllZip (λ one other. is_up one.down ≡ true → is_up other.down ≡ true) nodes after
+    → (place : ℕ) → is_up_at nodes place ≡ true → is_up_at after place ≡ true
+up-after [] after all place is = absurd (both_ways false refl is)
+up-after (node ∷ nodes) [] all place is = absurd all
+up-after (node ∷ nodes) (one ∷ later) all zero is = all.0 is
+up-after (node ∷ nodes) (one ∷ later) all (suc place) is = up-after nodes later all.1 place is
 
 -- An accepted report keeps all sound.
-pub sound-reported : LettingGo → KeptLater → NodesStay → Rests → (s : State) (now node : ℕ) (report : Report) → IsSound s → s.moment ≤ now → now ≤ last_moment → IsSound (stamped now (report_after s now node report))
-sound-reported letting later nodes rests s now node report sound raised in_time =
+pub sound-reported : LettingGo → KeptLater → NodesStay → ConfsStay → ReportsSetNoneDown → Rests → (s : State) (now node : ℕ) (report : Report)
+    → IsSound s → s.moment ≤ now → now ≤ last_moment → IsSound (stamped now (report_after s now node report))
+sound-reported letting later nodes confs none_down rests s now node report sound raised in_time =
     let change = reported now node report in
     let stays : those_left change (λ job. false) s.jobs ≡ map change s.jobs = all-stay (map change s.jobs) in
     let plan : PlansPending (map change s.jobs) s.plan = record {
@@ -127,6 +134,8 @@ sound-reported letting later nodes rests s now node report sound raised in_time 
       once = sound.plan.once;
       last = sound.plan.last;
     } in
-    let lets : All (λ job. LetsGo now job (change job)) s.jobs = λ k d below. lets-reported rests now node report (get_or s.jobs k d) (later s.moment now (get_or s.jobs k d) raised (sound.jobs k d below)) in
-    let left = letting s now change (λ job. false) s.plan sound in_time lets (λ k d below goes. absurd (both_ways false refl goes)) (rw stays plan) in
-    nodes (record s { jobs = map change s.jobs; moment = now }) (heard_nodes now report s.nodes) (rw stays at left) (heard-confs now report s.nodes)
+    let lets : All (λ job. LetsGo now job (change job)) s.jobs = λ k d below.
+    lets-reported rests now node report (get_or s.jobs k d) (later s.moment now (get_or s.jobs k d) raised (sound.jobs k d below)) in
+    let left = letting s now change (λ job. false) s.plan sound in_time lets (rw stays plan) in
+    nodes (record s { jobs = map change s.jobs; moment = now }) (heard_nodes now node report s.nodes) (rw stays at left) (confs node _ s.nodes)
+    (up-after s.nodes (heard_nodes now node report s.nodes) (none_down node _ _ s.nodes))
