@@ -17,7 +17,7 @@ use Rattle.backfill_planner.specs.Bases.{BaseView}
 use Rattle.backfill_planner.specs.Giving.{window_end, capacities}
 use Rattle.backfill_planner.specs.Plans.{share_of, placed_of, holds_of, plan_beside, plan_of}
 use Rattle.backfill_planner.specs.Placements.{IsPlacement, IsPlannable, IsOnRooms, IsPart, AreParts}
-use Rattle.backfill_planner.proofs.Takes.{takes_some}
+use Rattle.backfill_planner.proofs.Takes.{takes_some, gives_usable}
 use Rattle.backfill_planner.proofs.Dealing.{IsGiven, dealt-given, dealt-some, length-capacities}
 use Rattle.backfill_planner.proofs.Holding.{HoldsFree, capacity-give, placement-holds}
 use Rattle.backfill_planner.proofs.LeastSecond.{placed-is}
@@ -78,6 +78,7 @@ placed-each rooms holds job lo hi placed nodes is placement =
         let gives = capacity-give rooms holds job placed.start part.place below in
         record {
           node = nodes part.place 0 below;
+          usable = gives_usable job (room_at rooms node) cpus mem (rw gives at given.some);
           tasks = some;
           cpus = takes_some job (room_at rooms node) cpus mem part.tasks is.cpus some (rw gives at given.some);
         }

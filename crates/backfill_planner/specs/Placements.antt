@@ -1,5 +1,5 @@
 -- What a placement is, by the sets that fit at each second.
-use Rattle.std.specs.Prelude.{◌≡◌, ◌≢◌, ℕ, ◌+◌, ◌≤◌, ◌<◌, List, length, sum_by, All, AllPairs, IfSome}
+use Rattle.std.specs.Prelude.{◌≡◌, ◌≢◌, ℕ, ◌+◌, ◌≤◌, ◌<◌, true, List, length, sum_by, All, AllPairs, IfSome}
 use Rattle.resource_profile.specs.declared.NodeRoom.{NodeRoom}
 use Rattle.resource_profile.specs.declared.Hold.{Hold}
 use Rattle.resource_profile.specs.Free.{room_at, held_cpus, held_mem}
@@ -36,9 +36,10 @@ pub record IsPlannable (job : PlanJob) : Type 0 where
 abbrev pub IsOnRooms : List NodeRoom → PlanJob → Type 0
 IsOnRooms rooms job = All (λ node. node < length rooms) job.nodes
 
--- a part is on a node that is there, and has a task and a processor at least
+-- a part is on a node that is there and that a plan may use, and has a task and a processor at least
 pub record IsPart (rooms : List NodeRoom) (share : Share) : Type 0 where
   pub node : share.node < length rooms
+  pub usable : (room_at rooms share.node).usable ≡ true
   pub tasks : 1 ≤ share.tasks
   pub cpus : 1 ≤ share.cpus
 

@@ -4,13 +4,12 @@ ghost use Rattle.std.specs.Prelude.{ℕ, ◌≡◌, ◌≤◌, ◌<◌, ◌^◌,
 ghost use Rattle.std.specs.Option.{option_or};
 ghost use Rattle.conf_values.specs.Keys.{partition_key};
 ghost use Rattle.conf_reader.specs.PartitionLines.{part_name, part_nodes, part_entry, partition_names, part_fault, part_word, part_line};
-ghost use Rattle.conf_values.specs.Values.{has};
+ghost use Rattle.slurm_text.specs.Hosts.{has};
 ghost use Rattle.conf_reader.specs.Words.{entry_in};
 ghost use Rattle.conf_values.specs.declared.refusal.ConfKind.{ConfKind};
 
 use conf_lines::pairs::read_pair;
 use conf_lines::words::first_word;
-use conf_values::conf::{PartConf, PartState};
 use conf_values::keys::{PartitionKey, partition_key};
 use conf_values::lists::or_copy;
 use conf_values::refusal::{ConfKind, Fault, ValueRefusal};
@@ -22,6 +21,7 @@ use slurm_text::items::Items;
 use slurm_text::keywords::is_keyword;
 use slurm_text::memory_error::Memory;
 use slurm_text::name::Name;
+use slurm_text::plain::conf::{PartConf, PartState};
 use slurm_text::plain::limit::Limit;
 use slurm_text::plain::mem_ask::MemAsk;
 use slurm_text::ranged::Ranged;

@@ -4,7 +4,7 @@ use Rattle.std.proofs.lemmas.Bool.Decides.{nat_tests}
 use Rattle.std.proofs.Common.{◌≡◌, ◌≢◌, ℕ, ◌+◌, ◌≤◌, true, false, ◌&&◌, not, eqb, leb, List, [], Contains, unwrap_or, Some, None, get_or, refl, sym, arith, suc, ◌<◌, Bool, cond, ◌∷◌, ◌++◌, length, map, flat_map}
 use Rattle.std.proofs.Common.{filter, take, All, ap, ◌∙◌, inl, inr, rules, tests, sum_by, AllPairs, IfSome, Any, ◌⊎◌}
 use Rattle.std.proofs.lemmas.Bool.{cond_both, and_parts, cases_Bool, both_ways, ne_eqb, eq-eqb, cases_order, eqb-true}
-use Rattle.std.proofs.lemmas.List.Elements.{All-weaker, All-head, All-tail, filter-append, All-map, All-filter, All-contains_itself}
+use Rattle.std.proofs.lemmas.List.Elements.{All-weaker, All-head, All-tail, filter-append, All-map, All-filter, All-contains, All-contains_itself}
 use Rattle.slurm_text.specs.declared.plain.state.JobState.{JobState}
 use Rattle.slurm_text.specs.declared.plain.state.JobState.TheVariants.{Completing}
 use Rattle.slurm_text.specs.declared.plain.state.Final.TheVariants.{Timeout}
@@ -18,7 +18,14 @@ use Rattle.ctl_state.specs.Events.{LetsGo, those_left, started_as}
 use Rattle.ctl_state.specs.Laws.{LettingGo, ChangesLetGo, LetsGoNothing, KeptLater}
 use Rattle.ctl_state.specs.Soundness.{IsSound, IsKept, pending_ids, HasItsParts, HaveRisingIds, IsLimit}
 use Rattle.ctl_pass.specs.Limits.{deadline, is_over, timed_out, is_old, holds_of_job, hold_end}
-use Rattle.ctl_pass.specs.Readiness.{ready, base_of, candidates, ranked, planned, placements}
+use Rattle.ctl_pass.specs.Readiness.{ready, base_of, is_candidate, is_higher, candidates, needs_of, ranked, planned, placements}
+use Rattle.ctl_pass.specs.Reasons.{hindrance}
+use Rattle.ctl_pass.proofs.Ranks.{OrderLaws, waiting, candidates-wait, ranked-all, ranked-waits, ranked-apart, nodes-all, nodes-once}
+use Rattle.ctl_state.specs.Ordered.{ordered_by}
+use Rattle.partitions.specs.Partitions.{IsOnNodes}
+use Rattle.std.specs.Prelude.{filter_map, is_none, slice_get}
+use Rattle.std.proofs.lemmas.Option.{get_or_from_slice_get, slice_get_within}
+use Rattle.std.proofs.lemmas.List.Sorted.{All-permutation}
 use Rattle.std.specs.List.{list_any}
 use Rattle.std.proofs.lemmas.List.{take_more, map-append, append-nil, length-map, get_or_default}
 use Rattle.std.proofs.lemmas.List.Sums.{length-filter, count_by-le-length, sum_by-cons, sum_by-le-sum_by}
@@ -35,7 +42,7 @@ use Rattle.backfill_planner.specs.Bases.{BaseView}
 use Rattle.backfill_planner.specs.Plans.{plan_of, PlannedView}
 use Rattle.backfill_planner.specs.Placements.{IsPlannable, IsOnRooms, AreParts, StartsFit}
 use Rattle.ctl_state.specs.declared.record.Part.{Part}
-use Rattle.ctl_state.specs.Planning.{room_of, seconds_of, plan_job}
+use Rattle.ctl_state.specs.Planning.{room_of, seconds_of, node_order, is_taken_before, plan_job}
 use Rattle.ctl_pass.proofs.Starting.{held-counted, free-counted, CanStart, started-keeps, no-plan}
 use Rattle.std.proofs.lemmas.List.Folds.{list_any-from_Any}
 use Rattle.ctl_pass.specs.SamePlans.{same_plans, same_shares, same_placements}
@@ -75,12 +82,15 @@ ended-others state ended = search (rules, tests)
 -- limits and old records let go: what a pass plans is sound
 pub sound-readied : ReadyLaws → (s : State) (now : ℕ) → IsSound s → s.moment ≤ now → now ≤ last_moment → IsSound (readied s now)
 sound-readied laws s now sound raised in_time =
-    laws.letting_go s now (timed_out now) (is_old s.settings.min_job_age now) [] sound in_time (All-weaker (IsKept s.moment) (λ job. LetsGo now job (timed_out now job)) (λ job kept. lets job (laws.later s.moment now job raised kept)) s.jobs sound.jobs)
-    (λ k d below old. let job = timed_out now (get_or s.jobs k d) in (ended-others job.state (and_parts (is_ended job.state) (not (eqb s.settings.min_job_age 0) && leb (unwrap_or job.ended 0 + s.settings.min_job_age) now) old).0).1)
-    (no-plan (those_left (timed_out now) (is_old s.settings.min_job_age now) s.jobs))
+    let old = is_old s.settings.min_job_age now in
+    laws.letting_go s now (timed_out now) old [] sound in_time
+    (All-weaker (IsKept s.moment) (λ job. LetsGo now job (timed_out now job)) (λ job kept. lets job (laws.later s.moment now job raised kept)) s.jobs sound.jobs)
+    (no-plan (those_left (timed_out now) old s.jobs))
   where
     lets : (job : JobRecord) → IsKept now job → LetsGo now job (timed_out now job)
-    lets job kept = cond_both (is_over now job) (changed (Leave Timeout now None) job) job (LetsGo now job) (λ over. laws.changes now (Leave Timeout now None) job refl refl kept) (λ within. laws.nothing now job kept)
+    lets job kept =
+        cond_both (is_over now job) (changed (Leave Timeout now None) job) job (LetsGo now job)
+        (λ over. laws.changes now (Leave Timeout now None) job refl refl kept) (λ within. laws.nothing now job kept)
 
 pub running-not_ended : (state : JobState) → is_running state ≡ true → (is_ended state ≡ false) × (is_pending state ≡ false)
 running-not_ended state running = search (rules, tests)
@@ -155,10 +165,18 @@ rising-left age now jobs rising =
     (pairs-map lower (timed_out now) jobs (λ i j d before within. omega (arith, rising i j d before within, timed_out-id now (get_or jobs i d), timed_out-id now (get_or jobs j d))))
 
 -- the laws of plans that a pass rests on
+abbrev pub PlanIds : Type 0
+PlanIds = (base : BaseView) (ranked : List PlanJob) (now : ℕ)
+    → All (λ (placed : Placed). Contains (map (λ (job : PlanJob). job.id) ranked) placed.id) (plan_of base ranked now)
+
+abbrev pub PlanApart : Type 0
+PlanApart = (base : BaseView) (ranked : List PlanJob) (now : ℕ)
+    → AllPairs (λ (one other : PlanJob). one.id ≢ other.id) ranked → AllPairs (λ (one other : Placed). one.id ≢ other.id) (plan_of base ranked now)
+
 pub record PlanLaws : Type 0 where
-  pub ids : (base : BaseView) (ranked : List PlanJob) (now : ℕ) → All (λ (placed : Placed). Contains (map (λ (job : PlanJob). job.id) ranked) placed.id) (plan_of base ranked now)
-  pub apart : (base : BaseView) (ranked : List PlanJob) (now : ℕ)
-      → AllPairs (λ (one other : PlanJob). one.id ≢ other.id) ranked → AllPairs (λ (one other : Placed). one.id ≢ other.id) (plan_of base ranked now)
+  pub orders : OrderLaws
+  pub ids : PlanIds
+  pub apart : PlanApart
   pub starts : (base : BaseView) (ranked : List PlanJob) (now : ℕ) → All (λ (placed : Placed). (now ≤ placed.start) × (placed.start ≤ base.horizon)) (plan_of base ranked now)
   pub some : (base : BaseView) (ranked : List PlanJob) (now : ℕ)
       → All (λ (job : PlanJob). 1 ≤ job.need.tasks) ranked → All (λ (placed : Placed). 1 ≤ length placed.parts) (plan_of base ranked now)
@@ -211,67 +229,73 @@ base-within s sound =
       mem = λ node moment. omega (arith, held-most (λ cpus mem. mem) node moment s.moment s.jobs, sound.held.mem node);
     }
 
--- what is ranked are the pending jobs
-pub ranked-ids : (s : State) (now : ℕ) → map (λ (job : PlanJob). job.id) (ranked s now) ≡ pending_ids s.jobs
-unfolding ranked candidates plan_job
-ranked-ids s now = same (filter (λ (job : JobRecord). is_pending job.state) s.jobs)
-  where
-    same : (jobs : List JobRecord) → map (λ (job : PlanJob). job.id) (map (plan_job (length s.nodes)) jobs) ≡ map (λ (job : JobRecord). job.id) jobs
-    same [] = refl
-    same (job ∷ jobs) = ap (λ ids. job.id ∷ ids) (same jobs)
+-- what holds of the partition at a place, and what is planned for a job there
+at-place : {X : Type 0} (P : X → Type 0) (xs : List X) (place : ℕ) (x : X) → All P xs → slice_get xs place ≡ Some x → P x
+at-place P xs place x each is = rw (get_or_from_slice_get xs place x x is) at (each place x (slice_get_within xs place x is))
 
-ranked-all : (P : PlanJob → Type 0) (s : State) (now : ℕ) → All (λ job. P (plan_job (length s.nodes) job)) s.jobs → All P (ranked s now)
-unfolding ranked candidates
-ranked-all P s now each =
-    All-map P (plan_job (length s.nodes)) _ (All-filter (λ job. is_pending job.state) (λ job. P (plan_job (length s.nodes) job)) s.jobs each)
+record CanBePlanned (s : State) (need : PlanJob) : Type 0 where
+  tasks : 1 ≤ need.need.tasks
+  nodes : IsOnRooms (map room_of s.nodes) need
+  plannable : IsPlannable need
 
-pub ranked-apart : (s : State) (now : ℕ) → IsSound s → AllPairs (λ (one other : PlanJob). one.id ≢ other.id) (ranked s now)
-unfolding ranked candidates plan_job
-ranked-apart s now sound =
-    let apart : AllPairs (λ (one other : JobRecord). one.id ≢ other.id) s.jobs = λ i j d before within same. omega (arith, sound.rising i j d before within, same) in
-    pairs-map (λ (one other : PlanJob). one.id ≢ other.id) (plan_job (length s.nodes)) _ (AllPairs-filter (λ (one other : JobRecord). one.id ≢ other.id) (λ job. is_pending job.state) s.jobs apart)
-
--- they can be planned
-ranked-plannable : (s : State) (now : ℕ) → IsSound s → All IsPlannable (ranked s now)
-unfolding plan_job
-ranked-plannable s now sound = ranked-all IsPlannable s now (λ k d below. let kept = sound.jobs k d below in record {
-  once = λ i j e before inside same. omega (arith, range-rises (length s.nodes) i j e before inside, same);
-  cpus = omega arith;
-  seconds = seconds (get_or s.jobs k d).limit kept.limit;
-})
+ranked-planned : OrderLaws → (s : State) (now : ℕ) → IsSound s → All (CanBePlanned s) (ranked s now)
+unfolding plan_job node_order
+ranked-planned laws s now sound = ranked-all laws (CanBePlanned s) s now (λ k d below partition bounds is.
+    let job = get_or (waiting s.jobs) k d in
+    let kept = All-filter (λ (one : JobRecord). is_pending one.state) (IsKept s.moment) s.jobs sound.jobs k d below in
+    let on = at-place (IsOnNodes (length s.nodes)) s.partitions job.partition partition sound.partitions is in
+    let there : All (λ node. node < length (map room_of s.nodes)) partition.nodes = λ i e inside. omega (arith, on.there i e inside, length-map s.nodes room_of) in
+    record {
+      tasks = kept.asked.tasks.0;
+      nodes = nodes-all (λ node. node < length (map room_of s.nodes)) s.nodes job.desc (node_order s.nodes partition)
+          (All-permutation (λ node. node < length (map room_of s.nodes)) partition.nodes _ (laws.places (is_taken_before s.nodes) partition.nodes) there);
+      plannable = record {
+        once = nodes-once s.nodes job.desc (node_order s.nodes partition) (laws.once (is_taken_before s.nodes) partition.nodes on.once);
+        cpus = kept.asked.cpus.0;
+        seconds = seconds job.limit kept.limit;
+      };
+    })
   where
     seconds : (limit : Limit) → IsLimit limit → IfSome (seconds_of limit) (λ seconds. 1 ≤ seconds)
     seconds (Minutes minutes) is = omega (arith, is.0)
     seconds Unlimited is = tt
 
+-- so a plan is of jobs that wait
+plan-waits : OrderLaws → PlanIds → (s : State) (now : ℕ) → All (λ (placed : Placed). Contains (pending_ids s.jobs) placed.id) (planned s now)
+unfolding planned
+plan-waits orders ids s now k d below =
+    All-contains (Contains (pending_ids s.jobs)) (map (λ (job : PlanJob). job.id) (ranked s now)) _
+    (All-map (Contains (pending_ids s.jobs)) (λ (job : PlanJob). job.id) (ranked s now) (ranked-waits orders s now)) (ids (base_of s now) (ranked s now) now k d below)
+
 -- The plan of a sound state can start.
 pub can-start : PlanLaws → (s : State) → IsSound s → CanStart s (planned s s.moment)
-unfolding planned base_of mem_held plan_job
+unfolding planned base_of mem_held
 can-start laws s sound =
     let now = s.moment in
     let base = base_of s now in
     let jobs = ranked s now in
     let horizon : base.horizon ≤ 250002592000 = omega (arith, sound.moment, sound.settings.window.1) in
-    let rooms = ranked-all (IsOnRooms (map room_of s.nodes)) s now (λ k d below i node inside. omega (arith, range-below (length s.nodes) i node inside, length-map s.nodes room_of)) in
-    let plannable = ranked-plannable s now sound in
+    let can = ranked-planned laws.orders s now sound in
+    let rooms : All (IsOnRooms (map room_of s.nodes)) jobs = λ k d below. (can k d below).nodes in
+    let plannable : All IsPlannable jobs = λ k d below. (can k d below).plannable in
     let fit = laws.fit base jobs now (base-within s sound) horizon rooms plannable in
     let started : All (λ (job : JobRecord). unwrap_or job.started 0 ≤ now) s.jobs = λ k d below. (sound.jobs k d below).run.start_passed in
     record {
       sound = sound;
       each = λ k d below. record {
-        waits = rw (← ranked-ids s now) (laws.ids base jobs now k d below);
+        waits = plan-waits laws.orders laws.ids s now k d below;
         last = omega (arith, (laws.starts base jobs now k d below).1, horizon);
-        some = laws.some base jobs now (ranked-all (λ (job : PlanJob). 1 ≤ job.need.tasks) s now (λ j e inside. (sound.jobs j e inside).asked.tasks.0)) k d below;
+        some = laws.some base jobs now (λ j e inside. (can j e inside).tasks) k d below;
         parts = laws.parts base jobs now horizon rooms plannable k d below;
       };
-      apart = laws.apart base jobs now (ranked-apart s now sound);
+      apart = laws.apart base jobs now (ranked-apart laws.orders s now sound.rising);
       cpus = λ node. omega (arith, fit.cpus node, held-now (λ cpus mem. cpus) node now s.jobs started, held-counted (map room_of s.nodes) (parts_of s.jobs) node sound.held.each);
       mem = λ node. omega (arith, fit.mem node, held-now (λ cpus mem. mem) node now s.jobs started);
     }
 
 -- So those of a pass can.
 pub can-start_ready : ReadyLaws → PlanLaws → (s : State) (now : ℕ) → IsSound s → s.moment ≤ now → now ≤ last_moment → CanStart (readied s now) (placements s now)
-unfolding planned base_of ranked candidates
+unfolding planned base_of ranked candidates needs_of hindrance
 can-start_ready readies plans s now sound raised in_time = can-start plans (readied s now) (sound-readied readies s now sound raised in_time)
 
 -- the base has the nodes' rooms
@@ -279,10 +303,14 @@ pub base-rooms : (s : State) (now : ℕ) (base : BaseView) → base ≡ base_of 
 unfolding base_of
 base-rooms s now base is = ap (λ (one : BaseView). one.rooms) is
 
--- the pending jobs are those of the state before
-pub ranked_is : (s : State) (now : ℕ) → ranked (ready s now) now ≡ map (plan_job (length s.nodes)) (filter (λ (job : JobRecord). is_pending job.state) s.jobs)
-unfolding ranked candidates
-ranked_is s now = ap (map (plan_job (length s.nodes))) (pending-left s.settings.min_job_age now s.jobs)
+-- the candidates are those of the state before
+pub ranked_is : (s : State) (now : ℕ) → ranked (ready s now) now ≡ filter_map (needs_of s) (ordered_by (is_higher s) (filter (is_candidate s) s.jobs))
+unfolding ranked candidates needs_of hindrance
+ranked_is s now =
+    let jobs = (ready s now).jobs in
+    let same : filter (is_candidate s) jobs ≡ filter (is_candidate s) s.jobs =
+    candidates-wait s jobs ∙ ap (filter (λ job. is_none (hindrance s job))) (pending-left s.settings.min_job_age now s.jobs) ∙ sym (candidates-wait s s.jobs) in
+    ap (λ some. filter_map (needs_of s) (ordered_by (is_higher s) some)) same
 
 pub plan-is : (s : State) (now : ℕ) (made : PlannedView) (base : BaseView) (jobs : List PlanJob) → made ≡ record { base = base; ranked = jobs; moment = now } → base ≡ base_of (ready s now) now → jobs ≡ ranked (ready s now) now
     → plan_of made.base made.ranked made.moment ≡ placements s now
@@ -318,19 +346,16 @@ awaited s placed sound waits = from (Any-kept (λ (job : JobRecord). job.id) (λ
     }
 
 -- so all placements of a pass can begin, beside bits that show what is held
-pub can-begin-ready : (s : State) (now : ℕ) (held : List Bool) (plan : List Placed) → IsSound s → IsSound (readied s now) → plan ≡ placements s now → ShowsParts (parts_of s.jobs) held
-    → ((base : BaseView) (ranked : List PlanJob) (now : ℕ) → All (λ (placed : Placed). Contains (map (λ (job : PlanJob). job.id) ranked) placed.id) (plan_of base ranked now))
-    → ((base : BaseView) (ranked : List PlanJob) (now : ℕ) → AllPairs (λ (one other : PlanJob). one.id ≢ other.id) ranked → AllPairs (λ (one other : Placed). one.id ≢ other.id) (plan_of base ranked now))
-    → CanBegin (ready s now).jobs held plan
-unfolding planned ranked candidates
-can-begin-ready s now held plan sound ready_sound is shown ids apart =
-    let base = base_of (ready s now) now in
-    let jobs = ranked (readied s now) now in
-    let waits : All (λ (placed : Placed). Contains (pending_ids (ready s now).jobs) placed.id) plan = rw (is, ← ranked-ids (readied s now) now) (ids base jobs now) in
+pub can-begin-ready : OrderLaws → PlanIds → PlanApart → (s : State) (now : ℕ) (held : List Bool) (plan : List Placed)
+    → IsSound s → IsSound (readied s now) → plan ≡ placements s now → ShowsParts (parts_of s.jobs) held → CanBegin (ready s now).jobs held plan
+unfolding planned
+can-begin-ready orders ids apart s now held plan sound ready_sound is shown =
+    let left = ready s now in
+    let waits : All (λ (placed : Placed). Contains (pending_ids left.jobs) placed.id) plan = rw is (plan-waits orders ids left now) in
     record {
       shown = rw (parts-left s.settings.min_job_age now s.jobs (λ k d below. (sound.jobs k d below).parts)) shown;
       awaits = λ k d below. awaited (readied s now) (get_or plan k d) ready_sound (waits k d below);
-      once = rw is (apart base jobs now (ranked-apart (readied s now) now ready_sound));
+      once = rw is (apart (base_of left now) (ranked left now) now (ranked-apart orders left now ready_sound.rising));
     }
 
 shares-same : (one other : Share) → Decides (same_shares one other) (one ≡ other)
@@ -409,10 +434,9 @@ fewer rooms now jobs (placed ∷ later) each =
     lost parts (k, job, inside, is, (here, pending)) = (k, job, inside, is, rw (eq-eqb job.id placed.id here, pending) (omega arith))
 
 -- And only an idle pass does.
-pub unchanged-idle : ((base : BaseView) (ranked : List PlanJob) (now : ℕ) → All (λ (placed : Placed). Contains (map (λ (job : PlanJob). job.id) ranked) placed.id) (plan_of base ranked now))
-    → (s : State) (now : ℕ) → pass_after s now ≡ s → is_idle s now ≡ true
-unfolding is_idle planned
-unchanged-idle ids s now same =
+pub unchanged-idle : OrderLaws → PlanIds → (s : State) (now : ℕ) → pass_after s now ≡ s → is_idle s now ≡ true
+unfolding is_idle
+unchanged-idle orders ids s now same =
     let rooms = map room_of s.nodes in
     let age = s.settings.min_job_age in
     let plan = placements s now in
@@ -420,7 +444,7 @@ unchanged-idle ids s now same =
     let jobs : (outcome s now).jobs ≡ s.jobs = ap (λ (after : State). after.jobs) same in
     let waiting = left-less waits (λ job. 0) (timed_out now) (is_old age now) s.jobs (λ job. grind (arith, nat_tests, running-not_ended job.state)) in
     let running = left-less runs (λ job. cond (is_over now job) 1 0) (timed_out now) (is_old age now) s.jobs (λ job. grind (arith, nat_tests)) in
-    elim (fewer rooms now left.jobs plan (λ k d below. rw (← ranked-ids left now) (ids (base_of left now) (ranked left now) now k d below))) [
+    elim (fewer rooms now left.jobs plan (plan-waits orders ids left now)) [
       | inr less ↦ absurd (omega (arith, less, waiting, ap (sum_by waits) jobs))
       | inl none ↦
           let all : left.jobs ≡ s.jobs = sym (none-start rooms now left.jobs plan none) ∙ jobs in

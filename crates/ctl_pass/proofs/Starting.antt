@@ -3,7 +3,7 @@ use Rattle.std.proofs.lemmas.Bool.Decides.{nat_tests}
 use Rattle.std.proofs.Common.{◌≡◌, ℕ, ◌+◌, ◌≤◌, ◌<◌, Bool, true, cond, eqb, List, length, filter, sum_by, All, AllPairs, refl, arith, inl, inr, ◌≢◌, false, ◌||◌, not, [], ◌∷◌, ◌++◌, map, take, get_or, count_by}
 use Rattle.std.proofs.Common.{zero, suc, ap, sym, ◌∙◌, ◌&&◌, ltb, fold, append_assoc, Contains, Any}
 use Rattle.std.specs.List.{range_with_len, list_any, AllZip}
-use Rattle.std.proofs.lemmas.Bool.{cases_Bool, eqb-true, eqb-false, ne_eqb, and_left, eq-eqb}
+use Rattle.std.proofs.lemmas.Bool.{cases_Bool, eqb-true, eqb-false, ne_eqb, and_left, and_parts, eq-eqb}
 use Rattle.std.proofs.lemmas.List.Sums.{length-filter, fold_push, sum_by-cons, sum_by-le-sum_by, get_or-le-sum_by}
 use Rattle.std.proofs.lemmas.List.FromFn.{length-range_with_len, filter_of_map_range_with_len_more}
 use Rattle.std.proofs.lemmas.List.Elements.{All-filter, All-weaker, filter_passes, All-head, All-tail, All-map, All-take, All-cons, All-nil}
@@ -19,7 +19,9 @@ use Rattle.backfill_planner.specs.declared.Share.{Share}
 use Rattle.node_state.specs.declared.record.NodeRecord.{NodeRecord}
 use Rattle.ctl_state.specs.declared.record.JobRecord.{JobRecord}
 use Rattle.ctl_state.specs.Planning.{room_of}
-use Rattle.ctl_state.specs.Soundness.{IsNode, HaveRisingIds, IsSound, PlansPending, pending_ids}
+use Rattle.ctl_state.specs.Soundness.{IsNode, HaveRisingIds, IsSound, PlansPending, is_up_at, pending_ids}
+use Rattle.node_state.specs.Nodes.{is_up}
+use Rattle.resource_profile.specs.Free.{room_at}
 use Rattle.ctl_pass.specs.HeldIds.{is_held, ShowsParts, AddsParts, part_by}
 use Rattle.ctl_pass.specs.Starting.{part_of, start_of, begun, started, IsAsPlanned, HasStarted}
 use Rattle.backfill_planner.specs.declared.Placed.{Placed}
@@ -286,6 +288,12 @@ parts_for s placed = map (part_of (map room_of s.nodes) s.jobs) placed.parts
 abbrev pub after_start : State → Placed → State
 after_start s placed = record s { jobs = begun s.moment s.jobs (start_of (map room_of s.nodes) s.jobs placed); plan = [] }
 
+-- a node that a plan may use is up
+usable-up : (nodes : List NodeRecord) (node : ℕ) → (room_at (map room_of nodes) node).usable ≡ true → is_up_at nodes node ≡ true
+usable-up [] node usable = usable
+usable-up (one ∷ nodes) zero usable = (and_parts (is_up one.down) (not one.drain) usable).0
+usable-up (one ∷ nodes) (suc node) usable = usable-up nodes node usable
+
 -- they take no more than was planned
 cpus-taken : (s : State) (placed : Placed) (node : ℕ) → sum_by (cpus_in node) (parts_for s placed) ≤ cpus_on node placed
 cpus-taken s placed node =
@@ -298,7 +306,9 @@ unfolding mem_held
 mem-taken s placed node = sum_by-map (mem_in node) (part_of (map room_of s.nodes) s.jobs) placed.parts
 
 -- and a placement with memory for it may take them
-may-take : (s : State) (placed : Placed) → IsReady s placed → ((node : ℕ) → mem_held (parts_of s.jobs) node + mem_on node placed ≤ mem_of (map room_of s.nodes) node) → MayTake (map room_of s.nodes) s.jobs placed.id (parts_for s placed)
+may-take : (s : State) (placed : Placed) → IsReady s placed
+    → ((node : ℕ) → mem_held (parts_of s.jobs) node + mem_on node placed ≤ mem_of (map room_of s.nodes) node)
+    → MayTake s.nodes s.jobs placed.id (parts_for s placed)
 may-take s placed ready fits =
     let rooms = map room_of s.nodes in
     let held = parts_of s.jobs in
@@ -313,6 +323,8 @@ may-take s placed ready fits =
         rising = pairs-take (λ one other. one < other) share.cpus (free_ids rooms held share.node) (free share).0;
         cpus = All-take (λ cpu. cpu < cpus_of rooms share.node) share.cpus (free_ids rooms held share.node) (free share).1;
       });
+      up = All-map (λ (part : Part). is_up_at s.nodes part.node ≡ true) part shares
+          (λ k d below. usable-up s.nodes (get_or shares k d).node (ready.parts.each k d below).usable);
       apart = pairs-map (λ (one other : Part). one.node ≢ other.node) part shares ready.parts.apart;
       unheld = All-map (λ (part : Part). All (λ cpu. times_held held part.node cpu ≡ 0) part.cpus) part shares (λ k d below. let share = get_or shares k d in
           All-take (λ cpu. times_held held share.node cpu ≡ 0) share.cpus (free_ids rooms held share.node) (free share).2);
@@ -349,7 +361,7 @@ module _ (laws : StartLaws) where
       record {
         sound = laws.taking s placed.id more [] can.sound may (no-plan (map (started_as s.moment placed.id more) s.jobs));
         each = λ k d below. let was = rest k d below in
-            let waits = laws.waits s.jobs s.moment placed.id (get_or later k d).id more can.sound.rising was.waits (λ same. apart k d below (sym same)) in
+            let waits = laws.waits s.jobs s.moment placed.id (get_or later k d).id more was.waits (λ same. apart k d below (sym same)) in
             record { waits = waits; last = was.last; some = was.some; parts = was.parts };
         apart = pairs-tail (λ (one other : Placed). one.id ≢ other.id) placed later can.apart;
         cpus = λ node.
@@ -371,11 +383,10 @@ module _ (laws : StartLaws) where
         let sound = sound-started s later (can-later s placed later can after) in
         let first = All-head (IsReady s) placed later can.each in
         let apart = pairs-head (λ (one other : Placed). one.id ≢ other.id) placed later can.apart in
-        let still_waits = started-keeps (λ some. HaveRisingIds some × Contains (pending_ids some) placed.id) rooms s.moment s.jobs later
-        (λ k d below due some parts has. (rising-begun s.moment some (record { id = (get_or later k d).id; parts = parts }) has.0, laws.waits some s.moment (get_or later k d).id placed.id parts has.0 has.1 (apart k d below)))
-        (can.sound.rising, first.waits) in
+        let still_waits = started-keeps (λ some. Contains (pending_ids some) placed.id) rooms s.moment s.jobs later
+        (λ k d below due some parts waits. laws.waits some s.moment (get_or later k d).id placed.id parts waits (apart k d below)) first.waits in
         let planned : PlansPending rest.jobs (placed ∷ rest.stays) = record {
-          pending = All-cons (λ (one : Placed). Contains (pending_ids rest.jobs) one.id) placed rest.stays still_waits.1 sound.plan.pending;
+          pending = All-cons (λ (one : Placed). Contains (pending_ids rest.jobs) one.id) placed rest.stays still_waits sound.plan.pending;
           once = AllPairs-cons (λ (one other : Placed). one.id ≢ other.id) placed rest.stays
               (rw (stays_later rooms s.moment s.jobs later) (All-filter (λ (one : Placed). not (eqb one.start s.moment)) (λ (one : Placed). placed.id ≢ one.id) later apart)) sound.plan.once;
           last = All-cons (λ (one : Placed). one.start ≤ 250002592000) placed rest.stays first.last sound.plan.last;

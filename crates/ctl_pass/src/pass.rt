@@ -12,8 +12,9 @@ ghost use Rattle.ctl_pass.specs.Starting.{begun};
 ghost use Rattle.ctl_pass.specs.SamePlans.{same_plans};
 ghost use Rattle.ctl_pass.specs.Passing;
 
-use crate::base::{base_of, rank};
+use crate::base::base_of;
 use crate::limits::{any_old, count_over, drop_old, time_out};
+use crate::ranking::rank;
 use crate::same_plans::are_same;
 use crate::starts::{JobStart, begin, split};
 use backfill_planner::{Placed, plan};

@@ -1,10 +1,10 @@
 -- A line read from the left gives the words that its definition gives from the right.
-use Rattle.std.proofs.Common.{ℕ, zero, suc, not, Option, Some, None, ◌&&◌, ◌||◌, ◌==◌, if◌then◌else◌, ◌≡◌, ◌+◌, ◌<◌, ◌≤◌, Bool, true, false, List, [], ◌∷◌, ◌++◌, ◌≢◌, length, get_or, drop, map, sym, refl, ap, ◌∙◌, arith}
+use Rattle.std.proofs.Common.{ℕ, zero, suc, not, Option, Some, None, ◌&&◌, ◌||◌, ◌==◌, if◌then◌else◌, ◌≡◌, ◌+◌, ◌<◌, ◌≤◌, Bool, true, false, List, [], ◌∷◌, ◌++◌, ◌≢◌, length, get_or, take, drop, map, sym, refl, ap, ◌∙◌, arith}
 use Rattle.std.specs.List.{list_all, position}
-use Rattle.std.proofs.lemmas.List.{append-nil, append_assoc, at_drop_more, at_drop_all, drop-map, map-append}
+use Rattle.std.proofs.lemmas.List.{append-nil, append_assoc, at_drop_more, at_drop_all, drop-map, map-append, take_all, take_more}
 use Rattle.std.proofs.lemmas.List.Folds.{list_all-append}
 use Rattle.std.proofs.lemmas.Bool.Decides.{nat_tests}
-use Rattle.line_words.specs.Words.{first_bad, first_bad_word, open_place, words_in, earlier, is_word_byte, are_words, is_blank, ends_word, mode_after, written, written_outside, prepend, words_from}
+use Rattle.line_words.specs.Words.{first_bad, first_bad_word, open_place, words_in, earlier, is_word_byte, are_words, is_blank, ends_word, begins_comment, before_comment_from, mode_after, written, written_outside, prepend, words_from}
 use Rattle.line_words.proofs.Positions.{list_all-from_position, position-map}
 use Rattle.line_words.specs.declared.words.Mode.{Mode}
 use Rattle.line_words.specs.declared.words.Mode.TheVariants.{Between, Plain, Escaped, Single, Double, DoubleEscaped}
@@ -60,6 +60,29 @@ split-within ws w mode line i m h = ap (λ (u : List (List ℕ)). ws ++ u) (at_d
   within Single w m = ap (λ (u : List ℕ). u ∷ []) (append-nil w)
   within Double w m = ap (λ (u : List ℕ). u ∷ []) (append-nil w)
   within DoubleEscaped w m = ap (λ (u : List ℕ). u ∷ []) (append-nil w)
+
+-- one byte more of a line before its comment
+pub comment-more : (mode : Mode) (line : List ℕ) (i : ℕ) → i < length line → begins_comment mode (get_or line i 0) ≡ false → take i line ++ before_comment_from mode (drop i line) ≡ take (i + 1) line ++ before_comment_from (mode_after mode (get_or line i 0)) (drop (i + 1) line)
+comment-more mode line i h t =
+    let b : ℕ = get_or line i 0 in
+    let rest : List ℕ = before_comment_from (mode_after mode b) (drop (i + 1) line) in
+    let at : before_comment_from mode (drop i line) ≡ before_comment_from mode (b ∷ drop (i + 1) line) = at_drop_more (λ (u : List ℕ). before_comment_from mode u) line i 0 h in
+    let go : before_comment_from mode (b ∷ drop (i + 1) line) ≡ b ∷ rest = rw t refl in
+    let front : take (i + 1) line ≡ take i line ++ b ∷ [] = take_more line i 0 h in
+    ap (λ (u : List ℕ). take i line ++ u) (at ∙ go) ∙ (sym (append_assoc (take i line) (b ∷ []) rest) ∙ ap (λ (u : List ℕ). u ++ rest) (sym front))
+
+-- where the comment begins
+pub comment-here : (mode : Mode) (line : List ℕ) (i : ℕ) → i < length line → begins_comment mode (get_or line i 0) ≡ true → take i line ++ before_comment_from mode (drop i line) ≡ take i line
+comment-here mode line i h t =
+    let at : before_comment_from mode (drop i line) ≡ before_comment_from mode (get_or line i 0 ∷ drop (i + 1) line) = at_drop_more (λ (u : List ℕ). before_comment_from mode u) line i 0 h in
+    let go : before_comment_from mode (get_or line i 0 ∷ drop (i + 1) line) ≡ [] = rw t refl in
+    ap (λ (u : List ℕ). take i line ++ u) (at ∙ go) ∙ append-nil (take i line)
+
+pub comment-none : (mode : Mode) (line : List ℕ) (i : ℕ) → length line ≤ i → take i line ++ before_comment_from mode (drop i line) ≡ line
+comment-none mode line i h = ap (λ (u : List ℕ). take i line ++ u) (at_drop_all (λ (u : List ℕ). before_comment_from mode u) line i h) ∙ (append-nil (take i line) ∙ take_all i line h)
+
+-- the steps of a line that is read up to its comment
+pub ruleset commenting = (comment-more, comment-here, comment-none)
 
 prepend-good : (bytes : List ℕ) (ws : List (List ℕ)) → list_all is_word_byte bytes ≡ true → are_words ws ≡ true → are_words (prepend bytes ws) ≡ true
 prepend-good bytes [] h k = refl

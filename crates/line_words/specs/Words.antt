@@ -64,6 +64,21 @@ words_from mode (b ∷ text) =
 unfoldable pub words_in : List ℕ → List (List ℕ)
 words_in line = words_from Between line
 
+-- whether a byte begins a comment: a # (35) where a word would begin
+abbrev pub begins_comment : Mode → ℕ → Bool
+begins_comment Between b = b == 35
+begins_comment _ b = false
+
+-- what stands before a comment in what is left of a line
+abbrev pub before_comment_from : Mode → List ℕ → List ℕ
+before_comment_from mode [] = []
+before_comment_from mode (b ∷ text) =
+    if begins_comment mode b then [] else b ∷ before_comment_from (mode_after mode b) text
+
+-- what stands before a comment, which goes on to the line's end
+unfoldable pub before_comment : List ℕ → List ℕ
+before_comment line = before_comment_from Between line
+
 -- whether a byte opens a quote, or is a backslash outside quotes
 abbrev pub opens : Mode → ℕ → Bool
 opens Between b = b == 39 || b == 34 || b == 92

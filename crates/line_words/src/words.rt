@@ -1,8 +1,8 @@
 //! Words of a line.
 
-ghost use Rattle.std.specs.Prelude.{ℕ, ◌≡◌, ◌↔◌, ◌<◌, ◌^◌, ◌∷◌, [], ◌++◌, if◌then◌else◌, length, map, position, not, is_ok, IfOk, IfSome, OnOk, IsErrOf, IsTrue, Some, None, slice_get, option_copied, string_bytes};
+ghost use Rattle.std.specs.Prelude.{ℕ, ◌≡◌, ◌↔◌, ◌<◌, ◌≤◌, ◌^◌, ◌∷◌, [], ◌++◌, if◌then◌else◌, length, map, position, not, is_ok, IfOk, IfSome, OnOk, IsErrOf, IsTrue, Some, None, slice_get, option_copied, string_bytes};
 ghost use Rattle.std.specs.List.{list_all};
-ghost use Rattle.line_words.specs.Words.{mode_after, mode_outside, written, ends_word, opens, may_end, open_place, words_in, first_bad, first_bad_word, quoted, quoted_words, is_word_byte, is_bare, is_bare_byte, double_quoted, are_words};
+ghost use Rattle.line_words.specs.Words.{mode_after, mode_outside, written, ends_word, begins_comment, before_comment, opens, may_end, open_place, words_in, first_bad, first_bad_word, quoted, quoted_words, is_word_byte, is_bare, is_bare_byte, double_quoted, are_words};
 
 use small_texts::memory_error;
 use small_texts::memory_error::Memory;
@@ -168,7 +168,7 @@ fn mode_outside(b: u8) -> Mode
 
 impl Mode {
     ghost use Rattle.std.specs.Prelude.{◌≡◌};
-    ghost use Rattle.line_words.specs.Words.{mode_after, opens, may_end, ends_word};
+    ghost use Rattle.line_words.specs.Words.{mode_after, opens, may_end, ends_word, begins_comment};
 
     fn after(self, b: u8) -> Mode
         ensures { result ≡ mode_after self b }
@@ -206,6 +206,12 @@ impl Mode {
         ensures { result ≡ ends_word self b }
     {
         matches!(self, Mode::Plain) && matches!(b, b' ' | b'\t')
+    }
+
+    fn is_commented_by(self, b: u8) -> bool
+        ensures { result ≡ begins_comment self b }
+    {
+        matches!(self, Mode::Between) && b == b'#'
     }
 }
 
@@ -305,6 +311,22 @@ pub fn split_words(alloc: Global, line: &[u8]) -> Result<Words, WordsRefusal>
             Ok(Words { words })
         }
     }
+}
+
+/// What stands before a comment, which is a `#` outside quotes where a word would begin, and all behind it (own).
+#[tactic(auto, using(crate::proofs::WordLemmas::commenting), unfolding(crate::specs::Words::before_comment))]
+pub fn before_comment(line: &[u8]) -> &[u8]
+    ensures value { result.now ≡ before_comment line.now }
+    ensures size { length result.now ≤ length line.now }
+{
+    let mut mode = Mode::Between;
+    for (place, b) in line.iter().enumerate() {
+        if mode.is_commented_by(*b) {
+            return &line[..place];
+        }
+        mode = mode.after(*b);
+    }
+    line
 }
 
 fn is_word(text: &[u8]) -> bool

@@ -10,7 +10,8 @@ use Rattle.node_state.specs.Nodes.{is_up, change_at, place_named, AreNamedOnce}
 -- What slurm.conf says of each node stays.
 abbrev pub ConfsStay : Type 0
 ConfsStay = (place : ℕ) (change : NodeChange) (nodes : List NodeRecord)
-    → map (λ (node : NodeRecord). node.conf) (change_at place change nodes) ≡ map (λ (node : NodeRecord). node.conf) nodes
+    → map (λ (node : NodeRecord). node.conf) (change_at place change nodes)
+    ≡ map (λ (node : NodeRecord). node.conf) nodes
 
 -- Each name leads where it led.
 abbrev pub PlacesStay : Type 0

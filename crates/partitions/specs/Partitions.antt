@@ -49,7 +49,8 @@ pub record ArePartitions (partitions : List PartRecord) : Type 0 where
   pub some : 1 ≤ length partitions
   pub few : length partitions ≤ 64
   pub once : AllPairs (λ (one other : PartRecord). one.conf.name ≢ other.conf.name) partitions
-  pub one_default : AllPairs (λ (one other : PartRecord). one.conf.is_default ≡ true → other.conf.is_default ≡ false) partitions
+  pub one_default : AllPairs (λ (one other : PartRecord). one.conf.is_default ≡ true → other.conf.is_default ≡ false)
+      partitions
 
 -- a partition's nodes are nodes that there are, each once
 pub record IsOnNodes (count : ℕ) (partition : PartRecord) : Type 0 where

@@ -1,0 +1,14 @@
+-- How faults of words are printed.
+use Rattle.std.specs.Prelude.{ℕ, List, codes}
+use Rattle.option_words.specs.declared.refusal.WordKind.{WordKind}
+use Rattle.option_words.specs.declared.refusal.WordKind.TheVariants.{UnknownCommand, UnknownOption, MissingValue, MissingWord, BadValue, StrayWord, TooLong, NoHashBang}
+
+abbrev pub kind_text : WordKind → List ℕ
+kind_text UnknownCommand = codes "UnknownCommand"
+kind_text UnknownOption = codes "UnknownOption"
+kind_text MissingValue = codes "MissingValue"
+kind_text MissingWord = codes "MissingWord"
+kind_text BadValue = codes "BadValue"
+kind_text StrayWord = codes "StrayWord"
+kind_text TooLong = codes "TooLong"
+kind_text NoHashBang = codes "NoHashBang"
