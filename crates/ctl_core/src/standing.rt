@@ -1,6 +1,6 @@
 //! How the nodes of partitions stand.
 
-ghost use Rattle.std.specs.Prelude.{◌≡◌, ◌++◌, ◌-◌, ◌^◌, ◌<◌, ℕ, List, min, All, IfOk, OnOk, length, option_to_list};
+ghost use Rattle.std.specs.Prelude.{◌≡◌, ◌∷◌, [], ◌++◌, ◌-◌, ◌^◌, ◌<◌, ℕ, List, min, All, IfOk, OnOk, length, slice_get, option_copied, option_to_list};
 ghost use Rattle.ctl_state.specs.declared.record.Part.{Part};
 ghost use Rattle.ctl_state.specs.Holding.{parts_of};
 ghost use Rattle.ctl_state.specs.State.{state_of};
@@ -97,6 +97,7 @@ fn is_group(groups: &[NodeGroup], place: u32, group: NodeGroup) -> bool
 }
 
 // The name of the node at the place, where it stands so.
+#[tactic(auto, unfolding(crate::specs::Standing::names_standing))]
 fn name_standing<'a>(
     cluster: &'a Cluster,
     groups: &[NodeGroup],
@@ -136,12 +137,17 @@ fn names_standing(
 
 // The row of the partition's nodes that stand so, if there are any.
 fn row_by(
+    alloc: Global,
+    cluster: &Cluster,
+    groups: &[NodeGroup],
     partition: &PartRecord,
     group: NodeGroup,
-    names: Vec<Name>,
 ) -> Result<Option<Row>, Memory>
-    ensures { IfOk result (λ row. row ≡ Standing.row_by partition.now group names.items) }
+    requires { GroupsNodes (state_of cluster.now) groups.now }
+    ensures { IfOk result (λ row. row ≡ Standing.row_by partition.now group
+        (Standing.names_standing (state_of cluster.now) group partition.now.nodes)) }
 {
+    let names = names_standing(alloc, cluster, groups, group, partition.nodes.as_slice())?;
     if names.is_empty() {
         return Ok(None);
     }
@@ -168,8 +174,7 @@ fn add_rows(
         ≡ rows.old.items ++ Standing.rows_of_partition (state_of cluster.now) partition.now) }
 {
     for group in GROUPS {
-        let names = names_standing(alloc, cluster, groups, group, partition.nodes.as_slice())?;
-        if let Some(row) = row_by(partition, group, names)? {
+        if let Some(row) = row_by(alloc, cluster, groups, partition, group)? {
             rows.push(row)?;
         }
     }
