@@ -1,6 +1,6 @@
 //! The jobs that a pass can plan, by rank, and what they need.
 
-ghost use Rattle.std.specs.Prelude.{◌≡◌, ◌<◌, All, IfOk, IfSome, OnOk, length, map, filter, filter_map, option_map, slice_get, List, ℕ};
+ghost use Rattle.std.specs.Prelude.{◌≡◌, ◌≤◌, ◌<◌, All, IfOk, IfSome, OnOk, length, map, filter, filter_map, option_map, slice_get, List, ℕ};
 ghost use Rattle.backfill_planner.specs.declared.job.PlanJob.{PlanJob};
 ghost use Rattle.ctl_state.specs.declared.record.JobRecord.{JobRecord};
 ghost use Rattle.ctl_state.specs.Ordered.{ordered_by};
@@ -9,6 +9,7 @@ ghost use Rattle.ctl_state.specs.Soundness.{IsSound};
 ghost use Rattle.ctl_state.specs.State.{state_of};
 ghost use Rattle.partitions.specs.Partitions.{IsOnNodes};
 ghost use Rattle.ctl_pass.specs.declared.ranking.Candidate.{Candidate};
+ghost use Rattle.ctl_pass.specs.Ranking;
 ghost use Rattle.ctl_pass.specs.Ranking.{is_ahead, job_at, StandFor};
 ghost use Rattle.ctl_pass.specs.Readiness;
 
@@ -16,10 +17,11 @@ use crate::reasons::hindrance;
 use backfill_planner::PlanJob;
 use ctl_state::cluster::Cluster;
 use ctl_state::jobs::is_pending;
+use ctl_state::laws::a_stable_sort_makes_the_order;
 use ctl_state::planning::{node_order, plan_job};
 use ctl_state::record::JobRecord;
 use node_state::record::NodeRecord;
-use partitions::partitions::bounds_of;
+use partitions::bounds::bounds_of;
 use partitions::record::PartRecord;
 use slurm_text::items::Items;
 use slurm_text::memory_error::Memory;
@@ -69,6 +71,7 @@ fn candidates_of(alloc: Global, cluster: &Cluster) -> Result<Vec<Candidate>, Mem
 fn sort_by_rank(candidates: &mut Vec<Candidate>) -> Result<(), Memory>
     ensures { OnOk result (candidates.new.items ≡ ordered_by is_ahead candidates.old.items) }
 {
+    a_stable_sort_makes_the_order::<Candidate>();
     candidates.sort_by(|one, other| other.tier.cmp(&one.tier))?;
     Ok(())
 }
@@ -90,6 +93,7 @@ fn node_orders(
 }
 
 // What a job needs in its partition, if it can be had there.
+#[tactic(auto, unfolding(crate::specs::Readiness::needs_of))]
 fn need_of(
     alloc: Global,
     cluster: &Cluster,
@@ -158,19 +162,26 @@ pub(crate) fn rank(alloc: Global, cluster: &Cluster, now: u64) -> Result<Vec<Pla
     needs_of(alloc, cluster, orders.as_slice(), candidates.as_slice())
 }
 
+// The higher in rank of two jobs, each by its tier and its number, where the other one has the higher number.
+fn higher_of(highest: Option<(u64, u32)>, other: (u64, u32)) -> (u64, u32)
+    ensures { result ≡ Ranking.higher_of highest other }
+{
+    match highest {
+        Some(highest) if highest.0 >= other.0 => highest,
+        _ => other,
+    }
+}
+
 /// The number of the candidate that is highest in rank, None where there is no candidate. Linear in the jobs.
 pub fn highest(cluster: &Cluster) -> Option<u32>
     ensures { (now : ℕ) → result
         ≡ option_map (λ (job : JobRecord). job.id) (slice_get (Readiness.candidates (state_of cluster.now) now) 0) }
 {
-    let mut highest: Option<(u64, u32)> = None;
+    let mut highest = None;
     for job in &cluster.jobs {
         if is_candidate(cluster, job) {
-            let tier = tier_of(cluster, job);
-            if highest.is_none_or(|(highest_tier, _)| tier > highest_tier) {
-                highest = Some((tier, job.id));
-            }
+            highest = Some(higher_of(highest, (tier_of(cluster, job), job.id)));
         }
     }
-    highest.map(|(_, id)| id)
+    Some(highest?.1)
 }
