@@ -8,9 +8,8 @@ build-requires-2-clause-of_nodes c = rw (c.into_vec-2.ensures, c.in_ok-nodes.ens
 pub invariant_of-result : goal.invariant_of-result
 invariant_of-result c =
     let view = c.nodes.view_is in
-    let nodes = record { named = rw (← view) at c.records.ensures.named; each = rw (c.records.ensures.value, ← view) at c.nodes_in_range.ensures } in
-    sound-opening _ c.settings_in_range.ensures nodes (rw (← view) at c.in_ok-partitions.ensures.on_nodes)
-    (rw c.records-2.ensures.value at c.partitions_in_range.ensures) c.new.ensures.items c.new-2.ensures.items c.get.ensures.range refl
+    sound-opening _ c.settings_in_range.ensures (record { named = rw (← view) at c.records.ensures.named; each = rw (c.records.ensures.value, ← view) at c.nodes_in_range.ensures })
+    (rw (← view) at c.in_ok-partitions.ensures.on_nodes) (rw c.records-2.ensures.value at c.partitions_in_range.ensures) c.new.ensures.items c.new-2.ensures.items c.get.ensures.range refl
 
 pub returns-clause-sound : goal.returns-clause-sound
 returns-clause-sound c = invariant_of-result c
