@@ -81,7 +81,8 @@ pub sum_by-map : {X Y : Type 0} (f : Y → ℕ) (h : X → Y) (xs : List X) → 
 sum_by-map f h xs = fold-map (λ total y. total + f y) h 0 xs
 
 -- larger sums over the lists that two lists are joined of
-pub joined-larger : {X Y Z : Type 0} (f : Y → ℕ) (g : Z → ℕ) (h : X → List Y) (k : X → List Z) (xs : List X) → All (λ x. sum_by f (h x) ≤ sum_by g (k x)) xs → sum_by f (flat_map h xs) ≤ sum_by g (flat_map k xs)
+pub joined-larger : {X Y Z : Type 0} (f : Y → ℕ) (g : Z → ℕ) (h : X → List Y) (k : X → List Z) (xs : List X) → All (λ x. sum_by f (h x) ≤ sum_by g (k x)) xs
+    → sum_by f (flat_map h xs) ≤ sum_by g (flat_map k xs)
 joined-larger f g h k [] larger = omega arith
 joined-larger f g h k (x ∷ xs) larger =
     let least : _ → Type 0 = λ y. sum_by f (h y) ≤ sum_by g (k y) in
@@ -110,25 +111,30 @@ range-within x low (suc count) above below =
     grind (arith, nat_tests, first, range-before x (low + 1) count, range-within x (low + 1) count)
 
 -- the numbers below the bound that stand in a rising list are as many as it has, where all its numbers are below the bound
-pub range-rising : (xs : List ℕ) (bound : ℕ) → AllPairs (λ one other. one < other) xs → All (λ x. x < bound) xs → sum_by (λ number. cond (list_any (λ x. eqb x number) xs) 1 0) (range_with_len 0 bound) ≡ length xs
+pub range-rising : (xs : List ℕ) (bound : ℕ) → AllPairs (λ one other. one < other) xs → All (λ x. x < bound) xs
+    → sum_by (λ number. cond (list_any (λ x. eqb x number) xs) 1 0) (range_with_len 0 bound) ≡ length xs
 range-rising [] bound rising below = sum_by-none (λ number. 0) (range_with_len 0 bound) (λ k d inside. refl)
 range-rising (x ∷ xs) bound rising below =
     let rest = range-rising xs bound (pairs-tail (λ one other. one < other) x xs rising) (All-tail (λ y. y < bound) x xs below) in
     let first = range-within x 0 bound (omega arith) (omega (arith, All-head (λ y. y < bound) x xs below)) in
     let split = sum_by-add (λ number. cond (eqb x number) 1 0) (λ number. cond (list_any (λ y. eqb y number) xs) 1 0) (range_with_len 0 bound) in
     let above = pairs-head (λ one other. one < other) x xs rising in
-    let each = sum_by-same (λ number. cond (list_any (λ y. eqb y number) (x ∷ xs)) 1 0) (λ number. cond (eqb x number) 1 0 + cond (list_any (λ y. eqb y number) xs) 1 0) (range_with_len 0 bound) (λ i e within.
+    let each = sum_by-same (λ number. cond (list_any (λ y. eqb y number) (x ∷ xs)) 1 0) (λ number. cond (eqb x number) 1 0 + cond (list_any (λ y. eqb y number) xs) 1 0)
+    (range_with_len 0 bound) (λ i e within.
     let number = get_or (range_with_len 0 bound) i e in
-    let none : x ≡ number → list_any (λ y. eqb y number) xs ≡ false = λ is. list_any_none (λ y. eqb y number) xs (λ k d inside. ne_eqb (get_or xs k d) number (λ same. omega (arith, above k d inside, is, same))) in
+    let none : x ≡ number → list_any (λ y. eqb y number) xs ≡ false = λ is.
+    list_any_none (λ y. eqb y number) xs (λ k d inside. ne_eqb (get_or xs k d) number (λ same. omega (arith, above k d inside, is, same))) in
     grind (arith, nat_tests, none)) in
     omega (arith, rest, first, split, each)
 
 -- a list whose numbers rise from one bound to another isn't longer than that
-pub length-rising : {X : Type 0} (f : X → ℕ) (low high : ℕ) (xs : List X) → low ≤ high → AllPairs (λ one other. f one < f other) xs → All (λ x. low ≤ f x) xs → All (λ x. f x < high) xs → length xs + low ≤ high
+pub length-rising : {X : Type 0} (f : X → ℕ) (low high : ℕ) (xs : List X) → low ≤ high → AllPairs (λ one other. f one < f other) xs → All (λ x. low ≤ f x) xs
+    → All (λ x. f x < high) xs → length xs + low ≤ high
 length-rising f low high [] le rising above below = omega arith
 length-rising f low high (x ∷ xs) le rising above below =
     let first = All-head (λ y. f y < high) x xs below in
-    let rest = length-rising f (f x + 1) high xs (omega arith) (pairs-tail (λ one other. f one < f other) x xs rising) (λ k d within. omega (arith, pairs-head (λ one other. f one < f other) x xs rising k d within)) (All-tail (λ y. f y < high) x xs below) in
+    let rest = length-rising f (f x + 1) high xs (omega arith) (pairs-tail (λ one other. f one < f other) x xs rising)
+    (λ k d within. omega (arith, pairs-head (λ one other. f one < f other) x xs rising k d within)) (All-tail (λ y. f y < high) x xs below) in
     omega (arith, All-head (λ y. low ≤ f y) x xs above)
 
 -- lists of one length compared pair by pair
@@ -162,7 +168,8 @@ filter-same p q [] same = refl
 filter-same p q (x ∷ xs) same = rw (All-head (λ y. p y ≡ q y) x xs same, filter-same p q xs (All-tail (λ y. p y ≡ q y) x xs same)) refl
 
 -- a change of the one element with a number, among numbers that rise
-pub set-one : {X : Type 0} (f : X → ℕ) (change : X → X) (number place : ℕ) (x : X) (xs : List X) → AllPairs (λ one other. f one < f other) xs → place < length xs → HoldsAt (λ y. f y ≡ number) xs place → x ≡ get_or xs place x
+pub set-one : {X : Type 0} (f : X → ℕ) (change : X → X) (number place : ℕ) (x : X) (xs : List X) → AllPairs (λ one other. f one < f other) xs → place < length xs
+    → HoldsAt (λ y. f y ≡ number) xs place → x ≡ get_or xs place x
     → set xs place (change x) ≡ map (λ y. cond (eqb (f y) number) (change y) y) xs
 set-one f change number place x xs rising within found is =
     same_lists (set xs place (change x)) (map (λ y. cond (eqb (f y) number) (change y) y) xs) (omega (arith, length-set xs place (change x), length-map xs (λ y. cond (eqb (f y) number) (change y) y)))

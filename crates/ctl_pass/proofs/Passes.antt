@@ -64,7 +64,8 @@ pub record ReadyLaws : Type 0 where
   pub later : KeptLater
 
 -- what the limit makes of a job: it was running where it is over
-pub by_limit : (P : JobRecord → Type 0) (now : ℕ) (job : JobRecord) → (is_over now job ≡ true → is_running job.state ≡ true → P (record job { state = Completing Timeout; ended = Some now; exit = None })) → (is_over now job ≡ false → P job)
+pub by_limit : (P : JobRecord → Type 0) (now : ℕ) (job : JobRecord)
+    → (is_over now job ≡ true → is_running job.state ≡ true → P (record job { state = Completing Timeout; ended = Some now; exit = None })) → (is_over now job ≡ false → P job)
     → P (timed_out now job)
 by_limit P now job ends stays =
     cond_both (is_over now job) (changed (Leave Timeout now None) job) job P
@@ -123,7 +124,8 @@ pub left-more : (age now i : ℕ) (jobs : List JobRecord) (job : JobRecord) → 
 left-more age now i jobs job within is =
     let keep : JobRecord → Bool = λ one. not (is_old age now one) in
     let before = map (timed_out now) (take i jobs) in
-    rw (take_more jobs i job within, ← is, map-append (timed_out now) (take i jobs) (job ∷ []), filter-append keep before (timed_out now job ∷ []), flat_map-append (holds_of_job now) (filter keep before) (filter keep (timed_out now job ∷ [])))
+    let joined = flat_map-append (holds_of_job now) (filter keep before) (filter keep (timed_out now job ∷ [])) in
+    rw (take_more jobs i job within, ← is, map-append (timed_out now) (take i jobs) (job ∷ []), filter-append keep before (timed_out now job ∷ []), joined)
     (grind (arith, nat_tests, timed_out-old age now job, timed_out-holds now job, append-nil (holds_of_job now job)))
 
 -- those that wait are the same
@@ -200,11 +202,13 @@ hold_end-later : (now : ℕ) (job : JobRecord) → now < hold_end now job
 hold_end-later now job = grind (arith, nat_tests)
 
 -- at no moment more is held of a node than the parts have
-held-most : (counted : ℕ → ℕ → ℕ) (node moment now : ℕ) (jobs : List JobRecord) → sum_by (hold_has counted node moment) (flat_map (holds_of_job now) jobs) ≤ sum_by (part_has counted node) (parts_of jobs)
+held-most : (counted : ℕ → ℕ → ℕ) (node moment now : ℕ) (jobs : List JobRecord)
+    → sum_by (hold_has counted node moment) (flat_map (holds_of_job now) jobs) ≤ sum_by (part_has counted node) (parts_of jobs)
 held-most counted node moment now jobs =
     joined-larger (hold_has counted node moment) (part_has counted node) (holds_of_job now) (λ (job : JobRecord). job.parts) jobs
     (λ k d below. let job = get_or jobs k d in
-    omega (arith, sum_by-map (hold_has counted node moment) (hold_of now job) job.parts, sum_by-larger (λ part. hold_has counted node moment (hold_of now job part)) (part_has counted node) job.parts (λ i part inside. grind (arith, nat_tests))))
+    let each = sum_by-larger (λ part. hold_has counted node moment (hold_of now job part)) (part_has counted node) job.parts (λ i part inside. grind (arith, nat_tests)) in
+    omega (arith, sum_by-map (hold_has counted node moment) (hold_of now job) job.parts, each))
 
 -- and at this moment no less
 held-now : (counted : ℕ → ℕ → ℕ) (node now : ℕ) (jobs : List JobRecord) → All (λ (job : JobRecord). unwrap_or job.started 0 ≤ now) jobs
@@ -212,7 +216,9 @@ held-now : (counted : ℕ → ℕ → ℕ) (node now : ℕ) (jobs : List JobReco
 held-now counted node now jobs started =
     joined-larger (part_has counted node) (hold_has counted node now) (λ (job : JobRecord). job.parts) (holds_of_job now) jobs
     (λ k d below. let job = get_or jobs k d in
-    omega (arith, sum_by-map (hold_has counted node now) (hold_of now job) job.parts, sum_by-larger (part_has counted node) (λ part. hold_has counted node now (hold_of now job part)) job.parts (λ i part inside. grind (arith, nat_tests, started k d below, hold_end-later now job))))
+    let each = sum_by-larger (part_has counted node) (λ part. hold_has counted node now (hold_of now job part)) job.parts
+    (λ i part inside. grind (arith, nat_tests, started k d below, hold_end-later now job)) in
+    omega (arith, sum_by-map (hold_has counted node now) (hold_of now job) job.parts, each))
 
 -- all that is held is within the nodes
 pub base-within : (s : State) → IsSound s → AreWithin (map room_of s.nodes) (flat_map (holds_of_job s.moment) s.jobs)
@@ -222,10 +228,13 @@ base-within s sound =
     let parts = parts_of s.jobs in
     record {
       nodes = All-joins (λ (hold : Hold). hold.node < length rooms) (holds_of_job s.moment) s.jobs (λ k d below. let job = get_or s.jobs k d in
-          All-map (λ (hold : Hold). hold.node < length rooms) (hold_of s.moment job) job.parts (λ i part inside. (All-joined (IsPartOf rooms) (λ (one : JobRecord). one.parts) s.jobs sound.held.each k d below i part inside).node));
+          All-map (λ (hold : Hold). hold.node < length rooms) (hold_of s.moment job) job.parts
+          (λ i part inside. (All-joined (IsPartOf rooms) (λ (one : JobRecord). one.parts) s.jobs sound.held.each k d below i part inside).node));
       windows = All-joins (λ (hold : Hold). hold.from < hold.until) (holds_of_job s.moment) s.jobs (λ k d below. let job = get_or s.jobs k d in
           All-map (λ (hold : Hold). hold.from < hold.until) (hold_of s.moment job) job.parts (λ i part inside. omega (arith, (sound.jobs k d below).run.start_passed, hold_end-later s.moment job)));
-      cpus = λ node moment. omega (arith, held-most (λ cpus mem. cpus) node moment s.moment s.jobs, held-counted rooms parts node sound.held.each, free-counted rooms parts node (sound.held.once node));
+      cpus = λ node moment.
+          let free = free-counted rooms parts node (sound.held.once node) in
+          omega (arith, held-most (λ cpus mem. cpus) node moment s.moment s.jobs, held-counted rooms parts node sound.held.each, free);
       mem = λ node moment. omega (arith, held-most (λ cpus mem. mem) node moment s.moment s.jobs, sound.held.mem node);
     }
 
@@ -303,7 +312,8 @@ ranked_is s now =
     candidates-wait s jobs ∙ ap (filter (λ job. is_none (hindrance s job))) (pending-left s.settings.min_job_age now s.jobs) ∙ sym (candidates-wait s s.jobs) in
     ap (λ some. filter_map (needs_of s) (ordered_by (is_higher s) some)) same
 
-pub plan-is : (s : State) (now : ℕ) (made : PlannedView) (base : BaseView) (jobs : List PlanJob) → made ≡ record { base = base; ranked = jobs; moment = now } → base ≡ base_of (ready s now) now → jobs ≡ ranked (ready s now) now
+pub plan-is : (s : State) (now : ℕ) (made : PlannedView) (base : BaseView) (jobs : List PlanJob) → made ≡ record { base = base; ranked = jobs; moment = now }
+    → base ≡ base_of (ready s now) now → jobs ≡ ranked (ready s now) now
     → plan_of made.base made.ranked made.moment ≡ placements s now
 unfolding planned
 plan-is s now made base jobs is base_is jobs_are = ap (λ (one : PlannedView). plan_of one.base one.ranked one.moment) is ∙ rw (base_is, jobs_are) refl
@@ -330,7 +340,8 @@ awaited s placed sound waits = from (Any-kept (λ (job : JobRecord). job.id) (λ
           let it : get_or s.jobs k d ≡ job = get_or_default s.jobs k d job inside ∙ is in
           elim (cases_order j k) [
             | inl equal ↦
-                no_parts (get_or s.jobs j d) (sound.jobs j d below).parts (pending-holds_not (get_or s.jobs j d).state (ap (λ place. is_pending (get_or s.jobs place d).state) equal ∙ ap (λ (other : JobRecord). is_pending other.state) it ∙ pending))
+                no_parts (get_or s.jobs j d) (sound.jobs j d below).parts
+                (pending-holds_not (get_or s.jobs j d).state (ap (λ place. is_pending (get_or s.jobs place d).state) equal ∙ ap (λ (other : JobRecord). is_pending other.state) it ∙ pending))
             | inr (inl before) ↦ absurd (omega (arith, sound.rising j k d before inside, same, here, ap (λ (one : JobRecord). one.id) it))
             | inr (inr after) ↦ absurd (omega (arith, sound.rising k j d after below, same, here, ap (λ (one : JobRecord). one.id) it))
           ];
@@ -366,12 +377,14 @@ pub plans-same : (one other : List Placed) → Decides (same_plans one other) (o
 plans-same one other = slice_eq-Decides placements-same one other (same_plans one other) refl
 
 -- where no limit is reached and no record is dropped, the jobs stay
-ready-same : (age now : ℕ) (jobs : List JobRecord) → count_by (is_over now) jobs ≡ 0 → length (those_left (timed_out now) (is_old age now) jobs) ≡ length jobs → those_left (timed_out now) (is_old age now) jobs ≡ jobs
+ready-same : (age now : ℕ) (jobs : List JobRecord) → count_by (is_over now) jobs ≡ 0 → length (those_left (timed_out now) (is_old age now) jobs) ≡ length jobs
+    → those_left (timed_out now) (is_old age now) jobs ≡ jobs
 ready-same age now [] none all = refl
 ready-same age now (job ∷ jobs) none all =
     let stays : JobRecord → Bool = λ one. not (is_old age now one) in
     let changed = map (timed_out now) jobs in
-    grind (arith, nat_tests, ready-same age now jobs, sum_by-cons (λ one. cond (is_over now one) 1 0) job jobs, length-filter stays changed, count_by-le-length stays changed, length-map jobs (timed_out now))
+    let over = sum_by-cons (λ one. cond (is_over now one) 1 0) job jobs in
+    grind (arith, nat_tests, ready-same age now jobs, over, length-filter stays changed, count_by-le-length stays changed, length-map jobs (timed_out now))
 
 -- where none starts, they stay too
 none-start : (rooms : List NodeRoom) (now : ℕ) (jobs : List JobRecord) (plan : List Placed) → length (started rooms now jobs plan).starts ≡ 0 → (started rooms now jobs plan).jobs ≡ jobs
@@ -383,7 +396,9 @@ none-start rooms now jobs (placed ∷ later) none = grind (arith, nat_tests, non
 pub idle-unchanged : (s : State) (now : ℕ) → is_idle s now ≡ true → pass_after s now ≡ s
 unfolding is_idle
 idle-unchanged s now idle =
-    let same : ((outcome s now).jobs ≡ s.jobs) × ((outcome s now).stays ≡ s.plan) = grind (arith, nat_tests, none-start (map room_of s.nodes) now (ready s now).jobs (placements s now), ready-same s.settings.min_job_age now s.jobs, (plans-same (outcome s now).stays s.plan).0) in
+    let none = none-start (map room_of s.nodes) now (ready s now).jobs (placements s now) in
+    let same : ((outcome s now).jobs ≡ s.jobs) × ((outcome s now).stays ≡ s.plan) =
+    grind (arith, nat_tests, none, ready-same s.settings.min_job_age now s.jobs, (plans-same (outcome s now).stays s.plan).0) in
     rw (same.0, same.1) refl
 
 -- one for a job that waits, or that runs
@@ -402,7 +417,8 @@ left-less amount lost change goes (job ∷ jobs) less =
 
 -- a start leaves no more that wait, and fewer where its job waited
 waits-begun : (now id : ℕ) (parts : List Part) (jobs : List JobRecord) → sum_by waits (map (started_as now id parts) jobs) ≤ sum_by waits jobs
-waits-begun now id parts jobs = omega (arith, sum_by-map waits (started_as now id parts) jobs, sum_by-le-sum_by (λ job. waits (started_as now id parts job)) waits jobs (λ job. grind (arith, nat_tests)))
+waits-begun now id parts jobs =
+    omega (arith, sum_by-map waits (started_as now id parts) jobs, sum_by-le-sum_by (λ job. waits (started_as now id parts job)) waits jobs (λ job. grind (arith, nat_tests)))
 
 fewer : (rooms : List NodeRoom) (now : ℕ) (jobs : List JobRecord) (plan : List Placed) → All (λ (placed : Placed). Contains (pending_ids jobs) placed.id) plan
     → (length (started rooms now jobs plan).starts ≡ 0) ⊎ (sum_by waits (started rooms now jobs plan).jobs < sum_by waits jobs)
@@ -415,7 +431,8 @@ fewer rooms now jobs (placed ∷ later) each =
     let one = Any-kept (λ (job : JobRecord). job.id) (λ (job : JobRecord). is_pending job.state) placed.id jobs (All-head named placed later each) in
     let less = sum_by-more (λ job. waits (change job)) waits jobs (λ job. grind (arith, nat_tests)) (lost start.parts one) in
     let begun_jobs = begun now jobs start in
-    let most = started-keeps (λ some. sum_by waits some ≤ sum_by waits begun_jobs) rooms now begun_jobs later (λ k d below due some parts few. omega (arith, few, waits-begun now (get_or later k d).id parts some)) (omega arith) in
+    let most = started-keeps (λ some. sum_by waits some ≤ sum_by waits begun_jobs) rooms now begun_jobs later
+    (λ k d below due some parts few. omega (arith, few, waits-begun now (get_or later k d).id parts some)) (omega arith) in
     elim (cases_Bool (eqb placed.start now)) [
       | inr after ↦ rw after (fewer rooms now jobs later (All-tail named placed later each))
       | inl due ↦ rw due (inr (omega (arith, most, sum_by-map waits change jobs, less)))
@@ -453,5 +470,6 @@ origins s now =
     (λ job is. by_limit Origin now job (λ over running runs. absurd (both_ways false refl runs)) (λ within runs. inl is)) s.jobs (All-contains_itself s.jobs) in
     started-keeps (All Origin) (map room_of s.nodes) now (ready s now).jobs plan
     (λ k d below due some parts each. let placed = get_or plan k d in All-map Origin (started_as now placed.id parts) some (All-weaker Origin (λ job. Origin (started_as now placed.id parts job))
-    (λ job has. cond_both (eqb job.id placed.id) (changed (Start now parts) job) job Origin (λ same runs. inr (k, placed, below, get_or_default plan k placed d below, (sym (eqb-true job.id placed.id same), due))) (λ other. has)) some each))
+    (λ job has. cond_both (eqb job.id placed.id) (changed (Start now parts) job) job Origin
+    (λ same runs. inr (k, placed, below, get_or_default plan k placed d below, (sym (eqb-true job.id placed.id same), due))) (λ other. has)) some each))
     (All-filter (λ job. not (is_old s.settings.min_job_age now job)) Origin (map (timed_out now) s.jobs) (All-map Origin (timed_out now) s.jobs ran))

@@ -157,7 +157,8 @@ unfolding ranked candidates
 ranked-all moves P s now each =
     let chosen = filter (is_candidate s) s.jobs in
     let needs : JobRecord → Type 0 = λ job. IfSome (needs_of s job) P in
-    let all : All needs chosen = rw (candidates-wait s s.jobs) (All-filter (λ job. is_none (hindrance s job)) needs (waiting s.jobs) (λ k d below. needs-all P s (get_or (waiting s.jobs) k d) (each k d below))) in
+    let all : All needs chosen = rw (candidates-wait s s.jobs)
+    (All-filter (λ job. is_none (hindrance s job)) needs (waiting s.jobs) (λ k d below. needs-all P s (get_or (waiting s.jobs) k d) (each k d below))) in
     filter_map-all P (needs_of s) (ordered_by (is_higher s) chosen) (All-permutation needs chosen (ordered_by (is_higher s) chosen) (moves (is_higher s) chosen) all)
 
 -- they are of jobs that wait

@@ -58,10 +58,12 @@ pub held-grown : (rooms : List NodeRoom) (before more after : List Part) (node :
 unfolding cpus_held
 held-grown rooms before more after node grows =
     let cpus = range_with_len 0 (cpus_of rooms node) in
-    omega (arith, sum_by-same (λ cpu. times_held after node cpu) (λ cpu. times_held before node cpu + times_held more node cpu) cpus (λ k d below. grows _), sum_by-add (λ cpu. times_held before node cpu) (λ cpu. times_held more node cpu) cpus)
+    let split = sum_by-add (λ cpu. times_held before node cpu) (λ cpu. times_held more node cpu) cpus in
+    omega (arith, sum_by-same (λ cpu. times_held after node cpu) (λ cpu. times_held before node cpu + times_held more node cpu) cpus (λ k d below. grows _), split)
 
 -- each processor of a node is free or in a part
-pub free-counted : (rooms : List NodeRoom) (parts : List Part) (node : ℕ) → ((cpu : ℕ) → times_held parts node cpu ≤ 1) → length (free_ids rooms parts node) + cpus_held rooms parts node ≡ cpus_of rooms node
+pub free-counted : (rooms : List NodeRoom) (parts : List Part) (node : ℕ) → ((cpu : ℕ) → times_held parts node cpu ≤ 1)
+    → length (free_ids rooms parts node) + cpus_held rooms parts node ≡ cpus_of rooms node
 unfolding cpus_held free_ids
 free-counted rooms parts node once =
     let cpus = range_with_len 0 (cpus_of rooms node) in
@@ -72,7 +74,8 @@ free-counted rooms parts node once =
 
 -- the free processors rise, are the node's, and stand in no part
 pub free-are : (rooms : List NodeRoom) (parts : List Part) (node : ℕ)
-    → AllPairs (λ one other. one < other) (free_ids rooms parts node) × All (λ cpu. cpu < cpus_of rooms node) (free_ids rooms parts node) × All (λ cpu. times_held parts node cpu ≡ 0) (free_ids rooms parts node)
+    → AllPairs (λ one other. one < other) (free_ids rooms parts node) × All (λ cpu. cpu < cpus_of rooms node) (free_ids rooms parts node)
+    × All (λ cpu. times_held parts node cpu ≡ 0) (free_ids rooms parts node)
 unfolding free_ids
 free-are rooms parts node =
     let cpus = range_with_len 0 (cpus_of rooms node) in
@@ -94,18 +97,21 @@ hold-more before held part n cpu room small within is adds = record {
       let so_far = take n part.cpus in
       let at = part.node * 1024 + cpu in
       let more : take (n + 1) part.cpus ≡ so_far ++ cpu ∷ [] = take_more part.cpus n cpu within ∙ ap (λ one. so_far ++ one ∷ []) (sym is) in
-      let any : list_any (λ id. eqb id other) (take (n + 1) part.cpus) ≡ (list_any (λ id. eqb id other) so_far || eqb cpu other) = grind (arith, nat_tests, ap (list_any (λ id. eqb id other)) more, list_any-append (λ id. eqb id other) so_far (cpu ∷ [])) in
+      let any : list_any (λ id. eqb id other) (take (n + 1) part.cpus) ≡ (list_any (λ id. eqb id other) so_far || eqb cpu other) =
+      grind (arith, nat_tests, ap (list_any (λ id. eqb id other)) more, list_any-append (λ id. eqb id other) so_far (cpu ∷ [])) in
       grind (arith, nat_tests, any, adds.bits node other short, get_or-set_same held at true false (omega (arith, room, small)), get_or-set_other held at (node * 1024 + other) true false);
 }
 
 passing-more : (p : ℕ → Bool) (n : ℕ) → filter p (range_with_len 0 (n + 1)) ≡ filter p (range_with_len 0 n) ++ cond (p n) (n ∷ []) []
 passing-more p n = simp map-id at (filter_of_map_range_with_len_more p (λ (k : ℕ). k) 0 n n (omega arith))
 
-pub lowest-next : (p : ℕ → Bool) (count n : ℕ) (ids : List ℕ) → ids ≡ take count (filter p (range_with_len 0 n)) → take count (filter p (range_with_len 0 (n + 1))) ≡ cond (p n && ltb (length ids) count) (ids ++ n ∷ []) ids
+pub lowest-next : (p : ℕ → Bool) (count n : ℕ) (ids : List ℕ) → ids ≡ take count (filter p (range_with_len 0 n))
+    → take count (filter p (range_with_len 0 (n + 1))) ≡ cond (p n && ltb (length ids) count) (ids ++ n ∷ []) ids
 lowest-next p count n ids is =
     let found = filter p (range_with_len 0 n) in
     let most : length (found ++ n ∷ []) ≡ length found + 1 = omega (arith, length-append found (n ∷ [])) in
-    rw (passing-more p n) (grind (arith, nat_tests, most, ap length is, take_all count found, take_all count (found ++ n ∷ []), take-append-le count found (n ∷ []), length-take count found, append-nil found))
+    let whole = take_all count (found ++ n ∷ []) in
+    rw (passing-more p n) (grind (arith, nat_tests, most, ap length is, take_all count found, whole, take-append-le count found (n ∷ []), length-take count found, append-nil found))
 
 -- they rise, and are below any bound of the range
 pub lowest-rise : (p : ℕ → Bool) (count n : ℕ) → AllPairs (λ one other. one < other) (take count (filter p (range_with_len 0 n)))
@@ -130,14 +136,16 @@ same-cpus p q count few same =
 
 -- parts on other nodes change nothing of what a share becomes
 pub part-elsewhere : (rooms : List NodeRoom) (before held : List Bool) (shares : List Share) (i : ℕ) (share : Share) → i < length shares → share ≡ get_or shares i share
-    → AllPairs (λ (one other : Share). one.node ≢ other.node) shares → cpus_of rooms share.node ≤ 1024 → AddsParts before (map (part_by rooms before) (take i shares)) held → part_by rooms held share ≡ part_by rooms before share
+    → AllPairs (λ (one other : Share). one.node ≢ other.node) shares → cpus_of rooms share.node ≤ 1024 → AddsParts before (map (part_by rooms before) (take i shares)) held
+    → part_by rooms held share ≡ part_by rooms before share
 part-elsewhere rooms before held shares i share within is apart few adds =
     let node = share.node in
     let off : All (λ (one : Share). one.node ≢ node) (take i shares) = λ k d below.
     let low : k < i = omega (arith, below, length-take i shares) in
     rw (get_or-take i shares k d low) (λ same. rw (← is) at (rw (get_or_default shares i d share within) at (apart k i d low within)) same) in
     let none = λ (cpu : ℕ). list_any_none (has_cpu node cpu) (map (part_by rooms before) (take i shares)) (All-map (λ part. has_cpu node cpu part ≡ false) (part_by rooms before) (take i shares)
-    (λ k d below. and_left (eqb (get_or (take i shares) k d).node node) (list_any (λ id. eqb id cpu) (part_by rooms before (get_or (take i shares) k d)).cpus) (ne_eqb (get_or (take i shares) k d).node node (off k d below)))) in
+    (λ k d below. and_left (eqb (get_or (take i shares) k d).node node) (list_any (λ id. eqb id cpu) (part_by rooms before (get_or (take i shares) k d)).cpus)
+    (ne_eqb (get_or (take i shares) k d).node node (off k d below)))) in
     let same = same-cpus (λ cpu. not (is_held held node cpu)) (λ cpu. not (is_held before node cpu)) (cpus_of rooms node) few (λ cpu short. grind (arith, adds.bits node cpu short, none cpu)) in
     rw same refl
 
@@ -147,7 +155,8 @@ count-none p [] = refl
 count-none p (x ∷ xs) = grind (arith, nat_tests, count-none p xs, length-filter p xs, length-filter p (x ∷ xs))
 
 -- what is free by bits that show the jobs' parts is what is free beside the jobs
-pub part-shown : (rooms : List NodeRoom) (jobs : List JobRecord) (held : List Bool) (share : Share) → cpus_of rooms share.node ≤ 1024 → ShowsParts (parts_of jobs) held → part_by rooms held share ≡ part_of rooms jobs share
+pub part-shown : (rooms : List NodeRoom) (jobs : List JobRecord) (held : List Bool) (share : Share) → cpus_of rooms share.node ≤ 1024 → ShowsParts (parts_of jobs) held
+    → part_by rooms held share ≡ part_of rooms jobs share
 unfolding free_ids times_held
 part-shown rooms jobs held share few shows =
     let same = same-cpus (λ cpu. not (is_held held share.node cpu)) (λ cpu. eqb (count_by (has_cpu share.node cpu) (parts_of jobs)) 0) (cpus_of rooms share.node) few
@@ -171,7 +180,8 @@ any-started p now id parts [] empty = refl
 any-started p now id parts (job ∷ jobs) empty =
     let none : JobRecord → Type 0 = λ one. one.id ≡ id → one.parts ≡ [] in
     let later = parts_of (map (started_as now id parts) jobs) in
-    grind (arith, nat_tests, any-started p now id parts jobs (All-tail none job jobs empty), All-head none job jobs empty, list_any-append p parts later, list_any-append p job.parts later, list_any-append p job.parts (parts_of jobs))
+    let rest = any-started p now id parts jobs (All-tail none job jobs empty) in
+    grind (arith, nat_tests, rest, All-head none job jobs empty, list_any-append p parts later, list_any-append p job.parts later, list_any-append p job.parts (parts_of jobs))
 
 -- another placement's job is still there, and holds nothing
 awaits-on : (now : ℕ) (jobs : List JobRecord) (start : JobStart) (placed : Placed) → start.id ≢ placed.id → Awaits jobs placed → Awaits (begun now jobs start) placed
@@ -191,7 +201,8 @@ pub can-begin : (now : ℕ) (nodes : List NodeRecord) (jobs : List JobRecord) (b
     → (start ≡ start_of (map room_of nodes) jobs placed) × CanBegin (begun now jobs start) after later
 can-begin now nodes jobs before after placed later start each can is adds =
     let rooms = map room_of nodes in
-    let parts = map-same (part_by rooms before) (part_of rooms jobs) placed.parts (λ k d below. part-shown rooms jobs before (get_or placed.parts k d) (few-cpus nodes (get_or placed.parts k d).node each) can.shown) in
+    let parts = map-same (part_by rooms before) (part_of rooms jobs) placed.parts
+    (λ k d below. part-shown rooms jobs before (get_or placed.parts k d) (few-cpus nodes (get_or placed.parts k d).node each) can.shown) in
     let id : start.id ≡ placed.id = ap (λ (one : JobStart). one.id) is in
     let first = All-head (Awaits jobs) placed later can.awaits in
     let empty : All (λ (job : JobRecord). job.id ≡ start.id → job.parts ≡ []) jobs = rw id first.empty in
@@ -210,7 +221,8 @@ pub record AreFirst (now : ℕ) (nodes : List NodeRecord) (jobs : List JobRecord
   pub can : CanBegin (fold (begun now) jobs starts) held placements
   pub whole : starts ++ (started (map room_of nodes) now (fold (begun now) jobs starts) placements).starts ≡ all
 
-pub first-begun : (now : ℕ) (nodes : List NodeRecord) (jobs : List JobRecord) (before after : List Bool) (placed : Placed) (later : List Placed) (starts all : List JobStart) (start : JobStart) → All IsNode nodes → placed.start ≡ now
+pub first-begun : (now : ℕ) (nodes : List NodeRecord) (jobs : List JobRecord) (before after : List Bool) (placed : Placed) (later : List Placed) (starts all : List JobStart) (start : JobStart)
+    → All IsNode nodes → placed.start ≡ now
     → start ≡ record { id = placed.id; parts = map (part_by (map room_of nodes) before) placed.parts } → AddsParts before start.parts after
     → AreFirst now nodes jobs before (placed ∷ later) starts all → AreFirst now nodes jobs after later (starts ++ start ∷ []) all
 unfolding started
@@ -221,35 +233,44 @@ first-begun now nodes jobs before after placed later starts all start each due i
     let opened : (started rooms now middle (placed ∷ later)).starts ≡ start ∷ (started rooms now (begun now middle start) later).starts =
     rw (eq-eqb placed.start now due) (ap (λ (one : JobStart). one ∷ (started rooms now (begun now middle one) later).starts) (sym step.0)) in
     let jobs_are = fold_push (begun now) jobs starts start in
-    record { can = rw jobs_are step.1; whole = rw jobs_are (append_assoc starts (start ∷ []) (started rooms now (begun now middle start) later).starts ∙ ap (λ rest. starts ++ rest) (sym opened) ∙ so_far.whole) }
+    let whole = append_assoc starts (start ∷ []) (started rooms now (begun now middle start) later).starts ∙ ap (λ rest. starts ++ rest) (sym opened) ∙ so_far.whole in
+    record { can = rw jobs_are step.1; whole = rw jobs_are whole }
 
 pub first-passed : (now : ℕ) (nodes : List NodeRecord) (jobs : List JobRecord) (held : List Bool) (placed : Placed) (later : List Placed) (starts all : List JobStart) → placed.start ≢ now
     → AreFirst now nodes jobs held (placed ∷ later) starts all → AreFirst now nodes jobs held later starts all
 unfolding started
 first-passed now nodes jobs held placed later starts all not_due so_far = record {
-  can = record { shown = so_far.can.shown; awaits = All-tail (Awaits (fold (begun now) jobs starts)) placed later so_far.can.awaits; once = pairs-tail (λ (one other : Placed). one.id ≢ other.id) placed later so_far.can.once };
+  can = record {
+    shown = so_far.can.shown;
+    awaits = All-tail (Awaits (fold (begun now) jobs starts)) placed later so_far.can.awaits;
+    once = pairs-tail (λ (one other : Placed). one.id ≢ other.id) placed later so_far.can.once;
+  };
   whole = rw (ne_eqb placed.start now not_due) at so_far.whole;
 }
 
 -- none starts where none begins now; those that stay begin later; and the jobs are those that the starts make
-pub none-starts : (rooms : List NodeRoom) (now : ℕ) (jobs : List JobRecord) (placements : List Placed) → list_any (λ (placed : Placed). eqb placed.start now) placements ≡ false → (started rooms now jobs placements).starts ≡ []
+pub none-starts : (rooms : List NodeRoom) (now : ℕ) (jobs : List JobRecord) (placements : List Placed) → list_any (λ (placed : Placed). eqb placed.start now) placements ≡ false
+    → (started rooms now jobs placements).starts ≡ []
 unfolding started
 none-starts rooms now jobs [] none = refl
 none-starts rooms now jobs (placed ∷ later) none = grind (arith, nat_tests, none-starts rooms now jobs later)
 
-pub stays_later : (rooms : List NodeRoom) (now : ℕ) (jobs : List JobRecord) (placements : List Placed) → (started rooms now jobs placements).stays ≡ filter (λ (placed : Placed). not (eqb placed.start now)) placements
+pub stays_later : (rooms : List NodeRoom) (now : ℕ) (jobs : List JobRecord) (placements : List Placed)
+    → (started rooms now jobs placements).stays ≡ filter (λ (placed : Placed). not (eqb placed.start now)) placements
 unfolding started
 stays_later rooms now jobs [] = refl
 stays_later rooms now jobs (placed ∷ later) = grind (arith, nat_tests, stays_later rooms now jobs later, stays_later rooms now (begun now jobs (start_of rooms jobs placed)) later)
 
-pub jobs-begun : (rooms : List NodeRoom) (now : ℕ) (jobs : List JobRecord) (placements : List Placed) → (started rooms now jobs placements).jobs ≡ fold (begun now) jobs (started rooms now jobs placements).starts
+pub jobs-begun : (rooms : List NodeRoom) (now : ℕ) (jobs : List JobRecord) (placements : List Placed)
+    → (started rooms now jobs placements).jobs ≡ fold (begun now) jobs (started rooms now jobs placements).starts
 unfolding started
 jobs-begun rooms now jobs [] = refl
 jobs-begun rooms now jobs (placed ∷ later) = grind (arith, nat_tests, jobs-begun rooms now jobs later, jobs-begun rooms now (begun now jobs (start_of rooms jobs placed)) later)
 
 -- what each start keeps of the jobs, all of them keep
 pub started-keeps : (P : List JobRecord → Type 0) (rooms : List NodeRoom) (now : ℕ) (jobs : List JobRecord) (plan : List Placed)
-    → All (λ (placed : Placed). placed.start ≡ now → (some : List JobRecord) (parts : List Part) → P some → P (map (started_as now placed.id parts) some)) plan → P jobs → P (started rooms now jobs plan).jobs
+    → All (λ (placed : Placed). placed.start ≡ now → (some : List JobRecord) (parts : List Part) → P some → P (map (started_as now placed.id parts) some)) plan → P jobs
+    → P (started rooms now jobs plan).jobs
 unfolding started
 started-keeps P rooms now jobs [] keeps has = has
 started-keeps P rooms now jobs (placed ∷ later) keeps has =
@@ -311,7 +332,8 @@ cpus-taken : (s : State) (placed : Placed) (node : ℕ) → sum_by (cpus_in node
 cpus-taken s placed node =
     let part = part_of (map room_of s.nodes) s.jobs in
     let amount : Share → ℕ = λ share. cond (eqb share.node node) share.cpus 0 in
-    omega (arith, sum_by-map (cpus_in node) part placed.parts, sum_by-le-sum_by (λ share. cpus_in node (part share)) amount placed.parts (λ share. grind (arith, nat_tests, length-take share.cpus (free_ids (map room_of s.nodes) (parts_of s.jobs) share.node))))
+    let each = λ (share : Share). length-take share.cpus (free_ids (map room_of s.nodes) (parts_of s.jobs) share.node) in
+    omega (arith, sum_by-map (cpus_in node) part placed.parts, sum_by-le-sum_by (λ share. cpus_in node (part share)) amount placed.parts (λ share. grind (arith, nat_tests, each share)))
 
 mem-taken : (s : State) (placed : Placed) (node : ℕ) → mem_held (parts_for s placed) node ≡ mem_on node placed
 unfolding mem_held
@@ -407,11 +429,13 @@ module _ (laws : StartLaws) where
   ]
 
 -- a share takes no more than its placement, so where that fits the share gets all its processors
-given : (rooms : List NodeRoom) (jobs : List JobRecord) (shares : List Share) → All (λ (share : Share). share.cpus ≤ length (free_ids rooms (parts_of jobs) share.node)) shares → AllZip IsAsPlanned shares (map (part_of rooms jobs) shares)
+given : (rooms : List NodeRoom) (jobs : List JobRecord) (shares : List Share) → All (λ (share : Share). share.cpus ≤ length (free_ids rooms (parts_of jobs) share.node)) shares
+    → AllZip IsAsPlanned shares (map (part_of rooms jobs) shares)
 given rooms jobs [] fit = tt
 given rooms jobs (share ∷ shares) fit =
     let fits : Share → Type 0 = λ one. one.cpus ≤ length (free_ids rooms (parts_of jobs) one.node) in
-    (record { node = refl; cpus = length-take-le share.cpus (free_ids rooms (parts_of jobs) share.node) (All-head fits share shares fit); mem = refl }, given rooms jobs shares (All-tail fits share shares fit))
+    let cpus = length-take-le share.cpus (free_ids rooms (parts_of jobs) share.node) (All-head fits share shares fit) in
+    (record { node = refl; cpus = cpus; mem = refl }, given rooms jobs shares (All-tail fits share shares fit))
 
 -- the first that starts
 given-first : (s : State) (placed : Placed) (later : List Placed) → CanStart s (placed ∷ later) → eqb placed.start s.moment ≡ true → Any (HasStarted s.moment placed) (after_start s placed).jobs
@@ -422,17 +446,20 @@ given-first s placed later can due =
     let amount : Share → ℕ = λ one. cond (eqb one.node share.node) one.cpus 0 in
     let whole : amount share ≡ share.cpus = rw (eq-eqb share.node share.node refl) refl in
     let room = rw due at (can.cpus share.node) in
-    omega (arith, whole, get_or-le-sum_by amount placed.parts k d below, room, sum_by-cons (cpus_on share.node) placed (starts_at s.moment later), free-counted rooms (parts_of s.jobs) share.node (can.sound.held.once share.node)) in
+    let free = free-counted rooms (parts_of s.jobs) share.node (can.sound.held.once share.node) in
+    omega (arith, whole, get_or-le-sum_by amount placed.parts k d below, room, sum_by-cons (cpus_on share.node) placed (starts_at s.moment later), free) in
     by (given rooms s.jobs placed.parts fits) (Any-kept (λ (job : JobRecord). job.id) (λ (job : JobRecord). is_pending job.state) placed.id s.jobs (All-head (IsReady s) placed later can.each).waits)
   where
-    by : AllZip IsAsPlanned placed.parts (parts_for s placed) → Any (λ (job : JobRecord). (job.id ≡ placed.id) × (is_pending job.state ≡ true)) s.jobs → Any (HasStarted s.moment placed) (after_start s placed).jobs
+    by : AllZip IsAsPlanned placed.parts (parts_for s placed) → Any (λ (job : JobRecord). (job.id ≡ placed.id) × (is_pending job.state ≡ true)) s.jobs
+        → Any (HasStarted s.moment placed) (after_start s placed).jobs
     by as_planned (k, job, inside, is, (here, pending)) =
         let start = started_as s.moment placed.id (parts_for s placed) in
         let starts : HasStarted s.moment placed (start job) = rw (eq-eqb job.id placed.id here) (record { id = here; state = refl; started = refl; parts = as_planned }) in
         (k, start job, omega (arith, inside, length-map s.jobs start), get_or-map start s.jobs k job (start job) inside ∙ ap start is, starts)
 
 -- no other start changes it
-stays-given : (rooms : List NodeRoom) (now : ℕ) (jobs : List JobRecord) (placed : Placed) (plan : List Placed) → All (λ (other : Placed). placed.id ≢ other.id) plan → Any (HasStarted now placed) jobs → Any (HasStarted now placed) (started rooms now jobs plan).jobs
+stays-given : (rooms : List NodeRoom) (now : ℕ) (jobs : List JobRecord) (placed : Placed) (plan : List Placed) → All (λ (other : Placed). placed.id ≢ other.id) plan
+    → Any (HasStarted now placed) jobs → Any (HasStarted now placed) (started rooms now jobs plan).jobs
 stays-given rooms now jobs placed plan differ = started-keeps (Any (HasStarted now placed)) rooms now jobs plan (λ k d below due. on (get_or plan k d).id (differ k d below))
   where
     on : (id : ℕ) → placed.id ≢ id → (some : List JobRecord) (parts : List Part) → Any (HasStarted now placed) some → Any (HasStarted now placed) (map (started_as now id parts) some)
