@@ -1,5 +1,5 @@
 -- Words read from the left.
-use Rattle.std.proofs.Common.{ℕ, ◌≡◌, ◌+◌, ◌<◌, List, [], ◌∷◌, drop, length, get_or, Option, Some, None, MatchOption, refl, ap, sym, ◌∙◌, add-one, Bor}
+use Rattle.std.proofs.Common.{ℕ, ◌≡◌, ◌+◌, ◌<◌, List, [], ◌∷◌, drop, length, get_or, Option, Some, None, MatchOption, ap, sym, ◌∙◌, add-one, Bor}
 use Rattle.std.specs.Option.{option_copied}
 use Rattle.std.specs.List.{slice_get}
 use Rattle.std.proofs.Math.Seq.{drop-cons}

@@ -1,5 +1,5 @@
 -- A host expression of too many names.
-use Rattle.std.proofs.Common.{ℕ, ◌≡◌, ◌<◌, Bool, true, false, nat_le, if◌then◌else◌, List, length, None, Some, Option, refl, arith}
+use Rattle.std.proofs.Common.{ℕ, ◌≡◌, ◌<◌, Bool, true, false, nat_le, if◌then◌else◌, List, length, None, Option, refl, arith}
 use Rattle.std.specs.Option.{is_some}
 use Rattle.std.proofs.lemmas.Bool.Decides.{nat_tests}
 use Rattle.slurm_text.specs.Hosts.{hosts_in, first_bad_item}

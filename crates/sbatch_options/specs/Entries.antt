@@ -1,5 +1,5 @@
 -- What options say of a job.
-use Rattle.std.specs.Prelude.{ℕ, Bool, true, false, ◌&&◌, nat_lt, if◌then◌else◌, List, [], length, Option, Some, None, option_map, Result, Ok, Err, ok_or}
+use Rattle.std.specs.Prelude.{ℕ, Bool, true, false, ◌&&◌, nat_lt, if◌then◌else◌, List, [], length, Option, Some, None, option_map, Result, Err, ok_or}
 use Rattle.job_texts.specs.Array.{array_in}
 use Rattle.job_texts.specs.Dependency.{dependency_in}
 use Rattle.job_texts.specs.Features.{features_in}

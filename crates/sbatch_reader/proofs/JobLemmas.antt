@@ -1,8 +1,6 @@
 -- What the reader keeps of what is said, and what the whole of it says.
-use Rattle.std.proofs.Common.{ℕ, ◌≡◌, Bool, true, false, not, ◌&&◌, ◌||◌, if◌then◌else◌, List, [], ◌∷◌, ◌++◌, fold, Option, Some, None, Result, Ok, Err, refl, ap, sym, ◌∙◌}
-use Rattle.std.specs.List.{list_any, filter_map}
+use Rattle.std.proofs.Common.{ℕ, ◌≡◌, Bool, true, false, not, ◌&&◌, if◌then◌else◌, List, [], ◌∷◌, fold, Option, Some, None, Result, Ok, Err, refl, ap, ◌∙◌}
 use Rattle.std.specs.Option.{option_or, option_map, is_none}
-use Rattle.std.specs.Result.{result_ok}
 use Rattle.std.proofs.lemmas.List.Sums.{fold-append}
 use Rattle.option_words.specs.declared.refusal.WordKind.{WordKind}
 use Rattle.option_words.specs.declared.refusal.WordKind.TheVariants.{BadValue}
@@ -11,7 +9,7 @@ use Rattle.sbatch_options.specs.declared.entries.Entry.{Entry}
 use Rattle.sbatch_options.specs.declared.entries.JobWords.{JobWords}
 use Rattle.sbatch_reader.specs.Description.{are_crossed, job_name, named}
 use Rattle.sbatch_reader.specs.Drafts.{nothing_said, after, nodes_after, verdict, draft_job}
-use Rattle.sbatch_reader.specs.Job.{words_of, is_nodes, says_nodes, is_crossed, fault_of, first_fault, unless_refused, job_by}
+use Rattle.sbatch_reader.specs.Job.{words_of, is_nodes, says_nodes, first_fault, unless_refused, job_by}
 use Rattle.sbatch_reader.specs.Refusal.{refusal_at}
 use Rattle.sbatch_reader.specs.declared.draft.Draft.{Draft}
 use Rattle.sbatch_reader.specs.declared.refusal.JobRefusal.{JobRefusal}

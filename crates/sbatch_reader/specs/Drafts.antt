@@ -1,5 +1,5 @@
 -- What the reader keeps as it goes over what is said. Of the proof alone.
-use Rattle.std.specs.Prelude.{ℕ, Bool, if◌then◌else◌, List, fold, Option, Some, None, option_map, is_none, Result, Ok, Err}
+use Rattle.std.specs.Prelude.{ℕ, Bool, if◌then◌else◌, List, Option, Some, None, option_map, is_none, Result, Ok, Err}
 use Rattle.std.specs.Option.{option_or}
 use Rattle.option_words.specs.declared.refusal.WordKind.{WordKind}
 use Rattle.option_words.specs.declared.refusal.WordKind.TheVariants.{BadValue}

@@ -31,7 +31,7 @@ unfoldable pub all_said : ℕ → List (List ℕ) → Option (List ℕ) → List
 all_said now words script =
     says_script now script ++ command_says now (is_some script || is_some (script_word words)) words
 
--- what is good of it, together, the last of a kind counting
+-- what is good of what is said, together, the last of a kind counting
 abbrev pub words_of : JobWords → List Said → JobWords
 words_of words said = fold with_entry words (filter_map (λ (s : Said). result_ok s.what) said)
 
@@ -42,7 +42,7 @@ is_nodes what = false
 abbrev pub says_nodes : List Said → Bool
 says_nodes said = list_any (λ (s : Said). is_nodes s.what) said
 
--- whether it is the number of nodes that counts, where that asks for fewer nodes at most than at least
+-- whether something good is at fault all the same: the last number of nodes, where its most is below the least
 abbrev pub is_crossed : Bool → Said → List Said → Bool
 is_crossed crossed said later = crossed && is_nodes said.what && not (says_nodes later)
 
@@ -50,7 +50,7 @@ abbrev pub fault_of : Bool → Place → Result Entry WordKind → Option JobRef
 fault_of crossed place (Ok entry) = if crossed then Some (refusal_at place BadValue) else None
 fault_of crossed place (Err kind) = Some (refusal_at place kind)
 
--- the first fault of what is said, where the most nodes are below the least or aren't
+-- the first fault of what is said; `crossed` tells whether the most nodes are below the least
 abbrev pub first_fault : Bool → List Said → Option JobRefusal
 first_fault crossed [] = None
 first_fault crossed (said ∷ later) =

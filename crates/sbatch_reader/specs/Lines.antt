@@ -1,5 +1,5 @@
 -- What the lines of a script say.
-use Rattle.std.specs.Prelude.{ℕ, ◌+◌, Bool, true, false, ◌&&◌, ◌||◌, if◌then◌else◌, List, [], ◌∷◌, ◌++◌, drop, bytes_eq, nat_eq, codes, Option, Some, None, is_some, Result, Ok, Err, ok_or}
+use Rattle.std.specs.Prelude.{ℕ, ◌+◌, Bool, true, false, ◌&&◌, ◌||◌, if◌then◌else◌, List, [], ◌∷◌, ◌++◌, drop, bytes_eq, nat_eq, codes, Option, Some, None, is_some, Err, ok_or}
 use Rattle.std.specs.List.{starts_with, list_all}
 use Rattle.slurm_text.specs.Fields.{fields}
 use Rattle.slurm_text.specs.Options.{◌>>=◌}
