@@ -297,9 +297,6 @@ off_attachment line text is_line marked none = bad_from (line ++ 10 ∷ text) (�
 
 -- a text with no first block is a proper prefix of one, or bad
 
-none_is_some : (o : Option Block) (block : Block) → o ≡ None → o ≡ Some block → ⊥
-none_is_some o block a b = absurd (cc)
-
 OpenOrOff : Reading → Type 0
 OpenOrOff r = ((at : Place) × (bytes : List ℕ) × (r ≡ Unended at bytes) × (length bytes + owed at ≤ 65536)) ⊎ (has_room 65536 r ≡ false)
 

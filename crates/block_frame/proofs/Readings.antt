@@ -233,7 +233,7 @@ has_room-behind room front (Unended at bytes) l =
     rw len (le_past (length front) (length bytes + owed at) room l)
 has_room-behind room front Off l = refl
 
-too_long : (n room : ℕ) → room < n → leb n room ≡ false
+pub too_long : (n room : ℕ) → room < n → leb n room ≡ false
 too_long n room l = grind (arith, nat_tests)
 
 pub no_room-behind : (room : ℕ) (front : List ℕ) (r : Reading) → room < length front → has_room room (behind front r) ≡ false

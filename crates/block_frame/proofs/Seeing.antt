@@ -9,7 +9,7 @@ use Rattle.block_frame.specs.declared.lines.Kind.TheVariants as kind
 use Rattle.block_frame.specs.Attachments.{LineStart, FirstDot, InLine, Unended, behind, reading_at}
 use Rattle.block_frame.specs.Looking.{has_room, kind_of, sized, IsSeen}
 use Rattle.block_frame.proofs.FirstLines.{IsOneLine, line_len, first_line, ended_line, is_other}
-use Rattle.block_frame.proofs.Readings.{behind-behind, behind-nil, no_room-behind}
+use Rattle.block_frame.proofs.Readings.{behind-behind, behind-nil, no_room-behind, too_long}
 
 -- within a line each byte stands for itself
 within_line : (line more : List ℕ) → IsOneLine line → reading_at InLine (line ++ more) ≡ behind line (reading_at InLine more)
@@ -87,9 +87,6 @@ unended_reading line own starts some =
 
 pub fits_room : (n room : ℕ) → n ≤ room → leb n room ≡ true
 fits_room n room l = grind (arith, nat_tests)
-
-too_long : (n room : ℕ) → room < n → leb n room ≡ false
-too_long n room l = grind (arith, nat_tests)
 
 ended_line_seen : (text own : List ℕ) (size room : ℕ) → line_len text < length text → Starts (take (line_len text) text) own → length own + 1 ≡ size → IsSeen room text (sized (line_len text) true size room)
 unfolding reading_at

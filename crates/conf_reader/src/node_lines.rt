@@ -238,26 +238,7 @@ impl NodeWords {
 
     /// What this line says, before what DEFAULT lines said.
     #[tactic(auto, unfolding(crate::specs::NodeLines::over))]
-    pub(crate) fn over(self, defaults: NodeWords) -> NodeWords
-        ensures { result ≡ over self defaults }
-    {
-        NodeWords {
-            names: self.names,
-            cpus: self.cpus.or(defaults.cpus),
-            boards: self.boards.or(defaults.boards),
-            sockets: self.sockets.or(defaults.sockets),
-            cores: self.cores.or(defaults.cores),
-            threads: self.threads.or(defaults.threads),
-            mem: self.mem.or(defaults.mem),
-            weight: self.weight.or(defaults.weight),
-            features: self.features.or(defaults.features),
-            state: self.state.or(defaults.state),
-        }
-    }
-
-    /// The same, where the defaults stay.
-    #[tactic(auto, unfolding(crate::specs::NodeLines::over))]
-    pub(crate) fn over_copy(self, defaults: &NodeWords) -> Result<NodeWords, Memory>
+    pub(crate) fn over(self, defaults: &NodeWords) -> Result<NodeWords, Memory>
         ensures { IfOk result (λ words. words ≡ over self defaults.now) }
     {
         let features = or_copy(self.features, &defaults.features)?;

@@ -265,30 +265,7 @@ impl PartWords {
 
     /// What this line says, before what DEFAULT lines said.
     #[tactic(auto, unfolding(crate::specs::PartitionLines::over))]
-    pub(crate) fn over(self, defaults: PartWords) -> PartWords
-        ensures { result ≡ over self defaults }
-    {
-        PartWords {
-            name: self.name,
-            nodes: self.nodes.or(defaults.nodes),
-            is_default: self.is_default.or(defaults.is_default),
-            max_time: self.max_time.or(defaults.max_time),
-            default_time: self.default_time.or(defaults.default_time),
-            state: self.state.or(defaults.state),
-            factor: self.factor.or(defaults.factor),
-            tier: self.tier.or(defaults.tier),
-            min_nodes: self.min_nodes.or(defaults.min_nodes),
-            max_nodes: self.max_nodes.or(defaults.max_nodes),
-            accounts: self.accounts.or(defaults.accounts),
-            qos: self.qos.or(defaults.qos),
-            exclusive: self.exclusive.or(defaults.exclusive),
-            mem: self.mem.or(defaults.mem),
-        }
-    }
-
-    /// The same, where the defaults stay.
-    #[tactic(auto, unfolding(crate::specs::PartitionLines::over))]
-    pub(crate) fn over_copy(self, defaults: &PartWords) -> Result<PartWords, Memory>
+    pub(crate) fn over(self, defaults: &PartWords) -> Result<PartWords, Memory>
         ensures { IfOk result (λ words. words ≡ over self defaults.now) }
     {
         let nodes = nodes_or_copy(self.nodes, &defaults.nodes)?;

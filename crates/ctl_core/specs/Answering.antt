@@ -7,7 +7,7 @@ use Rattle.ctl_core.specs.declared.reply.Answered.{Answered}
 use Rattle.ctl_core.specs.Step.{is_entered}
 
 -- the reply of the verdict, once more where it makes an entry, and then the state is the one that the verdict makes
-pub record Answers (s after : State) (verdict : Verdict) (answered : Answered) : Type 0 where
+pub record Answers (s s' : State) (verdict : Verdict) (answered : Answered) : Type 0 where
   pub reply : answered.reply ≡ reply_by verdict
   pub entered : answered.entered ≡ (if is_entered answered.reply then Some answered.reply else None)
-  pub after : after ≡ (if is_entered answered.reply then left_by s verdict else s)
+  pub after : s' ≡ (if is_entered answered.reply then left_by s verdict else s)

@@ -1,5 +1,5 @@
 -- How the nodes of partitions stand.
-use Rattle.std.specs.Prelude.{ℕ, Bool, true, ◌&&◌, not, nat_eq, nat_lt, if◌then◌else◌, List, [], ◌∷◌, length, filter, filter_map, flat_map, sum_by, slice_get, bytes_eq, Option, Some, None, option_map}
+use Rattle.std.specs.Prelude.{ℕ, Bool, true, false, ◌&&◌, not, nat_eq, nat_lt, if◌then◌else◌, List, [], ◌∷◌, length, filter, filter_map, flat_map, sum_by, slice_get, bytes_eq, Option, Some, None, option_map}
 use Rattle.slurm_text.specs.declared.plain.view.NodeGroup.{NodeGroup}
 use Rattle.slurm_text.specs.declared.plain.view.NodeGroup.TheVariants.{Down, Draining, Drained, Allocated, Mixed, Idle}
 use Rattle.slurm_text.specs.declared.plain.view.StateRow.{StateRow}
@@ -12,9 +12,13 @@ use Rattle.ctl_state.specs.declared.record.Part.{Part}
 use Rattle.ctl_state.specs.Holding.{is_on, parts_of}
 use Rattle.ctl_state.specs.State.{State}
 
--- how many processors of the node at a place stand in parts
-abbrev pub held_of : State → ℕ → ℕ
-held_of s place = sum_by (λ (part : Part). if is_on place part then length part.cpus else 0) (parts_of s.jobs)
+-- how many processors of the node the part has
+abbrev pub cpus_in : ℕ → Part → ℕ
+cpus_in node part = if is_on node part then length part.cpus else 0
+
+-- how many processors of the node the parts hold
+unfoldable pub cpus_held : List Part → ℕ → ℕ
+cpus_held parts node = sum_by (cpus_in node) parts
 
 -- how a node stands of which so many processors are held
 abbrev pub group_by : ℕ → NodeRecord → NodeGroup
@@ -28,7 +32,7 @@ group_by held node =
 
 -- how the node at a place stands, if there is one
 abbrev pub group_at : State → ℕ → Option NodeGroup
-group_at s place = option_map (group_by (held_of s place)) (slice_get s.nodes place)
+group_at s place = option_map (group_by (cpus_held (parts_of s.jobs) place)) (slice_get s.nodes place)
 
 -- the number of a way of standing in their order
 abbrev pub order_of : NodeGroup → ℕ
@@ -43,11 +47,11 @@ abbrev pub is_group : NodeGroup → Option NodeGroup → Bool
 is_group group None = false
 is_group group (Some other) = nat_eq (order_of group) (order_of other)
 
--- the names of the partition's nodes that stand so
-abbrev pub names_standing : State → PartRecord → NodeGroup → List (List ℕ)
-names_standing s partition group =
+-- the names of those of the nodes at places that stand so
+unfoldable pub names_standing : State → NodeGroup → List ℕ → List (List ℕ)
+names_standing s group places =
     filter_map (λ place. option_map (λ (node : NodeRecord). node.conf.name) (slice_get s.nodes place))
-    (filter (λ place. is_group group (group_at s place)) partition.nodes)
+    (filter (λ place. is_group group (group_at s place)) places)
 
 -- the row of the partition's nodes that stand so, if there are any
 abbrev pub row_by : PartRecord → NodeGroup → List (List ℕ) → Option Row
@@ -64,7 +68,7 @@ row_by partition group (name ∷ names) = Some (States (record {
 -- the rows of a partition: one for each way in which nodes of it stand
 unfoldable pub rows_of_partition : State → PartRecord → List Row
 rows_of_partition s partition =
-    filter_map (λ group. row_by partition group (names_standing s partition group))
+    filter_map (λ group. row_by partition group (names_standing s group partition.nodes))
     (Down ∷ Draining ∷ Drained ∷ Allocated ∷ Mixed ∷ Idle ∷ [])
 
 -- the partition is the one that is asked for, if one is

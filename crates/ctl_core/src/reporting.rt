@@ -1,6 +1,6 @@
 //! Reports of nodes.
 
-ghost use Rattle.std.specs.Prelude.{◌≡◌, ◌≤◌, IfOk, OnErr, if◌then◌else◌, Some, None};
+ghost use Rattle.std.specs.Prelude.{◌≡◌, ◌≤◌, IfOk, OnErr};
 ghost use Rattle.ctl_state.specs.State.{state_of, last_moment};
 ghost use Rattle.ctl_state.specs.Soundness.{IsSound};
 ghost use Rattle.ctl_state.specs.Refusals.{first_refusal, unless_refused};
@@ -40,7 +40,6 @@ pub(crate) fn report(
     let Some(node) = node_of(cluster, report) else {
         return Ok(refused(Refusal::UnknownNode));
     };
-    let node = node as u32;
     let orders = orders(alloc, cluster, node, report)?;
     let entered = orders.copy()?;
     accept(alloc, cluster, moment, node, report);

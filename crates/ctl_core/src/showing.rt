@@ -1,28 +1,47 @@
 //! Queries.
 
-ghost use Rattle.std.specs.Prelude.{◌≡◌, ◌≤◌, IfOk, OnErr, None, All, map, filter, find, option_map, unwrap_or};
-ghost use Rattle.slurm_text.specs.declared.plain.reply.Reply.TheVariants.{Shown};
+ghost use Rattle.std.specs.Prelude.{◌≡◌, ◌≤◌, ◌<◌, ℕ, List, IfOk, All, length, map, filter, nat_eq, unwrap_or};
+ghost use Rattle.std.specs.HashMap.{get};
 ghost use Rattle.backfill_planner.specs.declared.Placed.{Placed};
 ghost use Rattle.ctl_state.specs.State.{state_of, last_moment};
-ghost use Rattle.ctl_state.specs.declared.record.JobRecord.{JobRecord};
-ghost use Rattle.ctl_state.specs.JobStates;
+ghost use Rattle.ctl_state.specs.Refusals.{first_refusal, unless_refused};
 ghost use Rattle.ctl_state.specs.Soundness.{IsSound};
+ghost use Rattle.ctl_state.specs.Verdicts.{Tells};
+ghost use Rattle.ctl_core.specs.Answering.{Answers};
+ghost use Rattle.ctl_core.specs.Found.{IsOutlook};
 ghost use Rattle.ctl_core.specs.Showing;
 
+use crate::answering::refused;
 use crate::reply::Answered;
+use crate::standing::state_rows;
 use backfill_planner::Placed;
+use ctl_pass::{highest, hindrance};
 use ctl_state::cluster::Cluster;
-use ctl_state::jobs::is_pending;
-use ctl_state::record::{JobRecord, NodeRecord, Part};
+use ctl_state::record::{JobRecord, Part};
+use node_state::record::NodeRecord;
 use slurm_text::items::Items;
 use slurm_text::memory_error::Memory;
 use slurm_text::name::Name;
 use slurm_text::plain::query::Query;
+use slurm_text::plain::refusal::Refusal;
 use slurm_text::plain::reply::Reply;
 use slurm_text::plain::state::{JobState, Reason};
 use slurm_text::plain::view::{JobRow, Row, View};
 use slurm_text::ranged::Ranged;
 use std::alloc::Global;
+use std::collections::HashMap;
+
+// A second that can be shown.
+type Second = Ranged<0, 253402300799>;
+
+// What the rows of pending jobs need of the other jobs and of the plan.
+#[derive(Drop)]
+struct Outlook {
+    // The number of the job that is highest in rank.
+    highest: Option<u32>,
+    // The seconds that the plan gives, by the numbers of the jobs.
+    starts: HashMap<u32, Second>,
+}
 
 /// Why a query is refused, if it is.
 fn refusal_of(cluster: &Cluster, query: &Query) -> Option<Refusal>
@@ -80,19 +99,42 @@ fn view_of(alloc: Global, cluster: &Cluster, moment: u64, query: &Query) -> Resu
     })
 }
 
+// The seconds that the plan gives, by the numbers of the jobs. Linear in the plan.
+fn starts_of(alloc: Global, plan: &[Placed]) -> Result<HashMap<u32, Second>, Memory>
+    requires { All (λ (placed : Placed). placed.start ≤ 250002592000) plan.now }
+    ensures { IfOk result (λ starts. (id : ℕ) → get nat_eq starts id ≡ Showing.planned_start plan.now id) }
+{
+    let mut starts = HashMap::with_capacity(alloc, plan.len())?;
+    for placed in plan {
+        starts.entry(placed.id)?.or_insert(Ranged::new(placed.start));
+    }
+    Ok(starts)
+}
+
+// What a query finds once for all rows of pending jobs. Linear in the jobs and the plan.
+fn outlook_of(alloc: Global, cluster: &Cluster) -> Result<Outlook, Memory>
+    requires { IsSound (state_of cluster.now) }
+    ensures { IfOk result (IsOutlook (state_of cluster.now)) }
+{
+    Ok(Outlook {
+        highest: highest(cluster),
+        starts: starts_of(alloc, &cluster.plan)?,
+    })
+}
+
 // The rows of the jobs that are shown.
 fn job_rows(alloc: Global, cluster: &Cluster, moment: u64, starts: bool) -> Result<Vec<Row>, Memory>
     requires sound { IsSound (state_of cluster.now) }
     requires raised { cluster.now.moment ≤ moment }
     requires in_time { moment ≤ last_moment }
-    ensures { IfOk result (λ rows. rows.items
-        ≡ map (λ job. Row.Job (Showing.row_of (state_of cluster.now) moment job)) (filter (Showing.is_shown starts) cluster.now.jobs.items)) }
+    ensures { IfOk result (λ rows. rows.items ≡ Showing.job_rows (state_of cluster.now) moment starts) }
 {
-    let highest = highest(cluster);
+    let outlook = outlook_of(alloc, cluster)?;
     let mut rows = Vec::new(alloc);
     for job in &cluster.jobs {
         if is_shown(starts, job) {
-            rows.push(Row::Job(job_row(alloc, cluster, moment, highest, job)?))?;
+            let row = job_row(alloc, cluster, moment, &outlook, job)?;
+            rows.push(Row::Job(row))?;
         }
     }
     Ok(rows)
@@ -103,17 +145,17 @@ fn job_row(
     alloc: Global,
     cluster: &Cluster,
     moment: u64,
-    highest: Option<u32>,
+    outlook: &Outlook,
     job: &JobRecord,
 ) -> Result<JobRow, Memory>
-    requires sound { IsSound (state_of cluster.now) }
     requires in_time { moment ≤ last_moment }
-    requires highest { highest ≡ Showing.highest (state_of cluster.now) moment }
+    requires outlook { IsOutlook (state_of cluster.now) outlook.now }
+    requires partition { job.now.partition < length cluster.now.partitions }
     requires started { unwrap_or job.now.started 0 ≤ last_moment }
     ensures { IfOk result (λ row. row ≡ Showing.row_of (state_of cluster.now) moment job.now) }
 {
     match job.state {
-        JobState::Pending => pending_row(alloc, cluster, moment, highest, job),
+        JobState::Pending => pending_row(alloc, cluster, outlook, job),
         _ => holding_row(alloc, cluster, moment, job),
     }
 }
@@ -122,13 +164,12 @@ fn job_row(
 fn pending_row(
     alloc: Global,
     cluster: &Cluster,
-    moment: u64,
-    highest: Option<u32>,
+    outlook: &Outlook,
     job: &JobRecord,
 ) -> Result<JobRow, Memory>
-    requires sound { IsSound (state_of cluster.now) }
-    requires highest { highest ≡ Showing.highest (state_of cluster.now) moment }
-    ensures { IfOk result (λ row. row ≡ Showing.pending_row (state_of cluster.now) moment job.now) }
+    requires outlook { IsOutlook (state_of cluster.now) outlook.now }
+    requires partition { job.now.partition < length cluster.now.partitions }
+    ensures { IfOk result (λ row. (now : ℕ) → row ≡ Showing.pending_row (state_of cluster.now) now job.now) }
 {
     Ok(JobRow {
         id: job.id,
@@ -139,8 +180,8 @@ fn pending_row(
         elapsed: Ranged::new(0),
         nodes: job.desc.min_nodes.get(),
         node_names: Items::from_vec(Vec::new(alloc)),
-        reason: Some(reason(cluster, highest, job)),
-        start: planned_start(&cluster.plan, job.id),
+        reason: Some(reason(cluster, outlook, job)),
+        start: outlook.starts.get(&job.id).copied(),
     })
 }
 
@@ -152,6 +193,7 @@ fn holding_row(
     job: &JobRecord,
 ) -> Result<JobRow, Memory>
     requires in_time { moment ≤ last_moment }
+    requires partition { job.now.partition < length cluster.now.partitions }
     requires started { unwrap_or job.now.started 0 ≤ last_moment }
     ensures { IfOk result (λ row. row ≡ Showing.holding_row (state_of cluster.now) moment job.now) }
 {
@@ -163,7 +205,7 @@ fn holding_row(
         state: job.state,
         elapsed: Ranged::new(moment.saturating_sub(job.started.unwrap_or(0))),
         nodes: job.parts.as_slice().len() as u64,
-        node_names: Items::from_vec(names(alloc, &cluster.nodes, job.parts.as_slice())?),
+        node_names: Items::from_vec(names(alloc, cluster.nodes.records(), job.parts.as_slice())?),
         reason: None,
         start: match job.started {
             Some(start) => Some(Ranged::new(start)),
@@ -184,13 +226,13 @@ fn is_shown(starts: bool, job: &JobRecord) -> bool
 }
 
 // Why the pending job waits.
-fn reason(cluster: &Cluster, highest: Option<u32>, job: &JobRecord) -> Reason
-    requires { highest ≡ Showing.highest (state_of cluster.now) moment }
-    ensures { result ≡ Showing.reason_of (state_of cluster.now) moment job.now }
+fn reason(cluster: &Cluster, outlook: &Outlook, job: &JobRecord) -> Reason
+    requires { IsOutlook (state_of cluster.now) outlook.now }
+    ensures { (now : ℕ) → result ≡ Showing.reason_of (state_of cluster.now) now job.now }
 {
     match hindrance(cluster, job) {
         Some(reason) => reason,
-        None => reason_by_rank(highest, job),
+        None => reason_by_rank(outlook.highest, job),
     }
 }
 
@@ -208,21 +250,8 @@ fn partition_name(cluster: &Cluster, job: &JobRecord) -> Result<Name, Memory>
     requires { job.now.partition < length cluster.now.partitions }
     ensures { IfOk result (λ name. name ≡ Showing.partition_name (state_of cluster.now) job.now) }
 {
-    match cluster.partitions.at(job.partition) {
-        Some(partition) => partition.conf.name.copy(),
-        None => Err(Memory),
-    }
-}
-
-// The second that the plan gives the job with this number. Linear in the plan.
-fn planned_start(plan: &[Placed], id: u32) -> Option<Ranged<0, 253402300799>>
-    requires { All (λ (placed : Placed). placed.start ≤ 250002592000) plan.now }
-    ensures { result ≡ Showing.planned_start plan.now id }
-{
-    match plan.iter().find(|placed| placed.id == id) {
-        Some(placed) => Some(Ranged::new(placed.start)),
-        None => None,
-    }
+    let partition = &cluster.partitions.records()[job.partition as usize];
+    partition.conf.name.copy()
 }
 
 // The names of the nodes of these parts.

@@ -20,7 +20,8 @@ use Rattle.ctl_pass.specs.Readiness.{ready, base_of, is_candidate, is_higher, ca
 use Rattle.ctl_pass.specs.Starting.{started, begun, start_of}
 use Rattle.ctl_pass.specs.Passing.{outcome}
 use Rattle.ctl_pass.proofs.Passes.{few-jobs}
-use Rattle.ctl_pass.proofs.Ranks.{OrderLaws, filter_map-less}
+use Rattle.ctl_pass.proofs.Ranks.{filter_map-less}
+use Rattle.ctl_state.specs.Laws.{OrderMoves}
 use Rattle.std.proofs.lemmas.List.Sorted.{length_permutation}
 
 filter-less : {X : Type 0} (p : X → Bool) (xs : List X) → length (filter p xs) ≤ length xs
@@ -46,9 +47,9 @@ plan-less base now (job ∷ later) holds =
     one-most None = omega arith
     one-most (Some one) = omega arith
 
-pub few-go : OrderLaws → (s : State) (now : ℕ) → IsSound s → length (outcome s now).starts + length (outcome s now).stays ≤ 67043329
+pub few-go : OrderMoves JobRecord → (s : State) (now : ℕ) → IsSound s → length (outcome s now).starts + length (outcome s now).stays ≤ 67043329
 unfolding planned plan_of ranked candidates
-few-go laws s now sound =
+few-go moves s now sound =
     let r = ready s now in
     let chosen = filter (is_candidate r) r.jobs in
     let sorted = ordered_by (is_higher r) chosen in
@@ -57,7 +58,7 @@ few-go laws s now sound =
       each-goes (map room_of s.nodes) now r.jobs (placements s now),
       plan-less (base_of r now) now (ranked r now) (base_of r now).holds,
       filter_map-less (needs_of r) sorted,
-      length_permutation chosen sorted (laws.jobs (is_higher r) chosen),
+      length_permutation chosen sorted (moves (is_higher r) chosen),
       filter-less (is_candidate r) r.jobs,
       filter-less (λ job. not (is_old s.settings.min_job_age now job)) (map (timed_out now) s.jobs),
       length-map s.jobs (timed_out now),

@@ -1,16 +1,18 @@
 -- What holds of lists: each two elements, sums, ranges, and steps of loops.
 use Rattle.std.proofs.lemmas.List.Concat.{get_or-flat_map}
 use Rattle.std.proofs.lemmas.Bool.Decides.{nat_tests}
-use Rattle.std.proofs.Common.{◌≡◌, ◌≢◌, ℕ, zero, suc, ◌+◌, ◌≤◌, ◌<◌, Bool, true, false, cond, eqb, List, [], ◌∷◌, length, map, filter, flat_map, sum_by, take, get_or, All, AllPairs, Any, Contains, arith, refl}
+use Rattle.std.proofs.Common.{◌≡◌, ℕ, zero, suc, ◌+◌, ◌≤◌, ◌<◌, Bool, true, false, cond, eqb, List, [], ◌∷◌, length, map, filter, flat_map, sum_by, take, get_or, All, AllPairs, Any, Contains, arith, refl}
 use Rattle.std.proofs.Common.{◌&&◌, ◌++◌, drop, set, ap, sym, ◌∙◌}
-use Rattle.std.specs.List.{list_any, range_with_len, list_all, zip, HoldsAt}
+use Rattle.std.specs.List.{cons_option, list_any, range_with_len, list_all, zip, HoldsAt}
 use Rattle.std.proofs.lemmas.Bool.{ne_eqb}
 use Rattle.std.proofs.lemmas.List.{get_or-map, length-map, get_or-take, length-take, take-map, take_more, drop_more, map-append, get_or_default, same_lists, length-set, get_or-set_same, get_or-set_other}
 use Rattle.std.proofs.lemmas.List.Sums.{sum_by-cons, sum_by-append}
-use Rattle.std.proofs.lemmas.List.Folds.{fold-map, list_any_none, map_fixed, length-flat_map-take}
-use Rattle.std.proofs.lemmas.List.Elements.{All-head, All-tail, All-nil, filter_more, All-map, All-filter, All-contains, filter_passes, All-append}
+use Rattle.std.proofs.lemmas.List.Folds.{fold-map, list_any_none, length-flat_map-take}
+use Rattle.std.proofs.lemmas.List.Elements.{All-head, All-tail, All-nil, filter_map-append, All-map, All-filter, All-contains, filter_passes, All-append}
 use Rattle.std.proofs.lemmas.List.FromFn.{length-range_with_len, get_or-range_with_len}
 use Rattle.std.specs.Cmp.Lexicographic.{pointwise}
+use Rattle.std.specs.Prelude.{slice_get, filter_map, Option, Some}
+use Rattle.std.proofs.lemmas.Option.{get_or_from_slice_get, slice_get_within}
 
 pub pairs-head : {X : Type 0} (R : X → X → Type 0) (x : X) (xs : List X) → AllPairs R (x ∷ xs) → All (R x) xs
 pairs-head R x xs pairs k d below = pairs 0 (suc k) d (omega arith) (omega (arith, below))
@@ -141,9 +143,10 @@ pub take-map-more : {X Y : Type 0} (f : X → Y) (xs : List X) (i : ℕ) (x : X)
 take-map-more f xs i x within is =
     rw (take-map f (i + 1) xs, take-map f i xs, take_more xs i x within, map-append f (take i xs) (get_or xs i x ∷ []), ← is) refl
 
-pub map-filter-more : {X Y : Type 0} (f : X → Y) (p : X → Bool) (xs : List X) (i : ℕ) (x : X) → i < length xs → x ≡ get_or xs i x → map f (filter p (take (i + 1) xs)) ≡ map f (filter p (take i xs)) ++ map f (cond (p x) (x ∷ []) [])
-map-filter-more f p xs i x within is =
-    rw (filter_more p xs i x within, map-append f (filter p (take i xs)) (cond (p (get_or xs i x)) (get_or xs i x ∷ []) []), ← is) refl
+pub filter_map-more : {X Y Z : Type 0} (h : X → Option Y) (f : Z → X) (xs : List Z) (i : ℕ) (x : Z) → i < length xs → x ≡ get_or xs i x
+    → filter_map h (map f (take (i + 1) xs)) ≡ filter_map h (map f (take i xs)) ++ cons_option (h (f x)) []
+filter_map-more h f xs i x within is =
+    rw (take_more xs i x within, ← is, map-append f (take i xs) (x ∷ []), filter_map-append h (map f (take i xs)) (f x ∷ [])) refl
 
 -- the rest of a list from one element on
 pub next : {X : Type 0} (xs : List X) (i : ℕ) (x : X) → i < length xs → x ≡ get_or xs i x → drop i xs ≡ x ∷ drop (i + 1) xs
@@ -174,3 +177,7 @@ All-joined P f xs each k e below j d inside =
 pub All-joins : {X Y : Type 0} (P : Y → Type 0) (f : X → List Y) (xs : List X) → All (λ x. All P (f x)) xs → All P (flat_map f xs)
 All-joins P f [] each = All-nil P
 All-joins P f (x ∷ xs) each = All-append P (f x) (flat_map f xs) (All-head (λ y. All P (f y)) x xs each) (All-joins P f xs (All-tail (λ y. All P (f y)) x xs each))
+
+-- what holds of the element at a place
+pub at-place : {X : Type 0} (P : X → Type 0) (xs : List X) (place : ℕ) (x : X) → All P xs → slice_get xs place ≡ Some x → P x
+at-place P xs place x each is = rw (get_or_from_slice_get xs place x x is) at (each place x (slice_get_within xs place x is))

@@ -15,23 +15,21 @@ use Rattle.ctl_state.specs.State.{State, last_moment, last_job_id}
 use Rattle.ctl_state.specs.JobStates.{is_running, is_ended, is_holding, is_pending}
 use Rattle.ctl_state.specs.Changes.{changed}
 use Rattle.ctl_state.specs.Events.{LetsGo, those_left, started_as}
-use Rattle.ctl_state.specs.Laws.{LettingGo, ChangesLetGo, LetsGoNothing, KeptLater}
+use Rattle.ctl_state.specs.Laws.{LettingGo, ChangesLetGo, LetsGoNothing, KeptLater, JobNodes, OrderMoves, OrderKeepsApart}
 use Rattle.ctl_state.specs.Soundness.{IsSound, IsKept, pending_ids, HasItsParts, HaveRisingIds, IsLimit}
 use Rattle.ctl_pass.specs.Limits.{deadline, is_over, timed_out, is_old, holds_of_job, hold_end}
 use Rattle.ctl_pass.specs.Readiness.{ready, base_of, is_candidate, is_higher, candidates, needs_of, ranked, planned, placements}
 use Rattle.ctl_pass.specs.Reasons.{hindrance}
-use Rattle.ctl_pass.proofs.Ranks.{OrderLaws, waiting, candidates-wait, ranked-all, ranked-waits, ranked-apart, nodes-all, nodes-once}
+use Rattle.ctl_pass.proofs.Ranks.{waiting, candidates-wait, ranked-all, ranked-waits, ranked-apart}
 use Rattle.ctl_state.specs.Ordered.{ordered_by}
 use Rattle.partitions.specs.Partitions.{IsOnNodes}
-use Rattle.std.specs.Prelude.{filter_map, is_none, slice_get}
-use Rattle.std.proofs.lemmas.Option.{get_or_from_slice_get, slice_get_within}
-use Rattle.std.proofs.lemmas.List.Sorted.{All-permutation}
+use Rattle.std.specs.Prelude.{filter_map, is_none}
 use Rattle.std.specs.List.{list_any}
 use Rattle.std.proofs.lemmas.List.{take_more, map-append, append-nil, length-map, get_or_default}
 use Rattle.std.proofs.lemmas.List.Sums.{length-filter, count_by-le-length, sum_by-cons, sum_by-le-sum_by}
 use Rattle.std.proofs.lemmas.List.Kept.{AllPairs-filter}
 use Rattle.ctl_state.specs.Holding.{parts_of, has_members, is_on, mem_held, IsPartOf}
-use Rattle.ctl_pass.proofs.Lists.{pairs-map, sum_by-larger, sum_by-map, joined-larger, range-rises, range-below, Any-kept, length-rising, sum_by-more, All-joins, All-joined}
+use Rattle.ctl_pass.proofs.Lists.{pairs-map, sum_by-larger, sum_by-map, joined-larger, Any-kept, length-rising, sum_by-more, at-place, All-joins, All-joined}
 use Rattle.slurm_text.specs.declared.plain.limit.Limit.{Limit}
 use Rattle.slurm_text.specs.declared.plain.limit.Limit.TheVariants.{Minutes, Unlimited}
 use Rattle.resource_profile.specs.declared.Hold.{Hold}
@@ -42,7 +40,7 @@ use Rattle.backfill_planner.specs.Bases.{BaseView}
 use Rattle.backfill_planner.specs.Plans.{plan_of, PlannedView}
 use Rattle.backfill_planner.specs.Placements.{IsPlannable, IsOnRooms, AreParts, StartsFit}
 use Rattle.ctl_state.specs.declared.record.Part.{Part}
-use Rattle.ctl_state.specs.Planning.{room_of, seconds_of, node_order, is_taken_before, plan_job}
+use Rattle.ctl_state.specs.Planning.{room_of, seconds_of, plan_job}
 use Rattle.ctl_pass.proofs.Starting.{held-counted, free-counted, CanStart, started-keeps, no-plan}
 use Rattle.std.proofs.lemmas.List.Folds.{list_any-from_Any}
 use Rattle.ctl_pass.specs.SamePlans.{same_plans, same_shares, same_placements}
@@ -174,7 +172,9 @@ PlanApart = (base : BaseView) (ranked : List PlanJob) (now : ℕ)
     → AllPairs (λ (one other : PlanJob). one.id ≢ other.id) ranked → AllPairs (λ (one other : Placed). one.id ≢ other.id) (plan_of base ranked now)
 
 pub record PlanLaws : Type 0 where
-  pub orders : OrderLaws
+  pub moves : OrderMoves JobRecord
+  pub keeps : OrderKeepsApart JobRecord
+  pub nodes : JobNodes
   pub ids : PlanIds
   pub apart : PlanApart
   pub starts : (base : BaseView) (ranked : List PlanJob) (now : ℕ) → All (λ (placed : Placed). (now ≤ placed.start) × (placed.start ≤ base.horizon)) (plan_of base ranked now)
@@ -229,31 +229,22 @@ base-within s sound =
       mem = λ node moment. omega (arith, held-most (λ cpus mem. mem) node moment s.moment s.jobs, sound.held.mem node);
     }
 
--- what holds of the partition at a place, and what is planned for a job there
-at-place : {X : Type 0} (P : X → Type 0) (xs : List X) (place : ℕ) (x : X) → All P xs → slice_get xs place ≡ Some x → P x
-at-place P xs place x each is = rw (get_or_from_slice_get xs place x x is) at (each place x (slice_get_within xs place x is))
-
+-- what is planned for a job can be
 record CanBePlanned (s : State) (need : PlanJob) : Type 0 where
   tasks : 1 ≤ need.need.tasks
   nodes : IsOnRooms (map room_of s.nodes) need
   plannable : IsPlannable need
 
-ranked-planned : OrderLaws → (s : State) (now : ℕ) → IsSound s → All (CanBePlanned s) (ranked s now)
-unfolding plan_job node_order
-ranked-planned laws s now sound = ranked-all laws (CanBePlanned s) s now (λ k d below partition bounds is.
+ranked-planned : OrderMoves JobRecord → JobNodes → (s : State) (now : ℕ) → IsSound s → All (CanBePlanned s) (ranked s now)
+unfolding plan_job
+ranked-planned moves job_nodes s now sound = ranked-all moves (CanBePlanned s) s now (λ k d below partition bounds is.
     let job = get_or (waiting s.jobs) k d in
     let kept = All-filter (λ (one : JobRecord). is_pending one.state) (IsKept s.moment) s.jobs sound.jobs k d below in
-    let on = at-place (IsOnNodes (length s.nodes)) s.partitions job.partition partition sound.partitions is in
-    let there : All (λ node. node < length (map room_of s.nodes)) partition.nodes = λ i e inside. omega (arith, on.there i e inside, length-map s.nodes room_of) in
+    let nodes = job_nodes s.nodes partition bounds job (at-place (IsOnNodes (length s.nodes)) s.partitions job.partition partition sound.partitions is) in
     record {
       tasks = kept.asked.tasks.0;
-      nodes = nodes-all (λ node. node < length (map room_of s.nodes)) s.nodes job.desc (node_order s.nodes partition)
-          (All-permutation (λ node. node < length (map room_of s.nodes)) partition.nodes _ (laws.places (is_taken_before s.nodes) partition.nodes) there);
-      plannable = record {
-        once = nodes-once s.nodes job.desc (node_order s.nodes partition) (laws.once (is_taken_before s.nodes) partition.nodes on.once);
-        cpus = kept.asked.cpus.0;
-        seconds = seconds job.limit kept.limit;
-      };
+      nodes = λ i node inside. omega (arith, nodes.0 i node inside, length-map s.nodes room_of);
+      plannable = record { once = nodes.1; cpus = kept.asked.cpus.0; seconds = seconds job.limit kept.limit };
     })
   where
     seconds : (limit : Limit) → IsLimit limit → IfSome (seconds_of limit) (λ seconds. 1 ≤ seconds)
@@ -261,11 +252,11 @@ ranked-planned laws s now sound = ranked-all laws (CanBePlanned s) s now (λ k d
     seconds Unlimited is = tt
 
 -- so a plan is of jobs that wait
-plan-waits : OrderLaws → PlanIds → (s : State) (now : ℕ) → All (λ (placed : Placed). Contains (pending_ids s.jobs) placed.id) (planned s now)
+plan-waits : OrderMoves JobRecord → PlanIds → (s : State) (now : ℕ) → All (λ (placed : Placed). Contains (pending_ids s.jobs) placed.id) (planned s now)
 unfolding planned
-plan-waits orders ids s now k d below =
+plan-waits moves ids s now k d below =
     All-contains (Contains (pending_ids s.jobs)) (map (λ (job : PlanJob). job.id) (ranked s now)) _
-    (All-map (Contains (pending_ids s.jobs)) (λ (job : PlanJob). job.id) (ranked s now) (ranked-waits orders s now)) (ids (base_of s now) (ranked s now) now k d below)
+    (All-map (Contains (pending_ids s.jobs)) (λ (job : PlanJob). job.id) (ranked s now) (ranked-waits moves s now)) (ids (base_of s now) (ranked s now) now k d below)
 
 -- The plan of a sound state can start.
 pub can-start : PlanLaws → (s : State) → IsSound s → CanStart s (planned s s.moment)
@@ -275,7 +266,7 @@ can-start laws s sound =
     let base = base_of s now in
     let jobs = ranked s now in
     let horizon : base.horizon ≤ 250002592000 = omega (arith, sound.moment, sound.settings.window.1) in
-    let can = ranked-planned laws.orders s now sound in
+    let can = ranked-planned laws.moves laws.nodes s now sound in
     let rooms : All (IsOnRooms (map room_of s.nodes)) jobs = λ k d below. (can k d below).nodes in
     let plannable : All IsPlannable jobs = λ k d below. (can k d below).plannable in
     let fit = laws.fit base jobs now (base-within s sound) horizon rooms plannable in
@@ -283,12 +274,12 @@ can-start laws s sound =
     record {
       sound = sound;
       each = λ k d below. record {
-        waits = plan-waits laws.orders laws.ids s now k d below;
+        waits = plan-waits laws.moves laws.ids s now k d below;
         last = omega (arith, (laws.starts base jobs now k d below).1, horizon);
         some = laws.some base jobs now (λ j e inside. (can j e inside).tasks) k d below;
         parts = laws.parts base jobs now horizon rooms plannable k d below;
       };
-      apart = laws.apart base jobs now (ranked-apart laws.orders s now sound.rising);
+      apart = laws.apart base jobs now (ranked-apart laws.keeps s now sound.rising);
       cpus = λ node. omega (arith, fit.cpus node, held-now (λ cpus mem. cpus) node now s.jobs started, held-counted (map room_of s.nodes) (parts_of s.jobs) node sound.held.each);
       mem = λ node. omega (arith, fit.mem node, held-now (λ cpus mem. mem) node now s.jobs started);
     }
@@ -304,7 +295,7 @@ unfolding base_of
 base-rooms s now base is = ap (λ (one : BaseView). one.rooms) is
 
 -- the candidates are those of the state before
-pub ranked_is : (s : State) (now : ℕ) → ranked (ready s now) now ≡ filter_map (needs_of s) (ordered_by (is_higher s) (filter (is_candidate s) s.jobs))
+pub ranked_is : (s : State) (now : ℕ) → ranked (ready s now) now ≡ filter_map (needs_of s) (candidates s now)
 unfolding ranked candidates needs_of hindrance
 ranked_is s now =
     let jobs = (ready s now).jobs in
@@ -346,16 +337,16 @@ awaited s placed sound waits = from (Any-kept (λ (job : JobRecord). job.id) (λ
     }
 
 -- so all placements of a pass can begin, beside bits that show what is held
-pub can-begin-ready : OrderLaws → PlanIds → PlanApart → (s : State) (now : ℕ) (held : List Bool) (plan : List Placed)
+pub can-begin-ready : OrderMoves JobRecord → OrderKeepsApart JobRecord → PlanIds → PlanApart → (s : State) (now : ℕ) (held : List Bool) (plan : List Placed)
     → IsSound s → IsSound (readied s now) → plan ≡ placements s now → ShowsParts (parts_of s.jobs) held → CanBegin (ready s now).jobs held plan
 unfolding planned
-can-begin-ready orders ids apart s now held plan sound ready_sound is shown =
+can-begin-ready moves keeps ids apart s now held plan sound ready_sound is shown =
     let left = ready s now in
-    let waits : All (λ (placed : Placed). Contains (pending_ids left.jobs) placed.id) plan = rw is (plan-waits orders ids left now) in
+    let waits : All (λ (placed : Placed). Contains (pending_ids left.jobs) placed.id) plan = rw is (plan-waits moves ids left now) in
     record {
       shown = rw (parts-left s.settings.min_job_age now s.jobs (λ k d below. (sound.jobs k d below).parts)) shown;
       awaits = λ k d below. awaited (readied s now) (get_or plan k d) ready_sound (waits k d below);
-      once = rw is (apart (base_of left now) (ranked left now) now (ranked-apart orders left now ready_sound.rising));
+      once = rw is (apart (base_of left now) (ranked left now) now (ranked-apart keeps left now ready_sound.rising));
     }
 
 shares-same : (one other : Share) → Decides (same_shares one other) (one ≡ other)
@@ -434,9 +425,9 @@ fewer rooms now jobs (placed ∷ later) each =
     lost parts (k, job, inside, is, (here, pending)) = (k, job, inside, is, rw (eq-eqb job.id placed.id here, pending) (omega arith))
 
 -- And only an idle pass does.
-pub unchanged-idle : OrderLaws → PlanIds → (s : State) (now : ℕ) → pass_after s now ≡ s → is_idle s now ≡ true
+pub unchanged-idle : OrderMoves JobRecord → PlanIds → (s : State) (now : ℕ) → pass_after s now ≡ s → is_idle s now ≡ true
 unfolding is_idle
-unchanged-idle orders ids s now same =
+unchanged-idle moves ids s now same =
     let rooms = map room_of s.nodes in
     let age = s.settings.min_job_age in
     let plan = placements s now in
@@ -444,7 +435,7 @@ unchanged-idle orders ids s now same =
     let jobs : (outcome s now).jobs ≡ s.jobs = ap (λ (after : State). after.jobs) same in
     let waiting = left-less waits (λ job. 0) (timed_out now) (is_old age now) s.jobs (λ job. grind (arith, nat_tests, running-not_ended job.state)) in
     let running = left-less runs (λ job. cond (is_over now job) 1 0) (timed_out now) (is_old age now) s.jobs (λ job. grind (arith, nat_tests)) in
-    elim (fewer rooms now left.jobs plan (plan-waits orders ids left now)) [
+    elim (fewer rooms now left.jobs plan (plan-waits moves ids left now)) [
       | inr less ↦ absurd (omega (arith, less, waiting, ap (sum_by waits) jobs))
       | inl none ↦
           let all : left.jobs ≡ s.jobs = sym (none-start rooms now left.jobs plan none) ∙ jobs in

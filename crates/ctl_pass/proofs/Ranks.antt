@@ -1,32 +1,29 @@
 -- What a pass ranks: the candidates in their order, and what they need.
-use Rattle.std.proofs.Common.{◌≡◌, ◌≢◌, ℕ, zero, suc, ◌≤◌, ◌<◌, Bool, true, false, not, cond, ltb, List, [], ◌∷◌, ◌++◌, length, map, filter, take, get_or, All, AllPairs, Contains, Option, Some, None, is_some, arith, refl, ap, sym, ◌∙◌, inl, inr}
-use Rattle.std.specs.Prelude.{IfSome, is_none, slice_get, filter_map, option_map, unwrap_or}
+use Rattle.std.proofs.Common.{◌≡◌, ◌≢◌, ℕ, ◌+◌, ◌≤◌, ◌<◌, Bool, cond, ltb, List, [], ◌∷◌, ◌++◌, length, map, filter, take, get_or, All, AllPairs, Contains, Option, Some, None, arith, refl, ap, sym, ◌∙◌, inl, inr}
+use Rattle.std.specs.Prelude.{IfSome, is_none, slice_get, filter_map, option_map}
 use Rattle.std.specs.List.{cons_option}
-use Rattle.std.specs.List.Sorted.{IsPermutation}
-use Rattle.std.proofs.lemmas.Bool.{both_ways, cases_Bool, cond_both}
+use Rattle.std.proofs.lemmas.Bool.{cases_Bool}
 use Rattle.std.proofs.lemmas.Bool.Decides.{nat_tests}
-use Rattle.std.proofs.lemmas.Option.{slice_get_read}
-use Rattle.std.proofs.lemmas.List.{get_or-map, length-map, length-append, map-append, append-nil}
-use Rattle.std.proofs.lemmas.List.Elements.{All-append, All-cons, All-filter, All-head, All-map, All-nil, All-tail, All-weaker, filter_more, filter_passes}
+use Rattle.std.proofs.lemmas.Option.{slice_get-map, get_or_from_slice_get}
+use Rattle.std.proofs.lemmas.List.{get_or-map, length-map, append-nil}
+use Rattle.std.proofs.lemmas.List.Elements.{All-cons, All-filter, All-head, All-nil, All-tail, filter_more}
 use Rattle.std.proofs.lemmas.List.Kept.{AllPairs-cons, AllPairs-filter}
 use Rattle.std.proofs.lemmas.List.Sorted.{All-permutation}
 use Rattle.backfill_planner.specs.declared.job.PlanJob.{PlanJob}
 use Rattle.partitions.specs.declared.record.PartRecord.{PartRecord}
-use Rattle.partitions.specs.Partitions.{IsOnNodes, bounds_of}
-use Rattle.node_state.specs.declared.record.NodeRecord.{NodeRecord}
-use Rattle.slurm_text.specs.declared.plain.job.JobDesc.{JobDesc}
+use Rattle.partitions.specs.Partitions.{bounds_of}
 use Rattle.slurm_text.specs.Options.{◌>>=◌}
 use Rattle.ctl_state.specs.declared.record.JobRecord.{JobRecord}
 use Rattle.ctl_state.specs.JobStates.{is_pending}
 use Rattle.ctl_state.specs.Ordered.{put, ordered_by}
-use Rattle.ctl_state.specs.Planning.{is_at, must_have, may_run, are_there, required_first, nodes_among, node_order, is_taken_before, plan_job}
+use Rattle.ctl_state.specs.Laws.{OrderMoves, OrderKeepsApart}
+use Rattle.ctl_state.specs.Planning.{node_order, plan_job}
+use Rattle.node_state.specs.declared.record.NodeRecord.{NodeRecord}
 use Rattle.ctl_state.specs.Soundness.{HaveRisingIds, pending_ids}
 use Rattle.ctl_state.specs.State.{State, partition_of}
-use Rattle.ctl_pass.specs.declared.ranking.Candidate.{Candidate}
-use Rattle.ctl_pass.specs.Ranking.{is_ahead, job_at, StandFor}
 use Rattle.ctl_pass.specs.Readiness.{is_candidate, is_higher, tier_of, candidates, needs_of, ranked}
 use Rattle.ctl_pass.specs.Reasons.{hindrance}
-use Rattle.ctl_pass.proofs.Lists.{pairs-head, pairs-tail, pairs-map}
+use Rattle.ctl_pass.proofs.Lists.{pairs-head, pairs-tail}
 
 -- an order of mapped elements
 put-map : {X Y : Type 0} (before : Y → Y → Bool) (f : X → Y) (x : X) (xs : List X)
@@ -37,7 +34,7 @@ put-map before f x (y ∷ ys) = elim (cases_Bool (before (f y) (f x))) [
   | inr ahead ↦ rw ahead refl
 ]
 
-ordered-map : {X Y : Type 0} (before : Y → Y → Bool) (f : X → Y) (xs : List X)
+pub ordered-map : {X Y : Type 0} (before : Y → Y → Bool) (f : X → Y) (xs : List X)
     → ordered_by before (map f xs) ≡ map f (ordered_by (λ one other. before (f one) (f other)) xs)
 unfolding ordered_by
 ordered-map before f [] = refl
@@ -45,7 +42,7 @@ ordered-map before f (x ∷ xs) =
     rw (ordered-map before f xs) (put-map before f x (ordered_by (λ one other. before (f one) (f other)) xs))
 
 -- the first of the elements in order, one of two that come before one another by a number
-first-of : {X : Type 0} → (X → ℕ) → X → Option X → Option X
+abbrev first-of : {X : Type 0} → (X → ℕ) → X → Option X → Option X
 first-of f x None = Some x
 first-of f x (Some y) = cond (ltb (f x) (f y)) (Some y) (Some x)
 
@@ -59,25 +56,25 @@ abbrev pub higher : {X : Type 0} → (X → ℕ) → X → Option X → Option X
 higher f x None = Some x
 higher f x (Some y) = cond (ltb (f y) (f x)) (Some x) (Some y)
 
-pub first-more : {X : Type 0} (f : X → ℕ) (x : X) (xs : List X)
+first-more : {X : Type 0} (f : X → ℕ) (x : X) (xs : List X)
     → slice_get (ordered_by (λ one other. ltb (f other) (f one)) (xs ++ x ∷ [])) 0
     ≡ higher f x (slice_get (ordered_by (λ one other. ltb (f other) (f one)) xs) 0)
 unfolding ordered_by
 first-more f x [] = refl
-first-more f x (y ∷ ys) =
+first-more {X = X} f x (y ∷ ys) =
     let sorted = ordered_by (λ one other. ltb (f other) (f one)) ys in
     first-put f y (ordered_by (λ one other. ltb (f other) (f one)) (ys ++ x ∷ []))
     ∙ ap (first-of f y) (first-more f x ys) ∙ turned (slice_get sorted 0) ∙ ap (higher f x) (sym (first-put f y sorted))
   where
-    turned : (some : Option _) → first-of f y (higher f x some) ≡ higher f x (first-of f y some)
+    turned : (some : Option X) → first-of f y (higher f x some) ≡ higher f x (first-of f y some)
     turned None = grind (arith, nat_tests)
     turned (Some z) = grind (arith, nat_tests)
 
 -- of what is had of some elements, what holds of each, and of each two
 pub filter_map-all : {X Y : Type 0} (P : Y → Type 0) (h : X → Option Y) (xs : List X)
     → All (λ x. IfSome (h x) P) xs → All P (filter_map h xs)
-filter_map-all P h [] each = All-nil P
-filter_map-all P h (x ∷ xs) each =
+filter_map-all {Y = Y} P h [] each = All-nil P
+filter_map-all {Y = Y} P h (x ∷ xs) each =
     by (h x) (filter_map h xs) (All-head (λ y. IfSome (h y) P) x xs each) (filter_map-all P h xs (All-tail (λ y. IfSome (h y) P) x xs each))
   where
     by : (some : Option Y) (later : List Y) → IfSome some P → All P later → All P (cons_option some later)
@@ -87,7 +84,7 @@ filter_map-all P h (x ∷ xs) each =
 filter_map-pairs : {X Y : Type 0} (R : Y → Y → Type 0) (h : X → Option Y) (xs : List X)
     → AllPairs (λ one other. IfSome (h one) (λ y. IfSome (h other) (R y))) xs → AllPairs R (filter_map h xs)
 filter_map-pairs R h [] pairs = λ i j d before below. absurd (omega (arith, below))
-filter_map-pairs R h (x ∷ xs) pairs =
+filter_map-pairs {X = X} {Y = Y} R h (x ∷ xs) pairs =
     let both = λ (one other : X). IfSome (h one) (λ y. IfSome (h other) (R y)) in
     by (h x) (pairs-head both x xs pairs) (filter_map-pairs R h xs (pairs-tail both x xs pairs))
   where
@@ -98,72 +95,34 @@ filter_map-pairs R h (x ∷ xs) pairs =
 
 pub filter_map-less : {X Y : Type 0} (h : X → Option Y) (xs : List X) → length (filter_map h xs) ≤ length xs
 filter_map-less h [] = omega arith
-filter_map-less h (x ∷ xs) = by (h x) (filter_map-less h xs)
+filter_map-less {Y = Y} h (x ∷ xs) = by (h x) (filter_map-less h xs)
   where
     by : (some : Option Y) → length (filter_map h xs) ≤ length xs → length (cons_option some (filter_map h xs)) ≤ length (x ∷ xs)
     by None less = omega (arith, less)
     by (Some y) less = omega (arith, less)
 
-filter_map-map : {X Y Z : Type 0} (h : Y → Option Z) (f : X → Y) (xs : List X)
-    → filter_map h (map f xs) ≡ filter_map (λ x. h (f x)) xs
-filter_map-map h f [] = refl
-filter_map-map h f (x ∷ xs) = ap (cons_option (h (f x))) (filter_map-map h f xs)
+-- the candidate that is highest in rank
+pub highest_of : State → List JobRecord → Option JobRecord
+highest_of s jobs = slice_get (ordered_by (is_higher s) (filter (is_candidate s) jobs)) 0
 
-filter_map-itself : {X : Type 0} (xs : List X) → filter_map (λ x. Some x) xs ≡ xs
-filter_map-itself [] = refl
-filter_map-itself (x ∷ xs) = ap (λ later. x ∷ later) (filter_map-itself xs)
+pub highest-none : (s : State) → highest_of s [] ≡ None
+unfolding highest_of ordered_by
+highest-none s = refl
 
--- what a candidate tells of the job that it stands for, and the job itself
-abbrev told_by : State → Candidate → ℕ × Option JobRecord
-told_by s candidate = (candidate.tier, job_at s.jobs candidate)
-
-abbrev told_of : State → JobRecord → ℕ × Option JobRecord
-told_of s job = (tier_of s job, Some job)
-
--- one more job of those that have candidates
-pub stand-more : (s : State) (some : List Candidate) (place : ℕ) (job : JobRecord) → place < length s.jobs → job ≡ get_or s.jobs place job
-    → StandFor s some (filter (is_candidate s) (take place s.jobs))
-    → StandFor s (cond (is_candidate s job) (some ++ record { tier = tier_of s job; place = place } ∷ []) some) (filter (is_candidate s) (take (place + 1) s.jobs))
-stand-more s some place job within is so =
-    let one : Candidate = record { tier = tier_of s job; place = place } in
-    let before = filter (is_candidate s) (take place s.jobs) in
-    let there : slice_get s.jobs place ≡ Some job = slice_get_read s.jobs (length s.jobs) place job refl within is in
-    let more : filter (is_candidate s) (take (place + 1) s.jobs) ≡ before ++ cond (is_candidate s job) (job ∷ []) [] = rw (filter_more (is_candidate s) s.jobs place job within, ← is) refl in
+pub highest-more : (s : State) (i : ℕ) (job : JobRecord) → i < length s.jobs → job ≡ get_or s.jobs i job
+    → highest_of s (take (i + 1) s.jobs) ≡ cond (is_candidate s job) (higher (tier_of s) job (highest_of s (take i s.jobs))) (highest_of s (take i s.jobs))
+unfolding highest_of
+highest-more s i job within is =
+    let before = filter (is_candidate s) (take i s.jobs) in
+    let more : filter (is_candidate s) (take (i + 1) s.jobs) ≡ before ++ cond (is_candidate s job) (job ∷ []) [] = rw (filter_more (is_candidate s) s.jobs i job within, ← is) refl in
     elim (cases_Bool (is_candidate s job)) [
-      | inl can ↦ rw (more, can, map-append (told_by s) some (one ∷ []), map-append (told_of s) before (job ∷ []), so, there) refl
-      | inr other ↦ rw (more, other, append-nil before) so
+      | inl can ↦ rw (more, can) (first-more (tier_of s) job before)
+      | inr other ↦ rw (more, other, append-nil before) refl
     ]
 
--- candidates in order stand for the jobs in order
-pub stand-ordered : (s : State) (some : List Candidate) (jobs : List JobRecord) → StandFor s some jobs → StandFor s (ordered_by is_ahead some) (ordered_by (is_higher s) jobs)
-stand-ordered s some jobs so =
-    let ahead : ℕ × Option JobRecord → ℕ × Option JobRecord → Bool = λ one other. ltb other.0 one.0 in
-    sym (ordered-map ahead (told_by s) some) ∙ ap (ordered_by ahead) so ∙ ordered-map ahead (told_of s) jobs
-
-pub stand-jobs : (s : State) (some : List Candidate) (jobs : List JobRecord) → StandFor s some jobs → filter_map (job_at s.jobs) some ≡ jobs
-stand-jobs s some jobs so =
-    let job : ℕ × Option JobRecord → Option JobRecord = λ told. told.1 in
-    sym (filter_map-map job (told_by s) some) ∙ ap (filter_map job) so ∙ filter_map-map job (told_of s) jobs ∙ filter_map-itself jobs
-
-pub stand-there : (s : State) (some : List Candidate) (jobs : List JobRecord) → StandFor s some jobs → All (λ (one : Candidate). one.place < length s.jobs) some
-stand-there s some jobs so k d below =
-    let is_there : ℕ × Option JobRecord → Type 0 = λ told. is_some told.1 ≡ true in
-    let all : All is_there (map (told_by s) some) = rw so (All-map is_there (told_of s) jobs (λ i e inside. refl)) in
-    within s.jobs (get_or some k d).place (rw (get_or-map (told_by s) some k d (told_by s d) below) at (all k (told_by s d) (omega (arith, below, length-map some (told_by s)))))
-  where
-    within : {X : Type 0} (xs : List X) (i : ℕ) → is_some (slice_get xs i) ≡ true → i < length xs
-    within [] i is = absurd (cc)
-    within (x ∷ xs) zero is = omega arith
-    within (x ∷ xs) (suc i) is = omega (arith, within xs i is)
-
--- the laws of orders that a pass rests on
-pub record OrderLaws : Type 0 where
-  pub jobs : (before : JobRecord → JobRecord → Bool) (jobs : List JobRecord) → IsPermutation jobs (ordered_by before jobs)
-  pub ids : (before : JobRecord → JobRecord → Bool) (jobs : List JobRecord)
-      → AllPairs (λ (one other : JobRecord). one.id ≢ other.id) jobs → AllPairs (λ (one other : JobRecord). one.id ≢ other.id) (ordered_by before jobs)
-  pub places : (before : ℕ → ℕ → Bool) (places : List ℕ) → IsPermutation places (ordered_by before places)
-  pub once : (before : ℕ → ℕ → Bool) (places : List ℕ)
-      → AllPairs (λ one other. one ≢ other) places → AllPairs (λ one other. one ≢ other) (ordered_by before places)
+pub highest-is : (s : State) (now : ℕ) → highest_of s s.jobs ≡ slice_get (candidates s now) 0
+unfolding highest_of candidates
+highest-is s now = refl
 
 -- the candidates are some of those that wait
 abbrev pub waiting : List JobRecord → List JobRecord
@@ -184,65 +143,44 @@ needs-all P s job each = by (partition_of s job) refl
         → IfSome (some >>= λ bounds. Some (plan_job s.nodes partition bounds job)) P
     by_bounds partition None is = tt
     by_bounds partition (Some bounds) is = each partition bounds is
+
     by : (some : Option PartRecord) → slice_get s.partitions job.partition ≡ some
         → IfSome (some >>= λ partition. bounds_of partition job.desc >>= λ bounds. Some (plan_job s.nodes partition bounds job)) P
     by None is = tt
     by (Some partition) is = by_bounds partition (bounds_of partition job.desc) is
 
 -- what holds of what each waiting job may need
-pub ranked-all : OrderLaws → (P : PlanJob → Type 0) (s : State) (now : ℕ)
+pub ranked-all : OrderMoves JobRecord → (P : PlanJob → Type 0) (s : State) (now : ℕ)
     → All (λ (job : JobRecord). (partition : PartRecord) (bounds : ℕ × ℕ) → slice_get s.partitions job.partition ≡ Some partition → P (plan_job s.nodes partition bounds job)) (waiting s.jobs)
     → All P (ranked s now)
 unfolding ranked candidates
-ranked-all laws P s now each =
+ranked-all moves P s now each =
     let chosen = filter (is_candidate s) s.jobs in
     let needs : JobRecord → Type 0 = λ job. IfSome (needs_of s job) P in
     let all : All needs chosen = rw (candidates-wait s s.jobs) (All-filter (λ job. is_none (hindrance s job)) needs (waiting s.jobs) (λ k d below. needs-all P s (get_or (waiting s.jobs) k d) (each k d below))) in
-    filter_map-all P (needs_of s) (ordered_by (is_higher s) chosen) (All-permutation needs chosen (ordered_by (is_higher s) chosen) (laws.jobs (is_higher s) chosen) all)
+    filter_map-all P (needs_of s) (ordered_by (is_higher s) chosen) (All-permutation needs chosen (ordered_by (is_higher s) chosen) (moves (is_higher s) chosen) all)
 
 -- they are of jobs that wait
-pub ranked-waits : OrderLaws → (s : State) (now : ℕ) → All (λ (job : PlanJob). Contains (pending_ids s.jobs) job.id) (ranked s now)
+pub ranked-waits : OrderMoves JobRecord → (s : State) (now : ℕ) → All (λ (job : PlanJob). Contains (pending_ids s.jobs) job.id) (ranked s now)
 unfolding plan_job
-ranked-waits laws s now =
-    ranked-all laws (λ (job : PlanJob). Contains (pending_ids s.jobs) job.id) s now
+ranked-waits moves s now =
+    ranked-all moves (λ (job : PlanJob). Contains (pending_ids s.jobs) job.id) s now
     (λ k d below partition bounds is. (k, omega (arith, below, length-map (waiting s.jobs) (λ (job : JobRecord). job.id)), get_or-map (λ (job : JobRecord). job.id) (waiting s.jobs) k d _ below))
 
 -- of different ones
-pub ranked-apart : OrderLaws → (s : State) (now : ℕ) → HaveRisingIds s.jobs → AllPairs (λ (one other : PlanJob). one.id ≢ other.id) (ranked s now)
+pub ranked-apart : OrderKeepsApart JobRecord → (s : State) (now : ℕ) → HaveRisingIds s.jobs → AllPairs (λ (one other : PlanJob). one.id ≢ other.id) (ranked s now)
 unfolding ranked candidates plan_job
-ranked-apart laws s now rising =
+ranked-apart keeps s now rising =
     let apart : AllPairs (λ (one other : JobRecord). one.id ≢ other.id) s.jobs = λ i j d before within same. omega (arith, rising i j d before within, same) in
-    let sorted = laws.ids (is_higher s) (filter (is_candidate s) s.jobs) (AllPairs-filter (λ (one other : JobRecord). one.id ≢ other.id) (is_candidate s) s.jobs apart) in
+    let sorted = keeps (is_higher s) (λ (job : JobRecord). job.id) (filter (is_candidate s) s.jobs) (AllPairs-filter (λ (one other : JobRecord). one.id ≢ other.id) (is_candidate s) s.jobs apart) in
     filter_map-pairs (λ (one other : PlanJob). one.id ≢ other.id) (needs_of s) (ordered_by (is_higher s) (filter (is_candidate s) s.jobs))
     (λ i j d before below. let one = get_or (ordered_by (is_higher s) (filter (is_candidate s) s.jobs)) i d in
     let other = get_or (ordered_by (is_higher s) (filter (is_candidate s) s.jobs)) j d in
     needs-all (λ (need : PlanJob). IfSome (needs_of s other) (λ (later : PlanJob). need.id ≢ later.id)) s one
     (λ partition bounds is. needs-all (λ (later : PlanJob). one.id ≢ later.id) s other (λ part most same. sorted i j d before below)))
 
--- the nodes that a job may get are nodes of its partition, each once
-pub nodes-all : (P : ℕ → Type 0) (nodes : List NodeRecord) (desc : JobDesc) (order : List ℕ) → All P order → All P (nodes_among nodes desc order)
-nodes-all P nodes desc order each =
-    let places = filter (is_at (may_run desc) nodes) order in
-    let of = All-filter (is_at (may_run desc) nodes) P order each in
-    cond_both (are_there nodes desc places) (required_first nodes desc places) [] (All P)
-    (λ there. All-append P _ _ (All-filter (is_at (must_have desc) nodes) P places of) (All-filter (λ place. not (is_at (must_have desc) nodes place)) P places of)) (λ missing. All-nil P)
-
-pub nodes-once : (nodes : List NodeRecord) (desc : JobDesc) (order : List ℕ) → AllPairs (λ one other. one ≢ other) order → AllPairs (λ one other. one ≢ other) (nodes_among nodes desc order)
-nodes-once nodes desc order once =
-    let places = filter (is_at (may_run desc) nodes) order in
-    let must = is_at (must_have desc) nodes in
-    let apart = AllPairs-filter (λ one other. one ≢ other) (is_at (may_run desc) nodes) order once in
-    cond_both (are_there nodes desc places) (required_first nodes desc places) [] (AllPairs (λ one other. one ≢ other))
-    (λ there. appended (filter must places) (filter (λ place. not (must place)) places) (AllPairs-filter (λ one other. one ≢ other) must places apart) (AllPairs-filter (λ one other. one ≢ other) (λ place. not (must place)) places apart)
-    (λ k d below i e inside same. both_ways (must (get_or (filter must places) k d)) (filter_passes must places k d below) (rw (← same) at (not-true _ (filter_passes (λ place. not (must place)) places i e inside)))))
-    (λ missing i j d before below. absurd (omega (arith, below)))
-  where
-    not-true : (b : Bool) → not b ≡ true → b ≡ false
-    not-true true is = absurd (cc)
-    not-true false is = refl
-    appended : (xs ys : List ℕ) → AllPairs (λ one other. one ≢ other) xs → AllPairs (λ one other. one ≢ other) ys → All (λ x. All (λ y. x ≢ y) ys) xs → AllPairs (λ one other. one ≢ other) (xs ++ ys)
-    appended [] ys one two across = two
-    appended (x ∷ xs) ys one two across =
-        AllPairs-cons (λ one other. one ≢ other) x (xs ++ ys)
-        (All-append (λ y. x ≢ y) xs ys (pairs-head (λ one other. one ≢ other) x xs one) (All-head (λ x. All (λ y. x ≢ y) ys) x xs across))
-        (appended xs ys (pairs-tail (λ one other. one ≢ other) x xs one) two (All-tail (λ x. All (λ y. x ≢ y) ys) x xs across))
+-- the order of the nodes of a partition, among those of all
+pub order-at : (nodes : List NodeRecord) (partitions : List PartRecord) (orders : List (List ℕ)) (place : ℕ) (partition : PartRecord) (order : List ℕ)
+    → orders ≡ map (node_order nodes) partitions → slice_get partitions place ≡ Some partition → order ≡ get_or orders place order → order ≡ node_order nodes partition
+order-at nodes partitions orders place partition order are at is =
+    is ∙ get_or_from_slice_get orders place (node_order nodes partition) order (rw are (slice_get-map (node_order nodes) partitions place ∙ ap (option_map (node_order nodes)) at))

@@ -1,7 +1,7 @@
 -- What parts hold of a node's processors, and the starts of a plan: what each takes, that all stays sound, and that each job gets what was planned.
 use Rattle.std.proofs.lemmas.Bool.Decides.{nat_tests}
 use Rattle.std.proofs.Common.{◌≡◌, ℕ, ◌+◌, ◌≤◌, ◌<◌, Bool, true, cond, eqb, List, length, filter, sum_by, All, AllPairs, refl, arith, inl, inr, ◌≢◌, false, ◌||◌, not, [], ◌∷◌, ◌++◌, map, take, get_or, count_by}
-use Rattle.std.proofs.Common.{zero, suc, ap, sym, ◌∙◌, ◌&&◌, ltb, fold, append_assoc, Contains, Any}
+use Rattle.std.proofs.Common.{◌*◌, set, zero, suc, ap, sym, ◌∙◌, ◌&&◌, ltb, fold, append_assoc, Contains, Any}
 use Rattle.std.specs.List.{range_with_len, list_any, AllZip}
 use Rattle.std.proofs.lemmas.Bool.{cases_Bool, eqb-true, eqb-false, ne_eqb, and_left, and_parts, eq-eqb}
 use Rattle.std.proofs.lemmas.List.Sums.{length-filter, fold_push, sum_by-cons, sum_by-le-sum_by, get_or-le-sum_by}
@@ -13,7 +13,7 @@ use Rattle.ctl_state.specs.declared.record.Part.{Part}
 use Rattle.ctl_state.specs.Holding.{cpus_of, is_on, has_cpu, times_held, free_ids, IsPartOf, parts_of, mem_of, mem_in, mem_held, has_members}
 use Rattle.ctl_pass.proofs.Lists.{sum_by-same, sum_by-none, sum_by-ones, sum_by-add, sum_by-swap, range-rises, range-below, range-rising, pairs-take, filter-same, pairs-head, pairs-tail, pairs-map, map-same}
 use Rattle.ctl_pass.proofs.Lists.{sum_by-map, Any-kept}
-use Rattle.std.proofs.lemmas.List.{get_or-take, get_or_default, length-take, length-append, map-id, take_all, take-append-le, append-nil, length-map, length-take-le, get_or-map}
+use Rattle.std.proofs.lemmas.List.{get_or-take, get_or-set_same, get_or-set_other, get_or_default, take_more, length-take, length-append, map-id, take_all, take-append-le, append-nil, length-map, length-take-le, get_or-map}
 use Rattle.std.proofs.lemmas.List.Folds.{list_any-append, list_any_none}
 use Rattle.backfill_planner.specs.declared.Share.{Share}
 use Rattle.node_state.specs.declared.record.NodeRecord.{NodeRecord}
@@ -85,6 +85,18 @@ free-are rooms parts node =
 -- parts that are held one list after another
 pub adds-then : (before middle after : List Bool) (parts later : List Part) → AddsParts before parts middle → AddsParts middle later after → AddsParts before (parts ++ later) after
 adds-then before middle after parts later one two = record { bits = λ node cpu short. grind (arith, one.bits node cpu short, two.bits node cpu short, list_any-append (has_cpu node cpu) parts later) }
+
+-- one more processor of a part is held
+pub hold-more : (before held : List Bool) (part : Part) (n cpu : ℕ) → part.node * 1024 + 1024 ≤ length held → cpu < 1024 → n < length part.cpus → cpu ≡ get_or part.cpus n cpu
+    → AddsParts before (record part { cpus = take n part.cpus } ∷ []) held → AddsParts before (record part { cpus = take (n + 1) part.cpus } ∷ []) (set held (part.node * 1024 + cpu) true)
+hold-more before held part n cpu room small within is adds = record {
+  bits = λ node other short.
+      let so_far = take n part.cpus in
+      let at = part.node * 1024 + cpu in
+      let more : take (n + 1) part.cpus ≡ so_far ++ cpu ∷ [] = take_more part.cpus n cpu within ∙ ap (λ one. so_far ++ one ∷ []) (sym is) in
+      let any : list_any (λ id. eqb id other) (take (n + 1) part.cpus) ≡ (list_any (λ id. eqb id other) so_far || eqb cpu other) = grind (arith, nat_tests, ap (list_any (λ id. eqb id other)) more, list_any-append (λ id. eqb id other) so_far (cpu ∷ [])) in
+      grind (arith, nat_tests, any, adds.bits node other short, get_or-set_same held at true false (omega (arith, room, small)), get_or-set_other held at (node * 1024 + other) true false);
+}
 
 passing-more : (p : ℕ → Bool) (n : ℕ) → filter p (range_with_len 0 (n + 1)) ≡ filter p (range_with_len 0 n) ++ cond (p n) (n ∷ []) []
 passing-more p n = simp map-id at (filter_of_map_range_with_len_more p (λ (k : ℕ). k) 0 n n (omega arith))

@@ -1,7 +1,6 @@
 pub mod Limits
 pub mod Reasons
 pub mod Readiness
-pub mod Ranking
 pub mod Starting
 pub mod SamePlans
 pub mod Passing

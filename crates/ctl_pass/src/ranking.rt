@@ -1,38 +1,27 @@
 //! The jobs that a pass can plan, by rank, and what they need.
 
-ghost use Rattle.std.specs.Prelude.{◌≡◌, ◌<◌, All, IfOk, IfSome, OnOk, length, map, filter, filter_map, option_map, slice_get, List, ℕ};
+ghost use Rattle.std.specs.Prelude.{◌≡◌, ◌≤◌, ◌<◌, All, IfOk, IfSome, OnOk, length, map, filter, filter_map, option_map, slice_get, List, ℕ};
 ghost use Rattle.backfill_planner.specs.declared.job.PlanJob.{PlanJob};
 ghost use Rattle.ctl_state.specs.declared.record.JobRecord.{JobRecord};
-ghost use Rattle.ctl_state.specs.Ordered.{ordered_by};
 ghost use Rattle.ctl_state.specs.Planning;
 ghost use Rattle.ctl_state.specs.Soundness.{IsSound};
 ghost use Rattle.ctl_state.specs.State.{state_of};
 ghost use Rattle.partitions.specs.Partitions.{IsOnNodes};
-ghost use Rattle.ctl_pass.specs.declared.ranking.Candidate.{Candidate};
-ghost use Rattle.ctl_pass.specs.Ranking.{is_ahead, job_at, StandFor};
 ghost use Rattle.ctl_pass.specs.Readiness;
 
 use crate::reasons::hindrance;
 use backfill_planner::PlanJob;
 use ctl_state::cluster::Cluster;
 use ctl_state::jobs::is_pending;
+use ctl_state::laws::a_stable_sort_makes_the_order;
 use ctl_state::planning::{node_order, plan_job};
 use ctl_state::record::JobRecord;
 use node_state::record::NodeRecord;
-use partitions::partitions::bounds_of;
+use partitions::bounds::bounds_of;
 use partitions::record::PartRecord;
 use slurm_text::items::Items;
 use slurm_text::memory_error::Memory;
 use std::alloc::Global;
-
-// A job that can be planned.
-#[derive(Clone, Copy)]
-struct Candidate {
-    // The tier of its partition.
-    tier: u64,
-    // Its place in the list of jobs.
-    place: usize,
-}
 
 fn tier_of(cluster: &Cluster, job: &JobRecord) -> u64
     ensures { result ≡ Readiness.tier_of (state_of cluster.now) job.now }
@@ -51,26 +40,28 @@ fn is_candidate(cluster: &Cluster, job: &JobRecord) -> bool
 }
 
 // The candidates in the order of their numbers.
-fn candidates_of(alloc: Global, cluster: &Cluster) -> Result<Vec<Candidate>, Memory>
-    ensures { IfOk result (λ candidates. StandFor (state_of cluster.now) candidates.items
-        (filter (Readiness.is_candidate (state_of cluster.now)) cluster.now.jobs.items)) }
+fn candidates_of(alloc: Global, cluster: &Cluster) -> Result<Vec<&JobRecord>, Memory>
+    ensures { IfOk result (λ jobs. map (λ job. job.now) jobs.items
+        ≡ filter (Readiness.is_candidate (state_of cluster.now)) cluster.now.jobs.items) }
 {
-    let mut candidates = Vec::new(alloc);
-    for (place, job) in cluster.jobs.iter().enumerate() {
-        if is_candidate(cluster, job) {
-            let tier = tier_of(cluster, job);
-            candidates.push(Candidate { tier, place })?;
-        }
-    }
-    Ok(candidates)
+    Ok(
+        cluster
+            .jobs
+            .iter()
+            .filter(|job| is_candidate(cluster, job))
+            .collect(alloc)?,
+    )
 }
 
-// Sorts them by rank. Linear where no tier rises.
-fn sort_by_rank(candidates: &mut Vec<Candidate>) -> Result<(), Memory>
-    ensures { OnOk result (candidates.new.items ≡ ordered_by is_ahead candidates.old.items) }
+// The candidates, highest in rank first: a stable sort, linear where no tier rises.
+fn by_rank(alloc: Global, cluster: &Cluster) -> Result<Vec<&JobRecord>, Memory>
+    ensures { IfOk result (λ jobs. (now : ℕ) → map (λ job. job.now) jobs.items
+        ≡ Readiness.candidates (state_of cluster.now) now) }
 {
-    candidates.sort_by(|one, other| other.tier.cmp(&one.tier))?;
-    Ok(())
+    let mut jobs = candidates_of(alloc, cluster)?;
+    a_stable_sort_makes_the_order::<&JobRecord>();
+    jobs.sort_by(|one, other| tier_of(cluster, other).cmp(&tier_of(cluster, one)))?;
+    Ok(jobs)
 }
 
 // The order of the nodes of each partition.
@@ -90,6 +81,7 @@ fn node_orders(
 }
 
 // What a job needs in its partition, if it can be had there.
+#[tactic(auto, unfolding(crate::specs::Readiness::needs_of))]
 fn need_of(
     alloc: Global,
     cluster: &Cluster,
@@ -114,26 +106,23 @@ fn need_of(
     Ok(Some(plan_job(alloc, nodes, partition, order, bounds, job)?))
 }
 
-// What the candidates need, in their order.
+// What the jobs need, in their order.
 fn needs_of(
     alloc: Global,
     cluster: &Cluster,
     orders: &[Items<u32>],
-    candidates: &[Candidate],
+    jobs: &[&JobRecord],
 ) -> Result<Vec<PlanJob>, Memory>
     requires partitions { All (IsOnNodes (length cluster.now.nodes.records)) cluster.now.partitions }
     requires orders { orders.now ≡ map (Planning.node_order cluster.now.nodes.records) cluster.now.partitions }
-    requires there { All (λ (candidate : Candidate). candidate.place < length cluster.now.jobs.items) candidates.now }
     ensures ranked { IfOk result (λ ranked. ranked.items
-        ≡ filter_map (Readiness.needs_of (state_of cluster.now))
-        (filter_map (job_at cluster.now.jobs.items) candidates.now)) }
+        ≡ filter_map (Readiness.needs_of (state_of cluster.now)) (map (λ job. job.now) jobs.now)) }
     ensures nodes { IfOk result (λ ranked.
         All (λ (job : PlanJob). All (λ node. node < length cluster.now.nodes.records) job.nodes) ranked.items) }
     ensures tasks { IfOk result (λ ranked. All (λ (job : PlanJob). 1 ≤ job.need.tasks) ranked.items) }
 {
-    let mut ranked = Vec::with_capacity(alloc, candidates.len())?;
-    for candidate in candidates {
-        let job = &cluster.jobs[candidate.place];
+    let mut ranked = Vec::with_capacity(alloc, jobs.len())?;
+    for job in jobs {
         if let Some(need) = need_of(alloc, cluster, orders, job)? {
             ranked.push(need)?;
         }
@@ -152,10 +141,15 @@ pub(crate) fn rank(alloc: Global, cluster: &Cluster, now: u64) -> Result<Vec<Pla
         All (λ (job : PlanJob). All (λ node. node < length cluster.now.nodes.records) job.nodes) ranked.items) }
     ensures tasks { IfOk result (λ ranked. All (λ (job : PlanJob). 1 ≤ job.need.tasks) ranked.items) }
 {
-    let mut candidates = candidates_of(alloc, cluster)?;
-    sort_by_rank(&mut candidates)?;
+    let jobs = by_rank(alloc, cluster)?;
     let orders = node_orders(alloc, cluster.nodes.records(), cluster.partitions.records())?;
-    needs_of(alloc, cluster, orders.as_slice(), candidates.as_slice())
+    needs_of(alloc, cluster, orders.as_slice(), jobs.as_slice())
+}
+
+fn is_higher(cluster: &Cluster, one: &JobRecord, other: &JobRecord) -> bool
+    ensures { result ≡ Readiness.is_higher (state_of cluster.now) one.now other.now }
+{
+    tier_of(cluster, one) > tier_of(cluster, other)
 }
 
 /// The number of the candidate that is highest in rank, None where there is no candidate. Linear in the jobs.
@@ -163,14 +157,15 @@ pub fn highest(cluster: &Cluster) -> Option<u32>
     ensures { (now : ℕ) → result
         ≡ option_map (λ (job : JobRecord). job.id) (slice_get (Readiness.candidates (state_of cluster.now) now) 0) }
 {
-    let mut highest: Option<(u64, u32)> = None;
+    let mut highest: Option<&JobRecord> = None;
     for job in &cluster.jobs {
-        if is_candidate(cluster, job) {
-            let tier = tier_of(cluster, job);
-            if highest.is_none_or(|(highest_tier, _)| tier > highest_tier) {
-                highest = Some((tier, job.id));
-            }
+        let comes_first = match highest {
+            Some(first) => is_higher(cluster, job, first),
+            None => true,
+        };
+        if comes_first && is_candidate(cluster, job) {
+            highest = Some(job);
         }
     }
-    highest.map(|(_, id)| id)
+    Some(highest?.id)
 }

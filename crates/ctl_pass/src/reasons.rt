@@ -6,7 +6,7 @@ ghost use Rattle.ctl_pass.specs.Reasons;
 
 use ctl_state::cluster::Cluster;
 use ctl_state::record::JobRecord;
-use partitions::partitions::bounds_of;
+use partitions::bounds::bounds_of;
 use partitions::record::PartRecord;
 use slurm_text::plain::conf::PartState;
 use slurm_text::plain::limit::Limit;

@@ -20,6 +20,7 @@ use backfill_planner::laws::placements_are_of_ranked_jobs;
 use ctl_state::change::{Change, apply};
 use ctl_state::cluster::Cluster;
 use ctl_state::jobs::place_of_job;
+use ctl_state::laws::a_stable_sort_makes_the_order;
 use ctl_state::record::{JobRecord, Part};
 use node_state::record::NodeRecord;
 use slurm_text::items::Items;
@@ -88,6 +89,7 @@ fn starts_of(
         return Ok(Vec::new(alloc));
     }
     what_a_pass_plans_is_sound();
+    a_stable_sort_makes_the_order::<JobRecord>();
     placements_are_of_ranked_jobs();
     let nodes = cluster.nodes.records();
     let mut held = held_ids(alloc, nodes.len(), &cluster.jobs)?;

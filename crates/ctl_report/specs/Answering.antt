@@ -22,7 +22,8 @@ last_heard s report = option_and_then (heard_of s.nodes) (node_of s report)
 
 -- the daemon was restarted since its last accepted report, which isn't worked yet
 abbrev pub is_restarted : State → Report → Bool
-is_restarted s report = unwrap_or (option_map (λ (heard : Heard). nat_lt heard.boot report.boot) (last_heard s report)) false
+is_restarted s report =
+    unwrap_or (option_map (λ (heard : Heard). nat_lt heard.boot report.boot) (last_heard s report)) false
 
 -- a report must come after the last accepted one of its node
 abbrev pub staleness : Report → Option Heard → Option Refusal

@@ -23,17 +23,22 @@ heard_of nodes place = option_and_then (λ (node : NodeRecord). node.heard) (sli
 
 -- the report comes after that one
 abbrev pub is_after : Heard → Report → Bool
-is_after heard report = nat_lt heard.boot report.boot || (nat_eq heard.boot report.boot && nat_lt heard.number report.number)
+is_after heard report =
+    nat_lt heard.boot report.boot || (nat_eq heard.boot report.boot && nat_lt heard.number report.number)
 
 -- the report lists no running start
 abbrev pub lists_nothing : List Start → Bool
 lists_nothing [] = true
 lists_nothing (start ∷ later) = false
 
+-- what is noted of an accepted report
+abbrev pub heard_by : ℕ → Report → Heard
+heard_by now report = record { boot = report.boot; number = report.number; moment = now }
+
 -- the nodes once the report of the one at a place is accepted
 abbrev pub heard_nodes : ℕ → ℕ → Report → List NodeRecord → List NodeRecord
 heard_nodes now node report nodes =
-    change_at node (HeardFrom (record { boot = report.boot; number = report.number; moment = now }) (lists_nothing report.running)) nodes
+    change_at node (HeardFrom (heard_by now report) (lists_nothing report.running)) nodes
 
 -- the start is this job's last one
 abbrev pub is_last_start : JobRecord → Start → Bool
@@ -60,11 +65,15 @@ is_batch_host node (part ∷ later) = is_on node part
 abbrev pub final_of : ℕ → Final
 final_of exit = if nat_eq exit 0 then Completed else Failed
 
--- the job once its start is told to be over on the node: where its script ran there it leaves Running, and a completing job
--- leaves the node
+-- the job once its script is over, if it ran on the node
+abbrev pub script_over : ℕ → ℕ → Done → JobRecord → JobRecord
+script_over now node done job =
+    if is_batch_host node job.parts then changed (Leave (final_of done.exit) now (Some done.exit)) job else job
+
+-- the job once its start is told to be over on the node: where its script ran there it leaves Running, and a completing
+-- job leaves the node
 abbrev pub told_over : ℕ → ℕ → Done → JobRecord → JobRecord
-told_over now node done job =
-    changed (DropPart node now) (if is_batch_host node job.parts then changed (Leave (final_of done.exit) now (Some done.exit)) job else job)
+told_over now node done job = changed (DropPart node now) (script_over now node done job)
 
 -- the job by what is told of its start: where nothing is, a completing job has left the node
 abbrev pub after_told : ℕ → ℕ → Report → JobRecord → Option Done → JobRecord
@@ -77,4 +86,7 @@ reported now node report job = if is_at node job then after_told now node report
 
 -- the state after an accepted report of the node at a place
 abbrev pub report_after : State → ℕ → ℕ → Report → State
-report_after s now node report = record s { nodes = heard_nodes now node report s.nodes; jobs = map (reported now node report) s.jobs }
+report_after s now node report = record s {
+  nodes = heard_nodes now node report s.nodes;
+  jobs = map (reported now node report) s.jobs;
+}

@@ -1,4 +1,4 @@
-//! What holds of every report. A law is the contract of a function that does nothing but call the laws that it rests on.
+//! What holds of every report. A law is the contract of a function that does nothing but call the laws it rests on.
 
 ghost use Rattle.std.specs.Prelude.{◌↔◌, ℕ, ◌≤◌, List, Contains};
 ghost use Rattle.slurm_text.specs.declared.plain.report.Report.{Report};

@@ -1,9 +1,10 @@
 -- The nodes that a job may take: in what order, that they are nodes that there are, and each once.
-use Rattle.std.proofs.Common.{◌≡◌, ◌≢◌, ℕ, ◌<◌, Bool, true, false, not, ◌&&◌, List, [], ◌∷◌, length, filter, get_or, slice_get, All, AllPairs, Some, None, option_map, unwrap_or, refl, sym, ap, ◌∙◌, arith}
+use Rattle.std.proofs.Common.{◌≡◌, ◌≢◌, ℕ, ◌<◌, Bool, true, false, not, ◌&&◌, List, [], ◌∷◌, length, filter, get_or, slice_get, All, AllPairs, Some, None, option_map, unwrap_or, refl, sym, ap, ◌∙◌, arith, Bor, Ordering}
 use Rattle.std.specs.Cmp.{IsStrictWeakOrder}
-use Rattle.std.specs.List.Sorted.{IsSortedByKey, IsStableByKey, ties}
+use Rattle.std.specs.Fn.{ComputesKey, Mut}
+use Rattle.std.specs.List.Sorted.{IsSortedByKeyClosure, IsStableByKeyClosure, ties}
 use Rattle.std.specs.Ordering.{is_lt, nat_cmp, ordering_then}
-use Rattle.std.proofs.lemmas.Bool.{both_ways, cond_both}
+use Rattle.std.proofs.lemmas.Bool.{both_ways, cond_both, not-true}
 use Rattle.std.proofs.lemmas.Bool.Decides.{nat_tests}
 use Rattle.std.proofs.lemmas.List.Elements.{All-append, All-filter, All-head, All-nil, All-tail, filter_agree, filter_passes}
 use Rattle.std.proofs.lemmas.List.Kept.{AllPairs-filter}
@@ -18,29 +19,29 @@ use Rattle.ctl_state.proofs.Lists.{pairs-append}
 use Rattle.ctl_state.proofs.Ordering.{ordered-moves, ordered-pairs, sorted-is_ordered}
 
 -- nodes are taken by weight, then by place
-abbrev key_of : List NodeRecord → ℕ → ℕ × ℕ
+abbrev pub key_of : List NodeRecord → ℕ → ℕ × ℕ
 key_of nodes place = (weight_at nodes place, place)
 
-abbrev less : ℕ × ℕ → ℕ × ℕ → Bool
-less one other = is_lt (ordering_then (nat_cmp one.0 other.0) (nat_cmp one.1 other.1))
+abbrev by_both : ℕ × ℕ → ℕ × ℕ → Ordering
+by_both one other = ordering_then (nat_cmp one.0 other.0) (nat_cmp one.1 other.1)
 
-by-key : (nodes : List NodeRecord) (one other : ℕ) → is_taken_before nodes one other ≡ less (key_of nodes one) (key_of nodes other)
+by-key : (nodes : List NodeRecord) (one other : ℕ) → is_taken_before nodes one other ≡ is_lt (by_both (key_of nodes one) (key_of nodes other))
 by-key nodes one other = grind (arith, nat_tests)
 
 weak : (nodes : List NodeRecord) → IsStrictWeakOrder (is_taken_before nodes)
 weak nodes = record { one_way = λ x y less. grind (arith, nat_tests); chain = λ x y z low high. grind (arith, nat_tests) }
 
-pub sorted-node_order : (nodes : List NodeRecord) (partition : PartRecord) (order : List ℕ)
-    → IsSortedByKey (key_of nodes) (λ one other. ordering_then (nat_cmp one.0 other.0) (nat_cmp one.1 other.1)) order
-    → IsStableByKey (key_of nodes) (λ one other. ordering_then (nat_cmp one.0 other.0) (nat_cmp one.1 other.1)) partition.nodes order
+pub sorted-node_order : {F : Type 0} {g : Mut F (Bor ℕ × Unit {0}) (ℕ × ℕ)} {f : F} (nodes : List NodeRecord) (partition : PartRecord) (order : List ℕ)
+    → ComputesKey g (key_of nodes) f → IsSortedByKeyClosure g by_both f order → IsStableByKeyClosure g by_both f partition.nodes order
     → order ≡ node_order nodes partition
 unfolding node_order
-sorted-node_order nodes partition order sorted stable =
-    let lower : ℕ → ℕ → Bool = λ one other. less (key_of nodes one) (key_of nodes other) in
-    let by : (x y : ℕ) → ties (is_taken_before nodes) x y ≡ ties lower x y = λ x y. ap (λ b. not b && not (is_taken_before nodes y x)) (by-key nodes x y)
-    ∙ ap (λ b. not (lower x y) && not b) (by-key nodes y x) in
-    sorted-is_ordered (is_taken_before nodes) (weak nodes) partition.nodes order (λ k d low below. by-key nodes _ _ ∙ sorted k d low below)
-    (λ x. filter_agree _ _ (by x) order ∙ stable x ∙ sym (filter_agree (ties (is_taken_before nodes) x) (ties lower x) (by x) partition.nodes))
+sorted-node_order nodes partition order computes sorted stable =
+    let before = is_taken_before nodes in
+    let lower : ℕ → ℕ → Bool = λ one other. is_lt (by_both (key_of nodes one) (key_of nodes other)) in
+    let by : (x y : ℕ) → ties before x y ≡ ties lower x y = λ x y.
+    ap (λ b. not b && not (before y x)) (by-key nodes x y) ∙ ap (λ b. not (lower x y) && not b) (by-key nodes y x) in
+    sorted-is_ordered before (weak nodes) partition.nodes order (λ k d low below. by-key nodes _ _ ∙ sorted (key_of nodes) computes k d low below)
+    (λ x. filter_agree _ _ (by x) order ∙ stable (key_of nodes) computes x ∙ sym (filter_agree (ties before x) (ties lower x) (by x) partition.nodes))
 
 -- they are the partition's nodes
 pub order-there : (nodes : List NodeRecord) (partition : PartRecord) → IsOnNodes (length nodes) partition
@@ -103,9 +104,6 @@ among-there nodes desc partition on =
     (λ known. All-append there (filter must places) (filter rest places) (All-filter must there places all) (All-filter rest there places all))
     (λ unknown. All-nil there)
 
-failed : (b : Bool) → not b ≡ true → b ≡ false
-failed b h = grind (arith, nat_tests)
-
 pub among-once : (nodes : List NodeRecord) (desc : JobDesc) (partition : PartRecord) → IsOnNodes (length nodes) partition
     → AllPairs (λ one other. one ≢ other) (nodes_among nodes desc (node_order nodes partition))
 among-once nodes desc partition on =
@@ -116,6 +114,6 @@ among-once nodes desc partition on =
     let once = AllPairs-filter differ (is_at (may_run desc) nodes) (node_order nodes partition) (order-once nodes partition on) in
     cond_both (are_there nodes desc places) (required_first nodes desc places) [] (AllPairs differ)
     (λ known. pairs-append differ (filter must places) (filter rest places) (AllPairs-filter differ must places once) (AllPairs-filter differ rest places once)
-    (λ k d below j e within same. both_ways (must (get_or (filter must places) k d)) (ap must same ∙ failed _ (filter_passes rest places j e within))
+    (λ k d below j e within same. both_ways (must (get_or (filter must places) k d)) (ap must same ∙ not-true _ (filter_passes rest places j e within))
     (filter_passes must places k d below)))
     (λ unknown i j d before below. absurd (omega (arith, below)))

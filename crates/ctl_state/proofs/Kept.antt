@@ -31,16 +31,7 @@ all-stay : (now : ℕ) (job after : JobRecord) → after.id ≡ job.id → after
 all-stay now job after same of held kept =
     let keep : Part → Bool = λ part. true in
     let parts : after.parts ≡ filter keep job.parts = held ∙ sym (filter-all job.parts) in
-    record {
-      id = same;
-      partition = of;
-      keep = keep;
-      parts = parts;
-      some = kept.parts.some;
-      asked = kept.asked;
-      limit = kept.limit;
-      run = kept.run;
-    }
+    record { id = same; partition = of; keep = keep; parts = parts; some = kept.parts.some; asked = kept.asked; limit = kept.limit; run = kept.run }
 
 pub lets_go-same : (now : ℕ) (job : JobRecord) → IsKept now job → LetsGo now job job
 lets_go-same now job kept = all-stay now job job refl refl refl kept
@@ -49,16 +40,7 @@ pub lets_go-twice : (now : ℕ) (job middle after : JobRecord) → LetsGo now jo
 lets_go-twice now job middle after one two =
     let keep : Part → Bool = λ part. one.keep part && two.keep part in
     let parts : after.parts ≡ filter keep job.parts = rw (two.parts, one.parts) (filter-filter one.keep two.keep job.parts) in
-    record {
-      id = two.id ∙ one.id;
-      partition = two.partition ∙ one.partition;
-      keep = keep;
-      parts = parts;
-      some = two.some;
-      asked = two.asked;
-      limit = two.limit;
-      run = two.run;
-    }
+    record { id = two.id ∙ one.id; partition = two.partition ∙ one.partition; keep = keep; parts = parts; some = two.some; asked = two.asked; limit = two.limit; run = two.run }
 
 -- a completing job that holds nothing any more
 settles : (now : ℕ) (final : Final) (job : JobRecord) → IsKept now job
@@ -69,27 +51,9 @@ leaves-node : (now node : ℕ) (final : Final) (job : JobRecord) (rest : List Pa
     → rest ≡ parts_off node job.parts → LetsGo now job (with_left now final rest job)
 leaves-node now node final job [] kept completing off =
     let settled = settles now final job kept in
-    record {
-      id = refl;
-      partition = refl;
-      keep = λ part. not (is_on node part);
-      parts = off;
-      some = settled.0;
-      asked = kept.asked;
-      limit = kept.limit;
-      run = settled.1;
-    }
+    record { id = refl; partition = refl; keep = λ part. not (is_on node part); parts = off; some = settled.0; asked = kept.asked; limit = kept.limit; run = settled.1 }
 leaves-node now node final job (part ∷ later) kept completing off =
-    record {
-      id = refl;
-      partition = refl;
-      keep = λ part. not (is_on node part);
-      parts = off;
-      some = rw completing refl;
-      asked = kept.asked;
-      limit = kept.limit;
-      run = search rules;
-    }
+    record { id = refl; partition = refl; keep = λ part. not (is_on node part); parts = off; some = rw completing refl; asked = kept.asked; limit = kept.limit; run = search rules }
 
 off_node-lets_go : (now node : ℕ) (state : JobState) (job : JobRecord) → IsKept now job → job.state ≡ state → LetsGo now job (off_node now node job state)
 off_node-lets_go now node Pending job kept is = lets_go-same now job kept

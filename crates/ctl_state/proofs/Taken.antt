@@ -69,7 +69,8 @@ parts-once node cpu parts apart = count-once (has_cpu node cpu) parts off
         rw (ne_eqb (get_or parts j d).node node (λ same. apart i j d before below (eqb-true (get_or parts i d).node node on ∙ sym same))) refl
 
 -- a processor that one of them has was held by none
-was-free : (times : ℕ → ℕ → ℕ) (node cpu : ℕ) (parts : List Part) → All (λ (part : Part). All (λ id. times part.node id ≡ 0) part.cpus) parts → Any (λ part. has_cpu node cpu part ≡ true) parts → times node cpu ≡ 0
+was-free : (times : ℕ → ℕ → ℕ) (node cpu : ℕ) (parts : List Part) → All (λ (part : Part). All (λ id. times part.node id ≡ 0) part.cpus) parts
+    → Any (λ part. has_cpu node cpu part ≡ true) parts → times node cpu ≡ 0
 was-free times node cpu parts unheld (k, part, below, is, has) =
     let both = and_parts (eqb part.node node) (list_any (λ id. eqb id cpu) part.cpus) has in
     let here : All (λ id. times part.node id ≡ 0) part.cpus = rw is at (unheld k part below) in

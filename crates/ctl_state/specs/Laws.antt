@@ -63,7 +63,8 @@ NodesStay = (s : State) (nodes : List NodeRecord)
 abbrev pub Adding : Type 0
 Adding = (s : State) (now next : ℕ) (more : List JobRecord)
     → IsSound s → s.moment ≤ now → now ≤ last_moment
-    → AreOfPartitions s.partitions more → All (IsKept now) more → All (λ (job : JobRecord). is_pending job.state ≡ true) more
+    → AreOfPartitions s.partitions more → All (IsKept now) more
+    → All (λ (job : JobRecord). is_pending job.state ≡ true) more
     → HaveRisingIds more → All (λ (job : JobRecord). s.next_id ≤ job.id) more
     → All (λ (job : JobRecord). job.id + 1 ≤ next) more → s.next_id ≤ next → next ≤ last_job_id + 1
     → IsSound (record s { jobs = s.jobs ++ more; next_id = next; moment = now })
@@ -77,7 +78,8 @@ abbrev pub ChangesLetGo : Type 0
 ChangesLetGo = (now : ℕ) (change : Change) (job : JobRecord)
     → is_start change ≡ false → moment_of change ≡ now → IsKept now job → LetsGo now job (changed change job)
 
--- Time that passes takes nothing from what is kept of a job; what lets go keeps it, nothing lets go, and so do two one after another.
+-- Time that passes takes nothing from what is kept of a job; what lets go keeps it, nothing lets go, and so do two one
+-- after another.
 abbrev pub KeptLater : Type 0
 KeptLater = (before now : ℕ) (job : JobRecord) → before ≤ now → IsKept before job → IsKept now job
 
@@ -88,7 +90,8 @@ abbrev pub LetsGoNothing : Type 0
 LetsGoNothing = (now : ℕ) (job : JobRecord) → IsKept now job → LetsGo now job job
 
 abbrev pub LetsGoTwice : Type 0
-LetsGoTwice = (now : ℕ) (job middle after : JobRecord) → LetsGo now job middle → LetsGo now middle after → LetsGo now job after
+LetsGoTwice = (now : ℕ) (job middle after : JobRecord)
+    → LetsGo now job middle → LetsGo now middle after → LetsGo now job after
 
 -- The nodes that a job may get are nodes that there are, each once.
 abbrev pub JobNodes : Type 0
@@ -104,7 +107,8 @@ OrderMoves X = (before : X → X → Bool) (xs : List X) → IsPermutation xs (o
 -- Keys that differ differ in order too.
 abbrev pub OrderKeepsApart : Type 0 → Type 0
 OrderKeepsApart X = (before : X → X → Bool) (key : X → ℕ) (xs : List X)
-    → AllPairs (λ (one other : X). key one ≢ key other) xs → AllPairs (λ (one other : X). key one ≢ key other) (ordered_by before xs)
+    → AllPairs (λ (one other : X). key one ≢ key other) xs
+    → AllPairs (λ (one other : X). key one ≢ key other) (ordered_by before xs)
 
 -- What a stable sort makes of a list is the list in order.
 abbrev pub SortOrders : Type 0 → Type 0

@@ -65,8 +65,8 @@ required_first nodes desc places =
 abbrev pub are_there : List NodeRecord → JobDesc → List ℕ → Bool
 are_there nodes desc places = list_all (λ name. list_any (is_at (is_named name) nodes) places) desc.required
 
--- The places of the job's nodes among those of a partition, in the order in which it takes them; none where it must have
--- one that it can't have.
+-- The places of the job's nodes among those of a partition, in the order in which it takes them; none where it must
+-- have one that it can't have.
 abbrev pub nodes_among : List NodeRecord → JobDesc → List ℕ → List ℕ
 nodes_among nodes desc order =
     if are_there nodes desc (filter (is_at (may_run desc) nodes) order)

@@ -1,5 +1,5 @@
 -- What every state keeps.
-use Rattle.std.specs.Prelude.{◌≡◌, ◌≢◌, ℕ, ◌+◌, ◌<◌, ◌≤◌, Bool, true, ◌||◌, is_some, unwrap_or, List, length, map, filter, All, AllPairs, Contains}
+use Rattle.std.specs.Prelude.{◌≡◌, ◌≢◌, ℕ, ◌+◌, ◌<◌, ◌≤◌, Bool, true, ◌||◌, is_some, IfSome, unwrap_or, List, length, map, filter, All, AllPairs, Contains}
 use Rattle.slurm_text.specs.declared.plain.limit.Limit.{Limit}
 use Rattle.slurm_text.specs.declared.plain.limit.Limit.TheVariants.{Minutes, Unlimited}
 use Rattle.slurm_text.specs.declared.plain.conf.Settings.{Settings}
@@ -40,8 +40,8 @@ pub record IsAsked (desc : JobDesc) : Type 0 where
   pub run : (1 ≤ desc.run) × (desc.run ≤ 2000000000)
   pub exit : desc.exit ≤ 255
 
--- The job's times fit its state: what runs or completes has a start, what has left Running has an end, none comes before the
--- other or lies ahead.
+-- The job's times fit its state: what runs or completes has a start, what has left Running has an end, none comes
+-- before the other or lies ahead.
 pub record IsWellRun (moment : ℕ) (job : JobRecord) : Type 0 where
   pub submitted : job.submit ≤ moment
   pub started : is_holding job.state ≡ true → is_some job.started ≡ true
@@ -90,6 +90,11 @@ is_up_at nodes place = is_at (λ (node : NodeRecord). is_up node.down) nodes pla
 abbrev pub AreUp : List NodeRecord → List Part → Type 0
 AreUp nodes parts = All (λ (part : Part). is_up_at nodes part.node ≡ true) parts
 
+-- the partition's limits are in their ranges
+pub record HasLimits (partition : PartRecord) : Type 0 where
+  pub longest : IsLimit partition.conf.max_time
+  pub unasked : IfSome partition.conf.default_time IsLimit
+
 -- each job is of a partition that there is
 abbrev pub AreOfPartitions : List PartRecord → List JobRecord → Type 0
 AreOfPartitions partitions jobs = All (λ (job : JobRecord). job.partition < length partitions) jobs
@@ -98,6 +103,7 @@ pub record IsSound (s : State) : Type 0 where
   pub settings : HasRanges s.settings
   pub nodes : AreNodes s.nodes
   pub partitions : All (IsOnNodes (length s.nodes)) s.partitions
+  pub limits : All HasLimits s.partitions
   pub of_partitions : AreOfPartitions s.partitions s.jobs
   -- the numbers of the jobs rise, and are below the next one
   pub rising : HaveRisingIds s.jobs

@@ -1,7 +1,13 @@
 //! The options of sbatch(1), in one table: of each the long name, the letter, if it has one, and what it takes. An option
 //! is added by a row here, with what it says in `entries`.
 
+ghost use Rattle.std.specs.Prelude.{◌≡◌, ◌∷◌, [], MatchOption};
+ghost use Rattle.option_words.specs.Arguments.{parts_left, part_of};
+ghost use Rattle.sbatch_options.specs.Table.{options};
+
 use option_words::arguments::Takes::{self, Maybe, Nothing, Value};
+use option_words::arguments::{Argument, Cursor, next_argument};
+use slurm_text::words::Words;
 
 /// An option that stands without a value.
 #[derive(Clone, Copy)]
@@ -88,3 +94,16 @@ pub const OPTIONS: [(&[u8], Option<u8>, Takes<FlagOption, ValueOption>); 37] = [
     (b"verbose", Some(b'v'), Nothing(FlagOption::WithoutEffect)),
     (b"quiet", Some(b'Q'), Nothing(FlagOption::WithoutEffect)),
 ];
+
+/// The next argument of sbatch(1).
+#[tactic(auto, unfolding(crate::specs::Table::options))]
+pub fn next_option<'a>(
+    words: &'a Words,
+    cursor: &mut Cursor,
+) -> Option<Argument<'a, FlagOption, ValueOption>>
+    ensures { MatchOption result (parts_left options words.entry.now cursor.old ≡ [])
+        (λ argument. parts_left options words.entry.now cursor.old
+        ≡ part_of argument ∷ parts_left options words.entry.now cursor.new) }
+{
+    next_argument(&OPTIONS, words, cursor)
+}

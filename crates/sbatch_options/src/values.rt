@@ -75,7 +75,7 @@ pub fn read_name(alloc: Global, text: &[u8]) -> Result<Name, ValueRefusal>
 }
 
 /// A name of a job.
-pub fn read_job_name(alloc: Global, text: &[u8]) -> Result<JobName, ValueRefusal>
+pub(crate) fn read_job_name(alloc: Global, text: &[u8]) -> Result<JobName, ValueRefusal>
     ensures value { IfOk result (λ name. job_name_in text.now ≡ Some name) }
     ensures refused { IsErrOf result ValueRefusal.BadValue → job_name_in text.now ≡ None }
 {
@@ -94,7 +94,7 @@ fn read_node_number(text: &[u8]) -> Option<Ranged<1, 1024>>
 
 /// `--nodes`: one number, or the least and the most.
 #[tactic(auto, unfolding(crate::specs::Values::node_range_of))]
-pub fn read_node_range(text: &[u8]) -> Option<NodeRange>
+pub(crate) fn read_node_range(text: &[u8]) -> Option<NodeRange>
     ensures { result ≡ node_range_in text.now }
 {
     match up_to_three(text, b'-') {
@@ -115,7 +115,7 @@ pub fn read_node_range(text: &[u8]) -> Option<NodeRange>
 
 /// `--mem`: megabytes on each node; 0 is all of its memory.
 #[tactic(auto, unfolding(crate::specs::Values::mem_per_node))]
-pub fn read_mem_per_node(text: &[u8]) -> Option<MemAsk>
+pub(crate) fn read_mem_per_node(text: &[u8]) -> Option<MemAsk>
     ensures { result ≡ mem_per_node text.now }
 {
     match parse_mem(text) {
@@ -127,7 +127,7 @@ pub fn read_mem_per_node(text: &[u8]) -> Option<MemAsk>
 
 /// `--mem-per-cpu`: megabytes for each processor; 0 is all memory of each node (own).
 #[tactic(auto, unfolding(crate::specs::Values::mem_per_cpu))]
-pub fn read_mem_per_cpu(text: &[u8]) -> Option<MemAsk>
+pub(crate) fn read_mem_per_cpu(text: &[u8]) -> Option<MemAsk>
     ensures { result ≡ mem_per_cpu text.now }
 {
     match parse_mem(text) {
@@ -190,7 +190,7 @@ pub fn read_nodes(alloc: Global, text: &[u8]) -> Result<NodeNames, ValueRefusal>
 }
 
 /// `--constraint`: the features that are wanted.
-pub fn read_constraint(alloc: Global, text: &[u8]) -> Result<FeatureExpr, ValueRefusal>
+pub(crate) fn read_constraint(alloc: Global, text: &[u8]) -> Result<FeatureExpr, ValueRefusal>
     ensures value { IfOk result (λ features. features_in text.now ≡ Some features) }
     ensures refused { IsErrOf result ValueRefusal.BadValue → features_in text.now ≡ None }
 {
@@ -202,7 +202,7 @@ pub fn read_constraint(alloc: Global, text: &[u8]) -> Result<FeatureExpr, ValueR
 }
 
 /// `--array`: the tasks of an array.
-pub fn read_tasks(alloc: Global, text: &[u8]) -> Result<ArraySpec, ValueRefusal>
+pub(crate) fn read_tasks(alloc: Global, text: &[u8]) -> Result<ArraySpec, ValueRefusal>
     ensures value { IfOk result (λ array. array_in text.now ≡ Some array) }
     ensures refused { IsErrOf result ValueRefusal.BadValue → array_in text.now ≡ None }
 {
@@ -214,7 +214,7 @@ pub fn read_tasks(alloc: Global, text: &[u8]) -> Result<ArraySpec, ValueRefusal>
 }
 
 /// `--dependency`: what a job waits for.
-pub fn read_waits(alloc: Global, text: &[u8]) -> Result<DepSpec, ValueRefusal>
+pub(crate) fn read_waits(alloc: Global, text: &[u8]) -> Result<DepSpec, ValueRefusal>
     ensures value { IfOk result (λ dependency. dependency_in text.now ≡ Some dependency) }
     ensures refused { IsErrOf result ValueRefusal.BadValue → dependency_in text.now ≡ None }
 {

@@ -1,4 +1,5 @@
 pub mod Field
+pub mod Malformed
 pub mod Orders
 pub mod Ranges
 pub mod Refusal

@@ -6,6 +6,7 @@ use Rattle.slurm_text.specs.declared.plain.reply.Reply.TheVariants.{Submitted, P
 use Rattle.slurm_text.specs.declared.plain.request.Request.{Request}
 use Rattle.slurm_text.specs.declared.plain.request.Request.TheVariants.{Submit, Report, Pass, Show}
 use Rattle.slurm_text.specs.declared.plain.view.View.{View}
+use Rattle.slurm_print.specs.Malformed.{not_built_text}
 use Rattle.slurm_print.specs.Orders.{orders_text}
 use Rattle.slurm_print.specs.Refusal.{refusal_line}
 use Rattle.slurm_print.specs.Sinfo.{sinfo_text}
@@ -36,10 +37,6 @@ abbrev pub shown_text : Request → View → List ℕ
 shown_text (Show (Squeue titles starts)) view = squeue_text titles starts view
 shown_text (Show (Sinfo partition titles)) view = sinfo_text titles view
 shown_text request view = []
-
--- what the controller can't do yet
-abbrev pub not_built_text : List ℕ
-not_built_text = codes "slurm: error: NotBuilt\n"
 
 abbrev pub text_of : Request → Reply → List ℕ
 text_of request (Submitted id) = submitted_line id

@@ -1,6 +1,7 @@
 //! The lines of sinfo(1).
 
 ghost use Rattle.std.specs.Prelude.{◌≡◌, ◌≤◌, ◌++◌, flat_map, length, decimal, OnOk};
+ghost use Rattle.slurm_text.specs.Folding.{folded};
 ghost use Rattle.slurm_print.specs.Field.{cell, left_cell};
 ghost use Rattle.slurm_print.specs.Sinfo.{sinfo_text, sinfo_titles, sinfo_row, state_line, starred, longest_text, avail_text, group_code};
 
@@ -50,7 +51,8 @@ fn push_titles(out: &mut Vec<u8>) -> Result<(), Memory>
     push_cell(out, 10, b"TIMELIMIT")?;
     push_cell(out, 6, b"NODES")?;
     push_cell(out, 6, b"STATE")?;
-    push_text(out, b"NODELIST\n")
+    push_text(out, b"NODELIST\n")?;
+    Ok(())
 }
 
 fn push_states(alloc: Global, out: &mut Vec<u8>, row: &StateRow) -> Result<(), Memory>
@@ -61,8 +63,15 @@ fn push_states(alloc: Global, out: &mut Vec<u8>, row: &StateRow) -> Result<(), M
     push_longest(out, row.limit)?;
     push_count(out, row.nodes.as_slice())?;
     push_cell(out, 6, code(row.group))?;
-    push_text(out, fold_hosts(alloc, row.nodes.as_slice())?.as_slice())?;
-    push_text(out, b"\n")
+    push_names(alloc, out, row.nodes.as_slice())?;
+    push_text(out, b"\n")?;
+    Ok(())
+}
+
+fn push_names(alloc: Global, out: &mut Vec<u8>, names: &[Name]) -> Result<(), Memory>
+    ensures { OnOk result (out.new.items ≡ out.old.items ++ folded names.now) }
+{
+    push_text(out, fold_hosts(alloc, names)?.as_slice())
 }
 
 fn push_partition(
