@@ -5,7 +5,7 @@ use Rattle.std.proofs.lemmas.Bool.{cases_lt}
 use Rattle.resource_profile.specs.declared.NodeRoom.{NodeRoom}
 use Rattle.resource_profile.specs.declared.Hold.{Hold}
 use Rattle.node_pick.specs.Choosing.{numbers_from, chosen}
-use Rattle.node_pick.proofs.Choosing.{chosen-some, chosen-none}
+use Rattle.backfill_planner.specs.LowerLaws.{LowerLaws}
 use Rattle.backfill_planner.specs.declared.Placed.{Placed}
 use Rattle.backfill_planner.specs.declared.job.PlanJob.{PlanJob}
 use Rattle.backfill_planner.specs.Giving.{capacities}
@@ -42,34 +42,34 @@ find-is test lo (suc count) end whole =
     find-step test lo end (test lo) (find test (numbers_from (lo + 1) count)) (omega (arith, whole)) refl (find-is test (lo + 1) count end (omega (arith, whole)))
 
 -- what the placement at a second says
-placement-is : (rooms : List NodeRoom) (holds : List Hold) (job : PlanJob) (start : ℕ) → MatchOption (placement_at rooms holds job start) ((set : List ℕ) → ¬ FitsAt rooms holds job start set) (IsPlacement rooms holds job start start)
+placement-is : LowerLaws → (rooms : List NodeRoom) (holds : List Hold) (job : PlanJob) (start : ℕ) → MatchOption (placement_at rooms holds job start) ((set : List ℕ) → ¬ FitsAt rooms holds job start set) (IsPlacement rooms holds job start start)
 unfolding placement_at
-placement-is rooms holds job start = by (chosen (capacities rooms holds job start) job.need) refl
+placement-is laws rooms holds job start = by (chosen (capacities rooms holds job start) job.need) refl
   where
     by : (found : Option (List ℕ)) → chosen (capacities rooms holds job start) job.need ≡ found
         → MatchOption (option_map (λ set. record { id = job.id; start = start; parts = shares_of rooms holds job start set }) found) ((set : List ℕ) → ¬ FitsAt rooms holds job start set) (IsPlacement rooms holds job start start)
-    by None is = λ set. chosen-none (capacities rooms holds job start) job.need set is
+    by None is = λ set. laws.none (capacities rooms holds job start) job.need set is
     by (Some set) is = record {
       id = refl;
       from = omega arith;
       last = omega arith;
       set = set;
-      is_chosen = chosen-some (capacities rooms holds job start) job.need set is;
+      is_chosen = laws.some (capacities rooms holds job start) job.need set is;
       parts = refl;
       first = λ second other low high. absurd (omega (arith, low, high));
     }
 
-none_fits : (rooms : List NodeRoom) (holds : List Hold) (job : PlanJob) (start : ℕ) (set : List ℕ) → is_some (placement_at rooms holds job start) ≡ false → ¬ FitsAt rooms holds job start set
-none_fits rooms holds job start set nothing = by (placement_at rooms holds job start) nothing (placement-is rooms holds job start)
+none_fits : LowerLaws → (rooms : List NodeRoom) (holds : List Hold) (job : PlanJob) (start : ℕ) (set : List ℕ) → is_some (placement_at rooms holds job start) ≡ false → ¬ FitsAt rooms holds job start set
+none_fits laws rooms holds job start set nothing = by (placement_at rooms holds job start) nothing (placement-is laws rooms holds job start)
   where
     by : (placed : Option Placed) → is_some placed ≡ false → MatchOption placed ((set : List ℕ) → ¬ FitsAt rooms holds job start set) (IsPlacement rooms holds job start start) → ¬ FitsAt rooms holds job start set
     by None nothing is = is set
     by (Some placed) nothing is = absurd cc
 
 -- the placement at the least second
-at_first : (rooms : List NodeRoom) (holds : List Hold) (job : PlanJob) (lo hi end start : ℕ) (placed : Placed) → start ≤ hi → IsFirstNumber (λ s. is_some (placement_at rooms holds job s)) lo end start → placement_at rooms holds job start ≡ Some placed → IsPlacement rooms holds job lo hi placed
-at_first rooms holds job lo hi end start placed last least is =
-    let there : IsPlacement rooms holds job start start placed = rw is at (placement-is rooms holds job start) in
+at_first : LowerLaws → (rooms : List NodeRoom) (holds : List Hold) (job : PlanJob) (lo hi end start : ℕ) (placed : Placed) → start ≤ hi → IsFirstNumber (λ s. is_some (placement_at rooms holds job s)) lo end start → placement_at rooms holds job start ≡ Some placed → IsPlacement rooms holds job lo hi placed
+at_first laws rooms holds job lo hi end start placed last least is =
+    let there : IsPlacement rooms holds job start start placed = rw is at (placement-is laws rooms holds job start) in
     record {
       id = there.id;
       from = omega (arith, there.from, least.from);
@@ -77,12 +77,12 @@ at_first rooms holds job lo hi end start placed last least is =
       set = there.set;
       is_chosen = there.is_chosen;
       parts = there.parts;
-      first = λ second other low high. none_fits rooms holds job second other (least.before second low (omega (arith, high, there.last)));
+      first = λ second other low high. none_fits laws rooms holds job second other (least.before second low (omega (arith, high, there.last)));
     }
 
-pub placed-is : (rooms : List NodeRoom) (holds : List Hold) (job : PlanJob) (lo hi : ℕ) (placed : Placed) → placed_of rooms holds job lo hi ≡ Some placed → IsPlacement rooms holds job lo hi placed
+pub placed-is : LowerLaws → (rooms : List NodeRoom) (holds : List Hold) (job : PlanJob) (lo hi : ℕ) (placed : Placed) → placed_of rooms holds job lo hi ≡ Some placed → IsPlacement rooms holds job lo hi placed
 unfolding placed_of first_second
-placed-is rooms holds job lo hi placed is =
+placed-is laws rooms holds job lo hi placed is =
     by (find (λ s. is_some (placement_at rooms holds job s)) (numbers_from lo (hi + 1 - lo))) is
     (find-is (λ s. is_some (placement_at rooms holds job s)) lo (hi + 1 - lo) (lo + (hi + 1 - lo)) refl)
   where
@@ -90,11 +90,11 @@ placed-is rooms holds job lo hi placed is =
         → MatchOption found ((n : ℕ) → lo ≤ n → n < lo + (hi + 1 - lo) → is_some (placement_at rooms holds job n) ≡ false) (IsFirstNumber (λ s. is_some (placement_at rooms holds job s)) lo (lo + (hi + 1 - lo)))
         → IsPlacement rooms holds job lo hi placed
     by None is least = absurd cc
-    by (Some start) is least = at_first rooms holds job lo hi (lo + (hi + 1 - lo)) start placed (omega (arith, least.from, least.below)) least is
+    by (Some start) is least = at_first laws rooms holds job lo hi (lo + (hi + 1 - lo)) start placed (omega (arith, least.from, least.below)) least is
 
-pub placed-nowhere : (rooms : List NodeRoom) (holds : List Hold) (job : PlanJob) (lo hi second : ℕ) (set : List ℕ) → placed_of rooms holds job lo hi ≡ None → lo ≤ second → second ≤ hi → ¬ FitsAt rooms holds job second set
+pub placed-nowhere : LowerLaws → (rooms : List NodeRoom) (holds : List Hold) (job : PlanJob) (lo hi second : ℕ) (set : List ℕ) → placed_of rooms holds job lo hi ≡ None → lo ≤ second → second ≤ hi → ¬ FitsAt rooms holds job second set
 unfolding placed_of first_second
-placed-nowhere rooms holds job lo hi second set is low high =
+placed-nowhere laws rooms holds job lo hi second set is low high =
     by (find (λ s. is_some (placement_at rooms holds job s)) (numbers_from lo (hi + 1 - lo))) is
     (find-is (λ s. is_some (placement_at rooms holds job s)) lo (hi + 1 - lo) (hi + 1) (omega (arith, low, high)))
   where
@@ -104,5 +104,5 @@ placed-nowhere rooms holds job lo hi second set is low high =
     by : (found : Option ℕ) → option_and_then (λ s. placement_at rooms holds job s) found ≡ None
         → MatchOption found ((n : ℕ) → lo ≤ n → n < hi + 1 → is_some (placement_at rooms holds job n) ≡ false) (IsFirstNumber (λ s. is_some (placement_at rooms holds job s)) lo (hi + 1))
         → ¬ FitsAt rooms holds job second set
-    by None is none = none_fits rooms holds job second set (none second low (omega (arith, high)))
+    by None is none = none_fits laws rooms holds job second set (none second low (omega (arith, high)))
     by (Some start) is least = absurd (there start least.passes is)

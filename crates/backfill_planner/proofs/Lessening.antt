@@ -1,6 +1,6 @@
 -- Where a job that asks no more finds no start, none is found, also beside more holds.
-use Rattle.std.proofs.Common.{◌≡◌, ℕ, ◌+◌, ◌-◌, ◌*◌, ◌/◌, ◌≤◌, ◌<◌, min, zero, suc, Bool, true, false, ◌&&◌, ◌||◌, not, cond, eqb, leb, List, [], ◌∷◌, ◌++◌, length, map, get_or, sum_by, All, arith, refl, sym, ap, subst, ◌∙◌, inl, inr, Some, None, Option}
-use Rattle.std.specs.Prelude.{find, IfSome, MatchOption, option_map, option_and_then, unwrap_or, is_some}
+use Rattle.std.proofs.Common.{◌≡◌, ℕ, ◌+◌, ◌-◌, ◌*◌, ◌/◌, ◌≤◌, ◌<◌, min, zero, suc, Bool, true, false, ◌&&◌, ◌||◌, not, cond, eqb, leb, List, ◌++◌, get_or, sum_by, All, arith, refl, sym, ap, subst, ◌∙◌, inl, inr, Some, None, Option}
+use Rattle.std.specs.Prelude.{find, IfSome, option_map, option_and_then, unwrap_or, is_some}
 use Rattle.std.specs.List.Sorted.{IsPermutation}
 use Rattle.std.proofs.Math.Nat.{div-mul-le_self}
 use Rattle.std.proofs.lemmas.Nat.{le-div, mul-le}
@@ -10,22 +10,21 @@ use Rattle.std.proofs.lemmas.List.Sorted.{sum_by-IsPermutation}
 use Rattle.resource_profile.specs.declared.NodeRoom.{NodeRoom}
 use Rattle.resource_profile.specs.declared.Hold.{Hold}
 use Rattle.resource_profile.specs.Free.{room_at, covers, free_cpus, free_mem, least_after, least_over}
-use Rattle.resource_profile.proofs.Least.{least_over-le, least_over-reached}
+use Rattle.backfill_planner.proofs.Windows.{over_lower, over_reached}
 use Rattle.node_pick.specs.Sets.{capacity, Fits}
 use Rattle.node_pick.specs.Choosing.{numbers_from, chosen}
-use Rattle.node_pick.proofs.Choosing.{chosen-none, chosen-none_fits}
-use Rattle.node_pick.proofs.Lesser.{lesser-fits}
 use Rattle.slurm_text.specs.declared.plain.mem_ask.MemAsk.{MemAsk}
 use Rattle.slurm_text.specs.declared.plain.mem_ask.MemAsk.TheVariants.{All as AllMem, PerNode, PerCpu}
+use Rattle.backfill_planner.specs.LowerLaws.{LowerLaws}
 use Rattle.backfill_planner.specs.declared.Placed.{Placed}
 use Rattle.backfill_planner.specs.declared.job.PlanJob.{PlanJob}
 use Rattle.backfill_planner.specs.Giving.{window_end, tasks_by_mem, may_have, tasks_given, give, capacities}
 use Rattle.backfill_planner.specs.Plans.{shares_of, placement_at, first_second, placed_of}
-use Rattle.backfill_planner.specs.Placements.{FitsAt, IsPlacement}
+use Rattle.backfill_planner.specs.Placements.{FitsAt}
 use Rattle.backfill_planner.specs.declared.seen.Seen.{Seen}
 use Rattle.backfill_planner.specs.Searches.{IsSeen}
 use Rattle.backfill_planner.specs.Lesser.{IsNoMoreMem, IsLesser, NoneBefore}
-use Rattle.backfill_planner.proofs.Rises.{tasks-more, map-more, none-chosen, fits-more, quotient-more}
+use Rattle.backfill_planner.proofs.Rises.{chosen-none_fits, tasks-more, map-more, none-chosen, fits-more}
 use Rattle.backfill_planner.proofs.Seconds.{placed-none}
 use Rattle.backfill_planner.proofs.LeastSecond.{placed-is, placed-nowhere}
 
@@ -70,8 +69,8 @@ tasks-lesser lesser job room cpus mem is =
 -- the least over a longer window is no more
 least-longer : (free : ℕ → ℕ) (from until later : ℕ) → from < until → until ≤ later → least_over free from later ≤ least_over free from until
 least-longer free from until later window order =
-    let at = least_over-reached free from until window in
-    omega (arith, at.3, least_over-le free from later at.0 at.1 (omega (arith, at.2, order)))
+    let at = over_reached free from until window in
+    omega (arith, at.3, over_lower free from later at.0 at.1 (omega (arith, at.2, order)))
 
 least_after-less : (free more : ℕ → ℕ) (from count : ℕ) → ((moment : ℕ) → free moment ≤ more moment) → least_after free from count ≤ least_after more from count
 unfolding least_after
@@ -105,20 +104,20 @@ capacity-lesser rooms holds lesser job second place is last =
     rw is.nodes (map-more (λ node. give rooms holds job second node) (λ node. give rooms holds lesser second node) job.nodes place (λ node. give-lesser rooms holds lesser job second node is last))
 
 -- no set fits where none fits one that is given more
-none-from : (rooms : List NodeRoom) (holds others : List Hold) (job other : PlanJob) (second : ℕ) → ((set : List ℕ) → Fits (capacities rooms holds job second) job.need set → (found : List ℕ) × Fits (capacities rooms others other second) other.need found) → placement_at rooms others other second ≡ None → placement_at rooms holds job second ≡ None
+none-from : LowerLaws → (rooms : List NodeRoom) (holds others : List Hold) (job other : PlanJob) (second : ℕ) → ((set : List ℕ) → Fits (capacities rooms holds job second) job.need set → (found : List ℕ) × Fits (capacities rooms others other second) other.need found) → placement_at rooms others other second ≡ None → placement_at rooms holds job second ≡ None
 unfolding placement_at
-none-from rooms holds others job other second then nothing =
+none-from laws rooms holds others job other second then nothing =
     let nowhere : chosen (capacities rooms others other second) other.need ≡ None =
     none-chosen (chosen (capacities rooms others other second) other.need) (λ set. record { id = other.id; start = second; parts = shares_of rooms others other second set }) nothing in
     let still : chosen (capacities rooms holds job second) job.need ≡ None =
-    chosen-none_fits (capacities rooms holds job second) job.need
-    (λ set fits. let found = then set fits in chosen-none (capacities rooms others other second) other.need found.0 nowhere found.1) in
+    chosen-none_fits laws (capacities rooms holds job second) job.need
+    (λ set fits. let found = then set fits in laws.none (capacities rooms others other second) other.need found.0 nowhere found.1) in
     rw still refl
 
-pub lesser-none : (rooms : List NodeRoom) (holds : List Hold) (lesser job : PlanJob) (now bound : ℕ) → IsLesser lesser job → NoneBefore rooms holds lesser now bound → NoneBefore rooms holds job now bound
-lesser-none rooms holds lesser job now bound is none second low high last =
-    none-from rooms holds holds job lesser second
-    (λ set fits. (_, lesser-fits (capacities rooms holds job second) (capacities rooms holds lesser second) job.need lesser.need set (λ place. capacity-lesser rooms holds lesser job second place is last) is.need fits))
+pub lesser-none : LowerLaws → (rooms : List NodeRoom) (holds : List Hold) (lesser job : PlanJob) (now bound : ℕ) → IsLesser lesser job → NoneBefore rooms holds lesser now bound → NoneBefore rooms holds job now bound
+lesser-none laws rooms holds lesser job now bound is none second low high last =
+    none-from laws rooms holds holds job lesser second
+    (λ set fits. (_, laws.lesser (capacities rooms holds job second) (capacities rooms holds lesser second) job.need lesser.need set (λ place. capacity-lesser rooms holds lesser job second place is last) is.need fits))
     (none second low high last)
 
 -- beside more holds
@@ -143,9 +142,9 @@ unfolding capacities
 capacity-held rooms holds more all job second place moved =
     map-more (λ node. give rooms all job second node) (λ node. give rooms holds job second node) job.nodes place (λ node. give-held rooms holds more all job second node moved)
 
-pub held-none : (rooms : List NodeRoom) (holds more all : List Hold) (job : PlanJob) (now bound : ℕ) → IsPermutation (holds ++ more) all → NoneBefore rooms holds job now bound → NoneBefore rooms all job now bound
-held-none rooms holds more all job now bound moved none second low high last =
-    none-from rooms all holds job job second
+pub held-none : LowerLaws → (rooms : List NodeRoom) (holds more all : List Hold) (job : PlanJob) (now bound : ℕ) → IsPermutation (holds ++ more) all → NoneBefore rooms holds job now bound → NoneBefore rooms all job now bound
+held-none laws rooms holds more all job now bound moved none second low high last =
+    none-from laws rooms all holds job job second
     (λ set fits. (set, fits-more (capacities rooms all job second) (capacities rooms holds job second) job.need set (λ place. capacity-held rooms holds more all job second place moved) fits))
     (none second low high last)
 
@@ -183,20 +182,20 @@ placed-later rooms holds job now lo hi order last none = elim (cases_lt hi lo) [
   | inr before ↦ skipped rooms holds job now lo hi order last before none
 ]
 
-none-there : (rooms : List NodeRoom) (holds : List Hold) (job : PlanJob) (second : ℕ) → ((set : List ℕ) → ¬ FitsAt rooms holds job second set) → placement_at rooms holds job second ≡ None
+none-there : LowerLaws → (rooms : List NodeRoom) (holds : List Hold) (job : PlanJob) (second : ℕ) → ((set : List ℕ) → ¬ FitsAt rooms holds job second set) → placement_at rooms holds job second ≡ None
 unfolding placement_at
-none-there rooms holds job second nowhere =
-    let still : chosen (capacities rooms holds job second) job.need ≡ None = chosen-none_fits (capacities rooms holds job second) job.need nowhere in
+none-there laws rooms holds job second nowhere =
+    let still : chosen (capacities rooms holds job second) job.need ≡ None = chosen-none_fits laws (capacities rooms holds job second) job.need nowhere in
     rw still refl
 
 -- what a search has shown
-pub none-placed : (rooms : List NodeRoom) (holds : List Hold) (job : PlanJob) (now hi : ℕ) → None ≡ placed_of rooms holds job now hi → NoneBefore rooms holds job now (hi + 1)
-none-placed rooms holds job now hi is second low high last = none-there rooms holds job second (λ set. placed-nowhere rooms holds job now hi second set (sym is) low (omega (arith, high)))
+pub none-placed : LowerLaws → (rooms : List NodeRoom) (holds : List Hold) (job : PlanJob) (now hi : ℕ) → None ≡ placed_of rooms holds job now hi → NoneBefore rooms holds job now (hi + 1)
+none-placed laws rooms holds job now hi is second low high last = none-there laws rooms holds job second (λ set. placed-nowhere laws rooms holds job now hi second set (sym is) low (omega (arith, high)))
 
-pub some-placed : (rooms : List NodeRoom) (holds : List Hold) (job : PlanJob) (now hi : ℕ) (placed : Placed) → Some placed ≡ placed_of rooms holds job now hi → NoneBefore rooms holds job now placed.start
-some-placed rooms holds job now hi placed is second low high last =
-    let there = placed-is rooms holds job now hi placed (sym is) in
-    none-there rooms holds job second (λ set. there.first second set low high)
+pub some-placed : LowerLaws → (rooms : List NodeRoom) (holds : List Hold) (job : PlanJob) (now hi : ℕ) (placed : Placed) → Some placed ≡ placed_of rooms holds job now hi → NoneBefore rooms holds job now placed.start
+some-placed laws rooms holds job now hi placed is second low high last =
+    let there = placed-is laws rooms holds job now hi placed (sym is) in
+    none-there laws rooms holds job second (λ set. there.first second set low high)
 
 -- no longer than the other
 pub no-longer : (less more : Option ℕ) (second : ℕ) → IfSome less (λ s. (1 ≤ s) × (s ≤ 3153600000)) → IfSome more (λ s. (1 ≤ s) × (s ≤ 3153600000)) → unwrap_or less 1000000000000 ≤ unwrap_or more 1000000000000 → second ≤ 250002592000
@@ -211,22 +210,22 @@ has-window None second is last = omega (arith, last)
 has-window (Some less) second is last = omega (arith, is.0)
 
 -- what is known of a job that was searched for tells of one that asks no less
-pub seen-none : (rooms : List NodeRoom) (holds : List Hold) (ranked : List PlanJob) (now : ℕ) (one : Seen) (read job : PlanJob) → IsSeen rooms holds ranked now one → read ≡ get_or ranked one.place read → IsLesser read job → NoneBefore rooms holds job now one.bound
-seen-none rooms holds ranked now one read job seen is lesser =
+pub seen-none : LowerLaws → (rooms : List NodeRoom) (holds : List Hold) (ranked : List PlanJob) (now : ℕ) (one : Seen) (read job : PlanJob) → IsSeen rooms holds ranked now one → read ≡ get_or ranked one.place read → IsLesser read job → NoneBefore rooms holds job now one.bound
+seen-none laws rooms holds ranked now one read job seen is lesser =
     let P : PlanJob → Type 0 = λ j. NoneBefore rooms holds j now one.bound in
-    lesser-none rooms holds read job now one.bound lesser (subst P (sym is) (seen.none read))
+    lesser-none laws rooms holds read job now one.bound lesser (subst P (sym is) (seen.none read))
 
 -- also beside more holds
-pub seen-held : (rooms : List NodeRoom) (holds more all : List Hold) (ranked : List PlanJob) (now : ℕ) (seen : List Seen) → IsPermutation (holds ++ more) all → All (IsSeen rooms holds ranked now) seen → All (IsSeen rooms all ranked now) seen
-seen-held rooms holds more all ranked now seen moved each k d inside =
+pub seen-held : LowerLaws → (rooms : List NodeRoom) (holds more all : List Hold) (ranked : List PlanJob) (now : ℕ) (seen : List Seen) → IsPermutation (holds ++ more) all → All (IsSeen rooms holds ranked now) seen → All (IsSeen rooms all ranked now) seen
+seen-held laws rooms holds more all ranked now seen moved each k d inside =
     let one = each k d inside in
-    record { there = one.there; none = λ job. held-none rooms holds more all (get_or ranked (get_or seen k d).place job) now (get_or seen k d).bound moved (one.none job) }
+    record { there = one.there; none = λ job. held-none laws rooms holds more all (get_or ranked (get_or seen k d).place job) now (get_or seen k d).bound moved (one.none job) }
 
 -- the second before which a search has shown that none fits
 abbrev pub bound_of : Option Placed → ℕ → ℕ
 bound_of None hi = hi + 1
 bound_of (Some placed) hi = placed.start
 
-pub bound-shown : (rooms : List NodeRoom) (holds : List Hold) (job : PlanJob) (now hi : ℕ) (placed : Option Placed) → placed ≡ placed_of rooms holds job now hi → NoneBefore rooms holds job now (bound_of placed hi)
-bound-shown rooms holds job now hi None is = none-placed rooms holds job now hi is
-bound-shown rooms holds job now hi (Some placed) is = some-placed rooms holds job now hi placed is
+pub bound-shown : LowerLaws → (rooms : List NodeRoom) (holds : List Hold) (job : PlanJob) (now hi : ℕ) (placed : Option Placed) → placed ≡ placed_of rooms holds job now hi → NoneBefore rooms holds job now (bound_of placed hi)
+bound-shown laws rooms holds job now hi None is = none-placed laws rooms holds job now hi is
+bound-shown laws rooms holds job now hi (Some placed) is = some-placed laws rooms holds job now hi placed is

@@ -1,3 +1,4 @@
+pub mod Windows
 pub mod Beginnings
 pub mod Takes
 pub mod Dealing

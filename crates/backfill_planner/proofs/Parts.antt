@@ -9,7 +9,8 @@ use Rattle.resource_profile.specs.declared.Hold.{Hold}
 use Rattle.resource_profile.specs.Free.{room_at, free_cpus, free_mem, least_over}
 use Rattle.node_pick.specs.declared.Dealt.{Dealt}
 use Rattle.node_pick.specs.Sets.{dealt, places, tasks_given}
-use Rattle.node_pick.proofs.Shares.{places-dealt}
+use Rattle.backfill_planner.proofs.Windows.{dealt_places}
+use Rattle.backfill_planner.specs.LowerLaws.{LowerLaws}
 use Rattle.backfill_planner.specs.declared.Share.{Share}
 use Rattle.backfill_planner.specs.declared.Placed.{Placed}
 use Rattle.backfill_planner.specs.declared.job.PlanJob.{PlanJob}
@@ -17,7 +18,7 @@ use Rattle.backfill_planner.specs.Bases.{BaseView}
 use Rattle.backfill_planner.specs.Giving.{window_end, capacities}
 use Rattle.backfill_planner.specs.Plans.{share_of, placed_of, holds_of, plan_beside, plan_of}
 use Rattle.backfill_planner.specs.Placements.{IsPlacement, IsPlannable, IsOnRooms, IsPart, AreParts}
-use Rattle.backfill_planner.proofs.Takes.{takes_some}
+use Rattle.backfill_planner.proofs.Takes.{takes_some, gives_usable}
 use Rattle.backfill_planner.proofs.Dealing.{IsGiven, dealt-given, dealt-some, length-capacities}
 use Rattle.backfill_planner.proofs.Holding.{HoldsFree, capacity-give, placement-holds}
 use Rattle.backfill_planner.proofs.LeastSecond.{placed-is}
@@ -52,7 +53,7 @@ pub placed-holds : (rooms : List NodeRoom) (holds : List Hold) (job : PlanJob) (
 placed-holds rooms holds job lo hi placed nodes is low placement =
     let caps = capacities rooms holds job placed.start in
     let parts = dealt caps job.need.tasks placement.set in
-    let places_are : places parts ≡ placement.set = places-dealt caps job.need.tasks placement.set in
+    let places_are : places parts ≡ placement.set = dealt_places caps job.need.tasks placement.set in
     placement-holds rooms holds job placed.id placed.start caps parts placed.parts refl
     (rw places_are placement.is_chosen) (rw places_are refl) placement.parts
     nodes is.once (window-later job placed.start is (omega (arith, placement.last, low)))
@@ -78,6 +79,7 @@ placed-each rooms holds job lo hi placed nodes is placement =
         let gives = capacity-give rooms holds job placed.start part.place below in
         record {
           node = nodes part.place 0 below;
+          usable = gives_usable job (room_at rooms node) cpus mem (rw gives at given.some);
           tasks = some;
           cpus = takes_some job (room_at rooms node) cpus mem part.tasks is.cpus some (rw gives at given.some);
         }
@@ -108,28 +110,28 @@ placed-all P None later is others = others
 placed-all P (Some placed) later is others = All-cons P placed later is others
 
 -- what holds of each placement of each of the jobs, beside whatever holds
-plan_beside-all : (P : Placed → Type 0) (Q : PlanJob → Type 0) (base : BaseView) (now : ℕ) (holds : List Hold) (ranked : List PlanJob)
+plan_beside-all : LowerLaws → (P : Placed → Type 0) (Q : PlanJob → Type 0) (base : BaseView) (now : ℕ) (holds : List Hold) (ranked : List PlanJob)
     → ((beside : List Hold) (job : PlanJob) (placed : Placed) → Q job → IsPlacement base.rooms beside job now base.horizon placed → P placed)
     → All Q ranked → All P (plan_beside base now holds ranked)
 unfolding plan_beside
-plan_beside-all P Q base now holds [] each jobs = All-nil P
-plan_beside-all P Q base now holds (job ∷ later) each jobs =
+plan_beside-all laws P Q base now holds [] each jobs = All-nil P
+plan_beside-all laws P Q base now holds (job ∷ later) each jobs =
     let placed = placed_of base.rooms holds job now base.horizon in
     placed-all P placed (plan_beside base now (holds ++ holds_of job placed) later)
-    (if_placed P placed (λ one is. each holds job one (All-head Q job later jobs) (placed-is base.rooms holds job now base.horizon one is)))
-    (plan_beside-all P Q base now (holds ++ holds_of job placed) later each (All-tail Q job later jobs))
+    (if_placed P placed (λ one is. each holds job one (All-head Q job later jobs) (placed-is laws base.rooms holds job now base.horizon one is)))
+    (plan_beside-all laws P Q base now (holds ++ holds_of job placed) later each (All-tail Q job later jobs))
 
-pub plan-all : (P : Placed → Type 0) (Q : PlanJob → Type 0) (base : BaseView) (ranked : List PlanJob) (now : ℕ)
+pub plan-all : LowerLaws → (P : Placed → Type 0) (Q : PlanJob → Type 0) (base : BaseView) (ranked : List PlanJob) (now : ℕ)
     → ((beside : List Hold) (job : PlanJob) (placed : Placed) → Q job → IsPlacement base.rooms beside job now base.horizon placed → P placed)
     → All Q ranked → All P (plan_of base ranked now)
 unfolding plan_of
-plan-all P Q base ranked now each jobs = plan_beside-all P Q base now base.holds ranked each jobs
+plan-all laws P Q base ranked now each jobs = plan_beside-all laws P Q base now base.holds ranked each jobs
 
 -- the placements' ids are ids of jobs
-pub plan-ids : (base : BaseView) (ranked : List PlanJob) (now : ℕ) → All (λ (placed : Placed). Contains (map (λ (job : PlanJob). job.id) ranked) placed.id) (plan_of base ranked now)
-plan-ids base ranked now =
+pub plan-ids : LowerLaws → (base : BaseView) (ranked : List PlanJob) (now : ℕ) → All (λ (placed : Placed). Contains (map (λ (job : PlanJob). job.id) ranked) placed.id) (plan_of base ranked now)
+plan-ids laws base ranked now =
     let ids = map (λ (job : PlanJob). job.id) ranked in
-    plan-all (λ (placed : Placed). Contains ids placed.id) (λ (job : PlanJob). Contains ids job.id) base ranked now
+    plan-all laws (λ (placed : Placed). Contains ids placed.id) (λ (job : PlanJob). Contains ids job.id) base ranked now
     (λ beside job placed has is. rw is.id has)
     (All-unmap (λ id. Contains ids id) (λ (job : PlanJob). job.id) ranked (All-contains_itself ids))
   where
@@ -139,16 +141,16 @@ plan-ids base ranked now =
         rw (get_or-map f xs k d (f d) below) at there
 
 -- and stand to each other as they do
-plan_beside-pairs : (R : ℕ → ℕ → Type 0) (base : BaseView) (now : ℕ) (holds : List Hold) (ranked : List PlanJob) → AllPairs (λ (one other : PlanJob). R one.id other.id) ranked → AllPairs (λ (one other : Placed). R one.id other.id) (plan_beside base now holds ranked)
+plan_beside-pairs : LowerLaws → (R : ℕ → ℕ → Type 0) (base : BaseView) (now : ℕ) (holds : List Hold) (ranked : List PlanJob) → AllPairs (λ (one other : PlanJob). R one.id other.id) ranked → AllPairs (λ (one other : Placed). R one.id other.id) (plan_beside base now holds ranked)
 unfolding plan_beside
-plan_beside-pairs R base now holds [] pairs = λ i j d low high. absurd (omega (arith, high))
-plan_beside-pairs R base now holds (job ∷ later) pairs =
+plan_beside-pairs laws R base now holds [] pairs = λ i j d low high. absurd (omega (arith, high))
+plan_beside-pairs laws R base now holds (job ∷ later) pairs =
     let placed = placed_of base.rooms holds job now base.horizon in
     let P : PlanJob → PlanJob → Type 0 = λ one other. R one.id other.id in
     placed-first R job.id placed (plan_beside base now (holds ++ holds_of job placed) later)
-    (if_placed (λ one. one.id ≡ job.id) placed (λ one is. (placed-is base.rooms holds job now base.horizon one is).id))
-    (plan_beside-all (λ other. R job.id other.id) (λ other. R job.id other.id) base now (holds ++ holds_of job placed) later (λ beside other one below is. rw is.id below) (pairs-head P job later pairs))
-    (plan_beside-pairs R base now (holds ++ holds_of job placed) later (pairs-tail P job later pairs))
+    (if_placed (λ one. one.id ≡ job.id) placed (λ one is. (placed-is laws base.rooms holds job now base.horizon one is).id))
+    (plan_beside-all laws (λ other. R job.id other.id) (λ other. R job.id other.id) base now (holds ++ holds_of job placed) later (λ beside other one below is. rw is.id below) (pairs-head P job later pairs))
+    (plan_beside-pairs laws R base now (holds ++ holds_of job placed) later (pairs-tail P job later pairs))
   where
     placed-first : (R : ℕ → ℕ → Type 0) (id : ℕ) (placed : Option Placed) (later : List Placed) → IfSome placed (λ one. one.id ≡ id) → All (λ other. R id other.id) later → AllPairs (λ (one other : Placed). R one.id other.id) later
         → AllPairs (λ (one other : Placed). R one.id other.id) (option_to_list placed ++ later)
@@ -156,30 +158,30 @@ plan_beside-pairs R base now holds (job ∷ later) pairs =
     placed-first R id (Some placed) later is first others =
         AllPairs-cons (λ (one other : Placed). R one.id other.id) placed later (All-weaker (λ other. R id other.id) (λ other. R placed.id other.id) (λ other so. rw is so) later first) others
 
-pub plan-rising : (base : BaseView) (ranked : List PlanJob) (now : ℕ) → AllPairs (λ (one other : PlanJob). one.id < other.id) ranked → AllPairs (λ (one other : Placed). one.id < other.id) (plan_of base ranked now)
+pub plan-rising : LowerLaws → (base : BaseView) (ranked : List PlanJob) (now : ℕ) → AllPairs (λ (one other : PlanJob). one.id < other.id) ranked → AllPairs (λ (one other : Placed). one.id < other.id) (plan_of base ranked now)
 unfolding plan_of
-plan-rising base ranked now rising = plan_beside-pairs (λ one other. one < other) base now base.holds ranked rising
+plan-rising laws base ranked now rising = plan_beside-pairs laws (λ one other. one < other) base now base.holds ranked rising
 
-pub plan-apart : (base : BaseView) (ranked : List PlanJob) (now : ℕ) → AllPairs (λ (one other : PlanJob). one.id ≢ other.id) ranked → AllPairs (λ (one other : Placed). one.id ≢ other.id) (plan_of base ranked now)
+pub plan-apart : LowerLaws → (base : BaseView) (ranked : List PlanJob) (now : ℕ) → AllPairs (λ (one other : PlanJob). one.id ≢ other.id) ranked → AllPairs (λ (one other : Placed). one.id ≢ other.id) (plan_of base ranked now)
 unfolding plan_of
-plan-apart base ranked now apart = plan_beside-pairs (λ one other. one ≢ other) base now base.holds ranked apart
+plan-apart laws base ranked now apart = plan_beside-pairs laws (λ one other. one ≢ other) base now base.holds ranked apart
 
 -- each begins from now to the horizon
-pub plan-starts : (base : BaseView) (ranked : List PlanJob) (now : ℕ) → All (λ (placed : Placed). (now ≤ placed.start) × (placed.start ≤ base.horizon)) (plan_of base ranked now)
-plan-starts base ranked now =
-    plan-all (λ (placed : Placed). (now ≤ placed.start) × (placed.start ≤ base.horizon)) (λ job. Unit {0}) base ranked now
+pub plan-starts : LowerLaws → (base : BaseView) (ranked : List PlanJob) (now : ℕ) → All (λ (placed : Placed). (now ≤ placed.start) × (placed.start ≤ base.horizon)) (plan_of base ranked now)
+plan-starts laws base ranked now =
+    plan-all laws (λ (placed : Placed). (now ≤ placed.start) × (placed.start ≤ base.horizon)) (λ job. Unit {0}) base ranked now
     (λ beside job placed any is. (is.from, is.last)) (λ k d below. tt)
 
 -- each has a part, where each job has a task
-pub plan-some : (base : BaseView) (ranked : List PlanJob) (now : ℕ) → All (λ (job : PlanJob). 1 ≤ job.need.tasks) ranked → All (λ (placed : Placed). 1 ≤ length placed.parts) (plan_of base ranked now)
-plan-some base ranked now tasks =
-    plan-all (λ (placed : Placed). 1 ≤ length placed.parts) (λ (job : PlanJob). 1 ≤ job.need.tasks) base ranked now
+pub plan-some : LowerLaws → (base : BaseView) (ranked : List PlanJob) (now : ℕ) → All (λ (job : PlanJob). 1 ≤ job.need.tasks) ranked → All (λ (placed : Placed). 1 ≤ length placed.parts) (plan_of base ranked now)
+plan-some laws base ranked now tasks =
+    plan-all laws (λ (placed : Placed). 1 ≤ length placed.parts) (λ (job : PlanJob). 1 ≤ job.need.tasks) base ranked now
     (λ beside job placed some is. placed-some base.rooms beside job now base.horizon placed some is) tasks
 
 -- each has its parts on nodes that differ
-pub plan-parts : (base : BaseView) (ranked : List PlanJob) (now : ℕ) → base.horizon ≤ 250002592000 → All (IsOnRooms base.rooms) ranked → All IsPlannable ranked
+pub plan-parts : LowerLaws → (base : BaseView) (ranked : List PlanJob) (now : ℕ) → base.horizon ≤ 250002592000 → All (IsOnRooms base.rooms) ranked → All IsPlannable ranked
     → All (λ (placed : Placed). AreParts base.rooms placed.parts) (plan_of base ranked now)
-plan-parts base ranked now low nodes jobs =
-    plan-all (λ (placed : Placed). AreParts base.rooms placed.parts) (λ job. IsOnRooms base.rooms job × IsPlannable job) base ranked now
+plan-parts laws base ranked now low nodes jobs =
+    plan-all laws (λ (placed : Placed). AreParts base.rooms placed.parts) (λ job. IsOnRooms base.rooms job × IsPlannable job) base ranked now
     (λ beside job placed both is. placed-parts base.rooms beside job now base.horizon placed both.0 both.1 low is)
     (λ k d below. (nodes k d below, jobs k d below))

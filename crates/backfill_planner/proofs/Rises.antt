@@ -9,12 +9,12 @@ use Rattle.std.proofs.lemmas.List.Elements.{All-head, All-tail, All-weaker}
 use Rattle.resource_profile.specs.declared.NodeRoom.{NodeRoom}
 use Rattle.resource_profile.specs.declared.Hold.{Hold}
 use Rattle.resource_profile.specs.Free.{room_at, covers, free_cpus, free_mem, least_over}
-use Rattle.resource_profile.proofs.Least.{least_over-le, least_over-reached}
-use Rattle.resource_profile.proofs.Held.{covers-true, covers-from}
+use Rattle.backfill_planner.proofs.Windows.{over_lower, over_reached}
+use Rattle.backfill_planner.proofs.Windows.{what_covers, covers_at}
 use Rattle.node_pick.specs.declared.Need.{Need}
 use Rattle.node_pick.specs.Sets.{capacity, Fits}
 use Rattle.node_pick.specs.Choosing.{chosen}
-use Rattle.node_pick.proofs.Choosing.{chosen-none, chosen-none_fits}
+use Rattle.backfill_planner.specs.LowerLaws.{LowerLaws}
 use Rattle.backfill_planner.specs.declared.Placed.{Placed}
 use Rattle.slurm_text.specs.declared.plain.mem_ask.MemAsk.{MemAsk}
 use Rattle.slurm_text.specs.declared.plain.mem_ask.MemAsk.TheVariants.{All as AllMem, PerNode, PerCpu}
@@ -75,8 +75,8 @@ held-kept amount node moment (hold ∷ holds) quiet =
     let after = sum_by-cons (λ (h : Hold). cond (covers node (moment + 1) h) (amount h) 0) hold holds in
     elim (cases_Bool (covers node moment hold)) [
       | inl covered ↦
-          let facts = covers-true node moment hold covered in
-          let still : covers node (moment + 1) hold ≡ true = covers-from node (moment + 1) hold facts.0 (omega (arith, facts.1)) (omega (arith, facts.2, stays)) in
+          let facts = what_covers node moment hold covered in
+          let still : covers node (moment + 1) hold ≡ true = covers_at node (moment + 1) hold facts.0 (omega (arith, facts.1)) (omega (arith, facts.2, stays)) in
           rw (before, after, covered, still) (omega (arith, rest))
       | inr not_covered ↦ rw (before, after, not_covered) (omega (arith, rest))
     ]
@@ -84,13 +84,13 @@ held-kept amount node moment (hold ∷ holds) quiet =
 -- so the least that is free over the window that begins a second later is no more
 least-more : (free : ℕ → ℕ) (moment end later_end : ℕ) → moment < end → end ≤ later_end → moment + 1 < later_end → free (moment + 1) ≤ free moment → least_over free (moment + 1) later_end ≤ least_over free moment end
 least-more free moment end later_end window later next no_rise =
-    let at = least_over-reached free moment end window in
+    let at = over_reached free moment end window in
     elim (cases_lt moment at.0) [
-      | inl after ↦ omega (arith, at.3, least_over-le free (moment + 1) later_end at.0 (omega (arith, after)) (omega (arith, at.2, later)))
+      | inl after ↦ omega (arith, at.3, over_lower free (moment + 1) later_end at.0 (omega (arith, after)) (omega (arith, at.2, later)))
       | inr first ↦
           let same : at.0 ≡ moment = omega (arith, first, at.1) in
           let reached : free moment ≡ least_over free moment end = rw same at at.3 in
-          omega (arith, reached, no_rise, least_over-le free (moment + 1) later_end (moment + 1) (omega arith) next)
+          omega (arith, reached, no_rise, over_lower free (moment + 1) later_end (moment + 1) (omega arith) next)
     ]
 
 -- the windows of a job
@@ -109,7 +109,7 @@ window-later job moment = by job.seconds
     by (Some seconds) = omega arith
 
 least-within : (free : ℕ → ℕ) (room start end : ℕ) → start < end → ((moment : ℕ) → free moment ≤ room) → least_over free start end ≤ room
-least-within free room start end window within = omega (arith, least_over-le free start end start (omega arith) window, within start)
+least-within free room start end window within = omega (arith, over_lower free start end start (omega arith) window, within start)
 
 give-more : (rooms : List NodeRoom) (holds : List Hold) (job : PlanJob) (moment node : ℕ) → All (λ (hold : Hold). hold.until ≢ moment + 1) holds → moment < window_end job moment → moment + 1 < window_end job (moment + 1) → give rooms holds job (moment + 1) node ≤ give rooms holds job moment node
 give-more rooms holds job moment node quiet window next =
@@ -149,15 +149,23 @@ pub none-chosen : (found : Option (List ℕ)) (make : List ℕ → Placed) → o
 none-chosen None make nothing = refl
 none-chosen (Some set) make nothing = cc
 
+-- where no set fits none is chosen
+pub chosen-none_fits : LowerLaws → (caps : List ℕ) (need : Need) → ((set : List ℕ) → ¬ Fits caps need set) → chosen caps need ≡ None
+chosen-none_fits laws caps need nowhere = by (chosen caps need) refl
+  where
+    by : (found : Option (List ℕ)) → chosen caps need ≡ found → found ≡ None
+    by None is = refl
+    by (Some set) is = absurd (nowhere set (laws.some caps need set is).fits)
+
 -- no set comes to fit at a second at which no hold ends
-next-none : (rooms : List NodeRoom) (holds : List Hold) (job : PlanJob) (moment : ℕ) → All (λ (hold : Hold). hold.until ≢ moment + 1) holds → moment < window_end job moment → moment + 1 < window_end job (moment + 1) → placement_at rooms holds job moment ≡ None → placement_at rooms holds job (moment + 1) ≡ None
+next-none : LowerLaws → (rooms : List NodeRoom) (holds : List Hold) (job : PlanJob) (moment : ℕ) → All (λ (hold : Hold). hold.until ≢ moment + 1) holds → moment < window_end job moment → moment + 1 < window_end job (moment + 1) → placement_at rooms holds job moment ≡ None → placement_at rooms holds job (moment + 1) ≡ None
 unfolding placement_at
-next-none rooms holds job moment quiet window next nothing =
+next-none laws rooms holds job moment quiet window next nothing =
     let nowhere : chosen (capacities rooms holds job moment) job.need ≡ None =
     none-chosen (chosen (capacities rooms holds job moment) job.need) (λ set. record { id = job.id; start = moment; parts = shares_of rooms holds job moment set }) nothing in
     let still : chosen (capacities rooms holds job (moment + 1)) job.need ≡ None =
-    chosen-none_fits (capacities rooms holds job (moment + 1)) job.need
-    (λ set fits. chosen-none (capacities rooms holds job moment) job.need set nowhere
+    chosen-none_fits laws (capacities rooms holds job (moment + 1)) job.need
+    (λ set fits. laws.none (capacities rooms holds job moment) job.need set nowhere
     (fits-more (capacities rooms holds job (moment + 1)) (capacities rooms holds job moment) job.need set (λ place. capacity-more rooms holds job moment place quiet window next) fits)) in
     rw still refl
 
@@ -165,16 +173,16 @@ next-none rooms holds job moment quiet window next nothing =
 abbrev pub NoneEnds : List Hold → ℕ → ℕ → Type 0
 NoneEnds holds start end = (moment : ℕ) → start < moment → moment < end → All (λ (hold : Hold). hold.until ≢ moment) holds
 
-gap-none : (rooms : List NodeRoom) (holds : List Hold) (job : PlanJob) (start end count : ℕ) → NoneEnds holds start end → start < window_end job start → start + count < end → start + count < 1000000000000 → placement_at rooms holds job start ≡ None → placement_at rooms holds job (start + count) ≡ None
-gap-none rooms holds job start end zero quiet window below early nothing =
+gap-none : LowerLaws → (rooms : List NodeRoom) (holds : List Hold) (job : PlanJob) (start end count : ℕ) → NoneEnds holds start end → start < window_end job start → start + count < end → start + count < 1000000000000 → placement_at rooms holds job start ≡ None → placement_at rooms holds job (start + count) ≡ None
+gap-none laws rooms holds job start end zero quiet window below early nothing =
     let same : start + 0 ≡ start = omega arith in rw same nothing
-gap-none rooms holds job start end (suc count) quiet window below early nothing =
+gap-none laws rooms holds job start end (suc count) quiet window below early nothing =
     let next : start + suc count ≡ (start + count) + 1 = omega arith in
-    let before = gap-none rooms holds job start end count quiet window (omega (arith, below)) (omega (arith, early)) nothing in
-    rw next (next-none rooms holds job (start + count) (quiet (start + count + 1) (omega arith) (omega (arith, below)))
+    let before = gap-none laws rooms holds job start end count quiet window (omega (arith, below)) (omega (arith, early)) nothing in
+    rw next (next-none laws rooms holds job (start + count) (quiet (start + count + 1) (omega arith) (omega (arith, below)))
     (window-any job start (start + count) window (omega (arith, early))) (window-any job start (start + count + 1) window (omega (arith, early))) before)
 
-pub none-until : (rooms : List NodeRoom) (holds : List Hold) (job : PlanJob) (start end moment : ℕ) → NoneEnds holds start end → start < window_end job start → start ≤ moment → moment < end → moment < 1000000000000 → placement_at rooms holds job start ≡ None → placement_at rooms holds job moment ≡ None
-none-until rooms holds job start end moment quiet window from below early nothing =
+pub none-until : LowerLaws → (rooms : List NodeRoom) (holds : List Hold) (job : PlanJob) (start end moment : ℕ) → NoneEnds holds start end → start < window_end job start → start ≤ moment → moment < end → moment < 1000000000000 → placement_at rooms holds job start ≡ None → placement_at rooms holds job moment ≡ None
+none-until laws rooms holds job start end moment quiet window from below early nothing =
     let same : moment ≡ start + (moment - start) = omega (arith, from) in
-    rw same (gap-none rooms holds job start end (moment - start) quiet window (omega (arith, from, below)) (omega (arith, from, early)) nothing)
+    rw same (gap-none laws rooms holds job start end (moment - start) quiet window (omega (arith, from, below)) (omega (arith, from, early)) nothing)

@@ -6,6 +6,7 @@ use Rattle.resource_profile.specs.declared.NodeRoom.{NodeRoom}
 use Rattle.resource_profile.specs.declared.Hold.{Hold}
 use Rattle.resource_profile.specs.Profiles.{IsNextEnd}
 use Rattle.std.proofs.lemmas.List.Elements.{All-weaker}
+use Rattle.backfill_planner.specs.LowerLaws.{LowerLaws}
 use Rattle.backfill_planner.specs.Giving.{window_end}
 use Rattle.backfill_planner.proofs.Rises.{NoneEnds, none-until}
 use Rattle.node_pick.specs.Choosing.{numbers_from}
@@ -58,10 +59,10 @@ nothing_there None nothing = refl
 nothing_there (Some one) nothing = cc
 
 -- none fits at a second, so none fits before the next end of a hold
-pub NonePlaced-more : (rooms : List NodeRoom) (holds : List Hold) (job : PlanJob) (lo hi start end : ℕ) (placed : Option Placed) → NonePlaced rooms holds job lo hi start → placed ≡ placement_at rooms holds job start → is_some placed ≡ false → start < window_end job start → hi ≤ 250002592000 → NoneEnds holds start end → NonePlaced rooms holds job lo hi end
-NonePlaced-more rooms holds job lo hi start end placed none is nothing window last quiet n low within high = elim (cases_lt n start) [
+pub NonePlaced-more : LowerLaws → (rooms : List NodeRoom) (holds : List Hold) (job : PlanJob) (lo hi start end : ℕ) (placed : Option Placed) → NonePlaced rooms holds job lo hi start → placed ≡ placement_at rooms holds job start → is_some placed ≡ false → start < window_end job start → hi ≤ 250002592000 → NoneEnds holds start end → NonePlaced rooms holds job lo hi end
+NonePlaced-more laws rooms holds job lo hi start end placed none is nothing window last quiet n low within high = elim (cases_lt n start) [
   | inl before ↦ none n low within before
-  | inr at ↦ none-until rooms holds job start end n quiet window at high (omega (arith, within, last)) (sym is ∙ nothing_there placed nothing)
+  | inr at ↦ none-until laws rooms holds job start end n quiet window at high (omega (arith, within, last)) (sym is ∙ nothing_there placed nothing)
 ]
 
 -- the least end that is later

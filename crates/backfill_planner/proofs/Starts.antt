@@ -7,7 +7,7 @@ use Rattle.std.proofs.lemmas.List.Elements.{All-nil, All-cons, All-head, All-tai
 use Rattle.resource_profile.specs.declared.Hold.{Hold}
 use Rattle.resource_profile.specs.Free.{room_at, covers}
 use Rattle.resource_profile.specs.Profiles.{AreWithin}
-use Rattle.resource_profile.proofs.Held.{covers-from}
+use Rattle.backfill_planner.proofs.Windows.{covers_at}
 use Rattle.backfill_planner.specs.declared.Share.{Share}
 use Rattle.backfill_planner.specs.declared.Placed.{Placed}
 use Rattle.backfill_planner.specs.declared.job.PlanJob.{PlanJob}
@@ -42,7 +42,7 @@ parts-held counted node start until now (share ∷ later) same windows =
     let rest = parts-held counted node start until now later same (All-tail HasWindow hold others windows) in
     let takes : taken counted node share ≤ held counted node now hold = elim (cases_Bool (eqb share.node node)) [
       | inl on ↦
-          let covered : covers node now hold ≡ true = covers-from node now hold (eqb-true share.node node on) (omega (arith, same)) (omega (arith, same, window)) in
+          let covered : covers node now hold ≡ true = covers_at node now hold (eqb-true share.node node on) (omega (arith, same)) (omega (arith, same, window)) in
           rw (covered, on) (omega arith)
       | inr off ↦ rw off (omega arith)
     ] in

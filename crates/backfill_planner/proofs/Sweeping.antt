@@ -1,8 +1,7 @@
 -- What a node gives stays while its window's bounds meet no change.
-use Rattle.std.proofs.Common.{◌≡◌, ◌≢◌, ℕ, ◌+◌, ◌-◌, ◌*◌, ◌^◌, ◌≤◌, ◌<◌, min, List, [], ◌∷◌, ◌++◌, length, map, get_or, take, sum, sum_by, All, set, slice_set, arith, refl, sym, ap, ◌∙◌, inl, inr, Option, Some, None}
-use Rattle.std.specs.Prelude.{option_map, unwrap_or}
+use Rattle.std.proofs.Common.{◌≡◌, ◌≢◌, ℕ, ◌+◌, ◌-◌, ◌*◌, ◌^◌, ◌≤◌, ◌<◌, min, List, [], ◌∷◌, ◌++◌, length, get_or, sum, All, slice_set, arith, refl, sym, ap, ◌∙◌, inl, inr, Some, None}
 use Rattle.std.proofs.Common.{suc-mul}
-use Rattle.std.proofs.lemmas.Bool.{cases_lt, cases_eq}
+use Rattle.std.proofs.lemmas.Bool.{cases_eq}
 use Rattle.std.proofs.lemmas.List.{get_or-set_same, get_or-set_other, length-set, get_or_push, get_or_append_left}
 use Rattle.std.proofs.lemmas.List.Elements.{All-head, All-tail}
 use Rattle.std.proofs.lemmas.List.Sums.{sum_by-cons}
@@ -11,13 +10,11 @@ use Rattle.std.proofs.lemmas.Grind.{same_number_lists}
 use Rattle.resource_profile.specs.declared.NodeRoom.{NodeRoom}
 use Rattle.resource_profile.specs.declared.Hold.{Hold}
 use Rattle.resource_profile.specs.declared.levels.Window.{Window}
-use Rattle.resource_profile.specs.Free.{room_at, free_cpus, free_mem, least_over}
+use Rattle.resource_profile.specs.Free.{room_at, free_mem, least_over}
 use Rattle.resource_profile.specs.Windows.{free_of, IsSteady}
-use Rattle.node_pick.specs.Sets.{capacity}
 use Rattle.backfill_planner.specs.declared.job.PlanJob.{PlanJob}
-use Rattle.backfill_planner.specs.declared.sweep.Sweep.{Sweep}
-use Rattle.backfill_planner.specs.Giving.{window_end, tasks_given, give, capacities}
-use Rattle.backfill_planner.specs.Sweeps.{GivesUntil, IsSwept}
+use Rattle.backfill_planner.specs.Giving.{window_end, tasks_given, capacities}
+use Rattle.backfill_planner.specs.Sweeps.{GivesUntil}
 use Rattle.backfill_planner.proofs.Holding.{capacity-give}
 use Rattle.backfill_planner.proofs.Dealing.{length-capacities}
 

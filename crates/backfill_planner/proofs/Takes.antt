@@ -86,3 +86,10 @@ takes_some job room cpus mem tasks each one some = elim (cases_Bool job.exclusiv
         rw alone (omega (arith, eqb-true cpus room.cpus parts.0, mul-le 1 1 (tasks_given job room cpus mem) job.cpus_per_task some each, tasks_within job room cpus mem))
   ]
 ]
+
+-- only a node that a plan may use gives a task
+pub gives_usable : (job : PlanJob) (room : NodeRoom) (cpus mem : ℕ) → 1 ≤ tasks_given job room cpus mem → room.usable ≡ true
+gives_usable job room cpus mem some = elim (cases_Bool (may_have job room cpus mem)) [
+  | inr may_not ↦ let none = rw may_not at some in absurd (omega (arith, none))
+  | inl may ↦ (and_parts room.usable (not job.exclusive || (eqb cpus room.cpus && eqb mem room.mem)) may).0
+]

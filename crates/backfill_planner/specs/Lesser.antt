@@ -30,4 +30,6 @@ pub record IsLesser (lesser job : PlanJob) : Type 0 where
 
 -- at no second from `now` on and before `bound` some set fits
 abbrev pub NoneBefore : List NodeRoom → List Hold → PlanJob → ℕ → ℕ → Type 0
-NoneBefore rooms holds job now bound = (second : ℕ) → now ≤ second → second < bound → second ≤ 250002592000 → placement_at rooms holds job second ≡ None
+NoneBefore rooms holds job now bound =
+    (second : ℕ) → now ≤ second → second < bound → second ≤ 250002592000
+    → placement_at rooms holds job second ≡ None

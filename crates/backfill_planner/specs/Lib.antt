@@ -5,3 +5,4 @@ pub mod Placements
 pub mod Sweeps
 pub mod Lesser
 pub mod Searches
+pub mod LowerLaws

@@ -17,7 +17,12 @@ abbrev pub share_of : List NodeRoom → PlanJob → Dealt → Share
 share_of rooms job part =
     let node = slice_index job.nodes part.place in
     let room = room_at rooms node in
-    record { node = node; tasks = part.tasks; cpus = taken_cpus job room part.tasks; mem = taken_mem job room part.tasks }
+    record {
+      node = node;
+      tasks = part.tasks;
+      cpus = taken_cpus job room part.tasks;
+      mem = taken_mem job room part.tasks;
+    }
 
 -- the job's parts on the nodes at the places of a set, with the tasks dealt to them
 abbrev pub shares_of : List NodeRoom → List Hold → PlanJob → ℕ → List ℕ → List Share
@@ -41,13 +46,20 @@ first_second rooms holds job lo hi = find (λ start. is_some (placement_at rooms
 
 -- the placement at that second
 unfoldable pub placed_of : List NodeRoom → List Hold → PlanJob → ℕ → ℕ → Option Placed
-placed_of rooms holds job lo hi = option_and_then (λ start. placement_at rooms holds job start) (first_second rooms holds job lo hi)
+placed_of rooms holds job lo hi =
+    option_and_then (λ start. placement_at rooms holds job start) (first_second rooms holds job lo hi)
 
 -- what the job holds of the nodes for its window, if it is placed
 abbrev pub holds_of : PlanJob → Option Placed → List Hold
 holds_of job None = []
 holds_of job (Some placed) =
-    map (λ (share : Share). record { node = share.node; from = placed.start; until = window_end job placed.start; cpus = share.cpus; mem = share.mem }) placed.parts
+    map (λ (share : Share). record {
+      node = share.node;
+      from = placed.start;
+      until = window_end job placed.start;
+      cpus = share.cpus;
+      mem = share.mem;
+    }) placed.parts
 
 -- the placements of the jobs in order, each beside what those before it hold
 unfoldable pub plan_beside : BaseView → ℕ → List Hold → List PlanJob → List Placed

@@ -7,6 +7,7 @@ use Rattle.backfill_planner.specs.declared.seen.Seen.{Seen}
 use Rattle.backfill_planner.specs.Lesser.{NoneBefore}
 
 -- before the bound no set fits of the job that was searched for
-pub record IsSeen (rooms : List NodeRoom) (holds : List Hold) (ranked : List PlanJob) (now : ℕ) (seen : Seen) : Type 0 where
+pub record IsSeen (rooms : List NodeRoom) (holds : List Hold) (ranked : List PlanJob) (now : ℕ) (seen : Seen)
+    : Type 0 where
   pub there : seen.place < length ranked
   pub none : (d : PlanJob) → NoneBefore rooms holds (slice_index_or ranked seen.place d) now seen.bound

@@ -1,4 +1,4 @@
--- How a search keeps what the job's nodes can give from one second to the next. Of the proof alone: no public call speaks
+-- How a search keeps what the job's nodes can give from a second to the next. Of the proof alone: no public call speaks
 -- of it.
 use Rattle.std.specs.Prelude.{◌≡◌, ℕ, ◌*◌, ◌^◌, ◌≤◌, ◌<◌, List, length, slice_index, sum, All}
 use Rattle.resource_profile.specs.declared.NodeRoom.{NodeRoom}
@@ -8,15 +8,19 @@ use Rattle.backfill_planner.specs.declared.sweep.Sweep.{Sweep}
 use Rattle.backfill_planner.specs.Giving.{give}
 
 -- the node gives so many tasks to the job at each second from `from` on and before `until`
-pub record GivesUntil (rooms : List NodeRoom) (holds : List Hold) (job : PlanJob) (from node tasks until : ℕ) : Type 0 where
+pub record GivesUntil (rooms : List NodeRoom) (holds : List Hold) (job : PlanJob) (from node tasks until : ℕ)
+    : Type 0 where
   pub later : from < until
-  pub same : (second : ℕ) → from ≤ second → second < until → second ≤ 250002592000 → give rooms holds job second node ≡ tasks
+  pub same : (second : ℕ) → from ≤ second → second < until → second ≤ 250002592000
+      → give rooms holds job second node ≡ tasks
 
 -- what each of the job's nodes gives from the sweep's second on, until when, and what they give together at it
 pub record IsSwept (rooms : List NodeRoom) (holds : List Hold) (job : PlanJob) (sweep : Sweep) : Type 0 where
   pub long : length sweep.caps.items ≡ length job.nodes
   pub until_long : length sweep.untils.items ≡ length job.nodes
-  pub each : (i : ℕ) → i < length job.nodes → GivesUntil rooms holds job sweep.second (slice_index job.nodes i) (slice_index sweep.caps.items i) (slice_index sweep.untils.items i)
+  pub each : (i : ℕ) → i < length job.nodes
+      → GivesUntil rooms holds job sweep.second
+      (slice_index job.nodes i) (slice_index sweep.caps.items i) (slice_index sweep.untils.items i)
   pub small : All (λ tasks. tasks * job.cpus_per_task < 2 ^ 32) sweep.caps.items
   pub few : length job.nodes < 2 ^ 32
   pub total : sweep.total ≡ sum sweep.caps.items

@@ -8,6 +8,19 @@ ghost use Rattle.backfill_planner.specs.Placements.{FitsAt, IsPlacement, IsPlann
 ghost use Rattle.backfill_planner.specs.declared.job.PlanJob.{PlanJob};
 ghost use Rattle.backfill_planner.specs.Bases.{BaseView};
 ghost use Rattle.backfill_planner.specs.Plans.{placed_of, plan_of, plan_holds_of};
+ghost use Rattle.backfill_planner.specs.LowerLaws.{LowerLaws};
+
+use node_pick::laws::{chosen_is_first, lesser_needs_fit};
+use resource_profile::laws::free_amounts_fit;
+
+// What the crates below promise.
+pub(crate) fn lower_laws()
+    ensures { LowerLaws }
+{
+    chosen_is_first();
+    lesser_needs_fit();
+    free_amounts_fit();
+}
 
 /// A job is placed at the least second at which some set of its nodes fits, on the chosen set there; it isn't placed
 /// exactly where no set fits at any second.
@@ -16,7 +29,9 @@ pub fn placements_are_first()
         → placed_of rooms holds job lo hi ≡ Some placed → IsPlacement rooms holds job lo hi placed }
     ensures none { (rooms : List NodeRoom) (holds : List Hold) (job : PlanJob) (lo hi second : ℕ) (set : List ℕ)
         → placed_of rooms holds job lo hi ≡ None → lo ≤ second → second ≤ hi → ¬ FitsAt rooms holds job second set }
-{}
+{
+    lower_laws();
+}
 
 /// Jobs that are ranked lower, or aren't there, change no placement: what the plan of the first jobs alone is, the plan
 /// of the whole list begins with. So lists that agree on their first jobs have plans that agree on these.
@@ -26,17 +41,20 @@ pub fn lower_jobs_change_nothing()
         ≡ take (length (plan_of base (take first ranked) now)) (plan_of base ranked now) }
 {}
 
-/// Each placement is of a ranked job, and begins from now to the horizon; where the ranked ids differ, so do those of the
-/// placements.
+/// Each placement is of a ranked job, and begins from now to the horizon; where the ranked ids differ, so do those of
+/// the placements.
 pub fn placements_are_of_ranked_jobs()
     ensures ids { (base : BaseView) (ranked : List PlanJob) (now : ℕ)
-        → All (λ (placed : Placed). Contains (map (λ (job : PlanJob). job.id) ranked) placed.id) (plan_of base ranked now) }
+        → All (λ (placed : Placed). Contains (map (λ (job : PlanJob). job.id) ranked) placed.id)
+        (plan_of base ranked now) }
     ensures apart { (base : BaseView) (ranked : List PlanJob) (now : ℕ)
         → AllPairs (λ (one other : PlanJob). one.id ≢ other.id) ranked
         → AllPairs (λ (one other : Placed). one.id ≢ other.id) (plan_of base ranked now) }
     ensures starts { (base : BaseView) (ranked : List PlanJob) (now : ℕ)
         → All (λ (placed : Placed). (now ≤ placed.start) × (placed.start ≤ base.horizon)) (plan_of base ranked now) }
-{}
+{
+    lower_laws();
+}
 
 /// Each placement has its parts on nodes that there are and that differ, with a task and a processor at least on each.
 /// Where each job has a task, each placement has a part.
@@ -47,7 +65,9 @@ pub fn parts_are_apart()
     ensures parts { (base : BaseView) (ranked : List PlanJob) (now : ℕ)
         → base.horizon ≤ 250002592000 → All (IsOnRooms base.rooms) ranked → All IsPlannable ranked
         → All (λ (placed : Placed). AreParts base.rooms placed.parts) (plan_of base ranked now) }
-{}
+{
+    lower_laws();
+}
 
 /// At no second do what the base holds and what the placed jobs hold pass the room of a node.
 pub fn plans_stay_within()
@@ -55,13 +75,17 @@ pub fn plans_stay_within()
         → AreWithin base.rooms base.holds → base.horizon ≤ 250002592000
         → All (IsOnRooms base.rooms) ranked → All IsPlannable ranked
         → AreWithin base.rooms (base.holds ++ plan_holds_of base ranked now) }
-{}
+{
+    lower_laws();
+}
 
-/// So on each node, what the base holds at the plan's moment and what those placements take that begin at it fit into the
-/// room.
+/// So on each node, what the base holds at the plan's moment and what those placements take that begin at it fit into
+/// the room.
 pub fn starts_fit()
     ensures { (base : BaseView) (ranked : List PlanJob) (now : ℕ)
         → AreWithin base.rooms base.holds → base.horizon ≤ 250002592000
         → All (IsOnRooms base.rooms) ranked → All IsPlannable ranked
         → StartsFit base (plan_of base ranked now) now }
-{}
+{
+    lower_laws();
+}

@@ -9,6 +9,7 @@ ghost use Rattle.backfill_planner.specs.Sweeps.{IsSwept};
 
 use crate::base::Base;
 use crate::job::PlanJob;
+use crate::laws::lower_laws;
 use crate::sweep::Sweep;
 use crate::{Memory, Placed, Share};
 use node_pick::laws::fitting_sets_are_within;
@@ -124,11 +125,13 @@ fn placement_at(
     ensures window { start < Giving.window_end job.now start }
     ensures start { IfOk result (λ placed. IfSome placed (λ placed. placed.start ≡ start)) }
     ensures free { IfOk result (λ placed. All (HasFree rooms.now profile.now.holds) (Plans.holds_of job.now placed)) }
-    ensures apart { IfOk result (λ placed. AllPairs (λ (one other : Hold). one.node ≢ other.node) (Plans.holds_of job.now placed)) }
+    ensures apart { IfOk result (λ placed.
+        AllPairs (λ (one other : Hold). one.node ≢ other.node) (Plans.holds_of job.now placed)) }
     ensures placement { IfOk result (λ placed. placed ≡ Plans.placement_at rooms.now profile.now.holds job.now start) }
 {
     sweep.go_to(profile, rooms, job, start);
     fitting_sets_are_within();
+    lower_laws();
     if sweep.total < u64::from(job.need.tasks) {
         return Ok(None);
     }
@@ -143,9 +146,9 @@ fn placement_at(
     }))
 }
 
-/// Where and when the job begins at the earliest, from the second `lo` to `hi`, beside the profile's holds. It counts one
-/// step. None exactly where no set fits at any of these seconds. It tries `lo` and the ends of holds after it, and from one
-/// second to the next counts anew only what the nodes give that may have changed.
+/// Where and when the job begins at the earliest, from the second `lo` to `hi`, beside the profile's holds. It counts
+/// one step. None exactly where no set fits at any of these seconds. It tries `lo` and the ends of holds after it, and
+/// from one second to the next counts anew only what the nodes give that may have changed.
 pub fn place<L>(
     alloc: Global,
     profile: &Profile,
@@ -159,12 +162,15 @@ pub fn place<L>(
     requires nodes { All (λ node. node < length base.now.rooms) job.now.nodes }
     requires last { hi ≤ 250002592000 }
     ensures start { IfOk result (λ placed. IfSome placed (λ placed. (lo ≤ placed.start) × (placed.start ≤ hi))) }
-    ensures free { IfOk result (λ placed. All (HasFree base.now.rooms profile.now.holds) (Plans.holds_of job.now placed)) }
-    ensures apart { IfOk result (λ placed. AllPairs (λ (one other : Hold). one.node ≢ other.node) (Plans.holds_of job.now placed)) }
+    ensures free { IfOk result (λ placed.
+        All (HasFree base.now.rooms profile.now.holds) (Plans.holds_of job.now placed)) }
+    ensures apart { IfOk result (λ placed.
+        AllPairs (λ (one other : Hold). one.node ≢ other.node) (Plans.holds_of job.now placed)) }
     ensures placed { IfOk result (λ placed. placed ≡ Plans.placed_of base.now.rooms profile.now.holds job.now lo hi) }
     ensures steps { steps.new ≡ ticked steps.old 1 }
 {
     steps.tick();
+    lower_laws();
     let rooms = base.rooms.as_slice();
     if hi < lo {
         return Ok(None);

@@ -11,6 +11,7 @@ ghost use Rattle.backfill_planner.specs.Searches.{IsSeen};
 
 use crate::base::Base;
 use crate::job::PlanJob;
+use crate::laws::lower_laws;
 use crate::placing::{place, window_end};
 use crate::seen::{Searches, Seen};
 use crate::{Memory, Placed};
@@ -35,7 +36,8 @@ impl Model for Planned {
 
     ghost view = { λ planned. record { base = planned.base; ranked = planned.ranked.items; moment = planned.moment } };
 
-    ghost invariant = { λ planned. planned.placements.items ≡ plan_of planned.base planned.ranked.items planned.moment };
+    ghost invariant = { λ planned.
+        planned.placements.items ≡ plan_of planned.base planned.ranked.items planned.moment };
 }
 
 impl Planned {
@@ -81,7 +83,8 @@ fn hold(profile: &mut Profile, job: &PlanJob, placed: &Placed) -> Result<(), Mem
     requires free { All (HasFree profile.old.rooms profile.old.holds) (holds_of job.now (Some placed.now)) }
     requires apart { AllPairs (λ (one other : Hold). one.node ≢ other.node) (holds_of job.now (Some placed.now)) }
     ensures rooms { profile.new.rooms ≡ profile.old.rooms }
-    ensures holds { OnOk result (IsPermutation (profile.old.holds ++ holds_of job.now (Some placed.now)) profile.new.holds) }
+    ensures holds { OnOk result
+        (IsPermutation (profile.old.holds ++ holds_of job.now (Some placed.now)) profile.new.holds) }
 {
     let until = window_end(job, placed.start);
     for share in placed.parts.as_slice() {
@@ -96,8 +99,8 @@ fn hold(profile: &mut Profile, job: &PlanJob, placed: &Placed) -> Result<(), Mem
     Ok(())
 }
 
-// The placement of a job of the list, by the place of it there. It begins where a search for a job that asks no more has
-// shown that none fits before.
+// The placement of a job of the list, by the place of it there. It begins where a search for a job that asks no more
+// has shown that none fits before.
 fn search<L>(
     alloc: Global,
     profile: &Profile,
@@ -116,12 +119,15 @@ fn search<L>(
     ensures free { IfOk result (λ placed. (d : PlanJob)
         → All (HasFree base.now.rooms profile.now.holds) (holds_of (slice_index_or ranked.now index d) placed)) }
     ensures apart { IfOk result (λ placed. (d : PlanJob)
-        → AllPairs (λ (one other : Hold). one.node ≢ other.node) (holds_of (slice_index_or ranked.now index d) placed)) }
+        → AllPairs (λ (one other : Hold). one.node ≢ other.node)
+        (holds_of (slice_index_or ranked.now index d) placed)) }
     ensures placed { IfOk result (λ placed. (d : PlanJob)
-        → placed ≡ placed_of base.now.rooms profile.now.holds (slice_index_or ranked.now index d) now base.now.horizon) }
+        → placed ≡ placed_of base.now.rooms profile.now.holds
+        (slice_index_or ranked.now index d) now base.now.horizon) }
     ensures seen { OnOk result (All (IsSeen base.now.rooms profile.now.holds ranked.now now) searches.new.seen.items) }
     ensures steps { steps.new ≡ ticked steps.old 1 }
 {
+    lower_laws();
     let job = &ranked[index];
     let lo = searches.bound(ranked, job, now);
     let placed = place(alloc, profile, base, job, lo, base.horizon, steps)?;
@@ -137,9 +143,9 @@ fn search<L>(
 }
 
 /// The plan of the ranked jobs at this moment: each, the highest first, begins at the least second from `now` to the
-/// horizon at which some set of its nodes fits, beside the base's holds and what the jobs above it hold. So at no second
-/// is more held than there is, and what begins now fits beside what the base holds. It counts a step for each job, and after
-/// want of memory at most that many.
+/// horizon at which some set of its nodes fits, beside the base's holds and what the jobs above it hold. So at no
+/// second is more held than there is, and what begins now fits beside what the base holds. It counts a step for each
+/// job, and after want of memory at most that many.
 pub fn plan<L>(
     alloc: Global,
     base: Base,
@@ -152,10 +158,12 @@ pub fn plan<L>(
     ensures jobs { OnOk result (All IsPlannable ranked.items) }
     ensures within { OnOk result (AreWithin base.rooms (base.holds ++ plan_holds_of base ranked.items now)) }
     ensures starts_fit { OnOk result (StartsFit base (plan_of base ranked.items now) now) }
-    ensures apart { OnOk result (All (λ (placed : Placed). AreParts base.rooms placed.parts) (plan_of base ranked.items now)) }
+    ensures apart { OnOk result
+        (All (λ (placed : Placed). AreParts base.rooms placed.parts) (plan_of base ranked.items now)) }
     ensures steps { OnOk result (steps.new ≡ ticked steps.old (length ranked.items)) }
     ensures steps_err { OnErr result (IsTickedUpTo (length ranked.items) steps.old steps.new) }
 {
+    lower_laws();
     let mut profile = Profile::with_holds(alloc, base.rooms.as_slice(), base.holds.as_slice())?;
     let mut placements = Vec::with_capacity(alloc, ranked.len())?;
     let mut searches = Searches::new(alloc)?;

@@ -8,6 +8,7 @@ ghost use Rattle.backfill_planner.specs.declared.job.PlanJob.{PlanJob as AJob};
 
 use crate::Memory;
 use crate::job::PlanJob;
+use crate::laws::lower_laws;
 use crate::lesser::is_lesser;
 use std::alloc::Global;
 
@@ -44,6 +45,7 @@ impl Searches {
             → All (IsSeen rooms holds ranked.now now) self.now.seen.items
             → NoneBefore rooms holds job.now now result }
     {
+        lower_laws();
         let mut bound = now;
         for one in self.seen.as_slice() {
             if one.bound > bound && is_lesser(&ranked[one.place], job) {

@@ -7,7 +7,7 @@ use Rattle.std.proofs.lemmas.List.{append-nil, length-append, length-drop, drop_
 use Rattle.block_frame.specs.declared.block.Block.{Block}
 use Rattle.block_frame.specs.declared.form.Form.{Form}
 use Rattle.block_frame.specs.Grammar.{IsBlock, BeginsWithBlock, IsPartial, IsBad, spelled, spelled_all, first_block, blocks_within, blocks_of, rest_of}
-use Rattle.block_frame.proofs.Lines.{front_of}
+use Rattle.block_frame.proofs.FirstLines.{front_of}
 use Rattle.block_frame.proofs.Owing.{owes}
 
 found : (o : Option Block) → (o ≡ None) ⊎ ((block : Block) × (o ≡ Some block))

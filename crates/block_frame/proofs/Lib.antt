@@ -1,4 +1,7 @@
-pub mod Lines
+pub mod FirstLines
+pub mod Readings
 pub mod Plain
 pub mod Owing
 pub mod Cutting
+pub mod Seeing
+pub mod Going

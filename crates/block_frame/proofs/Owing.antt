@@ -4,7 +4,7 @@ use Rattle.block_frame.specs.declared.block.Block.{Block}
 use Rattle.block_frame.specs.declared.form.Form.{Form}
 use Rattle.block_frame.specs.declared.form.Form.TheVariants.{Plain}
 use Rattle.block_frame.specs.Grammar.{IsBlock, IsPartial, IsBad, spelled, first_block, longest_block}
-use Rattle.block_frame.proofs.Plain.{first_block-spelled, begins_with_first, partial_or_bad, line_is_partial, length-spelled}
+use Rattle.block_frame.proofs.Plain.{first_block-spelled, begins_with_first, partial_or_bad, line_is_partial, short_block}
 
 pub record Owes (form : Form) : Type 0 where
   -- a block at the front of a text is found, whatever follows; so no block is a proper prefix of another
@@ -24,7 +24,7 @@ owes Plain = record {
   first = first_block-spelled;
   begins = begins_with_first;
   other = partial_or_bad;
-  some = λ block is_block. omega (arith, length-spelled block);
-  short = λ block is_block. let fits = is_block.fits in omega (arith, length-spelled block);
+  some = λ block b. (short_block block b).0;
+  short = λ block b. (short_block block b).1;
   empty = line_is_partial [] (λ k d l. absurd (omega arith)) (omega arith);
 }

@@ -1,28 +1,44 @@
 -- How requests lie in a text: as blocks, one after the other. A form says how a block is spelled.
-use Rattle.std.specs.Prelude.{◌≡◌, ◌≢◌, ◌==◌, ◌&&◌, ℕ, zero, suc, ◌<◌, ◌≤◌, Bool, nat_lt, nat_le, if◌then◌else◌, List, [], ◌∷◌, ◌++◌, length, drop, All, Option, Some, None}
-use Rattle.std.specs.List.{position_or_len, before_first}
+use Rattle.std.specs.Prelude.{◌≡◌, ◌≢◌, ◌==◌, ◌&&◌, ℕ, zero, suc, ◌+◌, ◌-◌, ◌<◌, ◌≤◌, Bool, true, false, nat_eq, nat_lt, nat_le, if◌then◌else◌, List, [], ◌∷◌, ◌++◌, length, take, drop, All, Option, Some, None, is_some, IfSome, codes}
+use Rattle.std.specs.List.{position_or_len, before_first, after_first, ends_with}
 use Rattle.std.specs.Option.{option_map_or}
 use Rattle.block_frame.specs.declared.block.Block.{Block}
 use Rattle.block_frame.specs.declared.form.Form.{Form}
 use Rattle.block_frame.specs.declared.form.Form.TheVariants.{Plain}
+use Rattle.block_frame.specs.Attachments.{IsAttachment, attachment_lines, LineStart, Reading, Ended, Unended, Off, reading_at}
 
--- a header has 1 to 8,192 bytes, and no LF (10) is among them
-pub record IsHeader (header : List ℕ) : Type 0 where
-  pub one_line : All (λ byte. byte ≢ 10) header
-  pub not_empty : 0 < length header
-  pub fits : length header ≤ 8192
+-- A header line has 1 to 8,192 bytes, and no LF (10) is among them.
+pub record IsHeaderLine (line : List ℕ) : Type 0 where
+  pub one_line : All (λ byte. byte ≢ 10) line
+  pub not_empty : 0 < length line
+  pub fits : length line ≤ 8192
+
+-- whether an attachment follows a header line
+abbrev pub is_marked : List ℕ → Bool
+is_marked line = ends_with nat_eq line (codes " <<")
+
+-- the header line of a block: its header, and `<<` if an attachment follows
+abbrev pub header_line : Block → List ℕ
+header_line block = block.header ++ (if is_some block.attachment then codes "<<" else [])
+
+-- what the plain form asks of a block
+pub record IsPlainBlock (block : Block) : Type 0 where
+  pub line : IsHeaderLine (header_line block)
+  pub marked : is_marked (header_line block) ≡ is_some block.attachment
+  pub attachment : IfSome block.attachment IsAttachment
 
 -- what each form asks of a block
 abbrev pub IsBlock : Form → Block → Type 0
-IsBlock Plain block = IsHeader block.header
+IsBlock Plain block = IsPlainBlock block
 
--- the bytes of a block: the plain form ends the header by LF
+-- the bytes of a block: the plain form ends the header line by LF
 abbrev pub spelled : Form → Block → List ℕ
-spelled Plain block = block.header ++ 10 ∷ []
+spelled Plain block = header_line block ++ 10 ∷ attachment_lines block.attachment
 
--- no block of any form has more bytes
+-- no block of any form has more bytes: a header line, an attachment of lines that are a dot each, and the line that
+-- ends it
 abbrev pub longest_block : ℕ
-longest_block = 8193
+longest_block = 8193 + 98304 + 2
 
 -- the bytes of blocks that follow one another
 abbrev pub spelled_all : Form → List Block → List ℕ
@@ -52,15 +68,28 @@ pub record IsBad (form : Form) (text : List ℕ) : Type 0 where
 abbrev pub is_line_feed : ℕ → Bool
 is_line_feed byte = byte == 10
 
--- a line of this length is a header, and stands before the end of a text of that length
+-- a line of this length is a header line, and stands before the end of a text of that length
 abbrev pub is_header_len : ℕ → ℕ → Bool
 is_header_len line text = nat_lt 0 line && nat_le line 8192 && nat_lt line text
 
--- the block that a text begins with: in the plain form its first line, if that is a header and is ended
+-- the block of a header and what was read behind its line
+abbrev pub with_attachment : List ℕ → Reading → Option Block
+with_attachment header (Ended bytes) =
+    if nat_le (length bytes) 65536 then Some (record { header = header; attachment = Some bytes }) else None
+with_attachment header (Unended at bytes) = None
+with_attachment header Off = None
+
+-- the block of a header line, marked or not, and the text behind it
+abbrev pub block_of : Bool → List ℕ → List ℕ → Option Block
+block_of false line text = Some (record { header = line; attachment = None })
+block_of true line text = with_attachment (take (length line - 2) line) (reading_at LineStart text)
+
+-- the block that a text begins with
 unfoldable pub first_block : Form → List ℕ → Option Block
 first_block Plain text =
     if is_header_len (position_or_len is_line_feed text) (length text)
-    then Some (record { header = before_first is_line_feed text })
+    then block_of (is_marked (before_first is_line_feed text)) (before_first is_line_feed text)
+    (after_first is_line_feed text)
     else None
 
 -- the blocks that a text begins with, n of them at the most

@@ -1,2 +1,4 @@
+pub mod Attachments
 pub mod Grammar
+pub mod Looking
 pub mod State

@@ -1,10 +1,13 @@
 // A block, and what a reader finds where the next one should begin.
-use crate::Line;
+use crate::Text;
 
-/// A request as it lies in a stream: its header line. Each has 1 to 8,192 bytes and no LF (own).
+/// A request as it lies in a stream: its header, and the attachment of one whose line ends with ` <<`. The header has
+/// the blank, and not the `<<`. The attachment is lines, each with its LF, and the dots that its spelling doubled are
+/// single again (own).
 #[derive(Drop)]
 pub struct Block {
-    pub header: Line,
+    pub header: Text,
+    pub attachment: Option<Text>,
 }
 
 /// What the bytes at hand begin with (own).

@@ -1,28 +1,28 @@
 // The reader of blocks: bytes are fed to it in pieces, and it hands out the blocks that they make.
-ghost use Rattle.std.specs.Prelude.{◌≡◌, ◌==◌, ◌++◌, ◌≤◌, [], length, IfOk, OnOk, OnErr};
-ghost use Rattle.std.specs.List.{position_or_len};
-ghost use Rattle.block_frame.specs.Grammar.{is_line_feed};
-ghost use Rattle.block_frame.specs.State.{BlocksState, IsNext};
+ghost use Rattle.std.specs.Prelude.{◌≡◌, ◌==◌, ◌++◌, ◌≤◌, [], length, drop, IfOk, OnOk, OnErr};
+ghost use Rattle.block_frame.specs.Grammar.{BeginsWithBlock};
+ghost use Rattle.block_frame.specs.Looking.{IsScanned, IsSight};
+ghost use Rattle.block_frame.specs.State.{BlocksState, IsNext, place_after};
 ghost use Rattle.block_frame.specs.declared.form.Form.TheVariants.{Plain};
 
-use crate::{Block, Form, Line, Next};
+use crate::looking::{Scan, Sight, look};
+use crate::parts::{attached_block, line_block};
+use crate::{Block, Form, Next};
 use bytes::BytesMut;
-use memchr::memchr;
 use slurm_text::memory_error::Memory;
 use std::alloc::Global;
 use std::marker::Model;
 
-const MAX_HEADER: usize = 8192;
+const ROOM: usize = 8193;
 
-/// A reader of blocks, in whatever pieces the bytes come. Each byte is looked at once. Contracts see it as its form,
-/// the place up to which it has handed out blocks, and the bytes that are pending.
+/// A reader of blocks, in whatever pieces the bytes come. It searches each byte once, and copies those of whole blocks.
+/// Contracts see it as its form, the place up to which it has handed out blocks, and the bytes that are pending.
 #[derive(Drop)]
 pub struct Blocks {
     alloc: Global,
     form: Form,
     pending: BytesMut,
-    // So many of the pending bytes are known to be no LF.
-    searched: usize,
+    scan: Scan,
     place: u64,
 }
 
@@ -35,25 +35,24 @@ impl Model for Blocks {
       pending = blocks.pending.items;
     } };
 
-    ghost invariant = { λ blocks. blocks.searched ≤ position_or_len is_line_feed blocks.pending.items };
+    ghost invariant = { λ blocks. IsScanned blocks.pending.items blocks.scan };
 }
 
 impl Blocks {
-    /// A reader at the first byte of a stream, with room for a block.
+    /// A reader at the first byte of a stream, with room for a header line.
     pub fn new(alloc: Global, form: Form) -> Result<Blocks, Memory>
         ensures { IfOk result (λ blocks. blocks ≡ record { form = form; place = 0; pending = [] }) }
     {
         Ok(Blocks {
             alloc,
             form,
-            pending: BytesMut::with_capacity(alloc, MAX_HEADER + 1)?,
-            searched: 0,
+            pending: BytesMut::with_capacity(alloc, ROOM)?,
+            scan: Scan::Header { searched: 0 },
             place: 0,
         })
     }
 
     /// Takes the next bytes of the stream.
-    #[tactic(auto, using(crate::proofs::Lines::line_grows))]
     pub fn feed(&mut self, piece: &[u8]) -> Result<(), Memory>
         ensures ok { OnOk result (self.new ≡ record self.old { pending = self.old.pending ++ piece.now }) }
         ensures err { OnErr result (self.new ≡ self.old) }
@@ -62,41 +61,60 @@ impl Blocks {
         Ok(())
     }
 
-    /// What the pending bytes begin with; a whole block is handed out.
+    /// What the pending bytes begin with; a whole block is handed out. Memory is taken for a whole block alone.
     pub fn next_block(&mut self) -> Result<Next, Memory>
         ensures ok { IfOk result (λ next. IsNext self.old next self.new) }
-        ensures err { OnErr result (self.new ≡ self.old) }
+        ensures err { OnErr result ((self.new ≡ self.old) × BeginsWithBlock self.old.form self.old.pending) }
     {
         match self.form {
-            Form::Plain => self.next_line(),
+            Form::Plain => self.next_plain(),
         }
     }
 
     // What the pending bytes begin with in the plain form.
-    fn next_line(&mut self) -> Result<Next, Memory>
+    fn next_plain(&mut self) -> Result<Next, Memory>
         requires { self.old.form ≡ Plain }
         ensures ok { IfOk result (λ next. IsNext self.old next self.new) }
-        ensures err { OnErr result (self.new ≡ self.old) }
+        ensures err { OnErr result ((self.new ≡ self.old) × BeginsWithBlock self.old.form self.old.pending) }
     {
-        let len = self.pending.len();
-        let end = line_len(self.pending.as_slice(), self.searched);
-        self.searched = end;
-        if end > MAX_HEADER {
-            return Ok(Next::Bad { place: self.place });
+        match self.look_on() {
+            Sight::NotYet => Ok(Next::NotYet),
+            Sight::Bad => Ok(Next::Bad { place: self.place }),
+            Sight::Line(line) => {
+                let block = line_block(self.alloc, self.pending.as_slice(), line)?;
+                self.skip(line + 1);
+                Ok(Next::Whole(block))
+            }
+            Sight::Attached { header, end } => {
+                let pending = self.pending.as_slice();
+                let block = attached_block(self.alloc, pending, header, end)?;
+                self.skip(end + 2);
+                Ok(Next::Whole(block))
+            }
         }
-        if end == len {
-            return Ok(Next::NotYet);
-        }
-        if end == 0 {
-            return Ok(Next::Bad { place: self.place });
-        }
-        let header = Vec::from_slice(self.alloc, self.pending.as_slice().split_at(end).0)?;
-        self.pending.advance(end + 1);
-        self.searched = 0;
-        self.place = self.place.saturating_add(end as u64 + 1);
-        Ok(Next::Whole(Block {
-            header: Line::new(header),
-        }))
+    }
+
+    // Looks at the bytes that came since the last look.
+    fn look_on(&mut self) -> Sight
+        ensures sight { IsSight self.old.pending result }
+        ensures stays { self.new ≡ self.old }
+    {
+        let (scan, sight) = look(self.pending.as_slice(), self.scan);
+        self.scan = scan;
+        sight
+    }
+
+    // Lets go of the bytes of a block.
+    fn skip(&mut self, count: usize)
+        requires { count ≤ length self.old.pending }
+        ensures { self.new ≡ record self.old {
+          place = place_after self.old.place count;
+          pending = drop count self.old.pending;
+        } }
+    {
+        self.pending.advance(count);
+        self.scan = Scan::Header { searched: 0 };
+        self.place = self.place.saturating_add(count as u64);
     }
 
     /// Whether no byte is pending.
@@ -112,15 +130,4 @@ impl Blocks {
     {
         self.place
     }
-}
-
-// The length of the first line, of which so many bytes were searched.
-#[tactic(auto, using(crate::proofs::Lines::line_fits, crate::proofs::Lines::line_found))]
-fn line_len(text: &[u8], searched: usize) -> usize
-    requires { searched ≤ position_or_len is_line_feed text.now }
-    ensures len { result ≡ position_or_len is_line_feed text.now }
-    ensures within { result ≤ length text.now }
-{
-    let rest = text.split_at(searched).1;
-    searched + memchr(b'\n', rest).unwrap_or(rest.len())
 }

@@ -1,8 +1,11 @@
 // What holds of every text and its blocks, in each form. Each law is the contract of a function that does nothing.
 ghost use Rattle.std.specs.Prelude.{◌≡◌, ◌⊎◌, ◌<◌, ◌≤◌, ℕ, List, [], ◌++◌, length, All};
 ghost use Rattle.block_frame.specs.declared.block.Block.{Block};
+ghost use Rattle.block_frame.specs.declared.block.Next.{Next};
+ghost use Rattle.block_frame.specs.declared.block.Next.TheVariants.{Bad};
 ghost use Rattle.block_frame.specs.declared.form.Form.{Form};
 ghost use Rattle.block_frame.specs.Grammar.{IsBlock, IsPartial, IsBad, BeginsWithBlock, spelled, spelled_all, blocks_of, rest_of, longest_block};
+ghost use Rattle.block_frame.specs.State.{BlocksState, IsNext};
 
 /// Every text is its blocks and a rest, which is a proper prefix of a block or bad.
 pub fn texts_are_cut()
@@ -58,4 +61,12 @@ pub fn blocks_are_short()
 pub fn spellings_join()
     ensures { (form : Form) (blocks others : List Block)
         → spelled_all form (blocks ++ others) ≡ spelled_all form blocks ++ spelled_all form others }
+{}
+
+/// A reader that found a bad block finds it there from then on, whatever it is fed.
+pub fn bad_readers_stay()
+    ensures { (old read new : BlocksState) (place : ℕ) (piece : List ℕ) (next : Next)
+        → IsNext old (Bad place) read
+        → IsNext (record read { pending = read.pending ++ piece }) next new
+        → (next ≡ Bad place) × (new ≡ record read { pending = read.pending ++ piece }) }
 {}

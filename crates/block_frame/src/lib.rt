@@ -5,13 +5,16 @@ mod block;
 mod blocks;
 mod form;
 mod laws;
-mod line;
+mod lines;
+mod looking;
+mod parts;
+mod text;
 
 pub use block::{Block, Next};
 pub use blocks::Blocks;
 pub use form::Form;
 pub use laws::{
-    bad_texts_stay, blocks_are_cut_once, blocks_are_short, blocks_go_first, kinds_are_apart,
-    nothing_is_partial, spellings_join, texts_are_cut,
+    bad_readers_stay, bad_texts_stay, blocks_are_cut_once, blocks_are_short, blocks_go_first,
+    kinds_are_apart, nothing_is_partial, spellings_join, texts_are_cut,
 };
-pub use line::Line;
+pub use text::Text;

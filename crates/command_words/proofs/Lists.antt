@@ -1,8 +1,10 @@
 -- Tests of words, and lists whose members are all good.
-use Rattle.std.proofs.Common.{ℕ, ◌≡◌, ◌+◌, ◌<◌, ◌||◌, ◌&&◌, Bool, map, List, [], ◌∷◌, ◌++◌, length, get_or, drop, Option, Some, None, refl, ap, append_assoc}
+use Rattle.std.proofs.Common.{ℕ, ◌≡◌, ◌+◌, ◌<◌, ◌||◌, ◌&&◌, Bool, map, List, [], ◌∷◌, ◌++◌, length, get_or, drop, Option, Some, None, refl, sym, ap, ◌∙◌, add-one, append_assoc, slice_get}
 use Rattle.std.specs.List.{list_all, list_any}
 use Rattle.std.specs.Option.{option_map, option_and_then}
+use Rattle.std.proofs.Math.Seq.{drop-cons}
 use Rattle.std.proofs.lemmas.List.{drop-map, drop_more}
+use Rattle.std.proofs.lemmas.Option.{slice_get_within, get_or_from_slice_get}
 use Rattle.slurm_text.specs.Hosts.{all_some}
 use Rattle.command_words.specs.Report.{named, listed_by, with_listed}
 use Rattle.command_words.specs.declared.report.Named.{Named}
@@ -42,3 +44,11 @@ named_more g xs i d lists listed h e =
 pub named_none : {X : Type 0} (g : X → List ℕ) (xs : List X) (i : ℕ) (d : X) (lists : Named) → i < length xs → listed_by (g (get_or xs i d)) ≡ None → named lists (drop i (map g xs)) ≡ None
 named_none g xs i d lists h e =
     rw (drop-map g i xs, drop_more xs i d h) (ap (option_and_then (λ more. named (with_listed lists more) (map g (drop (i + 1) xs)))) e)
+
+-- a word more behind those that were taken
+pub texts_more : (front words : List (List ℕ)) (place : ℕ) (word : List ℕ) → slice_get words place ≡ Some word → front ++ drop place words ≡ (front ++ word ∷ []) ++ drop (place + 1) words
+texts_more front words place word at =
+    let within : place < length words = slice_get_within words place word at in
+    let cut : drop place words ≡ get_or words place word ∷ drop (place + 1) words = rw add-one (drop-cons words place word within) in
+    let here : get_or words place word ≡ word = get_or_from_slice_get words place word word at in
+    ap (λ (rest : List (List ℕ)). front ++ rest) (cut ∙ ap (λ (w : List ℕ). w ∷ drop (place + 1) words) here) ∙ sym (append_assoc front (word ∷ []) (drop (place + 1) words))

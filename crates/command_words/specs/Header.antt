@@ -1,40 +1,58 @@
--- What the words of a header ask.
-use Rattle.std.specs.Prelude.{ℕ, if◌then◌else◌, List, [], ◌∷◌, Option, Some, None, codes}
-use Rattle.std.specs.Option.{option_map}
-use Rattle.std.specs.Str.{bytes_eq}
-use Rattle.slurm_text.specs.Fields.{fields}
+-- What a header and its attachment ask.
+use Rattle.std.specs.Prelude.{ℕ, List, [], ◌∷◌, drop, slice_get, Option, Some, None}
 use Rattle.slurm_text.specs.Options.{◌>>=◌}
-use Rattle.slurm_text.specs.declared.plain.request.Request.{Request}
-use Rattle.slurm_text.specs.declared.plain.request.Request.TheVariants.{Submit, Report, Pass, Show}
-use Rattle.command_words.specs.Report.{name_by, u64_by, report_by}
-use Rattle.command_words.specs.Sbatch.{job_by}
-use Rattle.command_words.specs.Squeue.{squeue_by}
-use Rattle.command_words.specs.declared.header.Asked.{Asked}
+use Rattle.slurm_text.specs.Words.{first_bad, words_in}
+use Rattle.command_words.specs.Command.{command_named}
+use Rattle.command_words.specs.Names.{name_by, u64_by}
+use Rattle.command_words.specs.Wanted.{wanted_by}
+use Rattle.command_words.specs.declared.command.Command.{Command}
+use Rattle.command_words.specs.declared.header.Head.{Head}
+use Rattle.command_words.specs.declared.header.Meaning.{Meaning}
+use Rattle.command_words.specs.declared.header.Meaning.TheVariants.{Asks, Malformed, NotBuilt, BadWords, BadHeader}
+use Rattle.command_words.specs.declared.wanted.Wanted.{Wanted}
+use Rattle.command_words.specs.declared.wanted.Wanted.TheVariants as wanted
 
--- The words of a header: what stands between its blanks (32).
-abbrev pub words_of : List ℕ → List (List ℕ)
-words_of header = fields 32 header
-
--- `pass` has no words behind it
-abbrev pub pass_by : List (List ℕ) → Option Request
-pass_by [] = Some Pass
-pass_by words = None
-
--- the request that a command and its words make
-unfoldable pub request_by : List (List ℕ) → Option Request
-request_by [] = None
-request_by (command ∷ words) =
-    if bytes_eq command (codes "sbatch") then option_map Submit (job_by words)
-    else (if bytes_eq command (codes "report") then option_map Report (report_by words)
-    else (if bytes_eq command (codes "squeue") then option_map Show (squeue_by words)
-    else (if bytes_eq command (codes "pass") then pass_by words
-    else None)))
-
--- What is asked by a moment, a user and a request.
-unfoldable pub asked_by : List (List ℕ) → Option Asked
-asked_by (moment ∷ user ∷ words) = do
+-- the moment and the user that the words begin with, where a command follows
+unfoldable pub head_in : List (List ℕ) → Option Head
+head_in words = do
+  moment ← slice_get words 0
+  user ← slice_get words 1
+  command ← slice_get words 2
   at ← u64_by moment
   name ← name_by user
-  request ← request_by words
-  Some (record { moment = at; user = name; request = request })
-asked_by words = None
+  Some (record { moment = at; user = name })
+
+abbrev pub command_in : List (List ℕ) → Option Command
+command_in words = slice_get words 0 >>= command_named
+
+-- what a user means who wants this at a moment
+abbrev pub meaning_for : Head → Command → Wanted → Meaning
+meaning_for head command (wanted.Request request) =
+    Asks (record { moment = head.moment; user = head.user; request = request })
+meaning_for head command (wanted.Malformed fault) = Malformed command fault
+meaning_for head command wanted.NotBuilt = NotBuilt
+
+abbrev pub asked_of : Option Command → Head → List (List ℕ) → Option (List ℕ) → Meaning
+asked_of None head words attachment = NotBuilt
+asked_of (Some command) head words attachment =
+    meaning_for head command (wanted_by command head.moment words attachment)
+
+-- what a user asks by a command's words and an attachment
+unfoldable pub asked_by : Head → List (List ℕ) → Option (List ℕ) → Meaning
+asked_by head words attachment = asked_of (command_in words) head words attachment
+
+abbrev pub headed : Option Head → List (List ℕ) → Option (List ℕ) → Meaning
+headed None words attachment = BadHeader
+headed (Some head) words attachment = asked_by head words attachment
+
+-- what words and an attachment ask: a moment, a user, and a command's words
+unfoldable pub meaning_by : List (List ℕ) → Option (List ℕ) → Meaning
+meaning_by words attachment = headed (head_in words) (drop 2 words) attachment
+
+abbrev pub unless_bad : Option ℕ → Meaning → Meaning
+unless_bad None meaning = meaning
+unless_bad (Some place) meaning = BadWords place
+
+-- What a header and its attachment ask.
+unfoldable pub meaning_in : List ℕ → Option (List ℕ) → Meaning
+meaning_in header attachment = unless_bad (first_bad header) (meaning_by (words_in header) attachment)

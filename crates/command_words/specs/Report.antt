@@ -2,29 +2,16 @@
 use Rattle.std.specs.Prelude.{ℕ, if◌then◌else◌, List, [], ◌∷◌, Option, Some, None, codes, map}
 use Rattle.std.specs.Option.{option_map}
 use Rattle.std.specs.Str.{bytes_eq}
-use Rattle.slurm_text.specs.Digits.{number_within}
 use Rattle.slurm_text.specs.Fields.{fields}
 use Rattle.slurm_text.specs.Hosts.{all_some}
-use Rattle.slurm_text.specs.Name.{is_name}
 use Rattle.slurm_text.specs.Options.{◌>>=◌}
 use Rattle.slurm_text.specs.declared.plain.report.Start.{Start}
 use Rattle.slurm_text.specs.declared.plain.report.Done.{Done}
 use Rattle.slurm_text.specs.declared.plain.report.Report.{Report}
+use Rattle.command_words.specs.Names.{name_by, u64_by, u32_by}
 use Rattle.command_words.specs.declared.report.Named.{Named}
 use Rattle.command_words.specs.declared.report.Listed.{Listed}
 use Rattle.command_words.specs.declared.report.Listed.TheVariants.{Running, Done as Over}
-
--- a word that is a name
-abbrev pub name_by : List ℕ → Option (List ℕ)
-name_by word = if is_name word then Some word else None
-
--- 1 to 20 digits, up to 2 ^ 64 - 1
-abbrev pub u64_by : List ℕ → Option ℕ
-u64_by word = number_within 20 18_446_744_073_709_551_615 word
-
--- 1 to 10 digits, up to 2 ^ 32 - 1
-abbrev pub u32_by : List ℕ → Option ℕ
-u32_by word = number_within 10 4_294_967_295 word
 
 -- the boot number and the number of a report
 abbrev pub pair_by : List ℕ → List ℕ → Option (ℕ × ℕ)
@@ -85,7 +72,7 @@ named lists (word ∷ words) = listed_by word >>= λ listed. named (with_listed 
 abbrev pub nothing_named : Named
 nothing_named = record { running = []; done = [] }
 
--- `NODE BOOT NUMBER`, and then lists in any order, of which the last of each kind counts
+-- Behind the command's name `NODE BOOT NUMBER`, and then lists in any order, of which the last of each kind counts
 unfoldable pub report_by : List (List ℕ) → Option Report
 report_by (node ∷ boot ∷ number ∷ lists) = do
   pair ← pair_by boot number

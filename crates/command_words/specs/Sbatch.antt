@@ -1,47 +1,38 @@
--- What the words behind `sbatch` ask for.
-use Rattle.std.specs.Prelude.{ℕ, ◌&&◌, nat_le, ◌==◌, if◌then◌else◌, List, [], ◌∷◌, Option, Some, None, codes}
-use Rattle.std.specs.Option.{option_map}
-use Rattle.std.specs.Str.{bytes_eq}
-use Rattle.slurm_text.specs.Digits.{number_within}
-use Rattle.slurm_text.specs.Options.{◌>>=◌}
+-- What the words of sbatch and its script want.
+use Rattle.std.specs.Prelude.{ℕ, ◌==◌, Bool, false, not, ◌&&◌, if◌then◌else◌, List, length, Option, is_none, Result, Ok, Err}
+use Rattle.sbatch_reader.specs.Job.{job_in}
+use Rattle.sbatch_reader.specs.declared.refusal.JobRefusal.{JobRefusal}
+use Rattle.sbatch_reader.specs.declared.refusal.JobRefusal.TheVariants.{BadWord, BadLine, Memory}
 use Rattle.slurm_text.specs.declared.plain.job.JobDesc.{JobDesc}
-use Rattle.slurm_text.specs.declared.plain.limit.Limit.{Limit}
-use Rattle.slurm_text.specs.declared.plain.limit.Limit.TheVariants.{Minutes, Unlimited}
+use Rattle.slurm_text.specs.declared.plain.nice.Nice.{Nice}
+use Rattle.slurm_text.specs.declared.plain.nice.Nice.TheVariants.{Lower, Raise}
+use Rattle.slurm_text.specs.declared.plain.request.Request.TheVariants.{Submit}
+use Rattle.command_words.specs.declared.fault.WordFault.TheVariants.{Word, Line}
+use Rattle.command_words.specs.declared.wanted.Wanted.{Wanted}
+use Rattle.command_words.specs.declared.wanted.Wanted.TheVariants.{Request, Malformed, NotBuilt}
 
--- `-n N`: 1 to 10 digits, from 1 to 1,048,576
-unfoldable pub tasks_by : List ℕ → Option ℕ
-tasks_by word = number_within 10 1_048_576 word >>= λ tasks. if nat_le 1 tasks then Some tasks else None
+abbrev pub has_usual_nice : Nice → Bool
+has_usual_nice (Lower number) = number == 0
+has_usual_nice (Raise number) = false
 
--- `-t M`: 1 to 9 digits, at most 52,560,000 minutes, of which 0 is no limit
-unfoldable pub limit_by : List ℕ → Option Limit
-limit_by word = option_map (λ minutes. if minutes == 0 then Unlimited else Minutes minutes) (number_within 9 52_560_000 word)
+-- whether the controller can do for a job all that it asks for
+unfoldable pub is_built : JobDesc → Bool
+is_built job =
+    is_none job.account && is_none job.qos && is_none job.reservation && is_none job.begin
+    && has_usual_nice job.nice && not job.held && is_none job.features
+    && length job.required == 0 && length job.excluded == 0
+    && is_none job.array && is_none job.dependency
 
--- tasks and a limit that two words write
-abbrev pub both_by : List ℕ → List ℕ → Option (ℕ × Option Limit)
-both_by tasks limit = tasks_by tasks >>= λ n. limit_by limit >>= λ t. Some (n, Some t)
+abbrev pub wanted_job : JobDesc → Wanted
+wanted_job job = if is_built job then Request (Submit job) else NotBuilt
 
--- one option: without `-n` it is one task; without `-t` no limit is asked for, and the partition's own counts
-unfoldable pub one_by : List ℕ → List ℕ → Option (ℕ × Option Limit)
-one_by flag value =
-    if bytes_eq flag (codes "-n") then option_map (λ n. (n, None)) (tasks_by value)
-    else (if bytes_eq flag (codes "-t") then option_map (λ t. (1, Some t)) (limit_by value)
-    else None)
+abbrev pub wanted_by_job : Result JobDesc JobRefusal → Wanted
+wanted_by_job (Ok job) = wanted_job job
+wanted_by_job (Err (BadWord word kind)) = Malformed (Word word kind)
+wanted_by_job (Err (BadLine line kind)) = Malformed (Line line kind)
+-- no words want memory by themselves
+wanted_by_job (Err Memory) = NotBuilt
 
--- both options, in either order
-unfoldable pub two_by : List ℕ → List ℕ → List ℕ → List ℕ → Option (ℕ × Option Limit)
-two_by first first_value second second_value =
-    if bytes_eq first (codes "-n") && bytes_eq second (codes "-t") then both_by first_value second_value
-    else (if bytes_eq first (codes "-t") && bytes_eq second (codes "-n") then both_by second_value first_value
-    else None)
-
--- The tasks and the limit: each option once at most.
-unfoldable pub size_by : List (List ℕ) → Option (ℕ × Option Limit)
-size_by [] = Some (1, None)
-size_by (flag ∷ value ∷ []) = one_by flag value
-size_by (first ∷ first_value ∷ second ∷ second_value ∷ []) = two_by first first_value second second_value
-size_by words = None
-
--- the job, whose name is `sbatch`, since it has no script; it takes 60 seconds, and its exit code is 0
-abbrev pub job_by : List (List ℕ) → Option JobDesc
-job_by words =
-    option_map (λ size. record { name = codes "sbatch"; tasks = size.0; limit = size.1; run = 60; exit = 0 }) (size_by words)
+-- what words, the first of which is the command's name, and a script want at the moment `now`
+unfoldable pub sbatch_by : ℕ → List (List ℕ) → Option (List ℕ) → Wanted
+sbatch_by now words script = wanted_by_job (job_in now words script)

@@ -1,21 +1,23 @@
-//! The header of a block.
+//! The header of a block, with its attachment.
 
-ghost use Rattle.std.specs.Prelude.{◌≡◌, IfOk};
-ghost use Rattle.command_words.specs.Cut.{texts_of};
-ghost use Rattle.command_words.specs.Header.{words_of, asked_by, request_by};
-ghost use Rattle.command_words.specs.Report.{name_by};
+ghost use Rattle.std.specs.Prelude.{◌≡◌, ◌≤◌, length, option_copied, option_map, IfOk, OnSome};
+ghost use Rattle.command_words.specs.Header.{head_in, command_in, asked_by, meaning_by, meaning_in};
+ghost use Rattle.command_words.specs.Names.{name_by};
 
-use crate::cut::cut_at;
-use crate::report::read_report;
-use crate::sbatch::read_job;
-use crate::squeue::read_squeue;
+use crate::command::{Command, command_named};
+use crate::fault::WordFault;
+use crate::wanted::{Wanted, read_command};
 use slurm_text::digits::parse_number;
 use slurm_text::memory_error::Memory;
 use slurm_text::name::{Name, NameRefusal};
 use slurm_text::plain::request::Request;
+use slurm_text::words::{Words, WordsRefusal, split_words};
 use std::alloc::Global;
 
-/// What a header asks: the moment, the user and the request.
+// A longer header isn't held.
+const LONGEST_HEADER: usize = 4_294_967_295;
+
+/// What a user asks at a moment.
 #[derive(Drop)]
 pub struct Asked {
     pub moment: u64,
@@ -23,19 +25,67 @@ pub struct Asked {
     pub request: Request,
 }
 
-/// Reads a header. None where it is of no form that is built yet. Linear in the header.
-pub fn read_header(alloc: Global, header: &[u8]) -> Result<Option<Asked>, Memory>
-    ensures { IfOk result (λ asked. asked ≡ asked_by (words_of header.now)) }
-{
-    let words = cut_at(alloc, header, b' ')?;
-    read_asked(alloc, words.as_slice())
+/// What a header and its attachment ask.
+#[derive(Drop)]
+pub enum Meaning {
+    Asks(Asked),
+    /// The command's words or its script are wrong.
+    Malformed { command: Command, fault: WordFault },
+    /// Nothing that is built yet.
+    NotBuilt,
+    /// The header is no list of words: it has a bad byte at this place, counted in bytes from 0, or a quote or backslash
+    /// there that stays open.
+    BadWords { place: u32 },
+    /// The words don't begin with a moment, a user and a command.
+    BadHeader,
 }
 
-#[tactic(auto, unfolding(crate::specs::Header::asked_by))]
-fn read_asked(alloc: Global, words: &[&[u8]]) -> Result<Option<Asked>, Memory>
-    ensures { IfOk result (λ asked. asked ≡ asked_by (texts_of words.now)) }
+// Who asks, and when.
+#[derive(Drop)]
+pub(crate) struct Head {
+    pub(crate) moment: u64,
+    pub(crate) user: Name,
+}
+
+/// Reads a header and its attachment. Linear in both, but for what the words of sbatch(1) cost. A header of 4 GiB or
+/// more counts as want of memory.
+#[tactic(auto, unfolding(crate::specs::Header::meaning_in))]
+pub fn read_header(
+    alloc: Global,
+    header: &[u8],
+    attachment: Option<&[u8]>,
+) -> Result<Meaning, Memory>
+    ensures { IfOk result (λ meaning. meaning ≡ meaning_in header.now (option_copied attachment.entry)) }
 {
-    let [moment, user, words @ ..] = words else {
+    if header.len() > LONGEST_HEADER {
+        return Err(Memory);
+    }
+    match split_words(alloc, header) {
+        Ok(words) => read_words(alloc, words, attachment),
+        Err(WordsRefusal::BadWords { place }) => Ok(Meaning::BadWords { place }),
+        Err(WordsRefusal::BadWord { place: _ } | WordsRefusal::Memory) => Err(Memory),
+    }
+}
+
+#[tactic(auto, unfolding(crate::specs::Header::meaning_by))]
+fn read_words(alloc: Global, words: Words, attachment: Option<&[u8]>) -> Result<Meaning, Memory>
+    ensures { IfOk result (λ meaning. meaning ≡ meaning_by words (option_copied attachment.entry)) }
+{
+    let Some(head) = read_head(alloc, &words)? else {
+        return Ok(Meaning::BadHeader);
+    };
+    let mut words = words;
+    words.drop_first(2);
+    read_asked(alloc, head, &words, attachment)
+}
+
+// The moment and the user, where a command follows them.
+#[tactic(auto, unfolding(crate::specs::Header::head_in))]
+fn read_head(alloc: Global, words: &Words) -> Result<Option<Head>, Memory>
+    ensures value { IfOk result (λ head. head ≡ head_in words.now) }
+    ensures long { IfOk result (λ head. OnSome head (2 ≤ length words.now)) }
+{
+    let (Some(moment), Some(user), Some(_)) = (words.get(0), words.get(1), words.get(2)) else {
         return Ok(None);
     };
     let Some(moment) = parse_number(moment, 20, u64::MAX) else {
@@ -44,14 +94,7 @@ fn read_asked(alloc: Global, words: &[&[u8]]) -> Result<Option<Asked>, Memory>
     let Some(user) = read_name(alloc, user)? else {
         return Ok(None);
     };
-    let Some(request) = read_request(alloc, words)? else {
-        return Ok(None);
-    };
-    Ok(Some(Asked {
-        moment,
-        user,
-        request,
-    }))
+    Ok(Some(Head { moment, user }))
 }
 
 /// A word that is a name.
@@ -65,31 +108,31 @@ pub(crate) fn read_name(alloc: Global, word: &[u8]) -> Result<Option<Name>, Memo
     }
 }
 
-#[tactic(auto, unfolding(crate::specs::Header::request_by))]
-fn read_request(alloc: Global, words: &[&[u8]]) -> Result<Option<Request>, Memory>
-    ensures { IfOk result (λ request. request ≡ request_by (texts_of words.now)) }
+fn command_in(words: &Words) -> Option<Command>
+    ensures { result ≡ command_in words.now }
 {
-    let Some((command, words)) = words.split_first() else {
-        return Ok(None);
+    command_named(words.get(0)?)
+}
+
+#[tactic(auto, unfolding(crate::specs::Header::asked_by))]
+fn read_asked(
+    alloc: Global,
+    head: Head,
+    words: &Words,
+    attachment: Option<&[u8]>,
+) -> Result<Meaning, Memory>
+    ensures { IfOk result (λ meaning. meaning ≡ asked_by head words.now (option_copied attachment.entry)) }
+{
+    let Some(command) = command_in(words) else {
+        return Ok(Meaning::NotBuilt);
     };
-    if *command == b"sbatch".as_slice() {
-        let Some(desc) = read_job(alloc, words)? else {
-            return Ok(None);
-        };
-        Ok(Some(Request::Submit(desc)))
-    } else if *command == b"report".as_slice() {
-        let Some(report) = read_report(alloc, words)? else {
-            return Ok(None);
-        };
-        Ok(Some(Request::Report(report)))
-    } else if *command == b"squeue".as_slice() {
-        let Some(query) = read_squeue(words) else {
-            return Ok(None);
-        };
-        Ok(Some(Request::Show(query)))
-    } else if *command == b"pass".as_slice() && words.is_empty() {
-        Ok(Some(Request::Pass))
-    } else {
-        Ok(None)
+    match read_command(alloc, command, head.moment, words, attachment)? {
+        Wanted::Request(request) => Ok(Meaning::Asks(Asked {
+            moment: head.moment,
+            user: head.user,
+            request,
+        })),
+        Wanted::Malformed(fault) => Ok(Meaning::Malformed { command, fault }),
+        Wanted::NotBuilt => Ok(Meaning::NotBuilt),
     }
 }

@@ -1,8 +1,9 @@
 //! What a daemon reports.
 
-ghost use Rattle.std.specs.Prelude.{◌≡◌, IfOk};
+ghost use Rattle.std.specs.Prelude.{◌≡◌, drop, IfOk};
 ghost use Rattle.command_words.specs.Cut.{texts_of};
-ghost use Rattle.command_words.specs.Report.{report_by, pair_by, named, nothing_named, with_listed, listed_by, start_by, done_by, starts_by, dones_by, u32_by};
+ghost use Rattle.command_words.specs.Report.{report_by, pair_by, named, nothing_named, with_listed, listed_by, start_by, done_by, starts_by, dones_by};
+ghost use Rattle.command_words.specs.Names.{u32_by};
 
 use crate::cut::cut_at;
 use crate::header::read_name;
@@ -11,6 +12,7 @@ use slurm_text::fields::{UpToThree, up_to_three};
 use slurm_text::items::Items;
 use slurm_text::memory_error::Memory;
 use slurm_text::plain::report::{Done, Report, Start};
+use slurm_text::words::Words;
 use std::alloc::Global;
 
 // The starts that a report's words name.
@@ -39,9 +41,27 @@ impl Named {
     }
 }
 
-/// The report that the words behind `report` make.
+/// The report that the words behind the command's name make.
+pub(crate) fn read_report(alloc: Global, words: &Words) -> Result<Option<Report>, Memory>
+    ensures { IfOk result (λ report. report ≡ report_by (drop 1 words.now)) }
+{
+    let texts = texts_behind(alloc, words)?;
+    read_texts(alloc, texts.as_slice())
+}
+
+// The words behind the command's name.
+fn texts_behind(alloc: Global, words: &Words) -> Result<Vec<&[u8]>, Memory>
+    ensures { IfOk result (λ texts. texts_of texts.items ≡ drop 1 words.now) }
+{
+    let mut texts = Vec::with_capacity(alloc, words.len())?;
+    for place in 1..words.len() {
+        texts.push(words.get(place).unwrap())?;
+    }
+    Ok(texts)
+}
+
 #[tactic(auto, unfolding(crate::specs::Report::report_by))]
-pub(crate) fn read_report(alloc: Global, words: &[&[u8]]) -> Result<Option<Report>, Memory>
+fn read_texts(alloc: Global, words: &[&[u8]]) -> Result<Option<Report>, Memory>
     ensures { IfOk result (λ report. report ≡ report_by (texts_of words.now)) }
 {
     let [node, boot, number, lists @ ..] = words else {

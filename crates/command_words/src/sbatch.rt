@@ -1,112 +1,70 @@
-//! The options of sbatch(1).
+//! The words of sbatch(1) and its script.
 
-ghost use Rattle.std.specs.Prelude.{◌≡◌, ◌≤◌, IfOk, IfSome, codes};
-ghost use Rattle.command_words.specs.Cut.{texts_of};
-ghost use Rattle.command_words.specs.Sbatch.{job_by, size_by, one_by, two_by, tasks_by, limit_by};
+ghost use Rattle.std.specs.Prelude.{◌≡◌, option_copied, IfOk};
+ghost use Rattle.command_words.specs.Sbatch.{has_usual_nice, is_built, wanted_job, sbatch_by};
 
-use slurm_text::digits::parse_number;
+use crate::fault::WordFault;
+use crate::wanted::Wanted;
+use sbatch_reader::reader::read_job;
+use sbatch_reader::refusal::JobRefusal;
 use slurm_text::memory_error::Memory;
-use slurm_text::name::JobName;
 use slurm_text::plain::job::JobDesc;
-use slurm_text::plain::limit::Limit;
-use slurm_text::ranged::Ranged;
+use slurm_text::plain::nice::Nice;
+use slurm_text::plain::request::Request;
+use slurm_text::words::Words;
 use std::alloc::Global;
 
-const MOST_TASKS: u64 = 1_048_576;
-
-const LONGEST_LIMIT: u64 = 52_560_000;
-
-/// The job that the words behind `sbatch` ask for. Its script isn't read yet: it takes 60 seconds and exits with 0.
-pub(crate) fn read_job(alloc: Global, words: &[&[u8]]) -> Result<Option<JobDesc>, Memory>
-    ensures { IfOk result (λ job. job ≡ job_by (texts_of words.now)) }
+fn has_usual_nice(nice: Nice) -> bool
+    ensures { result ≡ has_usual_nice nice }
 {
-    let Some((tasks, limit)) = read_size(words) else {
-        return Ok(None);
-    };
-    let name = script_name(alloc)?;
-    Ok(Some(JobDesc {
-        name,
-        tasks: Ranged::new(tasks),
-        limit,
-        run: Ranged::new(60),
-        exit: Ranged::new(0),
-    }))
-}
-
-// The name of a job without a script.
-fn script_name(alloc: Global) -> Result<JobName, Memory>
-    ensures { IfOk result (λ name. name ≡ codes "sbatch") }
-{
-    JobName::read(alloc, b"sbatch").map_err(|_| Memory)
-}
-
-// The tasks and the limit, if one is asked for.
-#[tactic(auto, unfolding(crate::specs::Sbatch::size_by))]
-fn read_size(words: &[&[u8]]) -> Option<(u64, Option<Limit>)>
-    ensures value { result ≡ size_by (texts_of words.now) }
-    ensures range { IfSome result (λ size. (1 ≤ size.0) × (size.0 ≤ 1_048_576)) }
-{
-    match words {
-        [] => Some((1, None)),
-        [flag, value] => read_one(flag, value),
-        [first, first_value, second, second_value] => read_two(
-            first,
-            first_value,
-            second,
-            second_value,
-        ),
-        _ => None,
+    match nice {
+        Nice::Lower(number) => number.get() == 0,
+        Nice::Raise(_) => false,
     }
 }
 
-// One option with its value.
-#[tactic(auto, unfolding(crate::specs::Sbatch::one_by))]
-fn read_one(flag: &[u8], value: &[u8]) -> Option<(u64, Option<Limit>)>
-    ensures value { result ≡ one_by flag.now value.now }
-    ensures range { IfSome result (λ size. (1 ≤ size.0) × (size.0 ≤ 1_048_576)) }
+// Whether the controller can do for a job all that it asks for.
+#[tactic(auto, unfolding(crate::specs::Sbatch::is_built))]
+fn is_built(job: &JobDesc) -> bool
+    ensures { result ≡ is_built job.now }
 {
-    match flag {
-        b"-n" => Some((read_tasks(value)?, None)),
-        b"-t" => Some((1, Some(read_limit(value)?))),
-        _ => None,
+    job.account.is_none()
+        && job.qos.is_none()
+        && job.reservation.is_none()
+        && job.begin.is_none()
+        && has_usual_nice(job.nice)
+        && !job.held
+        && job.features.is_none()
+        && job.required.as_slice().is_empty()
+        && job.excluded.as_slice().is_empty()
+        && job.array.is_none()
+        && job.dependency.is_none()
+}
+
+/// The job that the words and the script ask for at the moment `now`.
+#[tactic(auto, unfolding(crate::specs::Sbatch::sbatch_by))]
+pub(crate) fn read_sbatch(
+    alloc: Global,
+    words: &Words,
+    script: Option<&[u8]>,
+    now: u64,
+) -> Result<Wanted, Memory>
+    ensures { IfOk result (λ wanted. wanted ≡ sbatch_by now words.now (option_copied script.entry)) }
+{
+    match read_job(alloc, words, script, now) {
+        Ok(job) => Ok(wanted_job(job)),
+        Err(JobRefusal::BadWord { word, kind }) => Ok(Wanted::Malformed(WordFault::Word { word, kind })),
+        Err(JobRefusal::BadLine { line, kind }) => Ok(Wanted::Malformed(WordFault::Line { line, kind })),
+        Err(JobRefusal::Memory) => Err(Memory),
     }
 }
 
-// Both options, each behind its flag.
-#[tactic(auto, unfolding(crate::specs::Sbatch::two_by))]
-fn read_two(
-    first: &[u8],
-    first_value: &[u8],
-    second: &[u8],
-    second_value: &[u8],
-) -> Option<(u64, Option<Limit>)>
-    ensures value { result ≡ two_by first.now first_value.now second.now second_value.now }
-    ensures range { IfSome result (λ size. (1 ≤ size.0) × (size.0 ≤ 1_048_576)) }
+fn wanted_job(job: JobDesc) -> Wanted
+    ensures { result ≡ wanted_job job }
 {
-    match (first, second) {
-        (b"-n", b"-t") => Some((read_tasks(first_value)?, Some(read_limit(second_value)?))),
-        (b"-t", b"-n") => Some((read_tasks(second_value)?, Some(read_limit(first_value)?))),
-        _ => None,
-    }
-}
-
-#[tactic(auto, unfolding(crate::specs::Sbatch::tasks_by))]
-fn read_tasks(word: &[u8]) -> Option<u64>
-    ensures value { result ≡ tasks_by word.now }
-    ensures range { IfSome result (λ tasks. (1 ≤ tasks) × (tasks ≤ 1_048_576)) }
-{
-    let tasks = parse_number(word, 10, MOST_TASKS)?;
-    if tasks >= 1 { Some(tasks) } else { None }
-}
-
-#[tactic(auto, unfolding(crate::specs::Sbatch::limit_by))]
-fn read_limit(word: &[u8]) -> Option<Limit>
-    ensures { result ≡ limit_by word.now }
-{
-    let minutes = parse_number(word, 9, LONGEST_LIMIT)?;
-    Some(if minutes == 0 {
-        Limit::Unlimited
+    if is_built(&job) {
+        Wanted::Request(Request::Submit(job))
     } else {
-        Limit::Minutes(Ranged::new(minutes))
-    })
+        Wanted::NotBuilt
+    }
 }

@@ -1,14 +1,14 @@
 -- What the lines of nodes say.
-use Rattle.std.specs.Prelude.{ℕ, ◌+◌, ◌*◌, nat_lt, nat_le, if◌then◌else◌, List, [], length, map, bytes_eq, codes, Option, Some, None, option_map, unwrap_or, Result}
+use Rattle.std.specs.Prelude.{ℕ, ◌+◌, ◌*◌, nat_lt, nat_le, if◌then◌else◌, List, [], length, bytes_eq, codes, Option, Some, None, option_map, unwrap_or, Result}
 use Rattle.std.specs.List.{list_any}
 use Rattle.std.specs.Option.{option_or}
-use Rattle.conf_values.specs.Values.{has}
+use Rattle.slurm_text.specs.Hosts.{has}
 use Rattle.conf_values.specs.Keys.{node_key}
 use Rattle.conf_values.specs.Refusal.{◌>>=◌}
 use Rattle.conf_values.specs.Values.{number_in, names_in, nodes_in, node_start}
 use Rattle.conf_reader.specs.Words.{entry_in, unless, said_by}
-use Rattle.conf_values.specs.declared.conf.NodeConf.{NodeConf}
-use Rattle.conf_values.specs.declared.conf.NodeStart.TheVariants.{Unknown}
+use Rattle.slurm_text.specs.declared.plain.conf.NodeConf.{NodeConf}
+use Rattle.slurm_text.specs.declared.plain.conf.NodeStart.TheVariants.{Unknown}
 use Rattle.conf_values.specs.declared.keys.NodeKey.{NodeKey}
 use Rattle.conf_values.specs.declared.keys.NodeKey.TheVariants as key
 use Rattle.conf_reader.specs.declared.node_lines.NodeNames.{NodeNames}
@@ -20,12 +20,12 @@ use Rattle.conf_values.specs.declared.refusal.ConfKind.{ConfKind}
 use Rattle.conf_values.specs.declared.refusal.ConfKind.TheVariants.{TwiceNamed, OverLimit}
 
 -- whom a line speaks of: the lines after it, or nodes
-unfoldable pub node_names : List ℕ → Option NodeNames
-node_names text = if bytes_eq text (codes "DEFAULT") then Some Default else option_map Hosts (nodes_in text)
+unfoldable pub node_name : List ℕ → Option NodeNames
+node_name text = if bytes_eq text (codes "DEFAULT") then Some Default else option_map Hosts (nodes_in text)
 
 -- what a key and its value say; boards, sockets, cores and threads are numbers from 1 that 32 bits hold
 unfoldable pub node_entry : NodeKey → List ℕ → Option NodeEntry
-node_entry key.NodeName text = option_map Names (node_names text)
+node_entry key.NodeName text = option_map Names (node_name text)
 node_entry key.Cpus text = option_map Cpus (number_in 1 1024 text)
 node_entry key.Boards text = option_map Boards (number_in 1 4_294_967_295 text)
 node_entry key.Sockets text = option_map Sockets (number_in 1 4_294_967_295 text)
@@ -36,10 +36,6 @@ node_entry key.Weight text = option_map Weight (number_in 0 4_294_967_280 text)
 node_entry key.Features text = option_map Features (names_in text)
 node_entry key.State text = option_map State (node_start text)
 node_entry key.WithoutEffect text = Some WithoutEffect
-
--- the names of nodes
-abbrev pub names_of : List NodeConf → List (List ℕ)
-names_of nodes = map (λ node. node.name) nodes
 
 -- nodes that an earlier line named, and more nodes than a file may have, are refused at their names
 unfoldable pub names_fault : List (List ℕ) → List (List ℕ) → Option ConfKind

@@ -5,15 +5,16 @@ use Rattle.std.specs.Str.{is_utf8}
 use Rattle.conf_lines.specs.Lines.{NumberedLine, logical_lines}
 use Rattle.conf_lines.specs.Pairs.{Pair, pair_in}
 use Rattle.conf_lines.specs.Words.{words_in}
-use Rattle.conf_reader.specs.NodeLines.{node_line, names_of, no_node_words, processors, node_conf}
+use Rattle.conf_reader.specs.NodeLines.{node_line, no_node_words, processors, node_conf}
 use Rattle.conf_reader.specs.NodeLines.{over as nodes_over}
 use Rattle.conf_reader.specs.PartitionLines.{part_line, partition_names, no_part_words, line_of}
 use Rattle.conf_reader.specs.PartitionLines.{over as parts_over}
 use Rattle.conf_reader.specs.SettingLines.{setting_line, no_settings, settings_of}
 use Rattle.conf_values.specs.Refusal.{◌>>=◌}
-use Rattle.conf_values.specs.Values.{has, is_word}
-use Rattle.conf_values.specs.declared.conf.Conf.{Conf}
-use Rattle.conf_values.specs.declared.conf.PartConf.{PartConf}
+use Rattle.slurm_text.specs.Hosts.{has}
+use Rattle.conf_values.specs.Values.{is_word}
+use Rattle.slurm_text.specs.Confs.{ConfView, node_names}
+use Rattle.slurm_text.specs.declared.plain.conf.PartConf.{PartConf}
 use Rattle.conf_reader.specs.declared.draft.Draft.{Draft}
 use Rattle.conf_reader.specs.declared.draft.LineKind.{LineKind}
 use Rattle.conf_reader.specs.declared.draft.LineKind.TheVariants.{Settings, Node, Partition}
@@ -89,7 +90,7 @@ after_part_line draft number own =
 abbrev pub after_kind : LineKind → Draft → ℕ → List ℕ → Result Draft ConfKind
 after_kind Settings draft number line =
     setting_line draft.settings line >>= λ settings. Ok (record draft { settings = settings })
-after_kind Node draft number line = node_line (names_of draft.nodes) line >>= after_node_line draft
+after_kind Node draft number line = node_line (node_names draft.nodes) line >>= after_node_line draft
 after_kind Partition draft number line =
     part_line (partition_names draft.partitions) line >>= after_part_line draft number
 
@@ -142,23 +143,23 @@ partitions_by known (line ∷ lines) =
     } ∷ partitions_by known lines
 
 -- what the lines say together
-unfoldable pub conf_of_lines : Draft → Conf
+unfoldable pub conf_of_lines : Draft → ConfView
 conf_of_lines draft = record {
   settings = settings_of draft.settings;
   nodes = draft.nodes;
-  partitions = partitions_by (names_of draft.nodes) draft.partitions;
+  partitions = partitions_by (node_names draft.nodes) draft.partitions;
 }
 
-abbrev pub known_all : Draft → Option ℕ → Result Conf ConfRefusal
+abbrev pub known_all : Draft → Option ℕ → Result ConfView ConfRefusal
 known_all draft (Some line) = Err (At line UnknownNode)
 known_all draft None = if length draft.partitions == 0 then Err (At 0 NoPartition) else Ok (conf_of_lines draft)
 
 -- unknown nodes come first, and then the want of a partition
-unfoldable pub whole_file : Draft → Result Conf ConfRefusal
-whole_file draft = known_all draft (first_unknown (names_of draft.nodes) draft.partitions)
+unfoldable pub whole_file : Draft → Result ConfView ConfRefusal
+whole_file draft = known_all draft (first_unknown (node_names draft.nodes) draft.partitions)
 
 -- what the bytes of a file say, or its first fault
-unfoldable pub conf_in : List ℕ → Result Conf ConfRefusal
+unfoldable pub conf_in : List ℕ → Result ConfView ConfRefusal
 conf_in file =
     if nat_lt 1_048_576 (length file) then Err (At 0 OverLimit)
     else (after_lines nothing_said (logical_lines file) >>= whole_file)

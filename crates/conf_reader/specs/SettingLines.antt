@@ -9,7 +9,7 @@ use Rattle.conf_values.specs.Keys.{setting_key}
 use Rattle.conf_values.specs.Values.{name_in, number_in, u32_in, mem_per_node, mem_per_cpu}
 use Rattle.conf_values.specs.Scheduler.{scheduler_in, no_items}
 use Rattle.conf_reader.specs.Words.{entry_in, said_by}
-use Rattle.conf_values.specs.declared.conf.Settings.{Settings}
+use Rattle.slurm_text.specs.declared.plain.conf.Settings.{Settings}
 use Rattle.conf_values.specs.declared.keys.SettingKey.{SettingKey}
 use Rattle.conf_values.specs.declared.keys.SettingKey.TheVariants as key
 use Rattle.conf_reader.specs.declared.setting_lines.SettingEntry.{SettingEntry}

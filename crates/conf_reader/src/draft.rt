@@ -16,7 +16,6 @@ use conf_values::refusal::{ConfKind, Fault};
 use slurm_text::keywords::is_keyword;
 use slurm_text::name::Name;
 use std::alloc::Global;
-use std::mem;
 
 /// What lines say.
 #[derive(Drop)]
@@ -146,12 +145,12 @@ impl Draft {
         ensures value { OnOk result (after_node_line self.old own ≡ Ok self.new) }
         ensures refused { (k : ConfKind) → IsErrOf result (Fault.Refused k) → after_node_line self.old own ≡ Err k }
     {
-        if own.is_for_nodes() {
-            let defaults = mem::replace(&mut self.node_defaults, NodeWords::new());
-            self.node_defaults = own.over(defaults);
+        let is_default = own.is_for_nodes();
+        let words = own.over(&self.node_defaults)?;
+        if is_default {
+            self.node_defaults = words;
             return Ok(());
         }
-        let words = own.over_copy(&self.node_defaults)?;
         self.add_nodes(alloc, &words)
     }
 
@@ -161,12 +160,12 @@ impl Draft {
         ensures refused { (k : ConfKind)
             → IsErrOf result (Fault.Refused k) → after_part_line self.old number own ≡ Err k }
     {
-        if own.is_for_partitions() {
-            let defaults = mem::replace(&mut self.part_defaults, PartWords::new());
-            self.part_defaults = own.over(defaults);
+        let is_default = own.is_for_partitions();
+        let words = own.over(&self.part_defaults)?;
+        if is_default {
+            self.part_defaults = words;
             return Ok(());
         }
-        let words = own.over_copy(&self.part_defaults)?;
         match words.into_line(alloc, number) {
             Some(line) => {
                 self.partitions.push(line)?;

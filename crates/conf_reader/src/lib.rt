@@ -8,5 +8,5 @@ mod partition_lines;
 mod reader;
 mod setting_lines;
 
-pub use conf_values::{conf, keys, refusal};
+pub use conf_values::{keys, refusal};
 pub use reader::read_conf;

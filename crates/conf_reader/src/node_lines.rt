@@ -2,16 +2,16 @@
 
 ghost use Rattle.std.specs.Prelude.{ℕ, ◌≡◌, ◌≤◌, ◌<◌, ◌^◌, ◌*◌, [], ◌++◌, unwrap_or, length, map, IfOk, IfSome, OnOk, IsErrOf, Some, None, Ok, Err};
 ghost use Rattle.conf_values.specs.Keys.{node_key};
-ghost use Rattle.conf_reader.specs.NodeLines.{node_names, node_entry, names_of, names_fault, entry_fault, node_word, with_entry, no_node_words, node_line, few, few_times, processors, node_conf};
+ghost use Rattle.conf_reader.specs.NodeLines.{node_name, node_entry, names_fault, entry_fault, node_word, with_entry, no_node_words, node_line, few, few_times, processors, node_conf};
+ghost use Rattle.slurm_text.specs.Confs.{node_names};
 ghost use Rattle.std.specs.Option.{option_or};
-ghost use Rattle.conf_values.specs.Values.{has};
+ghost use Rattle.slurm_text.specs.Hosts.{has};
 ghost use Rattle.conf_reader.specs.Words.{entry_in};
 ghost use Rattle.std.specs.List.{list_any};
 ghost use Rattle.conf_values.specs.declared.refusal.ConfKind.{ConfKind};
 
 use conf_lines::pairs::read_pair;
 use conf_lines::words::first_word;
-use conf_values::conf::{NodeConf, NodeStart};
 use conf_values::keys::{NodeKey, node_key};
 use conf_values::lists::{copy_or_none, or_copy};
 use conf_values::node_table::NodeTable;
@@ -20,6 +20,7 @@ use conf_values::values::{read_names, read_node_start, read_nodes, read_number};
 use slurm_text::items::Items;
 use slurm_text::memory_error::Memory;
 use slurm_text::name::Name;
+use slurm_text::plain::conf::{NodeConf, NodeStart};
 use slurm_text::ranged::Ranged;
 use std::alloc::Global;
 
@@ -66,11 +67,11 @@ pub(crate) struct NodeWords {
     pub(crate) state: Option<NodeStart>,
 }
 
-#[tactic(auto, unfolding(crate::specs::NodeLines::node_names))]
-fn read_node_names(alloc: Global, text: &[u8]) -> Result<NodeNames, ValueRefusal>
+#[tactic(auto, unfolding(crate::specs::NodeLines::node_name))]
+fn read_node_name(alloc: Global, text: &[u8]) -> Result<NodeNames, ValueRefusal>
     requires { length text.now < 2 ^ 32 }
-    ensures value { IfOk result (λ names. node_names text.now ≡ Some names) }
-    ensures refused { IsErrOf result ValueRefusal.BadValue → node_names text.now ≡ None }
+    ensures value { IfOk result (λ names. node_name text.now ≡ Some names) }
+    ensures refused { IsErrOf result ValueRefusal.BadValue → node_name text.now ≡ None }
 {
     if text == b"DEFAULT".as_slice() {
         return Ok(NodeNames::Default);
@@ -87,7 +88,7 @@ fn read_node_entry(alloc: Global, key: NodeKey, text: &[u8]) -> Result<NodeEntry
 {
     let bad = ValueRefusal::BadValue;
     match key {
-        NodeKey::NodeName => Ok(NodeEntry::Names(read_node_names(alloc, text)?)),
+        NodeKey::NodeName => Ok(NodeEntry::Names(read_node_name(alloc, text)?)),
         NodeKey::Cpus => Ok(NodeEntry::Cpus(read_number(text).ok_or(bad)?)),
         NodeKey::Boards => Ok(NodeEntry::Boards(read_number(text).ok_or(bad)?)),
         NodeKey::Sockets => Ok(NodeEntry::Sockets(read_number(text).ok_or(bad)?)),
@@ -124,7 +125,7 @@ fn read_entry(alloc: Global, word: &[u8]) -> Result<NodeEntry, Fault>
 
 #[tactic(auto, unfolding(crate::specs::NodeLines::names_fault))]
 fn names_fault(known: &NodeTable, names: &[Name]) -> Option<ConfKind>
-    ensures { result ≡ names_fault (names_of known.now) names.now }
+    ensures { result ≡ names_fault (node_names known.now) names.now }
 {
     if has_any(known, names) {
         Some(ConfKind::TwiceNamed)
@@ -137,7 +138,7 @@ fn names_fault(known: &NodeTable, names: &[Name]) -> Option<ConfKind>
 
 #[tactic(auto, unfolding(crate::specs::NodeLines::entry_fault))]
 fn entry_fault(known: &NodeTable, entry: &NodeEntry) -> Option<ConfKind>
-    ensures { result ≡ entry_fault (names_of known.now) entry.now }
+    ensures { result ≡ entry_fault (node_names known.now) entry.now }
 {
     match entry {
         NodeEntry::Names(NodeNames::Hosts(names)) => names_fault(known, names.as_slice()),
@@ -146,7 +147,7 @@ fn entry_fault(known: &NodeTable, entry: &NodeEntry) -> Option<ConfKind>
 }
 
 fn has_any(known: &NodeTable, names: &[Name]) -> bool
-    ensures { result ≡ list_any (λ name. has name (names_of known.now)) names.now }
+    ensures { result ≡ list_any (λ name. has name (node_names known.now)) names.now }
 {
     names.iter().any(|name| known.has(name))
 }
@@ -154,9 +155,9 @@ fn has_any(known: &NodeTable, names: &[Name]) -> bool
 #[tactic(auto, unfolding(crate::specs::NodeLines::node_word))]
 fn read_node_word(alloc: Global, known: &NodeTable, word: &[u8]) -> Result<NodeEntry, Fault>
     requires { length word.now < 2 ^ 32 }
-    ensures value { IfOk result (λ entry. node_word (names_of known.now) word.now ≡ Ok entry) }
+    ensures value { IfOk result (λ entry. node_word (node_names known.now) word.now ≡ Ok entry) }
     ensures refused { (k : ConfKind)
-        → IsErrOf result (Fault.Refused k) → node_word (names_of known.now) word.now ≡ Err k }
+        → IsErrOf result (Fault.Refused k) → node_word (node_names known.now) word.now ≡ Err k }
 {
     let entry = read_entry(alloc, word)?;
     match entry_fault(known, &entry) {
@@ -215,9 +216,9 @@ pub(crate) fn read_node_line(
     line: &[u8],
 ) -> Result<NodeWords, Fault>
     requires { length line.now < 2 ^ 32 }
-    ensures value { IfOk result (λ words. node_line (names_of known.now) line.now ≡ Ok words) }
+    ensures value { IfOk result (λ words. node_line (node_names known.now) line.now ≡ Ok words) }
     ensures refused { (k : ConfKind)
-        → IsErrOf result (Fault.Refused k) → node_line (names_of known.now) line.now ≡ Err k }
+        → IsErrOf result (Fault.Refused k) → node_line (node_names known.now) line.now ≡ Err k }
 {
     let mut words = NodeWords::new();
     let mut rest = line;
@@ -237,26 +238,7 @@ impl NodeWords {
 
     /// What this line says, before what DEFAULT lines said.
     #[tactic(auto, unfolding(crate::specs::NodeLines::over))]
-    pub(crate) fn over(self, defaults: NodeWords) -> NodeWords
-        ensures { result ≡ over self defaults }
-    {
-        NodeWords {
-            names: self.names,
-            cpus: self.cpus.or(defaults.cpus),
-            boards: self.boards.or(defaults.boards),
-            sockets: self.sockets.or(defaults.sockets),
-            cores: self.cores.or(defaults.cores),
-            threads: self.threads.or(defaults.threads),
-            mem: self.mem.or(defaults.mem),
-            weight: self.weight.or(defaults.weight),
-            features: self.features.or(defaults.features),
-            state: self.state.or(defaults.state),
-        }
-    }
-
-    /// The same, where the defaults stay.
-    #[tactic(auto, unfolding(crate::specs::NodeLines::over))]
-    pub(crate) fn over_copy(self, defaults: &NodeWords) -> Result<NodeWords, Memory>
+    pub(crate) fn over(self, defaults: &NodeWords) -> Result<NodeWords, Memory>
         ensures { IfOk result (λ words. words ≡ over self defaults.now) }
     {
         let features = or_copy(self.features, &defaults.features)?;

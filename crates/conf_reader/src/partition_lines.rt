@@ -4,13 +4,12 @@ ghost use Rattle.std.specs.Prelude.{ℕ, ◌≡◌, ◌≤◌, ◌<◌, ◌^◌,
 ghost use Rattle.std.specs.Option.{option_or};
 ghost use Rattle.conf_values.specs.Keys.{partition_key};
 ghost use Rattle.conf_reader.specs.PartitionLines.{part_name, part_nodes, part_entry, partition_names, part_fault, part_word, part_line};
-ghost use Rattle.conf_values.specs.Values.{has};
+ghost use Rattle.slurm_text.specs.Hosts.{has};
 ghost use Rattle.conf_reader.specs.Words.{entry_in};
 ghost use Rattle.conf_values.specs.declared.refusal.ConfKind.{ConfKind};
 
 use conf_lines::pairs::read_pair;
 use conf_lines::words::first_word;
-use conf_values::conf::{PartConf, PartState};
 use conf_values::keys::{PartitionKey, partition_key};
 use conf_values::lists::or_copy;
 use conf_values::refusal::{ConfKind, Fault, ValueRefusal};
@@ -22,6 +21,7 @@ use slurm_text::items::Items;
 use slurm_text::keywords::is_keyword;
 use slurm_text::memory_error::Memory;
 use slurm_text::name::Name;
+use slurm_text::plain::conf::{PartConf, PartState};
 use slurm_text::plain::limit::Limit;
 use slurm_text::plain::mem_ask::MemAsk;
 use slurm_text::ranged::Ranged;
@@ -265,30 +265,7 @@ impl PartWords {
 
     /// What this line says, before what DEFAULT lines said.
     #[tactic(auto, unfolding(crate::specs::PartitionLines::over))]
-    pub(crate) fn over(self, defaults: PartWords) -> PartWords
-        ensures { result ≡ over self defaults }
-    {
-        PartWords {
-            name: self.name,
-            nodes: self.nodes.or(defaults.nodes),
-            is_default: self.is_default.or(defaults.is_default),
-            max_time: self.max_time.or(defaults.max_time),
-            default_time: self.default_time.or(defaults.default_time),
-            state: self.state.or(defaults.state),
-            factor: self.factor.or(defaults.factor),
-            tier: self.tier.or(defaults.tier),
-            min_nodes: self.min_nodes.or(defaults.min_nodes),
-            max_nodes: self.max_nodes.or(defaults.max_nodes),
-            accounts: self.accounts.or(defaults.accounts),
-            qos: self.qos.or(defaults.qos),
-            exclusive: self.exclusive.or(defaults.exclusive),
-            mem: self.mem.or(defaults.mem),
-        }
-    }
-
-    /// The same, where the defaults stay.
-    #[tactic(auto, unfolding(crate::specs::PartitionLines::over))]
-    pub(crate) fn over_copy(self, defaults: &PartWords) -> Result<PartWords, Memory>
+    pub(crate) fn over(self, defaults: &PartWords) -> Result<PartWords, Memory>
         ensures { IfOk result (λ words. words ≡ over self defaults.now) }
     {
         let nodes = nodes_or_copy(self.nodes, &defaults.nodes)?;

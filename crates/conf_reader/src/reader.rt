@@ -3,27 +3,30 @@
 ghost use Rattle.std.specs.Prelude.{ℕ, ◌≡◌, ◌≤◌, ◌<◌, ◌^◌, ◌++◌, length, not, IfOk, IsErrOf, Ok, Err, OnOk};
 ghost use Rattle.std.specs.List.{list_any};
 ghost use Rattle.conf_lines.specs.Lines.{logical_lines};
-ghost use Rattle.conf_reader.specs.NodeLines.{names_of};
+ghost use Rattle.slurm_text.specs.Confs.{node_names};
 ghost use Rattle.conf_reader.specs.Reader.{after_lines, nothing_said, has_unknown, first_unknown, nodes_by, partitions_by, conf_of_lines, whole_file, conf_in};
-ghost use Rattle.conf_values.specs.Values.{has};
+ghost use Rattle.conf_reader.specs.Sound.{IsSound};
+ghost use Rattle.slurm_text.specs.Hosts.{has};
 ghost use Rattle.conf_values.specs.declared.refusal.ConfKind.{ConfKind};
 
 use crate::draft::Draft;
 use crate::partition_lines::{PartLine, PartNodes};
 use conf_lines::lines::first_line;
-use conf_values::conf::{Conf, NodeConf, PartConf};
 use conf_values::node_table::NodeTable;
 use conf_values::refusal::{ConfKind, ConfRefusal, Fault};
 use slurm_text::items::Items;
 use slurm_text::memory_error::Memory;
 use slurm_text::name::Name;
+use slurm_text::plain::conf::{Conf, NodeConf, PartConf};
 use std::alloc::Global;
 
 const LONGEST_FILE: usize = 1_048_576;
 
 /// What a file slurm.conf(5) of at most 1,048,576 bytes says. An error names the first bad line; where each line is
-/// good by itself, a partition's unknown node comes next, and then the want of a partition. The bytes are read once,
-/// at a cost of a few steps each, and beside what is kept only joined lines are copied.
+/// good by itself, a partition's unknown node comes next, and then the want of a partition. It costs a few steps for
+/// each byte, a look through the keys of its line's kind for each word, and for each name that an item of a host
+/// expression makes a look through the names which that item made before. Beside what is kept only joined lines are
+/// copied, and the names of a line, which are made before they are counted.
 #[tactic(auto, unfolding(crate::specs::Reader::conf_in))]
 pub fn read_conf(alloc: Global, file: &[u8]) -> Result<Conf, ConfRefusal>
     ensures value { IfOk result (λ conf. conf_in file.now ≡ Ok conf) }
@@ -69,6 +72,7 @@ fn read_lines(alloc: Global, file: &[u8]) -> Result<Draft, ConfRefusal>
 // What holds of the file as a whole.
 #[tactic(auto, unfolding(crate::specs::Reader::whole_file, crate::specs::Reader::conf_of_lines))]
 fn end_file(alloc: Global, draft: Draft) -> Result<Conf, ConfRefusal>
+    requires { IsSound draft }
     ensures value { IfOk result (λ conf. whole_file draft ≡ Ok conf) }
     ensures refused { (line : ℕ) → (kind : ConfKind)
         → IsErrOf result (ConfRefusal.At line kind) → whole_file draft ≡ Err (ConfRefusal.At line kind) }
@@ -97,7 +101,7 @@ fn end_file(alloc: Global, draft: Draft) -> Result<Conf, ConfRefusal>
 
 #[tactic(auto, unfolding(crate::specs::Reader::has_unknown))]
 fn has_unknown(known: &NodeTable, nodes: &PartNodes) -> bool
-    ensures { result ≡ has_unknown (names_of known.now) nodes.now }
+    ensures { result ≡ has_unknown (node_names known.now) nodes.now }
 {
     match nodes {
         PartNodes::All => false,
@@ -106,7 +110,7 @@ fn has_unknown(known: &NodeTable, nodes: &PartNodes) -> bool
 }
 
 fn lacks_any(known: &NodeTable, names: &[Name]) -> bool
-    ensures { result ≡ list_any (λ name. not (has name (names_of known.now))) names.now }
+    ensures { result ≡ list_any (λ name. not (has name (node_names known.now))) names.now }
 {
     names.iter().any(|name| !known.has(name))
 }
@@ -114,7 +118,7 @@ fn lacks_any(known: &NodeTable, names: &[Name]) -> bool
 // The number of the first line with an unknown node.
 #[tactic(auto, unfolding(crate::specs::Reader::first_unknown))]
 fn first_unknown(known: &NodeTable, lines: &[PartLine]) -> Option<u32>
-    ensures { result ≡ first_unknown (names_of known.now) lines.now }
+    ensures { result ≡ first_unknown (node_names known.now) lines.now }
 {
     for line in lines {
         if has_unknown(known, &line.nodes) {
@@ -125,7 +129,7 @@ fn first_unknown(known: &NodeTable, lines: &[PartLine]) -> Option<u32>
 }
 
 fn copy_names(alloc: Global, nodes: &[NodeConf]) -> Result<Items<Name>, Memory>
-    ensures { IfOk result (λ names. names ≡ names_of nodes.now) }
+    ensures { IfOk result (λ names. names ≡ node_names nodes.now) }
 {
     let mut names = Vec::with_capacity(alloc, nodes.len())?;
     for node in nodes {
@@ -136,7 +140,7 @@ fn copy_names(alloc: Global, nodes: &[NodeConf]) -> Result<Items<Name>, Memory>
 
 #[tactic(auto, unfolding(crate::specs::Reader::nodes_by))]
 fn find_nodes(alloc: Global, known: &[NodeConf], nodes: PartNodes) -> Result<Items<Name>, Memory>
-    ensures { IfOk result (λ names. names ≡ nodes_by (names_of known.now) nodes) }
+    ensures { IfOk result (λ names. names ≡ nodes_by (node_names known.now) nodes) }
 {
     match nodes {
         PartNodes::All => copy_names(alloc, known),
@@ -156,7 +160,7 @@ fn make_partitions(
     known: &[NodeConf],
     lines: Vec<PartLine>,
 ) -> Result<Items<PartConf>, Memory>
-    ensures { IfOk result (λ partitions. partitions ≡ partitions_by (names_of known.now) lines.items) }
+    ensures { IfOk result (λ partitions. partitions ≡ partitions_by (node_names known.now) lines.items) }
 {
     let mut lines = lines;
     let mut partitions = Vec::with_capacity(alloc, lines.len())?;

@@ -9,7 +9,6 @@ ghost use Rattle.conf_values.specs.declared.refusal.ConfKind.{ConfKind};
 
 use conf_lines::pairs::read_pair;
 use conf_lines::words::first_word;
-use conf_values::conf::Settings;
 use conf_values::keys::{SettingKey, setting_key};
 use conf_values::refusal::{ConfKind, Fault, ValueRefusal};
 use conf_values::scheduler::{Scheduler, read_scheduler};
@@ -18,6 +17,7 @@ use conf_values::values::{
 };
 use slurm_text::memory_error::Memory;
 use slurm_text::name::Name;
+use slurm_text::plain::conf::Settings;
 use slurm_text::plain::limit::Limit;
 use slurm_text::plain::mem_ask::MemAsk;
 use slurm_text::ranged::Ranged;

@@ -1,7 +1,7 @@
 //! What a file says: a line for the settings, and one for each node and each partition.
 
-use conf_reader::conf::{Conf, NodeConf, NodeStart, PartConf, PartState, Settings};
 use slurm_text::name::Name;
+use slurm_text::plain::conf::{Conf, NodeConf, NodeStart, PartConf, PartState, Settings};
 use slurm_text::plain::limit::Limit;
 use slurm_text::plain::mem_ask::MemAsk;
 use std::io;

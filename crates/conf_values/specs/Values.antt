@@ -1,18 +1,17 @@
 -- The values of keys.
-use Rattle.std.specs.Prelude.{ℕ, ◌==◌, Bool, true, false, nat_le, if◌then◌else◌, List, [], ◌∷◌, map, codes, bytes_eq, Option, Some, None, is_some, option_map}
-use Rattle.std.specs.List.{list_any}
+use Rattle.std.specs.Prelude.{ℕ, ◌==◌, Bool, true, false, nat_le, if◌then◌else◌, List, map, codes, bytes_eq, Option, Some, None, is_some, option_map}
 use Rattle.std.specs.Str.{str_eq_ignore_ascii_case}
 use Rattle.slurm_text.specs.Digits.{number_within}
 use Rattle.slurm_text.specs.Fields.{fields}
-use Rattle.slurm_text.specs.Hosts.{hosts_in, first_bad_item}
+use Rattle.slurm_text.specs.Hosts.{all_some, hosts_in, first_bad_item}
 use Rattle.slurm_text.specs.Name.{is_name}
 use Rattle.slurm_text.specs.Options.{◌>>=◌}
 use Rattle.slurm_text.specs.declared.plain.mem_ask.MemAsk.{MemAsk}
 use Rattle.slurm_text.specs.declared.plain.mem_ask.MemAsk.TheVariants.{All, PerNode, PerCpu}
-use Rattle.conf_values.specs.declared.conf.NodeStart.{NodeStart}
-use Rattle.conf_values.specs.declared.conf.NodeStart.TheVariants.{Unknown, Down, Drain}
-use Rattle.conf_values.specs.declared.conf.PartState.{PartState}
-use Rattle.conf_values.specs.declared.conf.PartState.TheVariants as part
+use Rattle.slurm_text.specs.declared.plain.conf.NodeStart.{NodeStart}
+use Rattle.slurm_text.specs.declared.plain.conf.NodeStart.TheVariants.{Unknown, Down, Drain}
+use Rattle.slurm_text.specs.declared.plain.conf.PartState.{PartState}
+use Rattle.slurm_text.specs.declared.plain.conf.PartState.TheVariants as part
 
 -- a number of at most ten digits, from `least` to `most`
 unfoldable pub number_in : ℕ → ℕ → List ℕ → Option ℕ
@@ -31,18 +30,9 @@ is_word word text = str_eq_ignore_ascii_case text word
 abbrev pub name_in : List ℕ → Option (List ℕ)
 name_in text = if is_name text then Some text else None
 
--- the values, where each has one
-abbrev pub all_some : {X : Type 0} → List (Option X) → Option (List X)
-all_some [] = Some []
-all_some (option ∷ options) = option >>= λ x. all_some options >>= λ xs. Some (x ∷ xs)
-
 -- names between commas (44)
 unfoldable pub names_in : List ℕ → Option (List (List ℕ))
 names_in text = all_some (map name_in (fields 44 text))
-
--- whether a name is among names
-abbrev pub has : List ℕ → List (List ℕ) → Bool
-has name names = list_any (bytes_eq name) names
 
 -- the nodes of a host expression
 unfoldable pub nodes_in : List ℕ → Option (List (List ℕ))

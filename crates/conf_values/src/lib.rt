@@ -1,7 +1,6 @@
 //! What slurm.conf(5) can say: its keys, how their values are read, nodes by name, and why a file is refused.
 #![tactic(auto)]
 
-pub mod conf;
 pub mod keys;
 pub mod lists;
 pub mod node_table;

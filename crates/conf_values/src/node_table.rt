@@ -1,9 +1,9 @@
 //! Nodes, with an index of their names.
 
-use crate::conf::NodeConf;
 use slurm_text::items::Items;
 use slurm_text::memory_error::Memory;
 use slurm_text::name::Name;
+use slurm_text::plain::conf::NodeConf;
 use std::alloc::Global;
 use std::collections::HashSet;
 use std::marker::Model;
@@ -16,22 +16,24 @@ pub struct NodeTable {
 }
 
 impl Model for NodeTable {
-    ghost use Rattle.std.specs.Prelude.{List, ℕ, ◌≡◌, map, bytes_eq};
+    ghost use Rattle.std.specs.Prelude.{List, ℕ, ◌≡◌, bytes_eq};
     ghost use Rattle.std.specs.HashSet.{contains};
-    ghost use Rattle.conf_values.specs.Values.{has};
-    ghost use Rattle.conf_values.specs.declared.conf.NodeConf.{NodeConf};
+    ghost use Rattle.slurm_text.specs.Hosts.{has};
+    ghost use Rattle.slurm_text.specs.Confs.{node_names};
+    ghost use Rattle.slurm_text.specs.declared.plain.conf.NodeConf.{NodeConf};
 
     ghost Value = { List NodeConf };
 
     ghost view = { λ table. table.nodes.items };
 
     ghost invariant = { λ table. (name : List ℕ)
-        → contains bytes_eq table.seen name ≡ has name (map (λ node. node.name) table.nodes.items) };
+        → contains bytes_eq table.seen name ≡ has name (node_names table.nodes.items) };
 }
 
 impl NodeTable {
-    ghost use Rattle.std.specs.Prelude.{◌≡◌, [], ◌∷◌, ◌++◌, length, map, OnOk, OnErr};
-    ghost use Rattle.conf_values.specs.Values.{has};
+    ghost use Rattle.std.specs.Prelude.{◌≡◌, [], ◌∷◌, ◌++◌, length, OnOk, OnErr};
+    ghost use Rattle.slurm_text.specs.Confs.{node_names};
+    ghost use Rattle.slurm_text.specs.Hosts.{has};
 
     /// A table of no nodes.
     pub fn new(alloc: Global) -> NodeTable
@@ -52,7 +54,7 @@ impl NodeTable {
 
     /// Whether a node has this name.
     pub fn has(&self, name: &Name) -> bool
-        ensures { result ≡ has name.now (map (λ node. node.name) self.now) }
+        ensures { result ≡ has name.now (node_names self.now) }
     {
         self.seen.contains(name)
     }

@@ -1,5 +1,8 @@
 //! Why a file was refused.
 
+ghost use Rattle.std.specs.Prelude.{◌≡◌, ◌≤◌, length};
+ghost use Rattle.conf_values.specs.Refusal.{kind_text};
+
 use slurm_text::memory_error;
 use slurm_text::name::NameRefusal;
 use std::alloc::AllocError;
@@ -27,14 +30,13 @@ pub enum ConfKind {
     OverLimit,
 }
 
-impl fmt::Display for ConfKind {
-    ghost use Rattle.std.specs.Prelude.{Some};
-    ghost use Rattle.conf_values.specs.Refusal.{kind_text};
-
-    ghost output = { λ kind. Some (kind_text kind) };
-
-    fn fmt<W: fmt::Write>(&self, f: &mut fmt::Formatter<W>) -> fmt::Result {
-        f.write_str(match self {
+impl ConfKind {
+    /// How it is printed.
+    pub fn name(self) -> &'static str
+        ensures text { result.now ≡ kind_text self }
+        ensures short { length result.now ≤ 11 }
+    {
+        match self {
             ConfKind::NotUtf8 => "NotUtf8",
             ConfKind::BadPair => "BadPair",
             ConfKind::UnknownKey => "UnknownKey",
@@ -43,7 +45,18 @@ impl fmt::Display for ConfKind {
             ConfKind::UnknownNode => "UnknownNode",
             ConfKind::NoPartition => "NoPartition",
             ConfKind::OverLimit => "OverLimit",
-        })
+        }
+    }
+}
+
+impl fmt::Display for ConfKind {
+    ghost use Rattle.std.specs.Prelude.{Some};
+    ghost use Rattle.conf_values.specs.Refusal.{kind_text};
+
+    ghost output = { λ kind. Some (kind_text kind) };
+
+    fn fmt<W: fmt::Write>(&self, f: &mut fmt::Formatter<W>) -> fmt::Result {
+        f.write_str(self.name())
     }
 }
 

@@ -4,7 +4,6 @@ ghost use Rattle.std.specs.Prelude.{◌≡◌, ◌≤◌, ◌<◌, ◌^◌, leng
 ghost use Rattle.conf_values.specs.Values.{number_in, u32_in, name_in, names_in, nodes_in, node_start, part_state, yes_or_no, exclusive_in, allowed_in, most_nodes, mem_per_node, mem_per_cpu};
 ghost use Rattle.slurm_num.specs.Limits.{limit_of};
 
-use crate::conf::{NodeStart, PartState};
 use crate::refusal::ValueRefusal;
 use slurm_num::parse_limit;
 use slurm_text::digits::parse_number;
@@ -13,6 +12,7 @@ use slurm_text::hosts::{HostRefusal, expand_hosts};
 use slurm_text::items::Items;
 use slurm_text::keywords::is_keyword;
 use slurm_text::name::Name;
+use slurm_text::plain::conf::{NodeStart, PartState};
 use slurm_text::plain::limit::Limit;
 use slurm_text::plain::mem_ask::MemAsk;
 use slurm_text::ranged::Ranged;

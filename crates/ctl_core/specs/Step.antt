@@ -13,7 +13,7 @@ use Rattle.ctl_state.specs.Verdicts.{Verdict, Unbuilt, Tells, reply_by, left_by,
 use Rattle.ctl_pass.specs.Passing.{pass_refusals, pass_made, jobs_planned}
 use Rattle.ctl_report.specs.Answering.{is_restarted, report_refusals, report_made}
 use Rattle.ctl_core.specs.Submission.{submit_refusals, submit_made}
-use Rattle.ctl_core.specs.Showing.{view_of}
+use Rattle.ctl_core.specs.Showing.{show_refusals, view_of}
 
 -- the moment of a request: the one handed in, or the last one where that is later
 abbrev pub raised : State → ℕ → ℕ
@@ -31,7 +31,7 @@ abbrev pub refusals_of : State → ℕ → List ℕ → Request → List (Option
 refusals_of s moment user (Submit desc) = submit_refusals s moment user desc
 refusals_of s moment user (Report report) = report_refusals s user report
 refusals_of s moment user Pass = pass_refusals s user
-refusals_of s moment user (Show query) = []
+refusals_of s moment user (Show query) = show_refusals s query
 
 -- what a request comes to that isn't refused
 abbrev pub made : State → ℕ → List ℕ → Request → Verdict
@@ -40,12 +40,15 @@ made s moment user (Report report) = report_made s moment report
 made s moment user Pass = pass_made s moment
 made s moment user (Show query) = Tells (view_of s moment query)
 
+-- what a user's request at a moment that is none too large comes to, where it is worked
+abbrev pub worked : State → ℕ → List ℕ → Request → Verdict
+worked s moment user request = unless_refused (first_refusal (refusals_of s moment user request)) (made s moment user request)
+
 -- What a user's request at a moment comes to.
 abbrev pub verdict_of : State → ℕ → List ℕ → Request → Verdict
 verdict_of s now user request =
     if is_unbuilt s request then Unbuilt else
-    unless_refused (first_refusal (refused_if (nat_lt last_moment now) MomentTooLarge ∷ refusals_of s (raised s now) user request))
-    (made s (raised s now) user request)
+    unless_refused (refused_if (nat_lt last_moment now) MomentTooLarge) (worked s (raised s now) user request)
 
 -- the reply to it
 abbrev pub reply_of : State → ℕ → List ℕ → Request → Reply

@@ -5,9 +5,9 @@ ghost use Rattle.slurm_text.specs.declared.plain.request.Request.TheVariants.{Pa
 ghost use Rattle.resource_profile.specs.Counts.{ticked, IsTickedUpTo};
 ghost use Rattle.ctl_state.specs.State.{state_of, last_moment};
 ghost use Rattle.ctl_state.specs.Soundness.{IsSound};
-ghost use Rattle.ctl_state.specs.Refusals.{first_refusal, unless_refused};
-ghost use Rattle.ctl_state.specs.Verdicts.{reply_by, left_by};
-ghost use Rattle.ctl_core.specs.Step.{reply_of, state_after, is_entered, is_unbuilt, raised, steps_of, refusals_of, made};
+ghost use Rattle.ctl_state.specs.Verdicts.{stamped};
+ghost use Rattle.ctl_core.specs.Answering.{Answers};
+ghost use Rattle.ctl_core.specs.Step.{reply_of, state_after, is_entered, is_unbuilt, raised, steps_of, worked};
 
 use crate::laws::a_step_keeps_all_sound;
 use crate::passing::pass;
@@ -34,7 +34,8 @@ fn stamp(cluster: &mut Cluster, moment: u64, answered: Answered) -> Decided
     ensures reply { result.reply ≡ answered.reply }
     ensures entered { result.entered ≡ answered.entered }
     ensures moment { result.moment ≡ moment }
-    ensures after { state_of cluster.new ≡ (if is_entered answered.reply then record (state_of cluster.old) { moment = moment } else state_of cluster.old) }
+    ensures after { state_of cluster.new
+        ≡ (if is_entered answered.reply then stamped moment (state_of cluster.old) else state_of cluster.old) }
 {
     if answered.entered.is_some() {
         cluster.moment = moment;
@@ -57,12 +58,8 @@ fn work(
     requires sound { IsSound (state_of cluster.old) }
     requires raised { cluster.old.moment ≤ moment }
     requires in_time { moment ≤ last_moment }
-    ensures reply { IfOk result (λ answered. answered.reply
-        ≡ reply_by (unless_refused (first_refusal (refusals_of (state_of cluster.old) moment user.now request.now)) (made (state_of cluster.old) moment user.now request.now))) }
-    ensures entered { IfOk result (λ answered.
-        answered.entered ≡ (if is_entered answered.reply then Some answered.reply else None)) }
-    ensures after { IfOk result (λ answered. state_of cluster.new
-        ≡ (if is_entered answered.reply then left_by (state_of cluster.old) (unless_refused (first_refusal (refusals_of (state_of cluster.old) moment user.now request.now)) (made (state_of cluster.old) moment user.now request.now)) else state_of cluster.old)) }
+    ensures ok { IfOk result (Answers (state_of cluster.old) (state_of cluster.new)
+        (worked (state_of cluster.old) moment user.now request.now)) }
     ensures err { OnErr result (state_of cluster.new ≡ state_of cluster.old) }
 {
     match request {

@@ -4,18 +4,23 @@ ghost use Rattle.std.specs.Prelude.{◌≡◌, IfOk, OnOk, OnErr, if◌then◌el
 ghost use Rattle.slurm_text.specs.declared.plain.request.Request.TheVariants.{Pass};
 ghost use Rattle.resource_profile.specs.Counts.{ticked, IsTickedUpTo};
 ghost use Rattle.ctl_state.specs.State.{opening};
-ghost use Rattle.ctl_state.specs.Soundness.{IsSound, IsNode, HasRanges};
+ghost use Rattle.ctl_state.specs.Soundness.{IsSound, IsLimit, IsNode, HasLimits, HasRanges};
 ghost use Rattle.ctl_core.specs.Step.{reply_of, state_after, is_entered, raised, steps_of};
 
 use crate::answering::{ask, ask_pass};
 use crate::reply::Decided;
 use backfill_planner::Planned;
 use ctl_state::cluster::Cluster;
-use ctl_state::record::{AssocRecord, NodeRecord};
+use ctl_state::record::AssocRecord;
+use node_state::nodes::Nodes;
+use node_state::record::NodeRecord;
+use partitions::partitions::Partitions;
+use partitions::record::PartRecord;
 use resource_profile::Steps;
 use slurm_text::memory_error::Memory;
 use slurm_text::name::Name;
-use slurm_text::plain::conf::{AssocConf, AssocFile, Conf, NodeConf, Settings};
+use slurm_text::plain::conf::{AssocConf, AssocFile, Conf, Settings};
+use slurm_text::plain::limit::Limit;
 use slurm_text::plain::request::Request;
 use std::alloc::Global;
 use std::marker::Model;
@@ -46,24 +51,28 @@ impl Ctl {
         ensures sound { IfOk result (λ ctl. IsSound ctl.state) }
     {
         settings_in_range(&conf.settings);
-        let nodes = node_records(alloc, conf.nodes.into_vec())?;
-        let assocs = assoc_records(alloc, assocs.assocs.into_vec())?;
+        let nodes = Nodes::build(alloc, conf.nodes.into_vec())?;
+        nodes_in_range(nodes.records());
+        let partitions = Partitions::build(alloc, conf.partitions.into_vec(), &nodes)?;
+        partitions_in_range(partitions.records());
         let cluster = Cluster {
+            next_id: conf.settings.first_job_id.get() as u32,
             settings: conf.settings,
-            partition: conf.partition,
+            partitions,
             nodes,
-            assocs,
+            assocs: assoc_records(alloc, assocs.assocs.into_vec())?,
             jobs: Vec::new(alloc),
             plan: Vec::new(alloc),
-            next_id: 1,
             moment: 0,
         };
         Ok(Ctl { alloc, cluster })
     }
 
-    /// Decides one request, and changes the state where it is accepted. A submission is linear in associations and nodes,
-    /// a report in nodes and jobs, and for each job of the node in what it tells; a pass costs what its plan costs; a query
-    /// is linear in the jobs, and for each pending job in the plan.
+    /// Decides one request, and changes the state where it is accepted. A submission is linear in associations, partitions
+    /// and nodes, sorts the nodes of its partition, and for each of these costs what it names of nodes and features; a
+    /// report is linear in the jobs, and for each job of the node in what it tells; a pass costs what its plan costs. A
+    /// query is linear in the jobs, their parts and the plan, or in the nodes, the jobs' parts and the nodes of the
+    /// partitions that it shows.
     pub fn ask(&mut self, now: u64, user: &Name, request: &Request) -> Result<Decided, Memory>
         ensures reply { IfOk result (λ decided. decided.reply ≡ reply_of self.old.state now user.now request.now) }
         ensures entered { IfOk result (λ decided.
@@ -100,25 +109,40 @@ impl Ctl {
     }
 }
 
-// The node before it was heard.
-fn node_record(conf: NodeConf) -> NodeRecord
-    ensures record { result ≡ record { conf = conf; heard = None } }
-    ensures ranges { IsNode result }
+// It tells what the type of nodes keeps of them.
+fn nodes_in_range(nodes: &[NodeRecord])
+    ensures { All IsNode nodes.now }
 {
-    let _ = conf.cpus.get();
-    let _ = conf.mem.get();
-    NodeRecord { conf, heard: None }
+    for node in nodes {
+        let _ = node.conf.cpus.get();
+        let _ = node.conf.mem.get();
+    }
 }
 
-fn node_records(alloc: Global, confs: Vec<NodeConf>) -> Result<Vec<NodeRecord>, Memory>
-    ensures records { IfOk result (λ records. records.items ≡ map (λ node. record { conf = node; heard = None }) confs.items) }
-    ensures ranges { IfOk result (λ records. All IsNode records.items) }
+fn is_limit(limit: &Limit)
+    ensures { IsLimit limit.now }
 {
-    let mut records = Vec::with_capacity(alloc, confs.len())?;
-    for conf in confs {
-        records.push(node_record(conf))?;
+    if let Limit::Minutes(minutes) = limit {
+        let _ = minutes.get();
     }
-    Ok(records)
+}
+
+fn has_limits(partition: &PartRecord)
+    ensures { HasLimits partition.now }
+{
+    is_limit(&partition.conf.max_time);
+    if let Some(limit) = &partition.conf.default_time {
+        is_limit(limit);
+    }
+}
+
+// It tells what the type of partitions keeps of them.
+fn partitions_in_range(partitions: &[PartRecord])
+    ensures { All HasLimits partitions.now }
+{
+    for partition in partitions {
+        has_limits(partition);
+    }
 }
 
 // It tells what the type of settings keeps of them.

@@ -5,9 +5,8 @@ ghost use Rattle.resource_profile.specs.Counts.{ticked, IsTickedUpTo};
 ghost use Rattle.ctl_state.specs.State.{state_of, last_moment};
 ghost use Rattle.ctl_state.specs.Soundness.{IsSound};
 ghost use Rattle.ctl_state.specs.Refusals.{first_refusal, unless_refused, is_privileged};
-ghost use Rattle.ctl_state.specs.Verdicts.{reply_by, left_by};
 ghost use Rattle.ctl_pass.specs.Passing.{pass_refusals, pass_made, jobs_planned};
-ghost use Rattle.ctl_core.specs.Step.{is_entered};
+ghost use Rattle.ctl_core.specs.Answering.{Answers};
 
 use crate::answering::refused;
 use crate::reply::Answered;
@@ -59,12 +58,9 @@ pub(crate) fn pass<L>(
     requires sound { IsSound (state_of cluster.old) }
     requires raised { cluster.old.moment ≤ moment }
     requires in_time { moment ≤ last_moment }
-    ensures reply { IfOk result (λ answered. answered.reply
-        ≡ reply_by (unless_refused (first_refusal (pass_refusals (state_of cluster.old) user.now)) (pass_made (state_of cluster.old) moment))) }
-    ensures entered { IfOk result (λ answered.
-        answered.entered ≡ (if is_entered answered.reply then Some answered.reply else None)) }
-    ensures after { IfOk result (λ answered. state_of cluster.new
-        ≡ (if is_entered answered.reply then left_by (state_of cluster.old) (unless_refused (first_refusal (pass_refusals (state_of cluster.old) user.now)) (pass_made (state_of cluster.old) moment)) else state_of cluster.old)) }
+    ensures ok { IfOk result (Answers (state_of cluster.old) (state_of cluster.new)
+        (unless_refused (first_refusal (pass_refusals (state_of cluster.old) user.now))
+        (pass_made (state_of cluster.old) moment))) }
     ensures err { OnErr result (state_of cluster.new ≡ state_of cluster.old) }
     ensures steps { OnOk result (steps.new
         ≡ ticked steps.old (if is_privileged (state_of cluster.old) user.now then jobs_planned (state_of cluster.old) moment else 0)) }

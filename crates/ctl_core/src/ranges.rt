@@ -12,6 +12,7 @@ fn is_asked(desc: &JobDesc)
     ensures { IsAsked desc.now }
 {
     let _ = desc.tasks.get();
+    let _ = desc.cpus_per_task.get();
     let _ = desc.run.get();
     let _ = desc.exit.get();
 }

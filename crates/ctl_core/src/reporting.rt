@@ -1,12 +1,11 @@
 //! Reports of nodes.
 
-ghost use Rattle.std.specs.Prelude.{◌≡◌, ◌≤◌, IfOk, OnErr, if◌then◌else◌, Some, None};
+ghost use Rattle.std.specs.Prelude.{◌≡◌, ◌≤◌, IfOk, OnErr};
 ghost use Rattle.ctl_state.specs.State.{state_of, last_moment};
 ghost use Rattle.ctl_state.specs.Soundness.{IsSound};
 ghost use Rattle.ctl_state.specs.Refusals.{first_refusal, unless_refused};
-ghost use Rattle.ctl_state.specs.Verdicts.{reply_by, left_by};
 ghost use Rattle.ctl_report.specs.Answering.{report_refusals, report_made};
-ghost use Rattle.ctl_core.specs.Step.{is_entered};
+ghost use Rattle.ctl_core.specs.Answering.{Answers};
 
 use crate::answering::refused;
 use crate::reply::Answered;
@@ -30,12 +29,9 @@ pub(crate) fn report(
     requires sound { IsSound (state_of cluster.old) }
     requires raised { cluster.old.moment ≤ moment }
     requires in_time { moment ≤ last_moment }
-    ensures reply { IfOk result (λ answered. answered.reply
-        ≡ reply_by (unless_refused (first_refusal (report_refusals (state_of cluster.old) user.now report.now)) (report_made (state_of cluster.old) moment report.now))) }
-    ensures entered { IfOk result (λ answered.
-        answered.entered ≡ (if is_entered answered.reply then Some answered.reply else None)) }
-    ensures after { IfOk result (λ answered. state_of cluster.new
-        ≡ (if is_entered answered.reply then left_by (state_of cluster.old) (unless_refused (first_refusal (report_refusals (state_of cluster.old) user.now report.now)) (report_made (state_of cluster.old) moment report.now)) else state_of cluster.old)) }
+    ensures ok { IfOk result (Answers (state_of cluster.old) (state_of cluster.new)
+        (unless_refused (first_refusal (report_refusals (state_of cluster.old) user.now report.now))
+        (report_made (state_of cluster.old) moment report.now))) }
     ensures err { OnErr result (state_of cluster.new ≡ state_of cluster.old) }
 {
     if let Some(refusal) = refusal_of(cluster, user, report) {
@@ -44,7 +40,6 @@ pub(crate) fn report(
     let Some(node) = node_of(cluster, report) else {
         return Ok(refused(Refusal::UnknownNode));
     };
-    let node = node as u32;
     let orders = orders(alloc, cluster, node, report)?;
     let entered = orders.copy()?;
     accept(alloc, cluster, moment, node, report);

@@ -1,31 +1,62 @@
 //! Queries.
 
-ghost use Rattle.std.specs.Prelude.{◌≡◌, ◌≤◌, IfOk, OnErr, None, All, map, filter, find, option_map, unwrap_or};
-ghost use Rattle.slurm_text.specs.declared.plain.reply.Reply.TheVariants.{Shown};
+ghost use Rattle.std.specs.Prelude.{◌≡◌, ◌≢◌, ◌≤◌, ◌<◌, ℕ, List, IfOk, All, AllPairs, length, map, filter, nat_eq, unwrap_or};
+ghost use Rattle.std.specs.HashMap.{get};
 ghost use Rattle.backfill_planner.specs.declared.Placed.{Placed};
 ghost use Rattle.ctl_state.specs.State.{state_of, last_moment};
-ghost use Rattle.ctl_state.specs.declared.record.JobRecord.{JobRecord};
-ghost use Rattle.ctl_state.specs.JobStates;
+ghost use Rattle.ctl_state.specs.Refusals.{first_refusal, unless_refused};
 ghost use Rattle.ctl_state.specs.Soundness.{IsSound};
+ghost use Rattle.ctl_state.specs.Verdicts.{Tells};
+ghost use Rattle.ctl_core.specs.Answering.{Answers};
+ghost use Rattle.ctl_core.specs.Found.{IsOutlook};
 ghost use Rattle.ctl_core.specs.Showing;
 
+use crate::answering::refused;
 use crate::reply::Answered;
+use crate::standing::state_rows;
 use backfill_planner::Placed;
+use ctl_pass::{highest, hindrance};
 use ctl_state::cluster::Cluster;
-use ctl_state::jobs::is_pending;
-use ctl_state::record::{JobRecord, NodeRecord, Part};
+use ctl_state::record::{JobRecord, Part};
+use node_state::record::NodeRecord;
 use slurm_text::items::Items;
 use slurm_text::memory_error::Memory;
 use slurm_text::name::Name;
 use slurm_text::plain::query::Query;
+use slurm_text::plain::refusal::Refusal;
 use slurm_text::plain::reply::Reply;
 use slurm_text::plain::state::{JobState, Reason};
 use slurm_text::plain::view::{JobRow, Row, View};
 use slurm_text::ranged::Ranged;
 use std::alloc::Global;
+use std::collections::HashMap;
+
+// A second that can be shown.
+type Second = Ranged<0, 253402300799>;
+
+// What the rows of pending jobs need of the other jobs and of the plan.
+#[derive(Drop)]
+struct Outlook {
+    // The number of the job that is highest in rank.
+    highest: Option<u32>,
+    // The seconds that the plan gives, by the numbers of the jobs.
+    starts: HashMap<u32, Second>,
+}
+
+/// Why a query is refused, if it is.
+fn refusal_of(cluster: &Cluster, query: &Query) -> Option<Refusal>
+    ensures { result ≡ first_refusal (Showing.show_refusals (state_of cluster.now) query.now) }
+{
+    match query {
+        Query::Sinfo { partition: Some(name), .. } => match cluster.partitions.find(Some(name)) {
+            Some(_) => None,
+            None => Some(Refusal::InvalidPartition),
+        },
+        _ => None,
+    }
+}
 
 /// What a query asks for, at its raised moment.
-#[tactic(auto, unfolding(crate::specs::Showing::view_of))]
 pub(crate) fn show(
     alloc: Global,
     cluster: &Cluster,
@@ -35,18 +66,60 @@ pub(crate) fn show(
     requires sound { IsSound (state_of cluster.now) }
     requires raised { cluster.now.moment ≤ moment }
     requires in_time { moment ≤ last_moment }
-    ensures reply { IfOk result (λ answered. answered.reply ≡ Shown (Showing.view_of (state_of cluster.now) moment query.now)) }
-    ensures entered { IfOk result (λ answered. answered.entered ≡ None) }
+    ensures { IfOk result (Answers (state_of cluster.now) (state_of cluster.now)
+        (unless_refused (first_refusal (Showing.show_refusals (state_of cluster.now) query.now))
+        (Tells (Showing.view_of (state_of cluster.now) moment query.now)))) }
+{
+    match refusal_of(cluster, query) {
+        Some(refusal) => Ok(refused(refusal)),
+        None => {
+            let view = view_of(alloc, cluster, moment, query)?;
+            Ok(Answered {
+                reply: Reply::Shown(view),
+                entered: None,
+            })
+        }
+    }
+}
+
+// What a query shows.
+#[tactic(auto, unfolding(crate::specs::Showing::view_of))]
+fn view_of(alloc: Global, cluster: &Cluster, moment: u64, query: &Query) -> Result<View, Memory>
+    requires sound { IsSound (state_of cluster.now) }
+    requires raised { cluster.now.moment ≤ moment }
+    requires in_time { moment ≤ last_moment }
+    ensures { IfOk result (λ view. view ≡ Showing.view_of (state_of cluster.now) moment query.now) }
 {
     let rows = match query {
-        Query::Squeue { titles: _, starts } => job_rows(alloc, cluster, moment, *starts)?,
+        Query::Squeue { starts, .. } => job_rows(alloc, cluster, moment, *starts)?,
+        Query::Sinfo { partition, .. } => state_rows(alloc, cluster, partition)?,
     };
-    let view = View {
+    Ok(View {
         rows: Items::from_vec(rows),
-    };
-    Ok(Answered {
-        reply: Reply::Shown(view),
-        entered: None,
+    })
+}
+
+// The seconds that the plan gives, by the numbers of the jobs. Linear in the plan.
+fn starts_of(alloc: Global, plan: &[Placed]) -> Result<HashMap<u32, Second>, Memory>
+    requires once { AllPairs (λ (one other : Placed). one.id ≢ other.id) plan.now }
+    requires last { All (λ (placed : Placed). placed.start ≤ 250002592000) plan.now }
+    ensures { IfOk result (λ starts. (id : ℕ) → get nat_eq starts id ≡ Showing.planned_start plan.now id) }
+{
+    let mut starts = HashMap::with_capacity(alloc, plan.len())?;
+    for placed in plan {
+        starts.insert(placed.id, Ranged::new(placed.start))?;
+    }
+    Ok(starts)
+}
+
+// What a query finds once for all rows of pending jobs. Linear in the jobs and the plan.
+fn outlook_of(alloc: Global, cluster: &Cluster) -> Result<Outlook, Memory>
+    requires { IsSound (state_of cluster.now) }
+    ensures { IfOk result (IsOutlook (state_of cluster.now)) }
+{
+    Ok(Outlook {
+        highest: highest(cluster),
+        starts: starts_of(alloc, &cluster.plan)?,
     })
 }
 
@@ -55,14 +128,14 @@ fn job_rows(alloc: Global, cluster: &Cluster, moment: u64, starts: bool) -> Resu
     requires sound { IsSound (state_of cluster.now) }
     requires raised { cluster.now.moment ≤ moment }
     requires in_time { moment ≤ last_moment }
-    ensures { IfOk result (λ rows. rows.items
-        ≡ map (λ job. Row.Job (Showing.row_of (state_of cluster.now) moment job)) (filter (Showing.is_shown starts) cluster.now.jobs.items)) }
+    ensures { IfOk result (λ rows. rows.items ≡ Showing.job_rows (state_of cluster.now) moment starts) }
 {
-    let highest = highest(&cluster.jobs);
+    let outlook = outlook_of(alloc, cluster)?;
     let mut rows = Vec::new(alloc);
     for job in &cluster.jobs {
         if is_shown(starts, job) {
-            rows.push(Row::Job(job_row(alloc, cluster, moment, highest, job)?))?;
+            let row = job_row(alloc, cluster, moment, &outlook, job)?;
+            rows.push(Row::Job(row))?;
         }
     }
     Ok(rows)
@@ -73,17 +146,17 @@ fn job_row(
     alloc: Global,
     cluster: &Cluster,
     moment: u64,
-    highest: Option<u32>,
+    outlook: &Outlook,
     job: &JobRecord,
 ) -> Result<JobRow, Memory>
-    requires sound { IsSound (state_of cluster.now) }
     requires in_time { moment ≤ last_moment }
-    requires highest { highest ≡ Showing.highest (state_of cluster.now) moment }
+    requires outlook { IsOutlook (state_of cluster.now) outlook.now }
+    requires partition { job.now.partition < length cluster.now.partitions }
     requires started { unwrap_or job.now.started 0 ≤ last_moment }
     ensures { IfOk result (λ row. row ≡ Showing.row_of (state_of cluster.now) moment job.now) }
 {
     match job.state {
-        JobState::Pending => pending_row(alloc, cluster, moment, highest, job),
+        JobState::Pending => pending_row(alloc, cluster, outlook, job),
         _ => holding_row(alloc, cluster, moment, job),
     }
 }
@@ -92,25 +165,24 @@ fn job_row(
 fn pending_row(
     alloc: Global,
     cluster: &Cluster,
-    moment: u64,
-    highest: Option<u32>,
+    outlook: &Outlook,
     job: &JobRecord,
 ) -> Result<JobRow, Memory>
-    requires sound { IsSound (state_of cluster.now) }
-    requires highest { highest ≡ Showing.highest (state_of cluster.now) moment }
-    ensures { IfOk result (λ row. row ≡ Showing.pending_row (state_of cluster.now) moment job.now) }
+    requires outlook { IsOutlook (state_of cluster.now) outlook.now }
+    requires partition { job.now.partition < length cluster.now.partitions }
+    ensures { IfOk result (λ row. (now : ℕ) → row ≡ Showing.pending_row (state_of cluster.now) now job.now) }
 {
     Ok(JobRow {
         id: job.id,
         name: job.desc.name.copy()?,
         user: job.user.copy()?,
-        partition: cluster.partition.name.copy()?,
+        partition: partition_name(cluster, job)?,
         state: job.state,
         elapsed: Ranged::new(0),
-        nodes: 1,
+        nodes: job.desc.min_nodes.get(),
         node_names: Items::from_vec(Vec::new(alloc)),
-        reason: Some(reason(highest, job)),
-        start: planned_start(&cluster.plan, job.id),
+        reason: Some(reason(cluster, outlook, job)),
+        start: outlook.starts.get(&job.id).copied(),
     })
 }
 
@@ -122,6 +194,7 @@ fn holding_row(
     job: &JobRecord,
 ) -> Result<JobRow, Memory>
     requires in_time { moment ≤ last_moment }
+    requires partition { job.now.partition < length cluster.now.partitions }
     requires started { unwrap_or job.now.started 0 ≤ last_moment }
     ensures { IfOk result (λ row. row ≡ Showing.holding_row (state_of cluster.now) moment job.now) }
 {
@@ -129,11 +202,11 @@ fn holding_row(
         id: job.id,
         name: job.desc.name.copy()?,
         user: job.user.copy()?,
-        partition: cluster.partition.name.copy()?,
+        partition: partition_name(cluster, job)?,
         state: job.state,
         elapsed: Ranged::new(moment.saturating_sub(job.started.unwrap_or(0))),
         nodes: job.parts.as_slice().len() as u64,
-        node_names: Items::from_vec(names(alloc, &cluster.nodes, job.parts.as_slice())?),
+        node_names: Items::from_vec(names(alloc, cluster.nodes.records(), job.parts.as_slice())?),
         reason: None,
         start: match job.started {
             Some(start) => Some(Ranged::new(start)),
@@ -153,16 +226,19 @@ fn is_shown(starts: bool, job: &JobRecord) -> bool
     }
 }
 
-// The number of the candidate that is highest in rank.
-#[tactic(auto, unfolding(crate::specs::Showing::highest))]
-fn highest(jobs: &[JobRecord]) -> Option<u32>
-    ensures { result ≡ option_map (λ (job : JobRecord). job.id) (find (λ (job : JobRecord). JobStates.is_pending job.state) jobs.now) }
+// Why the pending job waits.
+fn reason(cluster: &Cluster, outlook: &Outlook, job: &JobRecord) -> Reason
+    requires { IsOutlook (state_of cluster.now) outlook.now }
+    ensures { (now : ℕ) → result ≡ Showing.reason_of (state_of cluster.now) now job.now }
 {
-    jobs.iter().find(|job| is_pending(job)).map(|job| job.id)
+    match hindrance(cluster, job) {
+        Some(reason) => reason,
+        None => reason_by_rank(outlook.highest, job),
+    }
 }
 
-fn reason(highest: Option<u32>, job: &JobRecord) -> Reason
-    ensures { result ≡ Showing.reason_of highest job.now }
+fn reason_by_rank(highest: Option<u32>, job: &JobRecord) -> Reason
+    ensures { result ≡ Showing.reason_by_rank highest job.now }
 {
     match highest {
         Some(id) if id == job.id => Reason::Resources,
@@ -170,15 +246,13 @@ fn reason(highest: Option<u32>, job: &JobRecord) -> Reason
     }
 }
 
-// The second that the plan gives the job with this number. Linear in the plan.
-fn planned_start(plan: &[Placed], id: u32) -> Option<Ranged<0, 253402300799>>
-    requires { All (λ (placed : Placed). placed.start ≤ 250002592000) plan.now }
-    ensures { result ≡ Showing.planned_start plan.now id }
+// The name of the job's partition.
+fn partition_name(cluster: &Cluster, job: &JobRecord) -> Result<Name, Memory>
+    requires { job.now.partition < length cluster.now.partitions }
+    ensures { IfOk result (λ name. name ≡ Showing.partition_name (state_of cluster.now) job.now) }
 {
-    match plan.iter().find(|placed| placed.id == id) {
-        Some(placed) => Some(Ranged::new(placed.start)),
-        None => None,
-    }
+    let partition = &cluster.partitions.records()[job.partition as usize];
+    partition.conf.name.copy()
 }
 
 // The names of the nodes of these parts.

@@ -11,15 +11,18 @@ use Rattle.backfill_planner.specs.declared.job.PlanJob.{PlanJob}
 use Rattle.backfill_planner.specs.Bases.{BaseView}
 use Rattle.backfill_planner.specs.Plans.{plan_beside, plan_of, placed_of, holds_of}
 use Rattle.ctl_state.specs.declared.record.JobRecord.{JobRecord}
-use Rattle.ctl_state.specs.JobStates.{is_pending}
-use Rattle.ctl_state.specs.Planning.{room_of, plan_job}
+use Rattle.ctl_state.specs.Ordered.{ordered_by}
+use Rattle.ctl_state.specs.Planning.{room_of}
 use Rattle.ctl_state.specs.Soundness.{IsSound}
 use Rattle.ctl_state.specs.State.{State}
 use Rattle.ctl_pass.specs.Limits.{timed_out, is_old}
-use Rattle.ctl_pass.specs.Readiness.{ready, base_of, candidates, ranked, planned, placements}
+use Rattle.ctl_pass.specs.Readiness.{ready, base_of, is_candidate, is_higher, candidates, needs_of, ranked, planned, placements}
 use Rattle.ctl_pass.specs.Starting.{started, begun, start_of}
 use Rattle.ctl_pass.specs.Passing.{outcome}
 use Rattle.ctl_pass.proofs.Passes.{few-jobs}
+use Rattle.ctl_pass.proofs.Ranks.{filter_map-less}
+use Rattle.ctl_state.specs.Laws.{OrderMoves}
+use Rattle.std.proofs.lemmas.List.Sorted.{length_permutation}
 
 filter-less : {X : Type 0} (p : X → Bool) (xs : List X) → length (filter p xs) ≤ length xs
 filter-less p xs = omega (arith, length-filter p xs, count_by-le-length p xs)
@@ -44,17 +47,19 @@ plan-less base now (job ∷ later) holds =
     one-most None = omega arith
     one-most (Some one) = omega arith
 
-pub few-go : (s : State) (now : ℕ) → IsSound s → length (outcome s now).starts + length (outcome s now).stays ≤ 67043329
+pub few-go : OrderMoves JobRecord → (s : State) (now : ℕ) → IsSound s → length (outcome s now).starts + length (outcome s now).stays ≤ 67043329
 unfolding planned plan_of ranked candidates
-few-go s now sound =
+few-go moves s now sound =
     let r = ready s now in
-    let pending : JobRecord → Bool = λ job. is_pending job.state in
+    let chosen = filter (is_candidate r) r.jobs in
+    let sorted = ordered_by (is_higher r) chosen in
     omega (
       arith,
       each-goes (map room_of s.nodes) now r.jobs (placements s now),
       plan-less (base_of r now) now (ranked r now) (base_of r now).holds,
-      length-map (filter pending r.jobs) (plan_job (length s.nodes)),
-      filter-less pending r.jobs,
+      filter_map-less (needs_of r) sorted,
+      length_permutation chosen sorted (moves (is_higher r) chosen),
+      filter-less (is_candidate r) r.jobs,
       filter-less (λ job. not (is_old s.settings.min_job_age now job)) (map (timed_out now) s.jobs),
       length-map s.jobs (timed_out now),
       few-jobs s sound,

@@ -1,4 +1,5 @@
 pub mod Lists
+pub mod Ranks
 pub mod Starting
 pub mod Passes
 pub mod Few

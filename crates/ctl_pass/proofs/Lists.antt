@@ -1,16 +1,18 @@
 -- What holds of lists: each two elements, sums, ranges, and steps of loops.
 use Rattle.std.proofs.lemmas.List.Concat.{get_or-flat_map}
 use Rattle.std.proofs.lemmas.Bool.Decides.{nat_tests}
-use Rattle.std.proofs.Common.{◌≡◌, ◌≢◌, ℕ, zero, suc, ◌+◌, ◌≤◌, ◌<◌, Bool, true, false, cond, eqb, List, [], ◌∷◌, length, map, filter, flat_map, sum_by, take, get_or, All, AllPairs, Any, Contains, arith, refl}
+use Rattle.std.proofs.Common.{◌≡◌, ℕ, zero, suc, ◌+◌, ◌≤◌, ◌<◌, Bool, true, false, cond, eqb, List, [], ◌∷◌, length, map, filter, flat_map, sum_by, take, get_or, All, AllPairs, Any, Contains, arith, refl}
 use Rattle.std.proofs.Common.{◌&&◌, ◌++◌, drop, set, ap, sym, ◌∙◌}
-use Rattle.std.specs.List.{list_any, range_with_len, list_all, zip, HoldsAt}
+use Rattle.std.specs.List.{cons_option, list_any, range_with_len, list_all, zip, HoldsAt}
 use Rattle.std.proofs.lemmas.Bool.{ne_eqb}
 use Rattle.std.proofs.lemmas.List.{get_or-map, length-map, get_or-take, length-take, take-map, take_more, drop_more, map-append, get_or_default, same_lists, length-set, get_or-set_same, get_or-set_other}
 use Rattle.std.proofs.lemmas.List.Sums.{sum_by-cons, sum_by-append}
-use Rattle.std.proofs.lemmas.List.Folds.{fold-map, list_any_none, map_fixed, length-flat_map-take}
-use Rattle.std.proofs.lemmas.List.Elements.{All-head, All-tail, All-nil, filter_more, All-map, All-filter, All-contains, filter_passes, All-append}
+use Rattle.std.proofs.lemmas.List.Folds.{fold-map, list_any_none, length-flat_map-take}
+use Rattle.std.proofs.lemmas.List.Elements.{All-head, All-tail, All-nil, filter_map-append, All-map, All-filter, All-contains, filter_passes, All-append}
 use Rattle.std.proofs.lemmas.List.FromFn.{length-range_with_len, get_or-range_with_len}
 use Rattle.std.specs.Cmp.Lexicographic.{pointwise}
+use Rattle.std.specs.Prelude.{slice_get, filter_map, Option, Some}
+use Rattle.std.proofs.lemmas.Option.{get_or_from_slice_get, slice_get_within}
 
 pub pairs-head : {X : Type 0} (R : X → X → Type 0) (x : X) (xs : List X) → AllPairs R (x ∷ xs) → All (R x) xs
 pairs-head R x xs pairs k d below = pairs 0 (suc k) d (omega arith) (omega (arith, below))
@@ -79,7 +81,8 @@ pub sum_by-map : {X Y : Type 0} (f : Y → ℕ) (h : X → Y) (xs : List X) → 
 sum_by-map f h xs = fold-map (λ total y. total + f y) h 0 xs
 
 -- larger sums over the lists that two lists are joined of
-pub joined-larger : {X Y Z : Type 0} (f : Y → ℕ) (g : Z → ℕ) (h : X → List Y) (k : X → List Z) (xs : List X) → All (λ x. sum_by f (h x) ≤ sum_by g (k x)) xs → sum_by f (flat_map h xs) ≤ sum_by g (flat_map k xs)
+pub joined-larger : {X Y Z : Type 0} (f : Y → ℕ) (g : Z → ℕ) (h : X → List Y) (k : X → List Z) (xs : List X) → All (λ x. sum_by f (h x) ≤ sum_by g (k x)) xs
+    → sum_by f (flat_map h xs) ≤ sum_by g (flat_map k xs)
 joined-larger f g h k [] larger = omega arith
 joined-larger f g h k (x ∷ xs) larger =
     let least : _ → Type 0 = λ y. sum_by f (h y) ≤ sum_by g (k y) in
@@ -108,25 +111,30 @@ range-within x low (suc count) above below =
     grind (arith, nat_tests, first, range-before x (low + 1) count, range-within x (low + 1) count)
 
 -- the numbers below the bound that stand in a rising list are as many as it has, where all its numbers are below the bound
-pub range-rising : (xs : List ℕ) (bound : ℕ) → AllPairs (λ one other. one < other) xs → All (λ x. x < bound) xs → sum_by (λ number. cond (list_any (λ x. eqb x number) xs) 1 0) (range_with_len 0 bound) ≡ length xs
+pub range-rising : (xs : List ℕ) (bound : ℕ) → AllPairs (λ one other. one < other) xs → All (λ x. x < bound) xs
+    → sum_by (λ number. cond (list_any (λ x. eqb x number) xs) 1 0) (range_with_len 0 bound) ≡ length xs
 range-rising [] bound rising below = sum_by-none (λ number. 0) (range_with_len 0 bound) (λ k d inside. refl)
 range-rising (x ∷ xs) bound rising below =
     let rest = range-rising xs bound (pairs-tail (λ one other. one < other) x xs rising) (All-tail (λ y. y < bound) x xs below) in
     let first = range-within x 0 bound (omega arith) (omega (arith, All-head (λ y. y < bound) x xs below)) in
     let split = sum_by-add (λ number. cond (eqb x number) 1 0) (λ number. cond (list_any (λ y. eqb y number) xs) 1 0) (range_with_len 0 bound) in
     let above = pairs-head (λ one other. one < other) x xs rising in
-    let each = sum_by-same (λ number. cond (list_any (λ y. eqb y number) (x ∷ xs)) 1 0) (λ number. cond (eqb x number) 1 0 + cond (list_any (λ y. eqb y number) xs) 1 0) (range_with_len 0 bound) (λ i e within.
+    let each = sum_by-same (λ number. cond (list_any (λ y. eqb y number) (x ∷ xs)) 1 0) (λ number. cond (eqb x number) 1 0 + cond (list_any (λ y. eqb y number) xs) 1 0)
+    (range_with_len 0 bound) (λ i e within.
     let number = get_or (range_with_len 0 bound) i e in
-    let none : x ≡ number → list_any (λ y. eqb y number) xs ≡ false = λ is. list_any_none (λ y. eqb y number) xs (λ k d inside. ne_eqb (get_or xs k d) number (λ same. omega (arith, above k d inside, is, same))) in
+    let none : x ≡ number → list_any (λ y. eqb y number) xs ≡ false = λ is.
+    list_any_none (λ y. eqb y number) xs (λ k d inside. ne_eqb (get_or xs k d) number (λ same. omega (arith, above k d inside, is, same))) in
     grind (arith, nat_tests, none)) in
     omega (arith, rest, first, split, each)
 
 -- a list whose numbers rise from one bound to another isn't longer than that
-pub length-rising : {X : Type 0} (f : X → ℕ) (low high : ℕ) (xs : List X) → low ≤ high → AllPairs (λ one other. f one < f other) xs → All (λ x. low ≤ f x) xs → All (λ x. f x < high) xs → length xs + low ≤ high
+pub length-rising : {X : Type 0} (f : X → ℕ) (low high : ℕ) (xs : List X) → low ≤ high → AllPairs (λ one other. f one < f other) xs → All (λ x. low ≤ f x) xs
+    → All (λ x. f x < high) xs → length xs + low ≤ high
 length-rising f low high [] le rising above below = omega arith
 length-rising f low high (x ∷ xs) le rising above below =
     let first = All-head (λ y. f y < high) x xs below in
-    let rest = length-rising f (f x + 1) high xs (omega arith) (pairs-tail (λ one other. f one < f other) x xs rising) (λ k d within. omega (arith, pairs-head (λ one other. f one < f other) x xs rising k d within)) (All-tail (λ y. f y < high) x xs below) in
+    let rest = length-rising f (f x + 1) high xs (omega arith) (pairs-tail (λ one other. f one < f other) x xs rising)
+    (λ k d within. omega (arith, pairs-head (λ one other. f one < f other) x xs rising k d within)) (All-tail (λ y. f y < high) x xs below) in
     omega (arith, All-head (λ y. low ≤ f y) x xs above)
 
 -- lists of one length compared pair by pair
@@ -141,9 +149,10 @@ pub take-map-more : {X Y : Type 0} (f : X → Y) (xs : List X) (i : ℕ) (x : X)
 take-map-more f xs i x within is =
     rw (take-map f (i + 1) xs, take-map f i xs, take_more xs i x within, map-append f (take i xs) (get_or xs i x ∷ []), ← is) refl
 
-pub map-filter-more : {X Y : Type 0} (f : X → Y) (p : X → Bool) (xs : List X) (i : ℕ) (x : X) → i < length xs → x ≡ get_or xs i x → map f (filter p (take (i + 1) xs)) ≡ map f (filter p (take i xs)) ++ map f (cond (p x) (x ∷ []) [])
-map-filter-more f p xs i x within is =
-    rw (filter_more p xs i x within, map-append f (filter p (take i xs)) (cond (p (get_or xs i x)) (get_or xs i x ∷ []) []), ← is) refl
+pub filter_map-more : {X Y Z : Type 0} (h : X → Option Y) (f : Z → X) (xs : List Z) (i : ℕ) (x : Z) → i < length xs → x ≡ get_or xs i x
+    → filter_map h (map f (take (i + 1) xs)) ≡ filter_map h (map f (take i xs)) ++ cons_option (h (f x)) []
+filter_map-more h f xs i x within is =
+    rw (take_more xs i x within, ← is, map-append f (take i xs) (x ∷ []), filter_map-append h (map f (take i xs)) (f x ∷ [])) refl
 
 -- the rest of a list from one element on
 pub next : {X : Type 0} (xs : List X) (i : ℕ) (x : X) → i < length xs → x ≡ get_or xs i x → drop i xs ≡ x ∷ drop (i + 1) xs
@@ -159,7 +168,8 @@ filter-same p q [] same = refl
 filter-same p q (x ∷ xs) same = rw (All-head (λ y. p y ≡ q y) x xs same, filter-same p q xs (All-tail (λ y. p y ≡ q y) x xs same)) refl
 
 -- a change of the one element with a number, among numbers that rise
-pub set-one : {X : Type 0} (f : X → ℕ) (change : X → X) (number place : ℕ) (x : X) (xs : List X) → AllPairs (λ one other. f one < f other) xs → place < length xs → HoldsAt (λ y. f y ≡ number) xs place → x ≡ get_or xs place x
+pub set-one : {X : Type 0} (f : X → ℕ) (change : X → X) (number place : ℕ) (x : X) (xs : List X) → AllPairs (λ one other. f one < f other) xs → place < length xs
+    → HoldsAt (λ y. f y ≡ number) xs place → x ≡ get_or xs place x
     → set xs place (change x) ≡ map (λ y. cond (eqb (f y) number) (change y) y) xs
 set-one f change number place x xs rising within found is =
     same_lists (set xs place (change x)) (map (λ y. cond (eqb (f y) number) (change y) y) xs) (omega (arith, length-set xs place (change x), length-map xs (λ y. cond (eqb (f y) number) (change y) y)))
@@ -174,3 +184,7 @@ All-joined P f xs each k e below j d inside =
 pub All-joins : {X Y : Type 0} (P : Y → Type 0) (f : X → List Y) (xs : List X) → All (λ x. All P (f x)) xs → All P (flat_map f xs)
 All-joins P f [] each = All-nil P
 All-joins P f (x ∷ xs) each = All-append P (f x) (flat_map f xs) (All-head (λ y. All P (f y)) x xs each) (All-joins P f xs (All-tail (λ y. All P (f y)) x xs each))
+
+-- what holds of the element at a place
+pub at-place : {X : Type 0} (P : X → Type 0) (xs : List X) (place : ℕ) (x : X) → All P xs → slice_get xs place ≡ Some x → P x
+at-place P xs place x each is = rw (get_or_from_slice_get xs place x x is) at (each place x (slice_get_within xs place x is))

@@ -4,7 +4,7 @@ use Rattle.std.proofs.lemmas.Bool.Decides.{nat_tests}
 use Rattle.std.proofs.Common.{◌≡◌, ◌≢◌, ℕ, ◌+◌, ◌≤◌, true, false, ◌&&◌, not, eqb, leb, List, [], Contains, unwrap_or, Some, None, get_or, refl, sym, arith, suc, ◌<◌, Bool, cond, ◌∷◌, ◌++◌, length, map, flat_map}
 use Rattle.std.proofs.Common.{filter, take, All, ap, ◌∙◌, inl, inr, rules, tests, sum_by, AllPairs, IfSome, Any, ◌⊎◌}
 use Rattle.std.proofs.lemmas.Bool.{cond_both, and_parts, cases_Bool, both_ways, ne_eqb, eq-eqb, cases_order, eqb-true}
-use Rattle.std.proofs.lemmas.List.Elements.{All-weaker, All-head, All-tail, filter-append, All-map, All-filter, All-contains_itself}
+use Rattle.std.proofs.lemmas.List.Elements.{All-weaker, All-head, All-tail, filter-append, All-map, All-filter, All-contains, All-contains_itself}
 use Rattle.slurm_text.specs.declared.plain.state.JobState.{JobState}
 use Rattle.slurm_text.specs.declared.plain.state.JobState.TheVariants.{Completing}
 use Rattle.slurm_text.specs.declared.plain.state.Final.TheVariants.{Timeout}
@@ -15,16 +15,21 @@ use Rattle.ctl_state.specs.State.{State, last_moment, last_job_id}
 use Rattle.ctl_state.specs.JobStates.{is_running, is_ended, is_holding, is_pending}
 use Rattle.ctl_state.specs.Changes.{changed}
 use Rattle.ctl_state.specs.Events.{LetsGo, those_left, started_as}
-use Rattle.ctl_state.specs.Laws.{LettingGo, ChangesLetGo, LetsGoNothing, KeptLater}
+use Rattle.ctl_state.specs.Laws.{LettingGo, ChangesLetGo, LetsGoNothing, KeptLater, JobNodes, OrderMoves, OrderKeepsApart}
 use Rattle.ctl_state.specs.Soundness.{IsSound, IsKept, pending_ids, HasItsParts, HaveRisingIds, IsLimit}
 use Rattle.ctl_pass.specs.Limits.{deadline, is_over, timed_out, is_old, holds_of_job, hold_end}
-use Rattle.ctl_pass.specs.Readiness.{ready, base_of, candidates, ranked, planned, placements}
+use Rattle.ctl_pass.specs.Readiness.{ready, base_of, is_candidate, is_higher, candidates, needs_of, ranked, planned, placements}
+use Rattle.ctl_pass.specs.Reasons.{hindrance}
+use Rattle.ctl_pass.proofs.Ranks.{waiting, candidates-wait, ranked-all, ranked-waits, ranked-apart}
+use Rattle.ctl_state.specs.Ordered.{ordered_by}
+use Rattle.partitions.specs.Partitions.{IsOnNodes}
+use Rattle.std.specs.Prelude.{filter_map, is_none}
 use Rattle.std.specs.List.{list_any}
 use Rattle.std.proofs.lemmas.List.{take_more, map-append, append-nil, length-map, get_or_default}
 use Rattle.std.proofs.lemmas.List.Sums.{length-filter, count_by-le-length, sum_by-cons, sum_by-le-sum_by}
 use Rattle.std.proofs.lemmas.List.Kept.{AllPairs-filter}
 use Rattle.ctl_state.specs.Holding.{parts_of, has_members, is_on, mem_held, IsPartOf}
-use Rattle.ctl_pass.proofs.Lists.{pairs-map, sum_by-larger, sum_by-map, joined-larger, range-rises, range-below, Any-kept, length-rising, sum_by-more, All-joins, All-joined}
+use Rattle.ctl_pass.proofs.Lists.{pairs-map, sum_by-larger, sum_by-map, joined-larger, Any-kept, length-rising, sum_by-more, at-place, All-joins, All-joined}
 use Rattle.slurm_text.specs.declared.plain.limit.Limit.{Limit}
 use Rattle.slurm_text.specs.declared.plain.limit.Limit.TheVariants.{Minutes, Unlimited}
 use Rattle.resource_profile.specs.declared.Hold.{Hold}
@@ -59,7 +64,8 @@ pub record ReadyLaws : Type 0 where
   pub later : KeptLater
 
 -- what the limit makes of a job: it was running where it is over
-pub by_limit : (P : JobRecord → Type 0) (now : ℕ) (job : JobRecord) → (is_over now job ≡ true → is_running job.state ≡ true → P (record job { state = Completing Timeout; ended = Some now; exit = None })) → (is_over now job ≡ false → P job)
+pub by_limit : (P : JobRecord → Type 0) (now : ℕ) (job : JobRecord)
+    → (is_over now job ≡ true → is_running job.state ≡ true → P (record job { state = Completing Timeout; ended = Some now; exit = None })) → (is_over now job ≡ false → P job)
     → P (timed_out now job)
 by_limit P now job ends stays =
     cond_both (is_over now job) (changed (Leave Timeout now None) job) job P
@@ -75,12 +81,15 @@ ended-others state ended = search (rules, tests)
 -- limits and old records let go: what a pass plans is sound
 pub sound-readied : ReadyLaws → (s : State) (now : ℕ) → IsSound s → s.moment ≤ now → now ≤ last_moment → IsSound (readied s now)
 sound-readied laws s now sound raised in_time =
-    laws.letting_go s now (timed_out now) (is_old s.settings.min_job_age now) [] sound in_time (All-weaker (IsKept s.moment) (λ job. LetsGo now job (timed_out now job)) (λ job kept. lets job (laws.later s.moment now job raised kept)) s.jobs sound.jobs)
-    (λ k d below old. let job = timed_out now (get_or s.jobs k d) in (ended-others job.state (and_parts (is_ended job.state) (not (eqb s.settings.min_job_age 0) && leb (unwrap_or job.ended 0 + s.settings.min_job_age) now) old).0).1)
-    (no-plan (those_left (timed_out now) (is_old s.settings.min_job_age now) s.jobs))
+    let old = is_old s.settings.min_job_age now in
+    laws.letting_go s now (timed_out now) old [] sound in_time
+    (All-weaker (IsKept s.moment) (λ job. LetsGo now job (timed_out now job)) (λ job kept. lets job (laws.later s.moment now job raised kept)) s.jobs sound.jobs)
+    (no-plan (those_left (timed_out now) old s.jobs))
   where
     lets : (job : JobRecord) → IsKept now job → LetsGo now job (timed_out now job)
-    lets job kept = cond_both (is_over now job) (changed (Leave Timeout now None) job) job (LetsGo now job) (λ over. laws.changes now (Leave Timeout now None) job refl refl kept) (λ within. laws.nothing now job kept)
+    lets job kept =
+        cond_both (is_over now job) (changed (Leave Timeout now None) job) job (LetsGo now job)
+        (λ over. laws.changes now (Leave Timeout now None) job refl refl kept) (λ within. laws.nothing now job kept)
 
 pub running-not_ended : (state : JobState) → is_running state ≡ true → (is_ended state ≡ false) × (is_pending state ≡ false)
 running-not_ended state running = search (rules, tests)
@@ -115,7 +124,8 @@ pub left-more : (age now i : ℕ) (jobs : List JobRecord) (job : JobRecord) → 
 left-more age now i jobs job within is =
     let keep : JobRecord → Bool = λ one. not (is_old age now one) in
     let before = map (timed_out now) (take i jobs) in
-    rw (take_more jobs i job within, ← is, map-append (timed_out now) (take i jobs) (job ∷ []), filter-append keep before (timed_out now job ∷ []), flat_map-append (holds_of_job now) (filter keep before) (filter keep (timed_out now job ∷ [])))
+    let joined = flat_map-append (holds_of_job now) (filter keep before) (filter keep (timed_out now job ∷ [])) in
+    rw (take_more jobs i job within, ← is, map-append (timed_out now) (take i jobs) (job ∷ []), filter-append keep before (timed_out now job ∷ []), joined)
     (grind (arith, nat_tests, timed_out-old age now job, timed_out-holds now job, append-nil (holds_of_job now job)))
 
 -- those that wait are the same
@@ -155,10 +165,20 @@ rising-left age now jobs rising =
     (pairs-map lower (timed_out now) jobs (λ i j d before within. omega (arith, rising i j d before within, timed_out-id now (get_or jobs i d), timed_out-id now (get_or jobs j d))))
 
 -- the laws of plans that a pass rests on
+abbrev pub PlanIds : Type 0
+PlanIds = (base : BaseView) (ranked : List PlanJob) (now : ℕ)
+    → All (λ (placed : Placed). Contains (map (λ (job : PlanJob). job.id) ranked) placed.id) (plan_of base ranked now)
+
+abbrev pub PlanApart : Type 0
+PlanApart = (base : BaseView) (ranked : List PlanJob) (now : ℕ)
+    → AllPairs (λ (one other : PlanJob). one.id ≢ other.id) ranked → AllPairs (λ (one other : Placed). one.id ≢ other.id) (plan_of base ranked now)
+
 pub record PlanLaws : Type 0 where
-  pub ids : (base : BaseView) (ranked : List PlanJob) (now : ℕ) → All (λ (placed : Placed). Contains (map (λ (job : PlanJob). job.id) ranked) placed.id) (plan_of base ranked now)
-  pub apart : (base : BaseView) (ranked : List PlanJob) (now : ℕ)
-      → AllPairs (λ (one other : PlanJob). one.id ≢ other.id) ranked → AllPairs (λ (one other : Placed). one.id ≢ other.id) (plan_of base ranked now)
+  pub moves : OrderMoves JobRecord
+  pub keeps : OrderKeepsApart JobRecord
+  pub nodes : JobNodes
+  pub ids : PlanIds
+  pub apart : PlanApart
   pub starts : (base : BaseView) (ranked : List PlanJob) (now : ℕ) → All (λ (placed : Placed). (now ≤ placed.start) × (placed.start ≤ base.horizon)) (plan_of base ranked now)
   pub some : (base : BaseView) (ranked : List PlanJob) (now : ℕ)
       → All (λ (job : PlanJob). 1 ≤ job.need.tasks) ranked → All (λ (placed : Placed). 1 ≤ length placed.parts) (plan_of base ranked now)
@@ -182,11 +202,13 @@ hold_end-later : (now : ℕ) (job : JobRecord) → now < hold_end now job
 hold_end-later now job = grind (arith, nat_tests)
 
 -- at no moment more is held of a node than the parts have
-held-most : (counted : ℕ → ℕ → ℕ) (node moment now : ℕ) (jobs : List JobRecord) → sum_by (hold_has counted node moment) (flat_map (holds_of_job now) jobs) ≤ sum_by (part_has counted node) (parts_of jobs)
+held-most : (counted : ℕ → ℕ → ℕ) (node moment now : ℕ) (jobs : List JobRecord)
+    → sum_by (hold_has counted node moment) (flat_map (holds_of_job now) jobs) ≤ sum_by (part_has counted node) (parts_of jobs)
 held-most counted node moment now jobs =
     joined-larger (hold_has counted node moment) (part_has counted node) (holds_of_job now) (λ (job : JobRecord). job.parts) jobs
     (λ k d below. let job = get_or jobs k d in
-    omega (arith, sum_by-map (hold_has counted node moment) (hold_of now job) job.parts, sum_by-larger (λ part. hold_has counted node moment (hold_of now job part)) (part_has counted node) job.parts (λ i part inside. grind (arith, nat_tests))))
+    let each = sum_by-larger (λ part. hold_has counted node moment (hold_of now job part)) (part_has counted node) job.parts (λ i part inside. grind (arith, nat_tests)) in
+    omega (arith, sum_by-map (hold_has counted node moment) (hold_of now job) job.parts, each))
 
 -- and at this moment no less
 held-now : (counted : ℕ → ℕ → ℕ) (node now : ℕ) (jobs : List JobRecord) → All (λ (job : JobRecord). unwrap_or job.started 0 ≤ now) jobs
@@ -194,7 +216,9 @@ held-now : (counted : ℕ → ℕ → ℕ) (node now : ℕ) (jobs : List JobReco
 held-now counted node now jobs started =
     joined-larger (part_has counted node) (hold_has counted node now) (λ (job : JobRecord). job.parts) (holds_of_job now) jobs
     (λ k d below. let job = get_or jobs k d in
-    omega (arith, sum_by-map (hold_has counted node now) (hold_of now job) job.parts, sum_by-larger (part_has counted node) (λ part. hold_has counted node now (hold_of now job part)) job.parts (λ i part inside. grind (arith, nat_tests, started k d below, hold_end-later now job))))
+    let each = sum_by-larger (part_has counted node) (λ part. hold_has counted node now (hold_of now job part)) job.parts
+    (λ i part inside. grind (arith, nat_tests, started k d below, hold_end-later now job)) in
+    omega (arith, sum_by-map (hold_has counted node now) (hold_of now job) job.parts, each))
 
 -- all that is held is within the nodes
 pub base-within : (s : State) → IsSound s → AreWithin (map room_of s.nodes) (flat_map (holds_of_job s.moment) s.jobs)
@@ -204,74 +228,74 @@ base-within s sound =
     let parts = parts_of s.jobs in
     record {
       nodes = All-joins (λ (hold : Hold). hold.node < length rooms) (holds_of_job s.moment) s.jobs (λ k d below. let job = get_or s.jobs k d in
-          All-map (λ (hold : Hold). hold.node < length rooms) (hold_of s.moment job) job.parts (λ i part inside. (All-joined (IsPartOf rooms) (λ (one : JobRecord). one.parts) s.jobs sound.held.each k d below i part inside).node));
+          All-map (λ (hold : Hold). hold.node < length rooms) (hold_of s.moment job) job.parts
+          (λ i part inside. (All-joined (IsPartOf rooms) (λ (one : JobRecord). one.parts) s.jobs sound.held.each k d below i part inside).node));
       windows = All-joins (λ (hold : Hold). hold.from < hold.until) (holds_of_job s.moment) s.jobs (λ k d below. let job = get_or s.jobs k d in
           All-map (λ (hold : Hold). hold.from < hold.until) (hold_of s.moment job) job.parts (λ i part inside. omega (arith, (sound.jobs k d below).run.start_passed, hold_end-later s.moment job)));
-      cpus = λ node moment. omega (arith, held-most (λ cpus mem. cpus) node moment s.moment s.jobs, held-counted rooms parts node sound.held.each, free-counted rooms parts node (sound.held.once node));
+      cpus = λ node moment.
+          let free = free-counted rooms parts node (sound.held.once node) in
+          omega (arith, held-most (λ cpus mem. cpus) node moment s.moment s.jobs, held-counted rooms parts node sound.held.each, free);
       mem = λ node moment. omega (arith, held-most (λ cpus mem. mem) node moment s.moment s.jobs, sound.held.mem node);
     }
 
--- what is ranked are the pending jobs
-pub ranked-ids : (s : State) (now : ℕ) → map (λ (job : PlanJob). job.id) (ranked s now) ≡ pending_ids s.jobs
-unfolding ranked candidates plan_job
-ranked-ids s now = same (filter (λ (job : JobRecord). is_pending job.state) s.jobs)
-  where
-    same : (jobs : List JobRecord) → map (λ (job : PlanJob). job.id) (map (plan_job (length s.nodes)) jobs) ≡ map (λ (job : JobRecord). job.id) jobs
-    same [] = refl
-    same (job ∷ jobs) = ap (λ ids. job.id ∷ ids) (same jobs)
+-- what is planned for a job can be
+record CanBePlanned (s : State) (need : PlanJob) : Type 0 where
+  tasks : 1 ≤ need.need.tasks
+  nodes : IsOnRooms (map room_of s.nodes) need
+  plannable : IsPlannable need
 
-ranked-all : (P : PlanJob → Type 0) (s : State) (now : ℕ) → All (λ job. P (plan_job (length s.nodes) job)) s.jobs → All P (ranked s now)
-unfolding ranked candidates
-ranked-all P s now each =
-    All-map P (plan_job (length s.nodes)) _ (All-filter (λ job. is_pending job.state) (λ job. P (plan_job (length s.nodes) job)) s.jobs each)
-
-pub ranked-apart : (s : State) (now : ℕ) → IsSound s → AllPairs (λ (one other : PlanJob). one.id ≢ other.id) (ranked s now)
-unfolding ranked candidates plan_job
-ranked-apart s now sound =
-    let apart : AllPairs (λ (one other : JobRecord). one.id ≢ other.id) s.jobs = λ i j d before within same. omega (arith, sound.rising i j d before within, same) in
-    pairs-map (λ (one other : PlanJob). one.id ≢ other.id) (plan_job (length s.nodes)) _ (AllPairs-filter (λ (one other : JobRecord). one.id ≢ other.id) (λ job. is_pending job.state) s.jobs apart)
-
--- they can be planned
-ranked-plannable : (s : State) (now : ℕ) → IsSound s → All IsPlannable (ranked s now)
+ranked-planned : OrderMoves JobRecord → JobNodes → (s : State) (now : ℕ) → IsSound s → All (CanBePlanned s) (ranked s now)
 unfolding plan_job
-ranked-plannable s now sound = ranked-all IsPlannable s now (λ k d below. let kept = sound.jobs k d below in record {
-  once = λ i j e before inside same. omega (arith, range-rises (length s.nodes) i j e before inside, same);
-  cpus = omega arith;
-  seconds = seconds (get_or s.jobs k d).limit kept.limit;
-})
+ranked-planned moves job_nodes s now sound = ranked-all moves (CanBePlanned s) s now (λ k d below partition bounds is.
+    let job = get_or (waiting s.jobs) k d in
+    let kept = All-filter (λ (one : JobRecord). is_pending one.state) (IsKept s.moment) s.jobs sound.jobs k d below in
+    let nodes = job_nodes s.nodes partition bounds job (at-place (IsOnNodes (length s.nodes)) s.partitions job.partition partition sound.partitions is) in
+    record {
+      tasks = kept.asked.tasks.0;
+      nodes = λ i node inside. omega (arith, nodes.0 i node inside, length-map s.nodes room_of);
+      plannable = record { once = nodes.1; cpus = kept.asked.cpus.0; seconds = seconds job.limit kept.limit };
+    })
   where
     seconds : (limit : Limit) → IsLimit limit → IfSome (seconds_of limit) (λ seconds. 1 ≤ seconds)
     seconds (Minutes minutes) is = omega (arith, is.0)
     seconds Unlimited is = tt
 
+-- so a plan is of jobs that wait
+plan-waits : OrderMoves JobRecord → PlanIds → (s : State) (now : ℕ) → All (λ (placed : Placed). Contains (pending_ids s.jobs) placed.id) (planned s now)
+unfolding planned
+plan-waits moves ids s now k d below =
+    All-contains (Contains (pending_ids s.jobs)) (map (λ (job : PlanJob). job.id) (ranked s now)) _
+    (All-map (Contains (pending_ids s.jobs)) (λ (job : PlanJob). job.id) (ranked s now) (ranked-waits moves s now)) (ids (base_of s now) (ranked s now) now k d below)
+
 -- The plan of a sound state can start.
 pub can-start : PlanLaws → (s : State) → IsSound s → CanStart s (planned s s.moment)
-unfolding planned base_of mem_held plan_job
+unfolding planned base_of mem_held
 can-start laws s sound =
     let now = s.moment in
     let base = base_of s now in
     let jobs = ranked s now in
     let horizon : base.horizon ≤ 250002592000 = omega (arith, sound.moment, sound.settings.window.1) in
-    let rooms = ranked-all (IsOnRooms (map room_of s.nodes)) s now (λ k d below i node inside. omega (arith, range-below (length s.nodes) i node inside, length-map s.nodes room_of)) in
-    let plannable = ranked-plannable s now sound in
+    let can = ranked-planned laws.moves laws.nodes s now sound in
+    let rooms : All (IsOnRooms (map room_of s.nodes)) jobs = λ k d below. (can k d below).nodes in
+    let plannable : All IsPlannable jobs = λ k d below. (can k d below).plannable in
     let fit = laws.fit base jobs now (base-within s sound) horizon rooms plannable in
     let started : All (λ (job : JobRecord). unwrap_or job.started 0 ≤ now) s.jobs = λ k d below. (sound.jobs k d below).run.start_passed in
     record {
       sound = sound;
       each = λ k d below. record {
-        waits = rw (← ranked-ids s now) (laws.ids base jobs now k d below);
+        waits = plan-waits laws.moves laws.ids s now k d below;
         last = omega (arith, (laws.starts base jobs now k d below).1, horizon);
-        some = laws.some base jobs now (ranked-all (λ (job : PlanJob). 1 ≤ job.need.tasks) s now (λ j e inside. (sound.jobs j e inside).asked.tasks.0)) k d below;
+        some = laws.some base jobs now (λ j e inside. (can j e inside).tasks) k d below;
         parts = laws.parts base jobs now horizon rooms plannable k d below;
       };
-      apart = laws.apart base jobs now (ranked-apart s now sound);
+      apart = laws.apart base jobs now (ranked-apart laws.keeps s now sound.rising);
       cpus = λ node. omega (arith, fit.cpus node, held-now (λ cpus mem. cpus) node now s.jobs started, held-counted (map room_of s.nodes) (parts_of s.jobs) node sound.held.each);
       mem = λ node. omega (arith, fit.mem node, held-now (λ cpus mem. mem) node now s.jobs started);
     }
 
 -- So those of a pass can.
 pub can-start_ready : ReadyLaws → PlanLaws → (s : State) (now : ℕ) → IsSound s → s.moment ≤ now → now ≤ last_moment → CanStart (readied s now) (placements s now)
-unfolding planned base_of ranked candidates
+unfolding planned base_of ranked candidates needs_of hindrance
 can-start_ready readies plans s now sound raised in_time = can-start plans (readied s now) (sound-readied readies s now sound raised in_time)
 
 -- the base has the nodes' rooms
@@ -279,12 +303,17 @@ pub base-rooms : (s : State) (now : ℕ) (base : BaseView) → base ≡ base_of 
 unfolding base_of
 base-rooms s now base is = ap (λ (one : BaseView). one.rooms) is
 
--- the pending jobs are those of the state before
-pub ranked_is : (s : State) (now : ℕ) → ranked (ready s now) now ≡ map (plan_job (length s.nodes)) (filter (λ (job : JobRecord). is_pending job.state) s.jobs)
-unfolding ranked candidates
-ranked_is s now = ap (map (plan_job (length s.nodes))) (pending-left s.settings.min_job_age now s.jobs)
+-- the candidates are those of the state before
+pub ranked_is : (s : State) (now : ℕ) → ranked (ready s now) now ≡ filter_map (needs_of s) (candidates s now)
+unfolding ranked candidates needs_of hindrance
+ranked_is s now =
+    let jobs = (ready s now).jobs in
+    let same : filter (is_candidate s) jobs ≡ filter (is_candidate s) s.jobs =
+    candidates-wait s jobs ∙ ap (filter (λ job. is_none (hindrance s job))) (pending-left s.settings.min_job_age now s.jobs) ∙ sym (candidates-wait s s.jobs) in
+    ap (λ some. filter_map (needs_of s) (ordered_by (is_higher s) some)) same
 
-pub plan-is : (s : State) (now : ℕ) (made : PlannedView) (base : BaseView) (jobs : List PlanJob) → made ≡ record { base = base; ranked = jobs; moment = now } → base ≡ base_of (ready s now) now → jobs ≡ ranked (ready s now) now
+pub plan-is : (s : State) (now : ℕ) (made : PlannedView) (base : BaseView) (jobs : List PlanJob) → made ≡ record { base = base; ranked = jobs; moment = now }
+    → base ≡ base_of (ready s now) now → jobs ≡ ranked (ready s now) now
     → plan_of made.base made.ranked made.moment ≡ placements s now
 unfolding planned
 plan-is s now made base jobs is base_is jobs_are = ap (λ (one : PlannedView). plan_of one.base one.ranked one.moment) is ∙ rw (base_is, jobs_are) refl
@@ -311,26 +340,24 @@ awaited s placed sound waits = from (Any-kept (λ (job : JobRecord). job.id) (λ
           let it : get_or s.jobs k d ≡ job = get_or_default s.jobs k d job inside ∙ is in
           elim (cases_order j k) [
             | inl equal ↦
-                no_parts (get_or s.jobs j d) (sound.jobs j d below).parts (pending-holds_not (get_or s.jobs j d).state (ap (λ place. is_pending (get_or s.jobs place d).state) equal ∙ ap (λ (other : JobRecord). is_pending other.state) it ∙ pending))
+                no_parts (get_or s.jobs j d) (sound.jobs j d below).parts
+                (pending-holds_not (get_or s.jobs j d).state (ap (λ place. is_pending (get_or s.jobs place d).state) equal ∙ ap (λ (other : JobRecord). is_pending other.state) it ∙ pending))
             | inr (inl before) ↦ absurd (omega (arith, sound.rising j k d before inside, same, here, ap (λ (one : JobRecord). one.id) it))
             | inr (inr after) ↦ absurd (omega (arith, sound.rising k j d after below, same, here, ap (λ (one : JobRecord). one.id) it))
           ];
     }
 
 -- so all placements of a pass can begin, beside bits that show what is held
-pub can-begin-ready : (s : State) (now : ℕ) (held : List Bool) (plan : List Placed) → IsSound s → IsSound (readied s now) → plan ≡ placements s now → ShowsParts (parts_of s.jobs) held
-    → ((base : BaseView) (ranked : List PlanJob) (now : ℕ) → All (λ (placed : Placed). Contains (map (λ (job : PlanJob). job.id) ranked) placed.id) (plan_of base ranked now))
-    → ((base : BaseView) (ranked : List PlanJob) (now : ℕ) → AllPairs (λ (one other : PlanJob). one.id ≢ other.id) ranked → AllPairs (λ (one other : Placed). one.id ≢ other.id) (plan_of base ranked now))
-    → CanBegin (ready s now).jobs held plan
-unfolding planned ranked candidates
-can-begin-ready s now held plan sound ready_sound is shown ids apart =
-    let base = base_of (ready s now) now in
-    let jobs = ranked (readied s now) now in
-    let waits : All (λ (placed : Placed). Contains (pending_ids (ready s now).jobs) placed.id) plan = rw (is, ← ranked-ids (readied s now) now) (ids base jobs now) in
+pub can-begin-ready : OrderMoves JobRecord → OrderKeepsApart JobRecord → PlanIds → PlanApart → (s : State) (now : ℕ) (held : List Bool) (plan : List Placed)
+    → IsSound s → IsSound (readied s now) → plan ≡ placements s now → ShowsParts (parts_of s.jobs) held → CanBegin (ready s now).jobs held plan
+unfolding planned
+can-begin-ready moves keeps ids apart s now held plan sound ready_sound is shown =
+    let left = ready s now in
+    let waits : All (λ (placed : Placed). Contains (pending_ids left.jobs) placed.id) plan = rw is (plan-waits moves ids left now) in
     record {
       shown = rw (parts-left s.settings.min_job_age now s.jobs (λ k d below. (sound.jobs k d below).parts)) shown;
       awaits = λ k d below. awaited (readied s now) (get_or plan k d) ready_sound (waits k d below);
-      once = rw is (apart base jobs now (ranked-apart (readied s now) now ready_sound));
+      once = rw is (apart (base_of left now) (ranked left now) now (ranked-apart keeps left now ready_sound.rising));
     }
 
 shares-same : (one other : Share) → Decides (same_shares one other) (one ≡ other)
@@ -350,12 +377,14 @@ pub plans-same : (one other : List Placed) → Decides (same_plans one other) (o
 plans-same one other = slice_eq-Decides placements-same one other (same_plans one other) refl
 
 -- where no limit is reached and no record is dropped, the jobs stay
-ready-same : (age now : ℕ) (jobs : List JobRecord) → count_by (is_over now) jobs ≡ 0 → length (those_left (timed_out now) (is_old age now) jobs) ≡ length jobs → those_left (timed_out now) (is_old age now) jobs ≡ jobs
+ready-same : (age now : ℕ) (jobs : List JobRecord) → count_by (is_over now) jobs ≡ 0 → length (those_left (timed_out now) (is_old age now) jobs) ≡ length jobs
+    → those_left (timed_out now) (is_old age now) jobs ≡ jobs
 ready-same age now [] none all = refl
 ready-same age now (job ∷ jobs) none all =
     let stays : JobRecord → Bool = λ one. not (is_old age now one) in
     let changed = map (timed_out now) jobs in
-    grind (arith, nat_tests, ready-same age now jobs, sum_by-cons (λ one. cond (is_over now one) 1 0) job jobs, length-filter stays changed, count_by-le-length stays changed, length-map jobs (timed_out now))
+    let over = sum_by-cons (λ one. cond (is_over now one) 1 0) job jobs in
+    grind (arith, nat_tests, ready-same age now jobs, over, length-filter stays changed, count_by-le-length stays changed, length-map jobs (timed_out now))
 
 -- where none starts, they stay too
 none-start : (rooms : List NodeRoom) (now : ℕ) (jobs : List JobRecord) (plan : List Placed) → length (started rooms now jobs plan).starts ≡ 0 → (started rooms now jobs plan).jobs ≡ jobs
@@ -367,7 +396,9 @@ none-start rooms now jobs (placed ∷ later) none = grind (arith, nat_tests, non
 pub idle-unchanged : (s : State) (now : ℕ) → is_idle s now ≡ true → pass_after s now ≡ s
 unfolding is_idle
 idle-unchanged s now idle =
-    let same : ((outcome s now).jobs ≡ s.jobs) × ((outcome s now).stays ≡ s.plan) = grind (arith, nat_tests, none-start (map room_of s.nodes) now (ready s now).jobs (placements s now), ready-same s.settings.min_job_age now s.jobs, (plans-same (outcome s now).stays s.plan).0) in
+    let none = none-start (map room_of s.nodes) now (ready s now).jobs (placements s now) in
+    let same : ((outcome s now).jobs ≡ s.jobs) × ((outcome s now).stays ≡ s.plan) =
+    grind (arith, nat_tests, none, ready-same s.settings.min_job_age now s.jobs, (plans-same (outcome s now).stays s.plan).0) in
     rw (same.0, same.1) refl
 
 -- one for a job that waits, or that runs
@@ -386,7 +417,8 @@ left-less amount lost change goes (job ∷ jobs) less =
 
 -- a start leaves no more that wait, and fewer where its job waited
 waits-begun : (now id : ℕ) (parts : List Part) (jobs : List JobRecord) → sum_by waits (map (started_as now id parts) jobs) ≤ sum_by waits jobs
-waits-begun now id parts jobs = omega (arith, sum_by-map waits (started_as now id parts) jobs, sum_by-le-sum_by (λ job. waits (started_as now id parts job)) waits jobs (λ job. grind (arith, nat_tests)))
+waits-begun now id parts jobs =
+    omega (arith, sum_by-map waits (started_as now id parts) jobs, sum_by-le-sum_by (λ job. waits (started_as now id parts job)) waits jobs (λ job. grind (arith, nat_tests)))
 
 fewer : (rooms : List NodeRoom) (now : ℕ) (jobs : List JobRecord) (plan : List Placed) → All (λ (placed : Placed). Contains (pending_ids jobs) placed.id) plan
     → (length (started rooms now jobs plan).starts ≡ 0) ⊎ (sum_by waits (started rooms now jobs plan).jobs < sum_by waits jobs)
@@ -399,7 +431,8 @@ fewer rooms now jobs (placed ∷ later) each =
     let one = Any-kept (λ (job : JobRecord). job.id) (λ (job : JobRecord). is_pending job.state) placed.id jobs (All-head named placed later each) in
     let less = sum_by-more (λ job. waits (change job)) waits jobs (λ job. grind (arith, nat_tests)) (lost start.parts one) in
     let begun_jobs = begun now jobs start in
-    let most = started-keeps (λ some. sum_by waits some ≤ sum_by waits begun_jobs) rooms now begun_jobs later (λ k d below due some parts few. omega (arith, few, waits-begun now (get_or later k d).id parts some)) (omega arith) in
+    let most = started-keeps (λ some. sum_by waits some ≤ sum_by waits begun_jobs) rooms now begun_jobs later
+    (λ k d below due some parts few. omega (arith, few, waits-begun now (get_or later k d).id parts some)) (omega arith) in
     elim (cases_Bool (eqb placed.start now)) [
       | inr after ↦ rw after (fewer rooms now jobs later (All-tail named placed later each))
       | inl due ↦ rw due (inr (omega (arith, most, sum_by-map waits change jobs, less)))
@@ -409,10 +442,9 @@ fewer rooms now jobs (placed ∷ later) each =
     lost parts (k, job, inside, is, (here, pending)) = (k, job, inside, is, rw (eq-eqb job.id placed.id here, pending) (omega arith))
 
 -- And only an idle pass does.
-pub unchanged-idle : ((base : BaseView) (ranked : List PlanJob) (now : ℕ) → All (λ (placed : Placed). Contains (map (λ (job : PlanJob). job.id) ranked) placed.id) (plan_of base ranked now))
-    → (s : State) (now : ℕ) → pass_after s now ≡ s → is_idle s now ≡ true
-unfolding is_idle planned
-unchanged-idle ids s now same =
+pub unchanged-idle : OrderMoves JobRecord → PlanIds → (s : State) (now : ℕ) → pass_after s now ≡ s → is_idle s now ≡ true
+unfolding is_idle
+unchanged-idle moves ids s now same =
     let rooms = map room_of s.nodes in
     let age = s.settings.min_job_age in
     let plan = placements s now in
@@ -420,7 +452,7 @@ unchanged-idle ids s now same =
     let jobs : (outcome s now).jobs ≡ s.jobs = ap (λ (after : State). after.jobs) same in
     let waiting = left-less waits (λ job. 0) (timed_out now) (is_old age now) s.jobs (λ job. grind (arith, nat_tests, running-not_ended job.state)) in
     let running = left-less runs (λ job. cond (is_over now job) 1 0) (timed_out now) (is_old age now) s.jobs (λ job. grind (arith, nat_tests)) in
-    elim (fewer rooms now left.jobs plan (λ k d below. rw (← ranked-ids left now) (ids (base_of left now) (ranked left now) now k d below))) [
+    elim (fewer rooms now left.jobs plan (plan-waits moves ids left now)) [
       | inr less ↦ absurd (omega (arith, less, waiting, ap (sum_by waits) jobs))
       | inl none ↦
           let all : left.jobs ≡ s.jobs = sym (none-start rooms now left.jobs plan none) ∙ jobs in
@@ -438,5 +470,6 @@ origins s now =
     (λ job is. by_limit Origin now job (λ over running runs. absurd (both_ways false refl runs)) (λ within runs. inl is)) s.jobs (All-contains_itself s.jobs) in
     started-keeps (All Origin) (map room_of s.nodes) now (ready s now).jobs plan
     (λ k d below due some parts each. let placed = get_or plan k d in All-map Origin (started_as now placed.id parts) some (All-weaker Origin (λ job. Origin (started_as now placed.id parts job))
-    (λ job has. cond_both (eqb job.id placed.id) (changed (Start now parts) job) job Origin (λ same runs. inr (k, placed, below, get_or_default plan k placed d below, (sym (eqb-true job.id placed.id same), due))) (λ other. has)) some each))
+    (λ job has. cond_both (eqb job.id placed.id) (changed (Start now parts) job) job Origin
+    (λ same runs. inr (k, placed, below, get_or_default plan k placed d below, (sym (eqb-true job.id placed.id same), due))) (λ other. has)) some each))
     (All-filter (λ job. not (is_old s.settings.min_job_age now job)) Origin (map (timed_out now) s.jobs) (All-map Origin (timed_out now) s.jobs ran))

@@ -23,6 +23,7 @@ pub record AddsParts (before : List Bool) (parts : List Part) (after : List Bool
 abbrev pub part_by : List NodeRoom → List Bool → Share → Part
 part_by rooms held share = record {
   node = share.node;
-  cpus = take share.cpus (filter (λ cpu. not (is_held held share.node cpu)) (range_with_len 0 (cpus_of rooms share.node)));
+  cpus = take share.cpus
+      (filter (λ cpu. not (is_held held share.node cpu)) (range_with_len 0 (cpus_of rooms share.node)));
   mem = share.mem;
 }

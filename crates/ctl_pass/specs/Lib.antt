@@ -1,4 +1,5 @@
 pub mod Limits
+pub mod Reasons
 pub mod Readiness
 pub mod Starting
 pub mod SamePlans

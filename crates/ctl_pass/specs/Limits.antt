@@ -31,11 +31,15 @@ timed_out now job = if is_over now job then changed (Leave Timeout now None) job
 abbrev pub is_old : ℕ → ℕ → JobRecord → Bool
 is_old age now job = is_ended job.state && (not (nat_eq age 0) && nat_le (unwrap_or job.ended 0 + age) now)
 
--- until when a job holds its parts: to its limit while it runs, and half a minute more once that is over or it is completing
+-- until when a job holds its parts: to its limit while it runs, and half a minute more once that is over or it is
+-- completing
 abbrev pub hold_end : ℕ → JobRecord → ℕ
 hold_end now job = if is_running job.state && nat_lt now (deadline job) then deadline job else now + 30
 
 -- what the job holds
 abbrev pub holds_of_job : ℕ → JobRecord → List Hold
 holds_of_job now job =
-    map (λ (part : Part). record { node = part.node; from = unwrap_or job.started 0; until = hold_end now job; cpus = length part.cpus; mem = part.mem }) job.parts
+    let from = unwrap_or job.started 0 in
+    let until = hold_end now job in
+    map (λ (part : Part). record { node = part.node; from = from; until = until; cpus = length part.cpus; mem = part.mem })
+    job.parts

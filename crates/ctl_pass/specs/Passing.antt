@@ -37,7 +37,9 @@ pass_refusals s user = refused_if (not (is_privileged s user)) AccessDenied ∷ 
 abbrev pub pass_made : State → ℕ → Verdict
 pass_made s now =
     if is_idle s now then Stays else
-    Makes (Passed (count_by (is_over now) s.jobs) (length (outcome s now).starts) (length (outcome s now).stays)) (pass_after s now)
+    Makes
+    (Passed (count_by (is_over now) s.jobs) (length (outcome s now).starts) (length (outcome s now).stays))
+    (pass_after s now)
 
 -- how many jobs a pass plans
 abbrev pub jobs_planned : State → ℕ → ℕ

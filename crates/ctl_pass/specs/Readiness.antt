@@ -1,14 +1,19 @@
 -- The state that a pass plans, and the plan.
-use Rattle.std.specs.Prelude.{ℕ, ◌+◌, ◌*◌, List, map, length, filter, flat_map}
+use Rattle.std.specs.Prelude.{ℕ, ◌+◌, ◌*◌, Bool, ◌&&◌, nat_lt, is_none, unwrap_or, List, map, filter, filter_map, flat_map, Option, Some, option_map}
+use Rattle.slurm_text.specs.Options.{◌>>=◌}
 use Rattle.backfill_planner.specs.declared.Placed.{Placed}
 use Rattle.backfill_planner.specs.declared.job.PlanJob.{PlanJob}
 use Rattle.backfill_planner.specs.Bases.{BaseView}
 use Rattle.backfill_planner.specs.Plans.{plan_of}
+use Rattle.partitions.specs.declared.record.PartRecord.{PartRecord}
+use Rattle.partitions.specs.Partitions.{bounds_of}
 use Rattle.ctl_state.specs.declared.record.JobRecord.{JobRecord}
 use Rattle.ctl_state.specs.JobStates.{is_pending}
 use Rattle.ctl_state.specs.Events.{those_left}
 use Rattle.ctl_state.specs.Planning.{room_of, plan_job}
-use Rattle.ctl_state.specs.State.{State}
+use Rattle.ctl_state.specs.Ordered.{ordered_by}
+use Rattle.ctl_state.specs.State.{State, partition_of}
+use Rattle.ctl_pass.specs.Reasons.{hindrance}
 use Rattle.ctl_pass.specs.Limits.{timed_out, is_old, holds_of_job}
 
 -- the state that a pass plans: the jobs past their limits are completing, and old ones are gone
@@ -23,13 +28,32 @@ base_of s now = record {
   horizon = now + s.settings.bf_window * 60;
 }
 
--- the jobs that can be planned, highest in rank first: the pending ones by their numbers
-unfoldable pub candidates : State → ℕ → List JobRecord
-candidates s now = filter (λ (job : JobRecord). is_pending job.state) s.jobs
+-- a pending job can be planned where nothing hinders it
+abbrev pub is_candidate : State → JobRecord → Bool
+is_candidate s job = is_pending job.state && is_none (hindrance s job)
 
--- what they need
+-- the tier of the job's partition
+abbrev pub tier_of : State → JobRecord → ℕ
+tier_of s job = unwrap_or (option_map (λ (partition : PartRecord). partition.conf.tier) (partition_of s job)) 0
+
+-- one job is higher in rank than another: of a higher tier; of one tier, jobs rank by their numbers
+abbrev pub is_higher : State → JobRecord → JobRecord → Bool
+is_higher s one other = nat_lt (tier_of s other) (tier_of s one)
+
+-- the jobs that can be planned, highest in rank first
+unfoldable pub candidates : State → ℕ → List JobRecord
+candidates s now = ordered_by (is_higher s) (filter (is_candidate s) s.jobs)
+
+-- what a job needs in its partition
+unfoldable pub needs_of : State → JobRecord → Option PlanJob
+needs_of s job = do
+  partition ← partition_of s job
+  bounds ← bounds_of partition job.desc
+  Some (plan_job s.nodes partition bounds job)
+
+-- what the candidates need
 unfoldable pub ranked : State → ℕ → List PlanJob
-ranked s now = map (plan_job (length s.nodes)) (candidates s now)
+ranked s now = filter_map (needs_of s) (candidates s now)
 
 -- the plan from scratch
 unfoldable pub planned : State → ℕ → List Placed

@@ -13,7 +13,11 @@ use Rattle.ctl_pass.specs.declared.starts.JobStart.{JobStart}
 
 -- the part that a share becomes: with the lowest processors of the node that stand in no part
 abbrev pub part_of : List NodeRoom → List JobRecord → Share → Part
-part_of rooms jobs share = record { node = share.node; cpus = take share.cpus (free_ids rooms (parts_of jobs) share.node); mem = share.mem }
+part_of rooms jobs share = record {
+  node = share.node;
+  cpus = take share.cpus (free_ids rooms (parts_of jobs) share.node);
+  mem = share.mem;
+}
 
 -- the start of a placement beside what these jobs hold
 abbrev pub start_of : List NodeRoom → List JobRecord → Placed → JobStart
@@ -29,12 +33,17 @@ pub record Started : Type 0 where
   pub starts : List JobStart
   pub stays : List Placed
 
--- each placement in order: it starts where it is planned at once, beside what the jobs hold with those started before it
+-- each placement in order: it starts where it is planned at once, beside what the jobs hold with those started before
+-- it
 unfoldable pub started : List NodeRoom → ℕ → List JobRecord → List Placed → Started
 started rooms now jobs [] = record { jobs = jobs; starts = []; stays = [] }
 started rooms now jobs (placed ∷ later) =
     if nat_eq placed.start now
-    then (let start = start_of rooms jobs placed in let rest = started rooms now (begun now jobs start) later in record rest { starts = start ∷ rest.starts })
+    then (
+    let start = start_of rooms jobs placed in
+    let rest = started rooms now (begun now jobs start) later in
+    record rest { starts = start ∷ rest.starts }
+    )
     else (let rest = started rooms now jobs later in record rest { stays = placed ∷ rest.stays })
 
 -- the part has all that the share was planned

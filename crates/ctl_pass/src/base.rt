@@ -1,11 +1,8 @@
-//! What a plan begins with, and the jobs that it ranks.
+//! What a plan begins with.
 
-ghost use Rattle.std.specs.Prelude.{◌≡◌, ◌≤◌, ◌<◌, ◌++◌, All, IfOk, OnOk, length, map, filter, flat_map, unwrap_or};
-ghost use Rattle.backfill_planner.specs.declared.job.PlanJob.{PlanJob};
+ghost use Rattle.std.specs.Prelude.{◌≡◌, ◌≤◌, ◌++◌, All, IfOk, OnOk, length, flat_map, unwrap_or};
 ghost use Rattle.ctl_state.specs.declared.record.JobRecord.{JobRecord};
-ghost use Rattle.ctl_state.specs.JobStates;
 ghost use Rattle.ctl_state.specs.Events.{those_left};
-ghost use Rattle.ctl_state.specs.Planning;
 ghost use Rattle.ctl_state.specs.Soundness.{IsSound};
 ghost use Rattle.ctl_state.specs.State.{state_of, last_moment};
 ghost use Rattle.ctl_pass.specs.Limits;
@@ -13,10 +10,9 @@ ghost use Rattle.ctl_pass.specs.Readiness;
 
 use crate::laws::what_a_pass_plans_is_sound;
 use crate::limits::{hold_end, is_old};
-use backfill_planner::{Base, PlanJob};
+use backfill_planner::Base;
 use ctl_state::cluster::Cluster;
-use ctl_state::jobs::is_pending;
-use ctl_state::planning::{plan_job, rooms_of};
+use ctl_state::planning::rooms_of;
 use ctl_state::record::JobRecord;
 use resource_profile::Hold;
 use slurm_text::items::Items;
@@ -27,7 +23,7 @@ use std::alloc::Global;
 fn count_of(cpus: &CpuIds) -> u32
     ensures { result ≡ length cpus.now }
 {
-    cpus.as_slice().len() as u32
+    cpus.iter().len() as u32
 }
 
 // Adds what the job holds.
@@ -78,39 +74,11 @@ pub(crate) fn base_of(alloc: Global, cluster: &Cluster, now: u64) -> Result<Base
 {
     what_a_pass_plans_is_sound();
     let age = cluster.settings.min_job_age.get();
-    let rooms = rooms_of(alloc, &cluster.nodes)?;
+    let rooms = rooms_of(alloc, cluster.nodes.records())?;
     let holds = holds_of(alloc, age, now, &cluster.jobs)?;
     Ok(Base {
         rooms: Items::from_vec(rooms),
         holds: Items::from_vec(holds),
         horizon: now + cluster.settings.bf_window.get() * 60,
     })
-}
-
-// What the pending jobs need of so many nodes, in the order of the jobs.
-fn needs_of(alloc: Global, count: u32, jobs: &[JobRecord]) -> Result<Vec<PlanJob>, Memory>
-    ensures ranked { IfOk result (λ ranked. ranked.items
-        ≡ map (Planning.plan_job count) (filter (λ (job : JobRecord). JobStates.is_pending job.state) jobs.now)) }
-    ensures nodes { IfOk result (λ ranked. All (λ (job : PlanJob). All (λ node. node < count) job.nodes) ranked.items) }
-    ensures tasks { IfOk result (λ ranked. All (λ (job : PlanJob). 1 ≤ job.need.tasks) ranked.items) }
-{
-    let mut ranked = Vec::new(alloc);
-    for job in jobs {
-        if is_pending(job) {
-            ranked.push(plan_job(alloc, count, job)?)?;
-        }
-    }
-    Ok(ranked)
-}
-
-/// What the jobs need that the pass plans, highest in rank first. Linear in the jobs and the nodes of each.
-pub(crate) fn rank(alloc: Global, cluster: &Cluster, now: u64) -> Result<Vec<PlanJob>, Memory>
-    requires { length cluster.now.nodes.items ≤ 1024 }
-    ensures ranked { IfOk result (λ ranked.
-        ranked.items ≡ Readiness.ranked (Readiness.ready (state_of cluster.now) now) now) }
-    ensures nodes { IfOk result (λ ranked.
-        All (λ (job : PlanJob). All (λ node. node < length cluster.now.nodes.items) job.nodes) ranked.items) }
-    ensures tasks { IfOk result (λ ranked. All (λ (job : PlanJob). 1 ≤ job.need.tasks) ranked.items) }
-{
-    needs_of(alloc, cluster.nodes.len() as u32, &cluster.jobs)
 }

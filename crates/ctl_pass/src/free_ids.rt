@@ -11,7 +11,8 @@ ghost use Rattle.ctl_state.specs.Soundness.{IsNode};
 ghost use Rattle.ctl_pass.specs.HeldIds.{ShowsParts, AddsParts, is_held, part_by};
 
 use backfill_planner::Share;
-use ctl_state::record::{JobRecord, NodeRecord, Part};
+use ctl_state::record::{JobRecord, Part};
+use node_state::record::NodeRecord;
 use slurm_text::memory_error::Memory;
 use slurm_text::plain::orders::CpuIds;
 use std::alloc::Global;
@@ -25,7 +26,7 @@ fn hold(held: &mut [bool], part: &Part)
     ensures { AddsParts held.old (part.now ∷ []) held.new }
 {
     let first = part.node as usize * WIDTH;
-    for cpu in part.cpus.as_slice() {
+    for cpu in part.cpus.iter() {
         held[first + *cpu as usize] = true;
     }
 }

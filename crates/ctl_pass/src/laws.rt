@@ -14,9 +14,11 @@ ghost use Rattle.ctl_pass.specs.Passing.{outcome, pass_after, is_idle};
 
 use backfill_planner::laws::{parts_are_apart, placements_are_of_ranked_jobs, starts_fit};
 use ctl_state::laws::{
-    every_change_but_a_start_lets_go, jobs_are_kept, letting_go_keeps_all_sound, others_wait_on,
+    a_stable_sort_makes_the_order, every_change_but_a_start_lets_go, jobs_are_kept,
+    jobs_get_nodes_that_are_there, letting_go_keeps_all_sound, others_wait_on,
     plans_keep_all_sound, taking_keeps_all_sound, what_is_taken_is_counted,
 };
+use ctl_state::record::JobRecord;
 
 /// A pass keeps all sound.
 pub fn a_pass_keeps_all_sound()
@@ -26,6 +28,8 @@ pub fn a_pass_keeps_all_sound()
     every_change_but_a_start_lets_go();
     jobs_are_kept();
     letting_go_keeps_all_sound();
+    a_stable_sort_makes_the_order::<JobRecord>();
+    jobs_get_nodes_that_are_there();
     placements_are_of_ranked_jobs();
     parts_are_apart();
     starts_fit();
@@ -40,6 +44,7 @@ pub fn an_idle_pass_changes_nothing()
     ensures idle { (s : State) (now : ℕ) → is_idle s now ≡ true → pass_after s now ≡ s }
     ensures only { (s : State) (now : ℕ) → pass_after s now ≡ s → is_idle s now ≡ true }
 {
+    a_stable_sort_makes_the_order::<JobRecord>();
     placements_are_of_ranked_jobs();
 }
 
@@ -52,6 +57,8 @@ pub fn starts_get_all_they_planned()
     every_change_but_a_start_lets_go();
     jobs_are_kept();
     letting_go_keeps_all_sound();
+    a_stable_sort_makes_the_order::<JobRecord>();
+    jobs_get_nodes_that_are_there();
     placements_are_of_ranked_jobs();
     parts_are_apart();
     starts_fit();
@@ -84,4 +91,6 @@ pub fn what_a_pass_plans_is_sound()
 pub fn few_start_or_stay()
     ensures { (s : State) (now : ℕ) → IsSound s
         → length (outcome s now).starts + length (outcome s now).stays ≤ last_job_id + 1 }
-{}
+{
+    a_stable_sort_makes_the_order::<JobRecord>();
+}

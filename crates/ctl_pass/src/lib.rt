@@ -6,8 +6,12 @@ mod free_ids;
 pub mod laws;
 mod limits;
 mod pass;
+mod ranking;
+mod reasons;
 mod same_plans;
 mod starts;
 
 pub use pass::{Decided, act, decide, is_idle, refusal_of};
+pub use ranking::highest;
+pub use reasons::hindrance;
 pub use starts::JobStart;

@@ -12,8 +12,9 @@ ghost use Rattle.ctl_pass.specs.Starting.{begun};
 ghost use Rattle.ctl_pass.specs.SamePlans.{same_plans};
 ghost use Rattle.ctl_pass.specs.Passing;
 
-use crate::base::{base_of, rank};
+use crate::base::base_of;
 use crate::limits::{any_old, count_over, drop_old, time_out};
+use crate::ranking::rank;
 use crate::same_plans::are_same;
 use crate::starts::{JobStart, begin, split};
 use backfill_planner::{Placed, plan};
@@ -47,7 +48,8 @@ pub fn refusal_of(cluster: &Cluster, user: &Name) -> Option<Refusal>
     }
 }
 
-/// What a pass at its raised moment does. Linear in jobs, parts and the nodes' processors, beside what its plan costs.
+/// What a pass at its raised moment does. Linear in jobs, parts, the nodes' processors and for each candidate its nodes,
+/// beside what its plan costs; the nodes of each partition are sorted, and where tiers rise the candidates.
 /// It counts a step for each job that it plans, and after want of memory at most that many.
 pub fn decide<L>(
     alloc: Global,

@@ -19,8 +19,10 @@ use backfill_planner::Placed;
 use backfill_planner::laws::placements_are_of_ranked_jobs;
 use ctl_state::change::{Change, apply};
 use ctl_state::cluster::Cluster;
-use ctl_state::jobs::place_of;
-use ctl_state::record::{JobRecord, NodeRecord, Part};
+use ctl_state::jobs::place_of_job;
+use ctl_state::laws::a_stable_sort_makes_the_order;
+use ctl_state::record::{JobRecord, Part};
+use node_state::record::NodeRecord;
 use slurm_text::items::Items;
 use slurm_text::memory_error::Memory;
 use std::alloc::Global;
@@ -80,16 +82,18 @@ fn starts_of(
     requires in_time { now ≤ last_moment }
     requires plan { placements.now ≡ Readiness.placements (state_of cluster.now) now }
     requires parts { All (λ (placed : Placed).
-        AreParts (map room_of cluster.now.nodes.items) placed.parts) placements.now }
+        AreParts (map room_of cluster.now.nodes.records) placed.parts) placements.now }
     ensures { IfOk result (λ starts. starts.items ≡ (Passing.outcome (state_of cluster.now) now).starts) }
 {
     if !any_starts(now, placements) {
         return Ok(Vec::new(alloc));
     }
     what_a_pass_plans_is_sound();
+    a_stable_sort_makes_the_order::<JobRecord>();
     placements_are_of_ranked_jobs();
-    let mut held = held_ids(alloc, cluster.nodes.len(), &cluster.jobs)?;
-    starts_beside(alloc, now, &cluster.nodes, &mut held, placements)
+    let nodes = cluster.nodes.records();
+    let mut held = held_ids(alloc, nodes.len(), &cluster.jobs)?;
+    starts_beside(alloc, now, nodes, &mut held, placements)
 }
 
 // The placements that begin later.
@@ -114,7 +118,7 @@ pub(crate) fn split(
     requires in_time { now ≤ last_moment }
     requires plan { placements.items ≡ Readiness.placements (state_of cluster.now) now }
     requires parts { All (λ (placed : Placed).
-        AreParts (map room_of cluster.now.nodes.items) placed.parts) placements.items }
+        AreParts (map room_of cluster.now.nodes.records) placed.parts) placements.items }
     ensures starts { IfOk result (λ both. both.0.items ≡ (Passing.outcome (state_of cluster.now) now).starts) }
     ensures stays { IfOk result (λ both. both.1.items ≡ (Passing.outcome (state_of cluster.now) now).stays) }
 {
@@ -127,7 +131,7 @@ fn begin_one(alloc: Global, now: u64, jobs: &mut [JobRecord], start: JobStart)
     requires { HaveRisingIds jobs.old }
     ensures { jobs.new ≡ Starting.begun now jobs.old start }
 {
-    if let Some(place) = place_of(jobs, start.id) {
+    if let Some(place) = place_of_job(jobs, start.id) {
         let change = Change::Start {
             moment: now,
             parts: start.parts,

@@ -1,9 +1,9 @@
 -- The starts in order rise and are the starts that were given; sorted and without repeats they are the same.
-use Rattle.std.proofs.Common.{◌≡◌, ◌∙◌, Ordering, Less, Equal, Greater, Bool, true, false, ◌&&◌, ◌||◌, nat_eq, List, [], ◌∷◌, get_or, map, Option, Some, None, is_some, refl, sym, ap, subst, arith, inl, inr}
+use Rattle.std.proofs.Common.{◌≡◌, ◌∙◌, Ordering, Less, Bool, true, ◌||◌, List, [], ◌∷◌, map, Option, is_some, refl, sym, ap, subst, arith}
 use Rattle.std.specs.Prelude.{T}
 use Rattle.std.specs.Cmp.{IsTotalOrder}
 use Rattle.std.specs.FinMap.Entries.{find, is_sorted, is_some-find, same_entries}
-use Rattle.std.specs.List.{AllByRecursion, AllPairs, Contains, dedup, list_any}
+use Rattle.std.specs.List.{AllByRecursion, Contains, dedup, list_any}
 use Rattle.std.specs.List.Sorted.{IsPermutation, IsSorted, IsStrictlySortedBy}
 use Rattle.std.specs.Ordering.{eq_by_cmp, is_eq, is_lt, ordering_then, nat_cmp}
 use Rattle.std.proofs.lemmas.Bool.{and_from, and_parts, cond_both}
@@ -15,16 +15,13 @@ use Rattle.std.proofs.lemmas.Map.Keys.{Less-from_sorted}
 use Rattle.std.proofs.lemmas.Map.Views.{Contains-from_any, list_any-from_Contains}
 use Rattle.slurm_text.specs.declared.plain.report.Start.{Start}
 use Rattle.slurm_text.specs.Starts.{is_before, InOrder}
-use Rattle.ctl_report.specs.Ordering.{with_start, in_order}
+use Rattle.ctl_report.specs.Ordering.{is_same, with_start, in_order}
 
 -- the order of the starts
 abbrev by_job : Start → Start → Ordering
 by_job one other = ordering_then (nat_cmp one.id other.id) (nat_cmp one.number other.number)
 
 -- the order is total, and only a start ties with itself
-abbrev pub is_same : Start → Start → Bool
-is_same one other = nat_eq one.id other.id && nat_eq one.number other.number
-
 total : IsTotalOrder by_job
 total = then_total (on_total (λ (start : Start). start.id) nat_cmp_total) (on_total (λ (start : Start). start.number) nat_cmp_total)
 
@@ -38,15 +35,18 @@ less : (one other : Start) → is_before one other ≡ true → by_job one other
 less one other e = grind (arith, nat_tests)
 
 -- one more start at its place
-all-further : (one other : Start) (starts : List Start) → by_job one other ≡ Less → AllByRecursion (λ third. by_job other third ≡ Less) starts → AllByRecursion (λ third. by_job one third ≡ Less) starts
+all-further : (one other : Start) (starts : List Start) → by_job one other ≡ Less → AllByRecursion (λ third. by_job other third ≡ Less) starts
+    → AllByRecursion (λ third. by_job one third ≡ Less) starts
 all-further one other [] h all = tt
 all-further one other (third ∷ later) h all = (grind (arith, nat_tests), all-further one other later h all.1)
 
-all-with : (one start : Start) (starts : List Start) → by_job one start ≡ Less → AllByRecursion (λ other. by_job one other ≡ Less) starts → AllByRecursion (λ other. by_job one other ≡ Less) (with_start start starts)
+all-with : (one start : Start) (starts : List Start) → by_job one start ≡ Less → AllByRecursion (λ other. by_job one other ≡ Less) starts
+    → AllByRecursion (λ other. by_job one other ≡ Less) (with_start start starts)
 all-with one start [] h all = (h, tt)
 all-with one start (other ∷ later) h all =
     let Above = AllByRecursion (λ other. by_job one other ≡ Less) in
-    cond_both (is_before start other) (start ∷ other ∷ later) _ Above (λ first. (h, all)) (λ behind. cond_both (is_before other start) (other ∷ with_start start later) (other ∷ later) Above (λ more. (all.0, all-with one start later h all.1)) (λ there. all))
+    cond_both (is_before start other) (start ∷ other ∷ later) _ Above (λ first. (h, all))
+    (λ behind. cond_both (is_before other start) (other ∷ with_start start later) (other ∷ later) Above (λ more. (all.0, all-with one start later h all.1)) (λ there. all))
 
 sorted-with : (start : Start) (starts : List Start) → IsStrictlySortedBy by_job starts → IsStrictlySortedBy by_job (with_start start starts)
 unfolding IsStrictlySortedBy
@@ -54,7 +54,8 @@ sorted-with start [] h = (tt, tt)
 sorted-with start (one ∷ later) h =
     let Rising = IsStrictlySortedBy by_job in
     cond_both (is_before start one) (start ∷ one ∷ later) _ Rising (λ first. ((less start one first, all-further start one later (less start one first) h.0), h))
-    (λ behind. cond_both (is_before one start) (one ∷ with_start start later) (one ∷ later) Rising (λ more. (all-with one start later (less one start more) h.0, sorted-with start later h.1)) (λ there. h))
+    (λ behind. cond_both (is_before one start) (one ∷ with_start start later) (one ∷ later) Rising
+    (λ more. (all-with one start later (less one start more) h.0, sorted-with start later h.1)) (λ there. h))
 
 rise : (starts : List Start) → IsStrictlySortedBy by_job (in_order starts)
 unfolding in_order IsStrictlySortedBy

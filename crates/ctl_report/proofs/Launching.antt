@@ -1,5 +1,5 @@
 -- The launches come in the order of the jobs, whose numbers rise.
-use Rattle.std.proofs.Common.{ℕ, suc, ◌≡◌, ◌<◌, refl, length, true, false, ◌&&◌, not, ◌||◌, is_some, List, [], ◌∷◌, All, AllPairs, Option, Some, None, get_or, ap, sym, arith, inl, inr}
+use Rattle.std.proofs.Common.{ℕ, suc, ◌≡◌, ◌<◌, refl, true, ◌&&◌, not, ◌||◌, is_some, List, [], ◌∷◌, All, Option, Some, None, arith}
 use Rattle.std.specs.Prelude.{option_map}
 use Rattle.std.specs.List.{find, filter_map, cons_option}
 use Rattle.std.proofs.lemmas.Bool.{cond_both}
@@ -9,7 +9,6 @@ use Rattle.std.proofs.lemmas.List.Kept.{AllPairs-cons}
 use Rattle.slurm_text.specs.declared.plain.report.Report.{Report}
 use Rattle.slurm_text.specs.declared.plain.orders.Launch.{Launch}
 use Rattle.slurm_text.specs.Starts.{is_before, LaunchesInOrder}
-use Rattle.ctl_state.specs.declared.record.Part.{Part}
 use Rattle.ctl_state.specs.declared.record.JobRecord.{JobRecord}
 use Rattle.ctl_state.specs.Holding.{is_on}
 use Rattle.ctl_state.specs.JobStates.{is_running}
@@ -27,17 +26,21 @@ launch-of node report job = cond_both (is_running job.state && not (is_listed re
     (λ launches. elim (find (is_on node) job.parts) as (λ part. IsOf job (option_map (launch_part node job) part)) [ None ↦ tt | Some part ↦ refl ]) (λ other. tt)
 
 -- all launches are behind a number that all jobs are behind
-with-one : (low : ℕ) (job : JobRecord) (launch : Option Launch) (later : List Launch) → low < job.id → IsOf job launch → All (λ (one : Launch). low < one.start.id) later → All (λ (one : Launch). low < one.start.id) (cons_option launch later)
+with-one : (low : ℕ) (job : JobRecord) (launch : Option Launch) (later : List Launch) → low < job.id → IsOf job launch
+    → All (λ (one : Launch). low < one.start.id) later → All (λ (one : Launch). low < one.start.id) (cons_option launch later)
 with-one low job None later above of all = all
 with-one low job (Some launch) later above of all = All-cons (λ (one : Launch). low < one.start.id) launch later (omega (arith, above, of)) all
 
-above-all : (low node : ℕ) (report : Report) (jobs : List JobRecord) → All (λ (job : JobRecord). low < job.id) jobs → All (λ (one : Launch). low < one.start.id) (filter_map (launch_of node report) jobs)
+above-all : (low node : ℕ) (report : Report) (jobs : List JobRecord) → All (λ (job : JobRecord). low < job.id) jobs
+    → All (λ (one : Launch). low < one.start.id) (filter_map (launch_of node report) jobs)
 above-all low node report [] above = All-nil (λ (one : Launch). low < one.start.id)
 above-all low node report (job ∷ jobs) above =
     let higher : JobRecord → Type 0 = λ one. low < one.id in
-    with-one low job (launch_of node report job) (filter_map (launch_of node report) jobs) (All-head higher job jobs above) (launch-of node report job) (above-all low node report jobs (All-tail higher job jobs above))
+    with-one low job (launch_of node report job) (filter_map (launch_of node report) jobs) (All-head higher job jobs above) (launch-of node report job)
+    (above-all low node report jobs (All-tail higher job jobs above))
 
-in-order-with : (job : JobRecord) (launch : Option Launch) (later : List Launch) → IsOf job launch → All (λ (one : Launch). job.id < one.start.id) later → LaunchesInOrder later → LaunchesInOrder (cons_option launch later)
+in-order-with : (job : JobRecord) (launch : Option Launch) (later : List Launch) → IsOf job launch
+    → All (λ (one : Launch). job.id < one.start.id) later → LaunchesInOrder later → LaunchesInOrder (cons_option launch later)
 in-order-with job None later of above order = order
 in-order-with job (Some launch) later of above order =
     AllPairs-cons (λ (one other : Launch). is_before one.start other.start ≡ true) launch later (λ k d below. let further = above k d below in grind (arith, nat_tests)) order

@@ -1,7 +1,6 @@
 -- What a report makes of a job: whether it runs on, that it lets go, and that whoever waits stays as he is.
-use Rattle.std.proofs.Common.{ℕ, ◌≡◌, ◌≤◌, ◌∙◌, Bool, true, false, ◌&&◌, ◌||◌, not, cond, List, [], ◌∷◌, map, All, get_or, Option, Some, None, is_some, refl, sym, ap, arith, inl, inr}
-use Rattle.std.specs.List.{list_any, filter, Contains}
-use Rattle.std.proofs.Math.Bool.{and-true, and-false, and_assoc}
+use Rattle.std.proofs.Common.{ℕ, zero, suc, ◌≡◌, ◌≤◌, Bool, true, false, ◌&&◌, not, List, [], ◌∷◌, map, All, get_or, Option, Some, None, is_some, refl, ap, arith, inl, inr}
+use Rattle.std.specs.List.{AllZip, list_any, filter, Contains}
 use Rattle.std.proofs.lemmas.Bool.{cases_Bool, both_ways, cond_both}
 use Rattle.std.proofs.lemmas.Bool.Decides.{nat_tests}
 use Rattle.std.proofs.lemmas.List.Elements.{Contains-append_left, Contains-append_right, Contains-append_cases, filter_agree}
@@ -9,39 +8,23 @@ use Rattle.slurm_text.specs.declared.plain.report.Done.{Done}
 use Rattle.slurm_text.specs.declared.plain.report.Start.{Start}
 use Rattle.slurm_text.specs.declared.plain.report.Report.{Report}
 use Rattle.slurm_text.specs.declared.plain.state.JobState.{JobState}
-use Rattle.slurm_text.specs.declared.plain.state.JobState.TheVariants.{Pending, Running, Completing, Ended}
-use Rattle.slurm_text.specs.declared.plain.state.Final.{Final}
-use Rattle.slurm_text.specs.declared.plain.state.Final.TheVariants.{Completed, Cancelled, Failed, Timeout, NodeFail, Requeue}
-use Rattle.ctl_state.specs.declared.record.NodeRecord.{NodeRecord}
-use Rattle.ctl_state.specs.declared.record.Part.{Part}
+use Rattle.node_state.specs.declared.record.NodeRecord.{NodeRecord}
+use Rattle.node_state.specs.Laws.{ConfsStay, ReportsSetNoneDown}
+use Rattle.node_state.specs.Nodes.{is_up}
 use Rattle.ctl_state.specs.declared.record.JobRecord.{JobRecord}
 use Rattle.ctl_state.specs.declared.change.Change.TheVariants.{Leave, DropPart}
-use Rattle.ctl_state.specs.Changes.{changed, off_node, with_left}
+use Rattle.ctl_state.specs.Changes.{off_node}
 use Rattle.ctl_state.specs.Events.{LetsGo, those_left}
-use Rattle.ctl_state.specs.Holding.{parts_off}
 use Rattle.ctl_state.specs.JobStates.{is_pending, is_running}
 use Rattle.ctl_state.specs.Laws.{LettingGo, ChangesLetGo, KeptLater, KeptOn, LetsGoNothing, LetsGoTwice, NodesStay}
-use Rattle.ctl_state.specs.Soundness.{IsSound, IsKept, PlansPending, pending_ids}
+use Rattle.ctl_state.specs.Soundness.{IsSound, IsKept, PlansPending, is_up_at, pending_ids}
 use Rattle.ctl_state.specs.State.{State, last_moment}
 use Rattle.ctl_state.specs.Verdicts.{stamped}
-use Rattle.ctl_report.specs.Reporting.{is_named, heard_nodes, is_last_start, is_listed, done_of, is_at, is_batch_host, final_of, told_over, after_told, reported, report_after}
-use Rattle.ctl_report.specs.Ordering.{runs_start}
-use Rattle.ctl_report.proofs.InOrder.{is_same}
-
--- the job runs on the node, before and after the report
-abbrev pub stays : ℕ → Report → JobRecord → Bool
-stays node report job = is_running job.state && (is_at node job && not (is_batch_host node job.parts && is_some (done_of report job)))
+use Rattle.ctl_report.specs.Reporting.{heard_nodes, is_listed, done_of, is_at, is_batch_host, final_of, script_over, told_over, after_told, reported, report_after}
+use Rattle.ctl_report.specs.Ordering.{is_same, killed, runs_start, start_of, stays}
 
 abbrev runs_at : ℕ → JobRecord → Bool
 runs_at node job = is_running job.state && is_at node job
-
--- the job's last start
-abbrev pub start_of : JobRecord → Start
-start_of job = record { id = job.id; number = job.starts }
-
--- the job whose script is over, where it ran
-abbrev over : ℕ → ℕ → Done → JobRecord → JobRecord
-over now node done job = cond (is_batch_host node job.parts) (changed (Leave (final_of done.exit) now (Some done.exit)) job) job
 
 -- who leaves a node runs on as it did, and keeps its start
 off-runs : (now node : ℕ) (job : JobRecord) (state : JobState) → job.state ≡ state → runs_at node (off_node now node job state) ≡ runs_at node job
@@ -50,9 +33,10 @@ off-runs now node job state is = grind (arith, nat_tests)
 off-start : (now node : ℕ) (job : JobRecord) (state : JobState) → start_of (off_node now node job state) ≡ start_of job
 off-start now node job state = grind (arith, nat_tests)
 
-told-runs : (now node : ℕ) (report : Report) (job : JobRecord) (done : Option Done) → runs_at node (after_told now node report job done) ≡ (runs_at node job && not (is_batch_host node job.parts && is_some done))
+told-runs : (now node : ℕ) (report : Report) (job : JobRecord) (done : Option Done)
+    → runs_at node (after_told now node report job done) ≡ (runs_at node job && not (is_batch_host node job.parts && is_some done))
 told-runs now node report job None = grind (arith, nat_tests)
-told-runs now node report job (Some done) = let off = off-runs now node (over now node done job) (over now node done job).state refl in grind (arith, nat_tests)
+told-runs now node report job (Some done) = let off = off-runs now node (script_over now node done job) (script_over now node done job).state refl in grind (arith, nat_tests)
 
 reported-runs : (now node : ℕ) (report : Report) (job : JobRecord) → runs_at node (reported now node report job) ≡ stays node report job
 reported-runs now node report job = grind (arith, nat_tests, told-runs now node report job (done_of report job))
@@ -61,13 +45,15 @@ reported-start : (now node : ℕ) (report : Report) (job : JobRecord) → start_
 reported-start now node report job = grind (arith, nat_tests, off-start)
 
 -- a start is among those that stay exactly where a job runs it once the report is accepted
-kept-starts : (now node : ℕ) (report : Report) (start : Start) (jobs : List JobRecord) → list_any (λ other. is_same other start) (map start_of (filter (stays node report) jobs)) ≡ runs_start node (map (reported now node report) jobs) start
+kept-starts : (now node : ℕ) (report : Report) (start : Start) (jobs : List JobRecord)
+    → list_any (λ other. is_same other start) (map start_of (filter (stays node report) jobs)) ≡ runs_start node (map (reported now node report) jobs) start
 kept-starts now node report start [] = refl
-kept-starts now node report start (job ∷ jobs) = grind (arith, nat_tests, kept-starts now node report start jobs, reported-start now node report job, reported-runs now node report job)
+kept-starts now node report start (job ∷ jobs) =
+    grind (arith, nat_tests, kept-starts now node report start jobs, reported-start now node report job, reported-runs now node report job)
 
 pub lost_starts : (now node : ℕ) (report : Report) (jobs : List JobRecord) (starts : List Start)
     → filter (λ start. not (list_any (λ other. is_same other start) (map start_of (filter (stays node report) jobs)))) starts
-    ≡ filter (λ start. not (runs_start node (map (reported now node report) jobs) start)) starts
+    ≡ killed now node report jobs starts
 lost_starts now node report jobs starts = filter_agree _ _ (λ start. ap not (kept-starts now node report start jobs)) starts
 
 -- the laws of letting go that a report rests on
@@ -83,8 +69,9 @@ lets-reported rests now node report job kept = cond_both (is_at node job) _ job 
     told : (done : Option Done) → LetsGo now job (after_told now node report job done)
     told None = cond_both (is_listed report job) job _ (LetsGo now job) (λ h. rests.nothing now job kept) (λ h. rests.changes now (DropPart node now) job refl refl kept)
     told (Some done) =
-        let middle = over now node done job in
-        let first = cond_both (is_batch_host node job.parts) _ job (LetsGo now job) (λ h. rests.changes now (Leave (final_of done.exit) now (Some done.exit)) job refl refl kept) (λ h. rests.nothing now job kept) in
+        let middle = script_over now node done job in
+        let first = cond_both (is_batch_host node job.parts) _ job (LetsGo now job)
+        (λ h. rests.changes now (Leave (final_of done.exit) now (Some done.exit)) job refl refl kept) (λ h. rests.nothing now job kept) in
         rests.twice now job middle (told_over now node done job) first (rests.changes now (DropPart node now) middle refl refl (rests.kept now job middle kept first))
 
 -- a job that waits stays as it is
@@ -92,7 +79,8 @@ reported-waits : (now node : ℕ) (report : Report) (job : JobRecord) → is_pen
 reported-waits now node report job waits = grind (arith, nat_tests)
 
 -- so who waits, waits on
-waits-on : (change : JobRecord → JobRecord) (jobs : List JobRecord) (id : ℕ) → ((job : JobRecord) → is_pending job.state ≡ true → change job ≡ job) → Contains (pending_ids jobs) id → Contains (pending_ids (map change jobs)) id
+waits-on : (change : JobRecord → JobRecord) (jobs : List JobRecord) (id : ℕ) → ((job : JobRecord) → is_pending job.state ≡ true → change job ≡ job)
+    → Contains (pending_ids jobs) id → Contains (pending_ids (map change jobs)) id
 waits-on change [] id same has = has
 waits-on change (job ∷ jobs) id same has =
     let later = pending_ids (map change jobs) in
@@ -106,20 +94,26 @@ waits-on change (job ∷ jobs) id same has =
           ])
       | inr other ↦
           let more = rest (rw other at has) in
-          cond_both (is_pending (change job).state) _ _ (λ (jobs : List JobRecord). Contains (map (λ (job : JobRecord). job.id) jobs) id) (λ h. Contains-append_right ((change job).id ∷ []) later id more) (λ h. more)
+          cond_both (is_pending (change job).state) _ _ (λ (jobs : List JobRecord). Contains (map (λ (job : JobRecord). job.id) jobs) id)
+          (λ h. Contains-append_right ((change job).id ∷ []) later id more) (λ h. more)
     ]
 
 all-stay : {X : Type 0} (xs : List X) → filter (λ x. not false) xs ≡ xs
 all-stay [] = refl
 all-stay (x ∷ xs) = ap (λ rest. x ∷ rest) (all-stay xs)
 
-heard-confs : (now : ℕ) (report : Report) (nodes : List NodeRecord) → map (λ (node : NodeRecord). node.conf) (heard_nodes now report nodes) ≡ map (λ (node : NodeRecord). node.conf) nodes
-heard-confs now report [] = refl
-heard-confs now report (node ∷ nodes) = grind (arith, nat_tests, heard-confs now report nodes)
+-- nodes of which none goes down, place by place
+up-after : (nodes after : List NodeRecord) → AllZip (λ one other. is_up one.down ≡ true → is_up other.down ≡ true) nodes after
+    → (place : ℕ) → is_up_at nodes place ≡ true → is_up_at after place ≡ true
+up-after [] after all place is = absurd (both_ways false refl is)
+up-after (node ∷ nodes) [] all place is = absurd all
+up-after (node ∷ nodes) (one ∷ later) all zero is = all.0 is
+up-after (node ∷ nodes) (one ∷ later) all (suc place) is = up-after nodes later all.1 place is
 
 -- An accepted report keeps all sound.
-pub sound-reported : LettingGo → KeptLater → NodesStay → Rests → (s : State) (now node : ℕ) (report : Report) → IsSound s → s.moment ≤ now → now ≤ last_moment → IsSound (stamped now (report_after s now node report))
-sound-reported letting later nodes rests s now node report sound raised in_time =
+pub sound-reported : LettingGo → KeptLater → NodesStay → ConfsStay → ReportsSetNoneDown → Rests → (s : State) (now node : ℕ) (report : Report)
+    → IsSound s → s.moment ≤ now → now ≤ last_moment → IsSound (stamped now (report_after s now node report))
+sound-reported letting later nodes confs none_down rests s now node report sound raised in_time =
     let change = reported now node report in
     let stays : those_left change (λ job. false) s.jobs ≡ map change s.jobs = all-stay (map change s.jobs) in
     let plan : PlansPending (map change s.jobs) s.plan = record {
@@ -127,6 +121,8 @@ sound-reported letting later nodes rests s now node report sound raised in_time 
       once = sound.plan.once;
       last = sound.plan.last;
     } in
-    let lets : All (λ job. LetsGo now job (change job)) s.jobs = λ k d below. lets-reported rests now node report (get_or s.jobs k d) (later s.moment now (get_or s.jobs k d) raised (sound.jobs k d below)) in
-    let left = letting s now change (λ job. false) s.plan sound in_time lets (λ k d below goes. absurd (both_ways false refl goes)) (rw stays plan) in
-    nodes (record s { jobs = map change s.jobs; moment = now }) (heard_nodes now report s.nodes) (rw stays at left) (heard-confs now report s.nodes)
+    let lets : All (λ job. LetsGo now job (change job)) s.jobs = λ k d below.
+    lets-reported rests now node report (get_or s.jobs k d) (later s.moment now (get_or s.jobs k d) raised (sound.jobs k d below)) in
+    let left = letting s now change (λ job. false) s.plan sound in_time lets (rw stays plan) in
+    nodes (record s { jobs = map change s.jobs; moment = now }) (heard_nodes now node report s.nodes) (rw stays at left) (confs node _ s.nodes)
+    (up-after s.nodes (heard_nodes now node report s.nodes) (none_down node _ _ s.nodes))

@@ -1,23 +1,29 @@
 -- What comes of a node's report.
-use Rattle.std.specs.Prelude.{ℕ, Bool, false, not, nat_lt, is_none, unwrap_or, List, [], ◌∷◌, position, Option, Some, None, option_map}
+use Rattle.std.specs.Prelude.{ℕ, Bool, false, not, nat_lt, is_none, unwrap_or, List, [], ◌∷◌, Option, Some, None, option_map, option_and_then}
 use Rattle.slurm_text.specs.declared.plain.report.Report.{Report}
 use Rattle.slurm_text.specs.declared.plain.refusal.Refusal.{Refusal}
 use Rattle.slurm_text.specs.declared.plain.refusal.Refusal.TheVariants.{AccessDenied, UnknownNode, StaleReport}
 use Rattle.slurm_text.specs.declared.plain.reply.Reply.TheVariants.{Orders}
-use Rattle.ctl_state.specs.declared.record.Heard.{Heard}
+use Rattle.node_state.specs.declared.record.Heard.{Heard}
 use Rattle.ctl_state.specs.State.{State}
 use Rattle.ctl_state.specs.Verdicts.{Verdict, Refuses, Makes}
 use Rattle.ctl_state.specs.Refusals.{refused_if, is_privileged}
-use Rattle.ctl_report.specs.Reporting.{is_named, heard_of, is_after, report_after}
+use Rattle.node_state.specs.Nodes.{place_named}
+use Rattle.ctl_report.specs.Reporting.{heard_of, is_after, report_after}
 use Rattle.ctl_report.specs.Ordering.{orders_of}
-
--- the daemon was restarted since its last accepted report, which isn't worked yet
-abbrev pub is_restarted : State → Report → Bool
-is_restarted s report = unwrap_or (option_map (λ (heard : Heard). nat_lt heard.boot report.boot) (heard_of s.nodes report.node)) false
 
 -- the place of the node that reports
 abbrev pub node_of : State → Report → Option ℕ
-node_of s report = position (is_named report.node) s.nodes
+node_of s report = place_named report.node s.nodes
+
+-- its last accepted report
+abbrev pub last_heard : State → Report → Option Heard
+last_heard s report = option_and_then (heard_of s.nodes) (node_of s report)
+
+-- the daemon was restarted since its last accepted report, which isn't worked yet
+abbrev pub is_restarted : State → Report → Bool
+is_restarted s report =
+    unwrap_or (option_map (λ (heard : Heard). nat_lt heard.boot report.boot) (last_heard s report)) false
 
 -- a report must come after the last accepted one of its node
 abbrev pub staleness : Report → Option Heard → Option Refusal
@@ -29,7 +35,7 @@ abbrev pub report_refusals : State → List ℕ → Report → List (Option Refu
 report_refusals s user report =
     refused_if (not (is_privileged s user)) AccessDenied
     ∷ refused_if (is_none (node_of s report)) UnknownNode
-    ∷ staleness report (heard_of s.nodes report.node)
+    ∷ staleness report (last_heard s report)
     ∷ []
 
 -- what an accepted report makes

@@ -1,5 +1,5 @@
 -- What the node is ordered to do in answer to its report.
-use Rattle.std.specs.Prelude.{ℕ, Bool, ◌&&◌, ◌||◌, not, is_some, if◌then◌else◌, List, [], ◌∷◌, map, filter, find, filter_map, Option, Some, None, option_map}
+use Rattle.std.specs.Prelude.{ℕ, Bool, ◌&&◌, ◌||◌, not, nat_eq, is_some, if◌then◌else◌, List, [], ◌∷◌, map, filter, find, filter_map, Option, Some, None, option_map}
 use Rattle.std.specs.List.{list_any}
 use Rattle.slurm_text.specs.Starts.{is_before}
 use Rattle.slurm_text.specs.declared.plain.report.Start.{Start}
@@ -13,6 +13,13 @@ use Rattle.ctl_state.specs.JobStates.{is_running}
 use Rattle.ctl_state.specs.Holding.{is_on}
 use Rattle.ctl_state.specs.State.{State}
 use Rattle.ctl_report.specs.Reporting.{is_last_start, is_listed, done_of, is_at, is_batch_host, reported}
+
+-- the job's last start
+abbrev pub start_of : JobRecord → Start
+start_of job = record { id = job.id; number = job.starts }
+
+abbrev pub is_same : Start → Start → Bool
+is_same one other = nat_eq one.id other.id && nat_eq one.number other.number
 
 -- starts in order, with one more at its place, if it isn't there
 abbrev pub with_start : Start → List Start → List Start
@@ -28,12 +35,23 @@ in_order (start ∷ starts) = with_start start (in_order starts)
 
 -- one of the jobs still runs this start on the node
 abbrev pub runs_start : ℕ → List JobRecord → Start → Bool
-runs_start node jobs start = list_any (λ (job : JobRecord). is_last_start job start && (is_running job.state && is_at node job)) jobs
+runs_start node jobs start =
+    list_any (λ (job : JobRecord). is_last_start job start && (is_running job.state && is_at node job)) jobs
+
+-- the job runs on the node, and still does once the report is accepted
+abbrev pub stays : ℕ → Report → JobRecord → Bool
+stays node report job =
+    is_running job.state && (is_at node job && not (is_batch_host node job.parts && is_some (done_of report job)))
+
+-- the starts that none of the jobs runs on the node any more once the report is accepted
+abbrev pub killed : ℕ → ℕ → Report → List JobRecord → List Start → List Start
+killed now node report jobs starts =
+    filter (λ start. not (runs_start node (map (reported now node report) jobs) start)) starts
 
 -- what the node needs to know to launch the job there: on other nodes than the script's own it runs until it is killed
 abbrev pub launch_part : ℕ → JobRecord → Part → Launch
 launch_part node job part = record {
-  start = record { id = job.id; number = job.starts };
+  start = start_of job;
   cpus = part.cpus;
   mem = part.mem;
   run = if is_batch_host node job.parts then Some job.desc.run else None;
@@ -47,13 +65,14 @@ launch_of node report job =
     then option_map (launch_part node job) (find (is_on node) job.parts)
     else None
 
--- The orders that answer the report of the node at a place: what won't run there any more is killed, what is over forgotten.
+-- The orders that answer the report of the node at a place: what won't run there any more is killed, what is over
+-- forgotten.
 unfoldable pub orders_of : State → ℕ → ℕ → Report → Orders
 orders_of s now node report = record {
   node = report.node;
   boot = report.boot;
   number = report.number;
-  kills = in_order (filter (λ start. not (runs_start node (map (reported now node report) s.jobs) start)) report.running);
+  kills = in_order (killed now node report s.jobs report.running);
   forgets = in_order (map (λ (done : Done). done.start) report.done);
   launches = filter_map (launch_of node report) s.jobs;
 }

@@ -1,41 +1,44 @@
 -- A node's report, and what it does to the jobs.
-use Rattle.std.specs.Prelude.{ℕ, Bool, false, ◌&&◌, ◌||◌, nat_eq, nat_lt, if◌then◌else◌, List, [], ◌∷◌, map, find, Option, Some, None, option_and_then}
+use Rattle.std.specs.Prelude.{ℕ, Bool, true, false, ◌&&◌, ◌||◌, nat_eq, nat_lt, if◌then◌else◌, List, [], ◌∷◌, map, find, slice_get, Option, Some, None, option_and_then}
 use Rattle.std.specs.List.{list_any}
-use Rattle.std.specs.Str.{bytes_eq}
 use Rattle.slurm_text.specs.declared.plain.report.Start.{Start}
 use Rattle.slurm_text.specs.declared.plain.report.Done.{Done}
 use Rattle.slurm_text.specs.declared.plain.report.Report.{Report}
 use Rattle.slurm_text.specs.declared.plain.state.Final.{Final}
 use Rattle.slurm_text.specs.declared.plain.state.Final.TheVariants.{Completed, Failed}
-use Rattle.ctl_state.specs.declared.record.Heard.{Heard}
+use Rattle.node_state.specs.declared.record.Heard.{Heard}
 use Rattle.ctl_state.specs.declared.record.Part.{Part}
-use Rattle.ctl_state.specs.declared.record.NodeRecord.{NodeRecord}
+use Rattle.node_state.specs.declared.record.NodeRecord.{NodeRecord}
+use Rattle.node_state.specs.declared.record.NodeChange.TheVariants.{Heard as HeardFrom}
+use Rattle.node_state.specs.Nodes.{change_at}
 use Rattle.ctl_state.specs.declared.record.JobRecord.{JobRecord}
 use Rattle.ctl_state.specs.declared.change.Change.TheVariants.{Leave, DropPart}
 use Rattle.ctl_state.specs.Changes.{changed}
 use Rattle.ctl_state.specs.Holding.{is_on}
 use Rattle.ctl_state.specs.State.{State}
 
--- the node has this name
-abbrev pub is_named : List ℕ → NodeRecord → Bool
-is_named name node = bytes_eq node.conf.name name
-
--- the last accepted report of the node with this name
-abbrev pub heard_of : List NodeRecord → List ℕ → Option Heard
-heard_of nodes name = option_and_then (λ (node : NodeRecord). node.heard) (find (is_named name) nodes)
+-- the last accepted report of the node at a place
+abbrev pub heard_of : List NodeRecord → ℕ → Option Heard
+heard_of nodes place = option_and_then (λ (node : NodeRecord). node.heard) (slice_get nodes place)
 
 -- the report comes after that one
 abbrev pub is_after : Heard → Report → Bool
-is_after heard report = nat_lt heard.boot report.boot || (nat_eq heard.boot report.boot && nat_lt heard.number report.number)
+is_after heard report =
+    nat_lt heard.boot report.boot || (nat_eq heard.boot report.boot && nat_lt heard.number report.number)
 
--- a node once the report is accepted: it is noted at the node that it names
-abbrev pub heard_at : ℕ → Report → NodeRecord → NodeRecord
-heard_at now report node =
-    if is_named report.node node then record node { heard = Some (record { boot = report.boot; number = report.number; moment = now }) } else node
+-- the report lists no running start
+abbrev pub lists_nothing : List Start → Bool
+lists_nothing [] = true
+lists_nothing (start ∷ later) = false
 
--- the nodes once the report is accepted
-abbrev pub heard_nodes : ℕ → Report → List NodeRecord → List NodeRecord
-heard_nodes now report nodes = map (heard_at now report) nodes
+-- what is noted of an accepted report
+abbrev pub heard_by : ℕ → Report → Heard
+heard_by now report = record { boot = report.boot; number = report.number; moment = now }
+
+-- the nodes once the report of the one at a place is accepted
+abbrev pub heard_nodes : ℕ → ℕ → Report → List NodeRecord → List NodeRecord
+heard_nodes now node report nodes =
+    change_at node (HeardFrom (heard_by now report) (lists_nothing report.running)) nodes
 
 -- the start is this job's last one
 abbrev pub is_last_start : JobRecord → Start → Bool
@@ -62,11 +65,15 @@ is_batch_host node (part ∷ later) = is_on node part
 abbrev pub final_of : ℕ → Final
 final_of exit = if nat_eq exit 0 then Completed else Failed
 
--- the job once its start is told to be over on the node: where its script ran there it leaves Running, and a completing job
--- leaves the node
+-- the job once its script is over, if it ran on the node
+abbrev pub script_over : ℕ → ℕ → Done → JobRecord → JobRecord
+script_over now node done job =
+    if is_batch_host node job.parts then changed (Leave (final_of done.exit) now (Some done.exit)) job else job
+
+-- the job once its start is told to be over on the node: where its script ran there it leaves Running, and a completing
+-- job leaves the node
 abbrev pub told_over : ℕ → ℕ → Done → JobRecord → JobRecord
-told_over now node done job =
-    changed (DropPart node now) (if is_batch_host node job.parts then changed (Leave (final_of done.exit) now (Some done.exit)) job else job)
+told_over now node done job = changed (DropPart node now) (script_over now node done job)
 
 -- the job by what is told of its start: where nothing is, a completing job has left the node
 abbrev pub after_told : ℕ → ℕ → Report → JobRecord → Option Done → JobRecord
@@ -79,4 +86,7 @@ reported now node report job = if is_at node job then after_told now node report
 
 -- the state after an accepted report of the node at a place
 abbrev pub report_after : State → ℕ → ℕ → Report → State
-report_after s now node report = record s { nodes = heard_nodes now report s.nodes; jobs = map (reported now node report) s.jobs }
+report_after s now node report = record s {
+  nodes = heard_nodes now node report s.nodes;
+  jobs = map (reported now node report) s.jobs;
+}

@@ -1,9 +1,9 @@
 //! What a report does to the jobs.
 
-ghost use Rattle.std.specs.Prelude.{◌≡◌, if◌then◌else◌, map, find, Some};
+ghost use Rattle.std.specs.Prelude.{◌≡◌, map, Some};
 ghost use Rattle.ctl_state.specs.Changes.{changed};
 ghost use Rattle.std.specs.List.{list_any};
-ghost use Rattle.ctl_report.specs.Reporting.{is_last_start, is_listed, done_of, is_at, is_batch_host, final_of, told_over, reported};
+ghost use Rattle.ctl_report.specs.Reporting.{is_last_start, is_listed, done_of, is_at, is_batch_host, final_of, script_over, told_over, reported};
 
 use ctl_state::change::{Change, apply};
 use ctl_state::record::{JobRecord, Part};
@@ -100,8 +100,7 @@ fn finish(alloc: Global, job: &mut JobRecord, now: u64, node: u32, done: Done)
 
 // The job's script is over, if it ran on the node.
 fn end_script(alloc: Global, job: &mut JobRecord, now: u64, node: u32, done: Done)
-    ensures { job.new ≡ (if is_batch_host node job.old.parts
-        then changed (Change.Leave (final_of done.exit) now (Some done.exit)) job.old else job.old) }
+    ensures { job.new ≡ script_over now node done job.old }
 {
     if is_batch_host(node, job.parts.as_slice()) {
         leave(alloc, job, now, done);

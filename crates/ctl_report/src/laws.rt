@@ -1,6 +1,6 @@
-//! What holds of every report. A law is the contract of a function that does nothing but call the laws that it rests on.
+//! What holds of every report. A law is the contract of a function that does nothing but call the laws it rests on.
 
-ghost use Rattle.std.specs.Prelude.{◌≡◌, ◌↔◌, ℕ, ◌≤◌, List, AllPairs, Contains, true};
+ghost use Rattle.std.specs.Prelude.{◌↔◌, ℕ, ◌≤◌, List, Contains};
 ghost use Rattle.slurm_text.specs.declared.plain.report.Report.{Report};
 ghost use Rattle.slurm_text.specs.declared.plain.report.Start.{Start};
 ghost use Rattle.ctl_state.specs.State.{State, last_moment};
@@ -14,6 +14,7 @@ use ctl_state::laws::{
     every_change_but_a_start_lets_go, jobs_are_kept, letting_go_keeps_all_sound,
     nodes_that_stay_keep_all_sound,
 };
+use node_state::laws::{a_change_leaves_the_confs, a_report_sets_no_node_down};
 
 /// An accepted report keeps all sound.
 pub fn a_report_keeps_all_sound()
@@ -24,6 +25,8 @@ pub fn a_report_keeps_all_sound()
     every_change_but_a_start_lets_go();
     jobs_are_kept();
     nodes_that_stay_keep_all_sound();
+    a_change_leaves_the_confs();
+    a_report_sets_no_node_down();
 }
 
 /// Starts in order rise, each once, and are those that were given.

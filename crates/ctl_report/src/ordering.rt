@@ -1,12 +1,11 @@
 //! What the node is ordered to do.
 
-ghost use Rattle.std.specs.Prelude.{◌≡◌, ◌&&◌, not, is_some, IfOk, map, filter, filter_map, nat_eq, ℕ, find, option_copied, ◌||◌};
-ghost use Rattle.ctl_state.specs.Holding.{is_on};
+ghost use Rattle.std.specs.Prelude.{◌≡◌, ◌||◌, not, is_some, IfOk, map, filter, filter_map, ℕ, find, option_copied};
 ghost use Rattle.std.specs.List.{list_any};
-ghost use Rattle.ctl_state.specs.JobStates.{is_running};
+ghost use Rattle.ctl_state.specs.Holding.{is_on};
 ghost use Rattle.ctl_state.specs.Soundness.{HaveRisingIds};
-ghost use Rattle.ctl_report.specs.Reporting.{is_at, is_listed, is_batch_host, done_of, reported};
-ghost use Rattle.ctl_report.specs.Ordering.{runs_start, in_order, launch_part, launch_of};
+ghost use Rattle.ctl_report.specs.Reporting.{is_listed, done_of};
+ghost use Rattle.ctl_report.specs.Ordering.{in_order, is_same, killed, launch_of, launch_part, start_of, stays};
 
 use crate::jobs::{done_of, is_at, is_batch_host, is_listed};
 use crate::starts::in_order;
@@ -26,7 +25,7 @@ pub(crate) fn kills(
     report: &Report,
 ) -> Result<Starts, Memory>
     ensures { IfOk result (λ kills. (now : ℕ) →
-        kills ≡ in_order (filter (λ start. not (runs_start node (map (reported now node report.now) jobs.now) start)) report.now.running)) }
+        kills ≡ in_order (killed now node report.now jobs.now report.now.running)) }
 {
     let kept = kept_starts(alloc, jobs, node, report)?;
     let lost = without(alloc, report.running.as_slice(), kept.as_slice())?;
@@ -36,7 +35,7 @@ pub(crate) fn kills(
 // The starts that aren't among those kept.
 fn without(alloc: Global, starts: &[Start], kept: &[Start]) -> Result<Vec<Start>, Memory>
     ensures { IfOk result (λ lost. lost.items
-        ≡ filter (λ start. not (list_any (λ other. nat_eq other.id start.id && nat_eq other.number start.number) kept.now)) starts.now) }
+        ≡ filter (λ start. not (list_any (λ other. is_same other start) kept.now)) starts.now) }
 {
     Ok(
         starts
@@ -54,8 +53,7 @@ fn kept_starts(
     node: u32,
     report: &Report,
 ) -> Result<Vec<Start>, Memory>
-    ensures { IfOk result (λ starts. starts.items ≡ map (λ job. record { id = job.id; number = job.starts }) (filter (λ job. is_running job.state
-        && (is_at node job && not (is_batch_host node job.parts && is_some (done_of report.now job)))) jobs.now)) }
+    ensures { IfOk result (λ starts. starts.items ≡ map start_of (filter (stays node report.now) jobs.now)) }
 {
     Ok(
         jobs.iter()
@@ -67,8 +65,7 @@ fn kept_starts(
 
 // Whether the job runs on the node, also once the report is accepted.
 fn stays(job: &JobRecord, node: u32, report: &Report) -> bool
-    ensures { result ≡ (is_running job.now.state
-        && (is_at node job.now && not (is_batch_host node job.now.parts && is_some (done_of report.now job.now)))) }
+    ensures { result ≡ stays node report.now job.now }
 {
     job.state == JobState::Running
         && is_at(node, job)
@@ -76,7 +73,7 @@ fn stays(job: &JobRecord, node: u32, report: &Report) -> bool
 }
 
 fn start_of(job: &JobRecord) -> Start
-    ensures { result ≡ record { id = job.now.id; number = job.now.starts } }
+    ensures { result ≡ start_of job.now }
 {
     Start {
         id: job.id,

@@ -4,14 +4,15 @@ ghost use Rattle.std.specs.Prelude.{◌≡◌, ◌<◌, ℕ, IfOk, IfSome, lengt
 ghost use Rattle.ctl_state.specs.State.{state_of};
 ghost use Rattle.ctl_state.specs.Soundness.{IsSound};
 ghost use Rattle.ctl_state.specs.Refusals.{first_refusal};
-ghost use Rattle.ctl_report.specs.Reporting.{heard_of, report_after};
+ghost use Rattle.ctl_report.specs.Reporting.{report_after};
 ghost use Rattle.ctl_report.specs.Ordering.{orders_of};
 ghost use Rattle.ctl_report.specs.Answering;
 
 use crate::jobs::report_jobs;
-use crate::nodes::{hear, heard_of, is_after, place_of};
+use crate::nodes::{hear, heard_of, is_after};
 use crate::ordering::{forgets, kills, launches};
 use ctl_state::cluster::Cluster;
+use node_state::record::Heard;
 use slurm_text::memory_error::Memory;
 use slurm_text::name::Name;
 use slurm_text::plain::orders::Orders;
@@ -19,29 +20,36 @@ use slurm_text::plain::refusal::Refusal;
 use slurm_text::plain::report::Report;
 use std::alloc::Global;
 
-/// Whether the report's daemon was restarted since its last accepted report. Linear in the nodes.
+/// The place of the node that reports, in constant time.
+pub fn node_of(cluster: &Cluster, report: &Report) -> Option<u32>
+    ensures place { result ≡ Answering.node_of (state_of cluster.now) report.now }
+    ensures within { IfSome result (λ node. node < length cluster.now.nodes.records) }
+{
+    cluster.nodes.find(&report.node)
+}
+
+// The last accepted report of the node that reports.
+fn last_heard(cluster: &Cluster, report: &Report) -> Option<Heard>
+    ensures { result ≡ Answering.last_heard (state_of cluster.now) report.now }
+{
+    heard_of(&cluster.nodes, node_of(cluster, report)?)
+}
+
+/// Whether the report's daemon was restarted since its last accepted report, in constant time.
 pub fn is_restarted(cluster: &Cluster, report: &Report) -> bool
     ensures { result ≡ Answering.is_restarted (state_of cluster.now) report.now }
 {
-    match heard_of(&cluster.nodes, &report.node) {
+    match last_heard(cluster, report) {
         Some(heard) => heard.boot < report.boot,
         None => false,
     }
 }
 
-/// The place of the node that reports. Linear in the nodes.
-pub fn node_of(cluster: &Cluster, report: &Report) -> Option<usize>
-    ensures place { result ≡ Answering.node_of (state_of cluster.now) report.now }
-    ensures within { IfSome result (λ node. node < length cluster.now.nodes.items) }
-{
-    place_of(&cluster.nodes, &report.node)
-}
-
 // Why the report comes too late, if it does.
 fn staleness(cluster: &Cluster, report: &Report) -> Option<Refusal>
-    ensures { result ≡ Answering.staleness report.now (heard_of cluster.now.nodes.items report.now.node) }
+    ensures { result ≡ Answering.staleness report.now (Answering.last_heard (state_of cluster.now) report.now) }
 {
-    match heard_of(&cluster.nodes, &report.node) {
+    match last_heard(cluster, report) {
         Some(heard) if !is_after(&heard, report) => Some(Refusal::StaleReport {
             boot: heard.boot,
             number: heard.number,
@@ -50,7 +58,7 @@ fn staleness(cluster: &Cluster, report: &Report) -> Option<Refusal>
     }
 }
 
-/// Why the report is refused, if it is. Linear in the nodes.
+/// Why the report is refused, if it is. Constant time.
 pub fn refusal_of(cluster: &Cluster, user: &Name, report: &Report) -> Option<Refusal>
     ensures { result ≡ first_refusal (Answering.report_refusals (state_of cluster.now) user.now report.now) }
 {
@@ -63,8 +71,8 @@ pub fn refusal_of(cluster: &Cluster, user: &Name, report: &Report) -> Option<Ref
     staleness(cluster, report)
 }
 
-/// What the node at a place is ordered in answer to its report, whatever its moment. Linear in the jobs, and for each that
-/// holds something of the node in what the report tells.
+/// What the node at a place is ordered in answer to its report, whatever its moment. Linear in the jobs, and for each
+/// that holds something of the node in what the report tells.
 pub fn orders(
     alloc: Global,
     cluster: &Cluster,
@@ -86,8 +94,9 @@ pub fn orders(
 
 /// Does what the report of the node at a place makes of the cluster. It takes no memory.
 pub fn accept(alloc: Global, cluster: &mut Cluster, moment: u64, node: u32, report: &Report)
+    requires { node < length cluster.old.nodes.records }
     ensures { state_of cluster.new ≡ report_after (state_of cluster.old) moment node report.now }
 {
-    hear(&mut cluster.nodes, moment, report);
+    hear(&mut cluster.nodes, moment, node, report);
     report_jobs(alloc, &mut cluster.jobs, moment, node, report);
 }

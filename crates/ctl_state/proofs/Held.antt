@@ -25,5 +25,6 @@ parts-apart s sound i j d before below same k e inside (place, within, is) =
     let other = get_or (parts_of s.jobs) j d in
     let cpu = get_or one.cpus k e in
     let has : has_cpu one.node cpu one ≡ true = rw (eq-eqb one.node one.node refl) (list_any_at (λ id. eqb id cpu) one.cpus k e inside (eq-eqb cpu cpu refl)) in
-    let too : has_cpu one.node cpu other ≡ true = rw (eq-eqb other.node one.node (sym same)) (list_any_at (λ id. eqb id cpu) other.cpus place cpu within (eq-eqb (get_or other.cpus place cpu) cpu is)) in
+    let too : has_cpu one.node cpu other ≡ true =
+    rw (eq-eqb other.node one.node (sym same)) (list_any_at (λ id. eqb id cpu) other.cpus place cpu within (eq-eqb (get_or other.cpus place cpu) cpu is)) in
     both_ways (has_cpu one.node cpu other) (pairs-counted (has_cpu one.node cpu) (parts_of s.jobs) (sound.held.once one.node cpu) i j d before below has) too

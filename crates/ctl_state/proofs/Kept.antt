@@ -1,5 +1,5 @@
 -- What is kept of a job, as time passes and whatever change but a start happens to it.
-use Rattle.std.proofs.Common.{◌≡◌, ◌≢◌, ℕ, ◌≤◌, true, false, ◌&&◌, not, List, [], ◌∷◌, Some, Bool, filter, refl, sym, ◌∙◌, arith, rules, tests, inl, inr}
+use Rattle.std.proofs.Common.{◌≡◌, ◌≢◌, ℕ, ◌≤◌, true, false, ◌&&◌, not, List, [], ◌∷◌, Some, Bool, filter, refl, sym, ◌∙◌, arith, rules, tests}
 use Rattle.std.proofs.lemmas.Bool.{cond_both, both_ways}
 use Rattle.std.proofs.lemmas.Bool.Decides.{nat_tests}
 use Rattle.std.proofs.lemmas.List.Kept.{AllPairs-filter}
@@ -26,32 +26,34 @@ kept-let_go before now job after kept lets =
     search rules
 
 -- where all parts stay, where those that one keeps and then another do, and where those that aren't on a node do
-all-stay : (now : ℕ) (job after : JobRecord) → after.id ≡ job.id → after.parts ≡ job.parts → IsKept now after → LetsGo now job after
-all-stay now job after same held kept =
+all-stay : (now : ℕ) (job after : JobRecord) → after.id ≡ job.id → after.partition ≡ job.partition → after.parts ≡ job.parts
+    → IsKept now after → LetsGo now job after
+all-stay now job after same of held kept =
     let keep : Part → Bool = λ part. true in
     let parts : after.parts ≡ filter keep job.parts = held ∙ sym (filter-all job.parts) in
-    record { id = same; keep = keep; parts = parts; some = kept.parts.some; asked = kept.asked; limit = kept.limit; run = kept.run }
+    record { id = same; partition = of; keep = keep; parts = parts; some = kept.parts.some; asked = kept.asked; limit = kept.limit; run = kept.run }
 
 pub lets_go-same : (now : ℕ) (job : JobRecord) → IsKept now job → LetsGo now job job
-lets_go-same now job kept = all-stay now job job refl refl kept
+lets_go-same now job kept = all-stay now job job refl refl refl kept
 
 pub lets_go-twice : (now : ℕ) (job middle after : JobRecord) → LetsGo now job middle → LetsGo now middle after → LetsGo now job after
 lets_go-twice now job middle after one two =
     let keep : Part → Bool = λ part. one.keep part && two.keep part in
     let parts : after.parts ≡ filter keep job.parts = rw (two.parts, one.parts) (filter-filter one.keep two.keep job.parts) in
-    record { id = two.id ∙ one.id; keep = keep; parts = parts; some = two.some; asked = two.asked; limit = two.limit; run = two.run }
+    record { id = two.id ∙ one.id; partition = two.partition ∙ one.partition; keep = keep; parts = parts; some = two.some; asked = two.asked; limit = two.limit; run = two.run }
 
 -- a completing job that holds nothing any more
 settles : (now : ℕ) (final : Final) (job : JobRecord) → IsKept now job
     → (false ≡ is_holding (left final)) × IsWellRun now (record job { parts = []; state = left final; ended = end_of now final job.ended })
 settles now final job kept = search (rules, tests)
 
-leaves-node : (now node : ℕ) (final : Final) (job : JobRecord) (rest : List Part) → IsKept now job → job.state ≡ Completing final → rest ≡ parts_off node job.parts → LetsGo now job (with_left now final rest job)
+leaves-node : (now node : ℕ) (final : Final) (job : JobRecord) (rest : List Part) → IsKept now job → job.state ≡ Completing final
+    → rest ≡ parts_off node job.parts → LetsGo now job (with_left now final rest job)
 leaves-node now node final job [] kept completing off =
     let settled = settles now final job kept in
-    record { id = refl; keep = λ part. not (is_on node part); parts = off; some = settled.0; asked = kept.asked; limit = kept.limit; run = settled.1 }
+    record { id = refl; partition = refl; keep = λ part. not (is_on node part); parts = off; some = settled.0; asked = kept.asked; limit = kept.limit; run = settled.1 }
 leaves-node now node final job (part ∷ later) kept completing off =
-    record { id = refl; keep = λ part. not (is_on node part); parts = off; some = rw completing refl; asked = kept.asked; limit = kept.limit; run = search rules }
+    record { id = refl; partition = refl; keep = λ part. not (is_on node part); parts = off; some = rw completing refl; asked = kept.asked; limit = kept.limit; run = search rules }
 
 off_node-lets_go : (now node : ℕ) (state : JobState) (job : JobRecord) → IsKept now job → job.state ≡ state → LetsGo now job (off_node now node job state)
 off_node-lets_go now node Pending job kept is = lets_go-same now job kept
@@ -59,11 +61,13 @@ off_node-lets_go now node Running job kept is = lets_go-same now job kept
 off_node-lets_go now node (Completing final) job kept is = leaves-node now node final job (parts_off node job.parts) kept is refl
 off_node-lets_go now node (Ended final) job kept is = lets_go-same now job kept
 
-pub changed-lets_go : (now : ℕ) (change : Change) (job : JobRecord) → is_start change ≡ false → moment_of change ≡ now → IsKept now job → LetsGo now job (changed change job)
+pub changed-lets_go : (now : ℕ) (change : Change) (job : JobRecord) → is_start change ≡ false → moment_of change ≡ now → IsKept now job
+    → LetsGo now job (changed change job)
 changed-lets_go now (Start moment parts) job never at kept = absurd (both_ways true never refl)
 changed-lets_go now (Leave final moment exit) job other at kept =
     let after : JobRecord = record job { state = Completing final; ended = Some now; exit = exit } in
-    rw at (cond_both (is_running job.state) after job (LetsGo now job) (λ runs. all-stay now job after refl refl (search (rules, tests))) (λ idle. lets_go-same now job kept))
+    rw at (cond_both (is_running job.state) after job (LetsGo now job) (λ runs. all-stay now job after refl refl refl (search (rules, tests)))
+    (λ idle. lets_go-same now job kept))
 changed-lets_go now (DropPart node moment) job other at kept = rw at (off_node-lets_go now node job.state job kept refl)
 
 pub kept-started : (now : ℕ) (parts : List Part) (job : JobRecord) → has_members parts ≡ true → OnNodesApart parts → IsKept now job → IsKept now (changed (Start now parts) job)

@@ -1,5 +1,5 @@
 -- Letting go keeps all sound.
-use Rattle.std.proofs.Common.{◌≡◌, ℕ, ◌<◌, ◌≤◌, Bool, true, false, not, List, [], ◌∷◌, map, sum_by, All, get_or, ap, arith, rules, tests, inl, inr}
+use Rattle.std.proofs.Common.{◌≡◌, ℕ, ◌<◌, ◌≤◌, Bool, true, not, List, [], ◌∷◌, length, map, sum_by, All, get_or, ap, arith, rules, tests}
 use Rattle.std.proofs.lemmas.Bool.Decides.{nat_tests}
 use Rattle.std.proofs.lemmas.List.Elements.{All-head, All-tail, All-map, All-filter}
 use Rattle.std.proofs.lemmas.List.Filters.{sum_by-filter_both}
@@ -10,11 +10,10 @@ use Rattle.backfill_planner.specs.declared.Placed.{Placed}
 use Rattle.ctl_state.specs.declared.record.Part.{Part}
 use Rattle.ctl_state.specs.declared.record.JobRecord.{JobRecord}
 use Rattle.ctl_state.specs.State.{State, last_moment}
-use Rattle.ctl_state.specs.JobStates.{is_holding}
 use Rattle.ctl_state.specs.Holding.{IsHeldOnce, IsPartOf, mem_held, mem_in, parts_of, times_held}
 use Rattle.ctl_state.specs.Planning.{room_of}
 use Rattle.ctl_state.specs.Events.{LetsGo, those_left}
-use Rattle.ctl_state.specs.Soundness.{HaveRisingIds, IsKept, IsSound, PlansPending}
+use Rattle.ctl_state.specs.Soundness.{AreOfPartitions, AreUp, HaveRisingIds, IsKept, IsSound, PlansPending, is_up_at}
 use Rattle.ctl_state.proofs.Held.{cpu_in}
 use Rattle.ctl_state.proofs.Kept.{kept-let_go}
 use Rattle.ctl_state.proofs.Lists.{All-flat_map, All-from_flat_map, rising-kept}
@@ -34,31 +33,42 @@ left-less amount now change goes (job ∷ jobs) lets =
     let stays = sum_by-append amount (change job).parts (parts_of (those_left change goes jobs)) in
     grind (arith, nat_tests)
 
+-- what holds of all parts holds of those that stay
+all-left : (P : Part → Type 0) (now : ℕ) (change : JobRecord → JobRecord) (goes : JobRecord → Bool) (jobs : List JobRecord)
+    → All (λ job. LetsGo now job (change job)) jobs → All P (parts_of jobs) → All P (parts_of (those_left change goes jobs))
+all-left P now change goes jobs lets all =
+    let has : JobRecord → Type 0 = λ job. All P job.parts in
+    let parts : JobRecord → List Part = λ job. job.parts in
+    let kept : All (λ job. has (change job)) jobs = λ k d below.
+    let one = lets k d below in
+    rw one.parts (All-filter one.keep P (get_or jobs k d).parts (All-from_flat_map P parts jobs all k d below)) in
+    All-flat_map P parts (those_left change goes jobs) (All-filter (λ job. not (goes job)) has (map change jobs) (All-map has change jobs kept))
+
 held-left : (rooms : List NodeRoom) (now : ℕ) (change : JobRecord → JobRecord) (goes : JobRecord → Bool) (jobs : List JobRecord) → All (λ job. LetsGo now job (change job)) jobs
     → IsHeldOnce rooms (parts_of jobs) → IsHeldOnce rooms (parts_of (those_left change goes jobs))
 unfolding times_held mem_held
 held-left rooms now change goes jobs lets held =
-    let has : JobRecord → Type 0 = λ job. All (IsPartOf rooms) job.parts in
-    let parts : JobRecord → List Part = λ job. job.parts in
-    let kept : All (λ job. has (change job)) jobs = λ k d below.
-    let one = lets k d below in
-    rw one.parts (All-filter one.keep (IsPartOf rooms) (get_or jobs k d).parts (All-from_flat_map (IsPartOf rooms) parts jobs held.each k d below)) in
     record {
-      each = All-flat_map (IsPartOf rooms) parts (those_left change goes jobs) (All-filter (λ job. not (goes job)) has (map change jobs) (All-map has change jobs kept));
+      each = all-left (IsPartOf rooms) now change goes jobs lets held.each;
       once = λ node cpu. omega (arith, left-less (cpu_in node cpu) now change goes jobs lets, held.once node cpu);
       mem = λ node. omega (arith, left-less (mem_in node) now change goes jobs lets, held.mem node);
     }
 
 pub sound-left : (s : State) (now : ℕ) (change : JobRecord → JobRecord) (goes : JobRecord → Bool) (plan : List Placed)
     → IsSound s → now ≤ last_moment → All (λ job. LetsGo now job (change job)) s.jobs
-    → All (λ job. goes (change job) ≡ true → is_holding (change job).state ≡ false) s.jobs
     → PlansPending (those_left change goes s.jobs) plan → IsSound (record s { jobs = those_left change goes s.jobs; plan = plan; moment = now })
-sound-left s now change goes plan sound in_time lets idle planned =
+sound-left s now change goes plan sound in_time lets planned =
     let stays : JobRecord → Bool = λ job. not (goes job) in
     let after = those_left change goes s.jobs in
     let low : JobRecord → Type 0 = λ job. job.id < s.next_id in
-    let rise : HaveRisingIds after = AllPairs-filter (λ (one other : JobRecord). one.id < other.id) stays (map change s.jobs) (rising-kept (λ (job : JobRecord). job.id) change s.jobs (λ k d below. (lets k d below).id) sound.rising) in
+    let of : JobRecord → Type 0 = λ job. job.partition < length s.partitions in
+    let rise : HaveRisingIds after = AllPairs-filter (λ (one other : JobRecord). one.id < other.id) stays (map change s.jobs)
+    (rising-kept (λ (job : JobRecord). job.id) change s.jobs (λ k d below. (lets k d below).id) sound.rising) in
     let next : All low after = All-filter stays low (map change s.jobs) (All-map low change s.jobs (λ k d below. rw ((lets k d below).id) (sound.below_next k d below))) in
-    let kept : All (IsKept now) after = All-filter stays (IsKept now) (map change s.jobs) (All-map (IsKept now) change s.jobs (λ k d below. kept-let_go s.moment now (get_or s.jobs k d) (change (get_or s.jobs k d)) (sound.jobs k d below) (lets k d below))) in
+    let partitions : AreOfPartitions s.partitions after =
+    All-filter stays of (map change s.jobs) (All-map of change s.jobs (λ k d below. rw ((lets k d below).partition) (sound.of_partitions k d below))) in
+    let kept : All (IsKept now) after = All-filter stays (IsKept now) (map change s.jobs)
+    (All-map (IsKept now) change s.jobs (λ k d below. kept-let_go s.moment now (get_or s.jobs k d) (change (get_or s.jobs k d)) (sound.jobs k d below) (lets k d below))) in
+    let up : AreUp s.nodes (parts_of after) = all-left (λ (part : Part). is_up_at s.nodes part.node ≡ true) now change goes s.jobs lets sound.up in
     let held = held-left (map room_of s.nodes) now change goes s.jobs lets sound.held in
     search rules

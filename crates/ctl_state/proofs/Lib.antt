@@ -5,3 +5,5 @@ pub mod Held
 pub mod LetGo
 pub mod Taken
 pub mod Added
+pub mod Ordering
+pub mod Choosing

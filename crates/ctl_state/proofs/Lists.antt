@@ -7,10 +7,6 @@ use Rattle.std.proofs.lemmas.List.Elements.{All-nil, All-head, All-tail, All-app
 use Rattle.std.proofs.lemmas.List.Folds.{length-flat_map-take}
 use Rattle.std.proofs.lemmas.List.Kept.{AllPairs-cons}
 
-pub map-map : {X Y Z : Type 0} (f : Y → Z) (g : X → Y) (xs : List X) → map f (map g xs) ≡ map (λ x. f (g x)) xs
-map-map f g [] = refl
-map-map f g (x ∷ xs) = ap (λ rest. f (g x) ∷ rest) (map-map f g xs)
-
 -- what holds of each element of a joined list, by the lists that it is joined of
 pub All-flat_map : {X Y : Type 0} (P : Y → Type 0) (h : X → List Y) (xs : List X) → All (λ x. All P (h x)) xs → All P (flat_map h xs)
 All-flat_map P h [] each = All-nil P
@@ -39,7 +35,8 @@ pairs-append R (x ∷ xs) ys one two across =
     (pairs-append R xs ys (pairs-tail R x xs one) two (All-tail (λ y. All (R y) ys) x xs across))
 
 -- numbers that stay rise as they did
-pub rising-kept : {X : Type 0} (f : X → ℕ) (change : X → X) (xs : List X) → All (λ x. f (change x) ≡ f x) xs → AllPairs (λ one other. f one < f other) xs → AllPairs (λ one other. f one < f other) (map change xs)
+pub rising-kept : {X : Type 0} (f : X → ℕ) (change : X → X) (xs : List X) → All (λ x. f (change x) ≡ f x) xs → AllPairs (λ one other. f one < f other) xs
+    → AllPairs (λ one other. f one < f other) (map change xs)
 rising-kept f change xs same rising i j d before below =
     let inside : j < length xs = rw (length-map xs change) at below in
     let earlier : i < length xs = omega (arith, before, inside) in
@@ -56,7 +53,8 @@ contains-later f true x xs y (k, within, is) = (suc k, omega (arith, within), is
 contains-later f false x xs y has = has
 
 -- a number that was contained is contained after a change of elements with other numbers
-pub contains-still : {X : Type 0} (f : X → ℕ) (p : X → Bool) (change : X → X) (y : ℕ) (xs : List X) → ((x : X) → f x ≡ y → change x ≡ x) → Contains (map f (filter p xs)) y → Contains (map f (filter p (map change xs))) y
+pub contains-still : {X : Type 0} (f : X → ℕ) (p : X → Bool) (change : X → X) (y : ℕ) (xs : List X) → ((x : X) → f x ≡ y → change x ≡ x)
+    → Contains (map f (filter p xs)) y → Contains (map f (filter p (map change xs))) y
 contains-still f p change y [] stays has = has
 contains-still f p change y (x ∷ xs) stays has = elim (contains-cases f (p x) x (filter p xs) y has) [
   | inl here ↦ rw (stays x here.1, here.0) (0, omega arith, here.1)

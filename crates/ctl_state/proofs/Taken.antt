@@ -1,5 +1,5 @@
 -- A waiting job that takes free parts keeps all sound, and adds just these to what is held.
-use Rattle.std.proofs.Common.{◌≡◌, ◌≢◌, ℕ, ◌+◌, ◌<◌, ◌≤◌, true, false, eqb, List, map, sum_by, All, AllPairs, Any, Contains, get_or, refl, ◌∙◌, sym, arith, rules, inl, inr}
+use Rattle.std.proofs.Common.{◌≡◌, ◌≢◌, ℕ, ◌+◌, ◌<◌, ◌≤◌, true, false, eqb, List, length, map, sum_by, All, AllPairs, Any, Contains, get_or, refl, ◌∙◌, sym, arith, rules, inl, inr}
 use Rattle.std.specs.List.{list_any}
 use Rattle.std.proofs.lemmas.Bool.{cases_eq, cond_both, and_parts, eqb-true, ne_eqb}
 use Rattle.std.proofs.lemmas.List.Elements.{All-map, All-weaker}
@@ -14,7 +14,7 @@ use Rattle.ctl_state.specs.Changes.{changed}
 use Rattle.ctl_state.specs.Holding.{IsHeldOnce, IsPartOf, OnNodesApart, has_cpu, mem_held, mem_in, parts_of, times_held}
 use Rattle.ctl_state.specs.Planning.{room_of}
 use Rattle.ctl_state.specs.Events.{MayTake, started_as}
-use Rattle.ctl_state.specs.Soundness.{HaveRisingIds, IsKept, IsSound, PlansPending, pending_ids}
+use Rattle.ctl_state.specs.Soundness.{AreOfPartitions, AreUp, HaveRisingIds, IsKept, IsSound, PlansPending, is_up_at, pending_ids}
 use Rattle.ctl_state.proofs.Counts.{count-once, sum-grown, sum_by-flat_map}
 use Rattle.ctl_state.proofs.Held.{cpu_in, was-held}
 use Rattle.ctl_state.proofs.Kept.{kept-started, pending-nothing}
@@ -24,12 +24,16 @@ use Rattle.ctl_state.proofs.Lists.{All-flat_map, All-from_flat_map, contains-sti
 other-same : (now id : ℕ) (parts : List Part) (job : JobRecord) → job.id ≢ id → started_as now id parts job ≡ job
 other-same now id parts job other = rw (ne_eqb job.id id other) refl
 
+same-partition : (now id : ℕ) (parts : List Part) (job : JobRecord) → (started_as now id parts job).partition ≡ job.partition
+same-partition now id parts job =
+    cond_both (eqb job.id id) (changed (Start now parts) job) job (λ (after : JobRecord). after.partition ≡ job.partition) (λ here. refl) (λ other. refl)
+
 same-id : (now id : ℕ) (parts : List Part) (job : JobRecord) → (started_as now id parts job).id ≡ job.id
 same-id now id parts job = cond_both (eqb job.id id) (changed (Start now parts) job) job (λ (after : JobRecord). after.id ≡ job.id) (λ here. refl) (λ other. refl)
 
-pub others-wait : (jobs : List JobRecord) (now id other : ℕ) (parts : List Part) → HaveRisingIds jobs → Contains (pending_ids jobs) other → (other ≡ id → ⊥)
+pub others-wait : (jobs : List JobRecord) (now id other : ℕ) (parts : List Part) → Contains (pending_ids jobs) other → other ≢ id
     → Contains (pending_ids (map (started_as now id parts) jobs)) other
-others-wait jobs now id other parts rising waits differ =
+others-wait jobs now id other parts waits differ =
     contains-still (λ (job : JobRecord). job.id) (λ (job : JobRecord). is_pending job.state) (started_as now id parts) other jobs
     (λ (job : JobRecord) is. other-same now id parts job (λ same. differ (sym is ∙ same))) waits
 
@@ -65,7 +69,8 @@ parts-once node cpu parts apart = count-once (has_cpu node cpu) parts off
         rw (ne_eqb (get_or parts j d).node node (λ same. apart i j d before below (eqb-true (get_or parts i d).node node on ∙ sym same))) refl
 
 -- a processor that one of them has was held by none
-was-free : (times : ℕ → ℕ → ℕ) (node cpu : ℕ) (parts : List Part) → All (λ (part : Part). All (λ id. times part.node id ≡ 0) part.cpus) parts → Any (λ part. has_cpu node cpu part ≡ true) parts → times node cpu ≡ 0
+was-free : (times : ℕ → ℕ → ℕ) (node cpu : ℕ) (parts : List Part) → All (λ (part : Part). All (λ id. times part.node id ≡ 0) part.cpus) parts
+    → Any (λ part. has_cpu node cpu part ≡ true) parts → times node cpu ≡ 0
 was-free times node cpu parts unheld (k, part, below, is, has) =
     let both = and_parts (eqb part.node node) (list_any (λ id. eqb id cpu) part.cpus) has in
     let here : All (λ id. times part.node id ≡ 0) part.cpus = rw is at (unheld k part below) in
@@ -75,32 +80,50 @@ was-free times node cpu parts unheld (k, part, below, is, has) =
     found : All (λ id. times node id ≡ 0) part.cpus → Any (λ id. eqb id cpu ≡ true) part.cpus → times node cpu ≡ 0
     found none (place, id, inside, at, same) = rw (← eqb-true id cpu same) (rw at at (none place id inside))
 
-held-taken : (s : State) (id : ℕ) (parts : List Part) → IsSound s → MayTake (map room_of s.nodes) s.jobs id parts → IsHeldOnce (map room_of s.nodes) (parts_of (map (started_as s.moment id parts) s.jobs))
-held-taken s id parts sound may =
-    let rooms = map room_of s.nodes in
+-- what holds of all parts that are held and of those that are taken holds of all that are held then
+all-taken : (P : Part → Type 0) (now id : ℕ) (parts : List Part) (jobs : List JobRecord) → All P parts → All P (parts_of jobs)
+    → All P (parts_of (map (started_as now id parts) jobs))
+all-taken P now id parts jobs new old =
     let held : JobRecord → List Part = λ job. job.parts in
-    let has : JobRecord → Type 0 = λ job. All (IsPartOf rooms) job.parts in
-    let each : All (λ job. has (started_as s.moment id parts job)) s.jobs = All-weaker has (λ job. has (started_as s.moment id parts job))
-    (λ job had. cond_both (eqb job.id id) (changed (Start s.moment parts) job) job has (λ here. may.each) (λ other. had)) s.jobs (All-from_flat_map (IsPartOf rooms) held s.jobs sound.held.each) in
+    let has : JobRecord → Type 0 = λ job. All P job.parts in
+    let start = started_as now id parts in
+    All-flat_map P held (map start jobs) (All-map has start jobs (All-weaker has (λ job. has (start job))
+    (λ job had. cond_both (eqb job.id id) (changed (Start now parts) job) job has (λ here. new) (λ other. had)) jobs (All-from_flat_map P held jobs old)))
+
+held-taken : (s : State) (id : ℕ) (parts : List Part) → IsSound s → MayTake s.nodes s.jobs id parts
+    → IsHeldOnce (map room_of s.nodes) (parts_of (map (started_as s.moment id parts) s.jobs))
+held-taken s id parts sound may =
     record {
-      each = All-flat_map (IsPartOf rooms) held (map (started_as s.moment id parts) s.jobs) (All-map has (started_as s.moment id parts) s.jobs each);
+      each = all-taken (IsPartOf (map room_of s.nodes)) s.moment id parts s.jobs may.each sound.held.each;
       once = λ node cpu.
           let sum = times-taken s s.moment id node cpu parts sound may.waits in
           elim (cases_eq (times_held parts node cpu) 0) [
             | inl none ↦ omega (arith, sum, none, sound.held.once node cpu)
-            | inr some ↦ omega (arith, sum, parts-once node cpu parts may.apart, was-free (times_held (parts_of s.jobs)) node cpu parts may.unheld (was-held node cpu parts (omega (arith, some))))
+            | inr some ↦ omega (
+              arith,
+              sum,
+              parts-once node cpu parts may.apart,
+              was-free (times_held (parts_of s.jobs)) node cpu parts may.unheld (was-held node cpu parts (omega (arith, some))),
+            )
           ];
       mem = λ node. omega (arith, mem-taken s s.moment id node parts sound may.waits, may.mem node);
     }
 
-pub sound-taken : (s : State) (id : ℕ) (parts : List Part) (plan : List Placed) → IsSound s → MayTake (map room_of s.nodes) s.jobs id parts → PlansPending (map (started_as s.moment id parts) s.jobs) plan
-    → IsSound (record s { jobs = map (started_as s.moment id parts) s.jobs; plan = plan })
+pub sound-taken : (s : State) (id : ℕ) (parts : List Part) (plan : List Placed) → IsSound s → MayTake s.nodes s.jobs id parts
+    → PlansPending (map (started_as s.moment id parts) s.jobs) plan → IsSound (record s { jobs = map (started_as s.moment id parts) s.jobs; plan = plan })
 sound-taken s id parts plan sound may planned =
     let start = started_as s.moment id parts in
     let low : JobRecord → Type 0 = λ job. job.id < s.next_id in
-    let rise : HaveRisingIds (map start s.jobs) = rising-kept (λ (job : JobRecord). job.id) start s.jobs (λ k d below. same-id s.moment id parts (get_or s.jobs k d)) sound.rising in
+    let of : JobRecord → Type 0 = λ job. job.partition < length s.partitions in
+    let rise : HaveRisingIds (map start s.jobs) =
+    rising-kept (λ (job : JobRecord). job.id) start s.jobs (λ k d below. same-id s.moment id parts (get_or s.jobs k d)) sound.rising in
     let next : All low (map start s.jobs) = All-map low start s.jobs (λ k d below. rw (same-id s.moment id parts (get_or s.jobs k d)) (sound.below_next k d below)) in
+    let partitions : AreOfPartitions s.partitions (map start s.jobs) =
+    All-map of start s.jobs (λ k d below. rw (same-partition s.moment id parts (get_or s.jobs k d)) (sound.of_partitions k d below)) in
     let kept : All (IsKept s.moment) (map start s.jobs) = All-map (IsKept s.moment) start s.jobs (All-weaker (IsKept s.moment) (λ job. IsKept s.moment (start job))
-    (λ job kept. cond_both (eqb job.id id) (changed (Start s.moment parts) job) job (IsKept s.moment) (λ here. kept-started s.moment parts job may.some may.apart kept) (λ other. kept)) s.jobs sound.jobs) in
+    (λ job kept. cond_both (eqb job.id id) (changed (Start s.moment parts) job) job (IsKept s.moment)
+    (λ here. kept-started s.moment parts job may.some may.apart kept) (λ other. kept)) s.jobs sound.jobs) in
+    let up : AreUp s.nodes (parts_of (map start s.jobs)) =
+    all-taken (λ (part : Part). is_up_at s.nodes part.node ≡ true) s.moment id parts s.jobs may.up sound.up in
     let held = held-taken s id parts sound may in
     search rules

@@ -28,10 +28,18 @@ off_node now node job Running = job
 off_node now node job (Completing final) = with_left now final (parts_off node job.parts) job
 off_node now node job (Ended final) = job
 
--- The job after a change: a start gives it these parts, a running job leaves Running, and a completing one leaves a node.
+-- The job after a change: a start gives it these parts, a running one leaves Running, and a completing one a node.
 abbrev pub changed : Change → JobRecord → JobRecord
-changed (Start now parts) job = record job { state = Running; starts = min (job.starts + 1) (2 ^ 32 - 1); parts = parts; started = Some now; ended = None; exit = None }
-changed (Leave final now exit) job = if is_running job.state then record job { state = Completing final; ended = Some now; exit = exit } else job
+changed (Start now parts) job = record job {
+  state = Running;
+  starts = min (job.starts + 1) (2 ^ 32 - 1);
+  parts = parts;
+  started = Some now;
+  ended = None;
+  exit = None;
+}
+changed (Leave final now exit) job =
+    if is_running job.state then record job { state = Completing final; ended = Some now; exit = exit } else job
 changed (DropPart node now) job = off_node now node job job.state
 
 -- the change starts a job

@@ -1,31 +1,35 @@
 -- What stays true of every state, whatever happens. Each is proved as the contract of a law.
-use Rattle.std.specs.Prelude.{◌≡◌, ◌≢◌, ℕ, ◌+◌, ◌≤◌, Bool, true, false, List, map, ◌++◌, All, Contains}
+use Rattle.std.specs.Prelude.{◌≡◌, ◌≢◌, ℕ, ◌+◌, ◌<◌, ◌≤◌, Bool, true, false, List, length, map, ◌++◌, All, AllPairs, Contains}
+use Rattle.std.specs.Cmp.{IsStrictWeakOrder}
+use Rattle.std.specs.List.Sorted.{IsPermutation, IsSortedBy, IsStableBy}
 use Rattle.backfill_planner.specs.declared.Placed.{Placed}
 use Rattle.ctl_state.specs.declared.record.Part.{Part}
-use Rattle.ctl_state.specs.declared.record.NodeRecord.{NodeRecord}
+use Rattle.node_state.specs.declared.record.NodeRecord.{NodeRecord}
+use Rattle.partitions.specs.declared.record.PartRecord.{PartRecord}
+use Rattle.partitions.specs.Partitions.{IsOnNodes}
 use Rattle.ctl_state.specs.declared.record.JobRecord.{JobRecord}
 use Rattle.ctl_state.specs.declared.change.Change.{Change}
 use Rattle.ctl_state.specs.State.{State, last_moment, last_job_id}
-use Rattle.ctl_state.specs.JobStates.{is_pending, is_holding}
+use Rattle.ctl_state.specs.JobStates.{is_pending}
 use Rattle.ctl_state.specs.Changes.{changed, is_start, moment_of}
 use Rattle.ctl_state.specs.Holding.{parts_of, times_held, mem_held}
-use Rattle.ctl_state.specs.Planning.{room_of}
+use Rattle.ctl_state.specs.Ordered.{ordered_by}
+use Rattle.ctl_state.specs.Planning.{plan_job}
 use Rattle.ctl_state.specs.Events.{LetsGo, MayTake, started_as, those_left}
-use Rattle.ctl_state.specs.Soundness.{IsSound, IsKept, HaveRisingIds, PlansPending, pending_ids}
+use Rattle.ctl_state.specs.Soundness.{AreOfPartitions, IsSound, IsKept, HaveRisingIds, PlansPending, is_up_at, pending_ids}
 
--- An event that starts nothing keeps all sound: each job keeps some of its parts, and only jobs that hold nothing go.
+-- An event that starts nothing keeps all sound: each job that stays keeps some of its parts.
 abbrev pub LettingGo : Type 0
 LettingGo = (s : State) (now : ℕ) (change : JobRecord → JobRecord) (goes : JobRecord → Bool) (plan : List Placed)
     → IsSound s → now ≤ last_moment
     → All (λ job. LetsGo now job (change job)) s.jobs
-    → All (λ job. goes (change job) ≡ true → is_holding (change job).state ≡ false) s.jobs
     → PlansPending (those_left change goes s.jobs) plan
     → IsSound (record s { jobs = those_left change goes s.jobs; plan = plan; moment = now })
 
 -- A waiting job that takes free parts keeps all sound.
 abbrev pub Taking : Type 0
 Taking = (s : State) (id : ℕ) (parts : List Part) (plan : List Placed)
-    → IsSound s → MayTake (map room_of s.nodes) s.jobs id parts
+    → IsSound s → MayTake s.nodes s.jobs id parts
     → PlansPending (map (started_as s.moment id parts) s.jobs) plan
     → IsSound (record s { jobs = map (started_as s.moment id parts) s.jobs; plan = plan })
 
@@ -45,20 +49,22 @@ TakenMem = (s : State) (now id node : ℕ) (parts : List Part)
 -- Whoever waited before a start of another waits after it.
 abbrev pub OthersWait : Type 0
 OthersWait = (jobs : List JobRecord) (now id other : ℕ) (parts : List Part)
-    → HaveRisingIds jobs → Contains (pending_ids jobs) other → other ≢ id
+    → Contains (pending_ids jobs) other → other ≢ id
     → Contains (pending_ids (map (started_as now id parts) jobs)) other
 
--- Nodes whose rooms and names stay keep all sound.
+-- Nodes that stay as they are configured, of which none goes down, keep all sound.
 abbrev pub NodesStay : Type 0
 NodesStay = (s : State) (nodes : List NodeRecord)
     → IsSound s → map (λ (node : NodeRecord). node.conf) nodes ≡ map (λ (node : NodeRecord). node.conf) s.nodes
+    → ((place : ℕ) → is_up_at s.nodes place ≡ true → is_up_at nodes place ≡ true)
     → IsSound (record s { nodes = nodes })
 
 -- Pending jobs that are added with the next numbers keep all sound.
 abbrev pub Adding : Type 0
 Adding = (s : State) (now next : ℕ) (more : List JobRecord)
     → IsSound s → s.moment ≤ now → now ≤ last_moment
-    → All (IsKept now) more → All (λ (job : JobRecord). is_pending job.state ≡ true) more
+    → AreOfPartitions s.partitions more → All (IsKept now) more
+    → All (λ (job : JobRecord). is_pending job.state ≡ true) more
     → HaveRisingIds more → All (λ (job : JobRecord). s.next_id ≤ job.id) more
     → All (λ (job : JobRecord). job.id + 1 ≤ next) more → s.next_id ≤ next → next ≤ last_job_id + 1
     → IsSound (record s { jobs = s.jobs ++ more; next_id = next; moment = now })
@@ -72,7 +78,8 @@ abbrev pub ChangesLetGo : Type 0
 ChangesLetGo = (now : ℕ) (change : Change) (job : JobRecord)
     → is_start change ≡ false → moment_of change ≡ now → IsKept now job → LetsGo now job (changed change job)
 
--- Time that passes takes nothing from what is kept of a job; what lets go keeps it, nothing lets go, and so do two one after another.
+-- Time that passes takes nothing from what is kept of a job; what lets go keeps it, nothing lets go, and so do two one
+-- after another.
 abbrev pub KeptLater : Type 0
 KeptLater = (before now : ℕ) (job : JobRecord) → before ≤ now → IsKept before job → IsKept now job
 
@@ -83,4 +90,27 @@ abbrev pub LetsGoNothing : Type 0
 LetsGoNothing = (now : ℕ) (job : JobRecord) → IsKept now job → LetsGo now job job
 
 abbrev pub LetsGoTwice : Type 0
-LetsGoTwice = (now : ℕ) (job middle after : JobRecord) → LetsGo now job middle → LetsGo now middle after → LetsGo now job after
+LetsGoTwice = (now : ℕ) (job middle after : JobRecord)
+    → LetsGo now job middle → LetsGo now middle after → LetsGo now job after
+
+-- The nodes that a job may get are nodes that there are, each once.
+abbrev pub JobNodes : Type 0
+JobNodes = (nodes : List NodeRecord) (partition : PartRecord) (bounds : ℕ × ℕ) (job : JobRecord)
+    → IsOnNodes (length nodes) partition
+    → All (λ node. node < length nodes) (plan_job nodes partition bounds job).nodes
+    × AllPairs (λ one other. one ≢ other) (plan_job nodes partition bounds job).nodes
+
+-- A list in order has the elements of the list.
+abbrev pub OrderMoves : Type 0 → Type 0
+OrderMoves X = (before : X → X → Bool) (xs : List X) → IsPermutation xs (ordered_by before xs)
+
+-- Keys that differ differ in order too.
+abbrev pub OrderKeepsApart : Type 0 → Type 0
+OrderKeepsApart X = (before : X → X → Bool) (key : X → ℕ) (xs : List X)
+    → AllPairs (λ (one other : X). key one ≢ key other) xs
+    → AllPairs (λ (one other : X). key one ≢ key other) (ordered_by before xs)
+
+-- What a stable sort makes of a list is the list in order.
+abbrev pub SortOrders : Type 0 → Type 0
+SortOrders X = (before : X → X → Bool) (xs ys : List X)
+    → IsStrictWeakOrder before → IsSortedBy before ys → IsStableBy before xs ys → ys ≡ ordered_by before xs

@@ -4,6 +4,7 @@ pub mod Changes
 pub mod Holding
 pub mod Soundness
 pub mod Events
+pub mod Ordered
 pub mod Planning
 pub mod Verdicts
 pub mod Refusals

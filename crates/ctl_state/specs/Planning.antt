@@ -1,31 +1,92 @@
 -- What the planner is told of nodes and jobs.
-use Rattle.std.specs.Prelude.{ℕ, ◌*◌, true, false, Option, Some, None}
-use Rattle.std.specs.List.{range_with_len}
+use Rattle.std.specs.Prelude.{ℕ, ◌*◌, Bool, true, false, ◌&&◌, ◌||◌, not, nat_eq, nat_lt, if◌then◌else◌, unwrap_or, List, [], ◌++◌, length, filter, slice_get, bytes_eq, Option, Some, None, option_map}
+use Rattle.std.specs.List.{list_all, list_any}
 use Rattle.slurm_text.specs.declared.plain.limit.Limit.{Limit}
 use Rattle.slurm_text.specs.declared.plain.limit.Limit.TheVariants.{Minutes, Unlimited}
+use Rattle.slurm_text.specs.declared.plain.features.FeatureExpr.{FeatureExpr}
+use Rattle.slurm_text.specs.declared.plain.job.JobDesc.{JobDesc}
 use Rattle.resource_profile.specs.declared.NodeRoom.{NodeRoom}
 use Rattle.backfill_planner.specs.declared.job.PlanJob.{PlanJob}
-use Rattle.ctl_state.specs.declared.record.NodeRecord.{NodeRecord}
+use Rattle.node_state.specs.declared.record.NodeRecord.{NodeRecord}
+use Rattle.node_state.specs.Nodes.{is_available, is_named, has_features}
+use Rattle.partitions.specs.declared.record.PartRecord.{PartRecord}
 use Rattle.ctl_state.specs.declared.record.JobRecord.{JobRecord}
+use Rattle.ctl_state.specs.Ordered.{ordered_by}
 
--- what a node has in all
+-- what a node has in all, which a plan may use where the node is available
 abbrev pub room_of : NodeRecord → NodeRoom
-room_of node = record { cpus = node.conf.cpus; mem = node.conf.mem; usable = true }
+room_of node = record { cpus = node.conf.cpus; mem = node.conf.mem; usable = is_available node }
+
+-- the same, as if it were
+abbrev pub open_room : NodeRecord → NodeRoom
+open_room node = record { cpus = node.conf.cpus; mem = node.conf.mem; usable = true }
+
+-- whether there is a node at the place, and this is true of it
+abbrev pub is_at : (NodeRecord → Bool) → List NodeRecord → ℕ → Bool
+is_at test nodes place = unwrap_or (option_map test (slice_get nodes place)) false
+
+-- the weight of the node at a place
+abbrev pub weight_at : List NodeRecord → ℕ → ℕ
+weight_at nodes place = unwrap_or (option_map (λ (node : NodeRecord). node.conf.weight) (slice_get nodes place)) 0
+
+-- a node of lower weight is taken first, and of one weight the one that comes first in slurm.conf
+abbrev pub is_taken_before : List NodeRecord → ℕ → ℕ → Bool
+is_taken_before nodes one other =
+    nat_lt (weight_at nodes one) (weight_at nodes other)
+    || (nat_eq (weight_at nodes one) (weight_at nodes other) && nat_lt one other)
+
+-- the nodes of a partition, in the order in which jobs take them
+unfoldable pub node_order : List NodeRecord → PartRecord → List ℕ
+node_order nodes partition = ordered_by (is_taken_before nodes) partition.nodes
+
+-- the name is among the names
+abbrev pub has : List (List ℕ) → List ℕ → Bool
+has names name = list_any (bytes_eq name) names
+
+-- the node has the features that are wanted, if any are
+abbrev pub has_wanted : Option FeatureExpr → NodeRecord → Bool
+has_wanted None node = true
+has_wanted (Some features) node = has_features features node
+
+-- the job may run on the node, as far as it says
+abbrev pub may_run : JobDesc → NodeRecord → Bool
+may_run desc node = not (has desc.excluded node.conf.name) && has_wanted desc.features node
+
+-- the job must have the node
+abbrev pub must_have : JobDesc → NodeRecord → Bool
+must_have desc node = has desc.required node.conf.name
+
+-- those of the places at which the job may run, in their order: those that it must have first
+abbrev pub required_first : List NodeRecord → JobDesc → List ℕ → List ℕ
+required_first nodes desc places =
+    filter (is_at (must_have desc) nodes) places ++ filter (λ place. not (is_at (must_have desc) nodes place)) places
+
+-- each node that the job must have is at one of the places
+abbrev pub are_there : List NodeRecord → JobDesc → List ℕ → Bool
+are_there nodes desc places = list_all (λ name. list_any (is_at (is_named name) nodes) places) desc.required
+
+-- The places of the job's nodes among those of a partition, in the order in which it takes them; none where it must
+-- have one that it can't have.
+abbrev pub nodes_among : List NodeRecord → JobDesc → List ℕ → List ℕ
+nodes_among nodes desc order =
+    if are_there nodes desc (filter (is_at (may_run desc) nodes) order)
+    then required_first nodes desc (filter (is_at (may_run desc) nodes) order)
+    else []
 
 -- a limit in seconds
 abbrev pub seconds_of : Limit → Option ℕ
 seconds_of (Minutes minutes) = Some (minutes * 60)
 seconds_of Unlimited = None
 
--- What a job needs of so many nodes: one of them, with a processor for each task.
-unfoldable pub plan_job : ℕ → JobRecord → PlanJob
-plan_job count job = record {
+-- What a job needs in a partition, on so many nodes at least and at most.
+unfoldable pub plan_job : List NodeRecord → PartRecord → ℕ × ℕ → JobRecord → PlanJob
+plan_job nodes partition bounds job = record {
   id = job.id;
-  need = record { tasks = job.desc.tasks; least = 1; most = 1; required = 0 };
-  cpus_per_task = 1;
-  per_node = job.desc.tasks;
+  need = record { tasks = job.desc.tasks; least = bounds.0; most = bounds.1; required = length job.desc.required };
+  cpus_per_task = job.desc.cpus_per_task;
+  per_node = unwrap_or job.desc.tasks_per_node job.desc.tasks;
   mem_ask = job.mem_ask;
-  exclusive = false;
-  nodes = range_with_len 0 count;
+  exclusive = job.desc.exclusive || partition.conf.exclusive;
+  nodes = nodes_among nodes job.desc (node_order nodes partition);
   seconds = seconds_of job.limit;
 }

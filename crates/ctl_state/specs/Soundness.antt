@@ -1,5 +1,5 @@
 -- What every state keeps.
-use Rattle.std.specs.Prelude.{◌≡◌, ◌≢◌, ℕ, ◌+◌, ◌<◌, ◌≤◌, true, ◌||◌, is_some, unwrap_or, List, length, map, filter, All, AllPairs, Contains}
+use Rattle.std.specs.Prelude.{◌≡◌, ◌≢◌, ℕ, ◌+◌, ◌<◌, ◌≤◌, Bool, true, ◌||◌, is_some, IfSome, unwrap_or, List, length, map, filter, All, AllPairs, Contains}
 use Rattle.slurm_text.specs.declared.plain.limit.Limit.{Limit}
 use Rattle.slurm_text.specs.declared.plain.limit.Limit.TheVariants.{Minutes, Unlimited}
 use Rattle.slurm_text.specs.declared.plain.conf.Settings.{Settings}
@@ -7,12 +7,16 @@ use Rattle.slurm_text.specs.declared.plain.job.JobDesc.{JobDesc}
 use Rattle.slurm_text.specs.declared.plain.state.JobState.TheVariants.{Ended}
 use Rattle.slurm_text.specs.declared.plain.state.Final.TheVariants.{Requeue}
 use Rattle.backfill_planner.specs.declared.Placed.{Placed}
-use Rattle.ctl_state.specs.declared.record.NodeRecord.{NodeRecord}
+use Rattle.node_state.specs.declared.record.NodeRecord.{NodeRecord}
+use Rattle.node_state.specs.Nodes.{AreNamedOnce, is_up}
+use Rattle.partitions.specs.declared.record.PartRecord.{PartRecord}
+use Rattle.partitions.specs.Partitions.{IsOnNodes}
+use Rattle.ctl_state.specs.declared.record.Part.{Part}
 use Rattle.ctl_state.specs.declared.record.JobRecord.{JobRecord}
 use Rattle.ctl_state.specs.State.{State, last_job_id, last_moment}
 use Rattle.ctl_state.specs.JobStates.{is_pending, is_completing, is_ended, is_holding}
 use Rattle.ctl_state.specs.Holding.{IsHeldOnce, OnNodesApart, has_members, parts_of}
-use Rattle.ctl_state.specs.Planning.{room_of}
+use Rattle.ctl_state.specs.Planning.{is_at, room_of}
 
 -- a limit is a minute at least, and at most a hundred years; or none
 abbrev pub IsLimit : Limit → Type 0
@@ -32,11 +36,12 @@ pub record IsNode (node : NodeRecord) : Type 0 where
 -- what a job asks for is in its ranges
 pub record IsAsked (desc : JobDesc) : Type 0 where
   pub tasks : (1 ≤ desc.tasks) × (desc.tasks ≤ 1048576)
+  pub cpus : (1 ≤ desc.cpus_per_task) × (desc.cpus_per_task ≤ 1024)
   pub run : (1 ≤ desc.run) × (desc.run ≤ 2000000000)
   pub exit : desc.exit ≤ 255
 
--- The job's times fit its state: what runs or completes has a start, what has left Running has an end, none comes before the
--- other or lies ahead.
+-- The job's times fit its state: what runs or completes has a start, what has left Running has an end, none comes
+-- before the other or lies ahead.
 pub record IsWellRun (moment : ℕ) (job : JobRecord) : Type 0 where
   pub submitted : job.submit ≤ moment
   pub started : is_holding job.state ≡ true → is_some job.started ≡ true
@@ -74,13 +79,32 @@ pub record PlansPending (jobs : List JobRecord) (plan : List Placed) : Type 0 wh
 
 -- there are at most 1,024 nodes, each in its ranges and named once
 pub record AreNodes (nodes : List NodeRecord) : Type 0 where
-  pub few : length nodes ≤ 1024
+  pub named : AreNamedOnce nodes
   pub each : All IsNode nodes
-  pub once : AllPairs (λ (one other : NodeRecord). one.conf.name ≢ other.conf.name) nodes
+
+-- the node at the place is there, and isn't down
+abbrev pub is_up_at : List NodeRecord → ℕ → Bool
+is_up_at nodes place = is_at (λ (node : NodeRecord). is_up node.down) nodes place
+
+-- nothing is held of nodes that are down
+abbrev pub AreUp : List NodeRecord → List Part → Type 0
+AreUp nodes parts = All (λ (part : Part). is_up_at nodes part.node ≡ true) parts
+
+-- the partition's limits are in their ranges
+pub record HasLimits (partition : PartRecord) : Type 0 where
+  pub longest : IsLimit partition.conf.max_time
+  pub unasked : IfSome partition.conf.default_time IsLimit
+
+-- each job is of a partition that there is
+abbrev pub AreOfPartitions : List PartRecord → List JobRecord → Type 0
+AreOfPartitions partitions jobs = All (λ (job : JobRecord). job.partition < length partitions) jobs
 
 pub record IsSound (s : State) : Type 0 where
   pub settings : HasRanges s.settings
   pub nodes : AreNodes s.nodes
+  pub partitions : All (IsOnNodes (length s.nodes)) s.partitions
+  pub limits : All HasLimits s.partitions
+  pub of_partitions : AreOfPartitions s.partitions s.jobs
   -- the numbers of the jobs rise, and are below the next one
   pub rising : HaveRisingIds s.jobs
   pub below_next : All (λ (job : JobRecord). job.id < s.next_id) s.jobs
@@ -88,4 +112,5 @@ pub record IsSound (s : State) : Type 0 where
   pub moment : s.moment ≤ last_moment
   pub jobs : All (IsKept s.moment) s.jobs
   pub held : IsHeldOnce (map room_of s.nodes) (parts_of s.jobs)
+  pub up : AreUp s.nodes (parts_of s.jobs)
   pub plan : PlansPending s.jobs s.plan

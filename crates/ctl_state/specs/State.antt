@@ -1,18 +1,21 @@
 -- The state of the cluster, as plain lists.
-use Rattle.std.specs.Prelude.{ℕ, List, [], map, None}
+use Rattle.std.specs.Prelude.{ℕ, List, [], map, slice_get, Option}
 use Rattle.slurm_text.specs.declared.plain.conf.Settings.{Settings}
-use Rattle.slurm_text.specs.declared.plain.conf.PartConf.{PartConf}
 use Rattle.slurm_text.specs.Confs.{ConfView}
 use Rattle.slurm_text.specs.declared.plain.conf.AssocFile.{AssocFile}
 use Rattle.backfill_planner.specs.declared.Placed.{Placed}
-use Rattle.ctl_state.specs.declared.record.NodeRecord.{NodeRecord}
+use Rattle.node_state.specs.declared.record.NodeRecord.{NodeRecord}
+use Rattle.node_state.specs.Nodes.{opened}
+use Rattle.partitions.specs.declared.record.PartRecord.{PartRecord}
+use Rattle.partitions.specs.Partitions
 use Rattle.ctl_state.specs.declared.record.AssocRecord.{AssocRecord}
 use Rattle.ctl_state.specs.declared.record.JobRecord.{JobRecord}
 use Rattle.ctl_state.specs.declared.cluster.Cluster.{Cluster}
 
 pub record State : Type 0 where
   pub settings : Settings
-  pub partition : PartConf
+  -- in the order of slurm.conf
+  pub partitions : List PartRecord
   -- in the order of slurm.conf
   pub nodes : List NodeRecord
   -- in the order of the association file
@@ -38,12 +41,12 @@ last_job_id = 67043328
 abbrev pub opening : ConfView → AssocFile → State
 opening conf file = record {
   settings = conf.settings;
-  partition = conf.partition;
-  nodes = map (λ node. record { conf = node; heard = None }) conf.nodes;
+  partitions = map (Partitions.opened (map opened conf.nodes)) conf.partitions;
+  nodes = map opened conf.nodes;
   assocs = map (λ assoc. record { conf = assoc }) file.assocs;
   jobs = [];
   plan = [];
-  next_id = 1;
+  next_id = conf.settings.first_job_id;
   moment = 0;
 }
 
@@ -51,11 +54,15 @@ opening conf file = record {
 abbrev pub state_of : Cluster → State
 state_of c = record {
   settings = c.settings;
-  partition = c.partition;
-  nodes = c.nodes.items;
+  partitions = c.partitions;
+  nodes = c.nodes.records;
   assocs = c.assocs.items;
   jobs = c.jobs.items;
   plan = c.plan.items;
   next_id = c.next_id;
   moment = c.moment;
 }
+
+-- the partition of a job
+abbrev pub partition_of : State → JobRecord → Option PartRecord
+partition_of s job = slice_get s.partitions job.partition

@@ -6,7 +6,7 @@ use Rattle.slurm_text.specs.declared.plain.reply.Reply.{Reply}
 use Rattle.slurm_text.specs.declared.plain.reply.Reply.TheVariants.{Idle, Shown, Refused, NotBuilt}
 use Rattle.ctl_state.specs.State.{State}
 
--- It is refused, tells something, would change nothing but the moment, can't be worked yet, or makes a reply and a state.
+-- It is refused, tells something, changes nothing but the moment, can't be worked yet, or makes a reply and a state.
 pub data Verdict : Type 0 where
   Refuses : (refusal : Refusal) → Verdict
   Tells : (view : View) → Verdict

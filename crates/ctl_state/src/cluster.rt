@@ -4,18 +4,21 @@ ghost use Rattle.std.specs.Prelude.{◌≡◌};
 ghost use Rattle.ctl_state.specs.Refusals;
 ghost use Rattle.ctl_state.specs.State.{state_of};
 
-use crate::record::{AssocRecord, JobRecord, NodeRecord};
+use crate::record::{AssocRecord, JobRecord};
 use backfill_planner::Placed;
+use node_state::nodes::Nodes;
+use partitions::partitions::Partitions;
 use slurm_text::name::Name;
-use slurm_text::plain::conf::{PartConf, Settings};
+use slurm_text::plain::conf::Settings;
 
 /// The cluster as the controller knows it (own). The controller's type keeps what is true of it; here it is plain data.
 #[derive(Drop)]
 pub struct Cluster {
     pub settings: Settings,
-    pub partition: PartConf,
     /// In the order of slurm.conf.
-    pub nodes: Vec<NodeRecord>,
+    pub partitions: Partitions,
+    /// In the order of slurm.conf.
+    pub nodes: Nodes,
     /// In the order of the association file.
     pub assocs: Vec<AssocRecord>,
     /// In the order of their numbers.

@@ -10,7 +10,7 @@ use crate::record::JobRecord;
 use slurm_text::plain::state::JobState;
 
 /// The place of the job with this number, None where there is none. Logarithmic.
-pub fn place_of(jobs: &[JobRecord], id: u32) -> Option<usize>
+pub fn place_of_job(jobs: &[JobRecord], id: u32) -> Option<usize>
     requires { HaveRisingIds jobs.now }
     ensures within { IfSome result (λ place. place < length jobs.now) }
     ensures found { IfSome result (HoldsAt (λ (job : JobRecord). job.id ≡ id) jobs.now) }

@@ -6,7 +6,7 @@ ghost use Rattle.ctl_state.specs.Holding.{AreApart, parts_of};
 ghost use Rattle.ctl_state.specs.Laws;
 ghost use Rattle.ctl_state.specs.Soundness.{IsSound};
 
-/// An event that starts nothing keeps all sound: each job keeps some of its parts, and only jobs that hold nothing go.
+/// An event that starts nothing keeps all sound: each job that stays keeps some of its parts.
 pub fn letting_go_keeps_all_sound()
     ensures { Laws.LettingGo }
 {}
@@ -27,7 +27,7 @@ pub fn others_wait_on()
     ensures { Laws.OthersWait }
 {}
 
-/// Nodes whose rooms and names stay keep all sound.
+/// Nodes that stay as they are configured, of which none goes down, keep all sound.
 pub fn nodes_that_stay_keep_all_sound()
     ensures { Laws.NodesStay }
 {}
@@ -59,4 +59,16 @@ pub fn jobs_are_kept()
 /// No two parts, of one job or of two, share a processor.
 pub fn no_two_parts_share_a_processor()
     ensures { (s : State) → IsSound s → AllPairs AreApart (parts_of s.jobs) }
+{}
+
+/// The nodes that a job may get are nodes that there are, each once.
+pub fn jobs_get_nodes_that_are_there()
+    ensures { Laws.JobNodes }
+{}
+
+/// A list in order has the elements of the list, and a stable sort makes it.
+pub fn a_stable_sort_makes_the_order<T>()
+    ensures moves { Laws.OrderMoves T }
+    ensures apart { Laws.OrderKeepsApart T }
+    ensures sorted { Laws.SortOrders T }
 {}

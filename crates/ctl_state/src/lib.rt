@@ -4,6 +4,7 @@
 
 pub mod change;
 pub mod cluster;
+mod job_nodes;
 pub mod jobs;
 pub mod laws;
 pub mod planning;

@@ -1,21 +1,42 @@
 //! What the planner is told of nodes and jobs.
 
-ghost use Rattle.std.specs.Prelude.{◌≡◌, ◌≤◌, ◌<◌, map, IfOk, All};
-ghost use Rattle.std.specs.List.{range_with_len};
+ghost use Rattle.std.specs.Prelude.{◌≡◌, ◌≤◌, ◌<◌, length, map, IfOk, All};
+ghost use Rattle.partitions.specs.Partitions.{IsOnNodes};
 ghost use Rattle.ctl_state.specs.Planning;
 
-use crate::record::{JobRecord, NodeRecord};
+use crate::job_nodes::nodes_among;
+use crate::record::JobRecord;
 use backfill_planner::{NodeList, PlanJob};
 use node_pick::Need;
+use node_state::record::NodeRecord;
+use node_state::standing::is_available;
+use partitions::record::PartRecord;
 use resource_profile::NodeRoom;
 use slurm_text::memory_error::Memory;
+use slurm_text::plain::job::JobDesc;
 use slurm_text::plain::limit::Limit;
 use slurm_text::ranged::Ranged;
 use std::alloc::Global;
 
-/// What the nodes have in all.
+/// What the nodes have in all, as a plan may use it.
 pub fn rooms_of(alloc: Global, nodes: &[NodeRecord]) -> Result<Vec<NodeRoom>, Memory>
     ensures { IfOk result (λ rooms. rooms.items ≡ map Planning.room_of nodes.now) }
+{
+    Ok(
+        nodes
+            .iter()
+            .map(|node| NodeRoom {
+                cpus: node.conf.cpus.get() as u32,
+                mem: node.conf.mem.get(),
+                usable: is_available(node),
+            })
+            .collect(alloc)?,
+    )
+}
+
+/// The same, as if all nodes were available.
+pub fn open_rooms_of(alloc: Global, nodes: &[NodeRecord]) -> Result<Vec<NodeRoom>, Memory>
+    ensures { IfOk result (λ rooms. rooms.items ≡ map Planning.open_room nodes.now) }
 {
     Ok(
         nodes
@@ -29,42 +50,79 @@ pub fn rooms_of(alloc: Global, nodes: &[NodeRecord]) -> Result<Vec<NodeRoom>, Me
     )
 }
 
-// The places of so many nodes.
-fn all_places(alloc: Global, count: u32) -> Result<NodeList, Memory>
-    ensures places { IfOk result (λ places. places ≡ range_with_len 0 count) }
-    ensures below { IfOk result (All (λ place. place < count)) }
+// The weight of the node at a place.
+fn weight_at(nodes: &[NodeRecord], place: u32) -> u64
+    ensures { result ≡ Planning.weight_at nodes.now place }
 {
-    let mut places = Vec::with_capacity(alloc, count as usize)?;
-    for place in 0..count {
-        places.push(place)?;
-    }
-    Ok(NodeList::from_vec(places))
+    nodes
+        .get(place as usize)
+        .map_or(0, |node| node.conf.weight.get())
 }
 
-/// What the job needs of so many nodes. Linear in their number.
+/// The places of a partition's nodes, in the order in which jobs take them. It sorts them.
+pub fn node_order(
+    alloc: Global,
+    nodes: &[NodeRecord],
+    partition: &PartRecord,
+) -> Result<Vec<u32>, Memory>
+    ensures { IfOk result (λ order. order.items ≡ Planning.node_order nodes.now partition.now) }
+{
+    let mut order = Vec::from_slice(alloc, partition.nodes.as_slice())?;
+    order.sort_by_key(|place| (weight_at(nodes, *place), *place))?;
+    Ok(order)
+}
+
+fn need_of(desc: &JobDesc, bounds: (u32, u32)) -> Result<Need, Memory>
+    ensures { IfOk result (λ need. need
+        ≡ record { tasks = desc.now.tasks; least = bounds.0; most = bounds.1; required = length desc.now.required }) }
+{
+    let (least, most) = bounds;
+    let required = u32::try_from(desc.required.as_slice().len()).map_err(|_| Memory)?;
+    Ok(Need {
+        tasks: desc.tasks.get() as u32,
+        least,
+        most,
+        required,
+    })
+}
+
+fn seconds_of(limit: Limit) -> Option<Ranged<1, 3153600000>>
+    ensures { result ≡ Planning.seconds_of limit }
+{
+    match limit {
+        Limit::Minutes(minutes) => Some(Ranged::new(minutes.get() * 60)),
+        Limit::Unlimited => None,
+    }
+}
+
+/// What the job needs in its partition, whose nodes stand in this order, on so many nodes at least and at most. Linear
+/// in the nodes of the partition, and for a job that names nodes or features in what it names for each of them.
 #[tactic(auto, unfolding(crate::specs::Planning::plan_job))]
-pub fn plan_job(alloc: Global, count: u32, job: &JobRecord) -> Result<PlanJob, Memory>
-    ensures job { IfOk result (λ plan. plan ≡ Planning.plan_job count job.now) }
-    ensures nodes { IfOk result (λ plan. All (λ node. node < count) plan.nodes) }
+pub fn plan_job(
+    alloc: Global,
+    nodes: &[NodeRecord],
+    partition: &PartRecord,
+    order: &[u32],
+    bounds: (u32, u32),
+    job: &JobRecord,
+) -> Result<PlanJob, Memory>
+    requires there { IsOnNodes (length nodes.now) partition.now }
+    requires order { order.now ≡ Planning.node_order nodes.now partition.now }
+    ensures job { IfOk result (λ plan. plan ≡ Planning.plan_job nodes.now partition.now bounds job.now) }
+    ensures nodes { IfOk result (λ plan. All (λ node. node < length nodes.now) plan.nodes) }
     ensures tasks { IfOk result (λ plan. 1 ≤ plan.need.tasks) }
 {
-    let tasks = job.desc.tasks.get() as u32;
+    let desc = &job.desc;
     Ok(PlanJob {
         id: job.id,
-        need: Need {
-            tasks,
-            least: 1,
-            most: 1,
-            required: 0,
-        },
-        cpus_per_task: Ranged::new(1),
-        per_node: tasks,
+        need: need_of(desc, bounds)?,
+        cpus_per_task: desc.cpus_per_task,
+        per_node: desc
+            .tasks_per_node
+            .map_or(desc.tasks.get() as u32, |count| count.get() as u32),
         mem_ask: job.mem_ask,
-        exclusive: false,
-        nodes: all_places(alloc, count)?,
-        seconds: match job.limit {
-            Limit::Minutes(minutes) => Some(Ranged::new(minutes.get() * 60)),
-            Limit::Unlimited => None,
-        },
+        exclusive: desc.exclusive || partition.conf.exclusive,
+        nodes: NodeList::from_vec(nodes_among(alloc, nodes, desc, order)?),
+        seconds: seconds_of(job.limit),
     })
 }

@@ -1,32 +1,13 @@
-//! What the state keeps of nodes, associations and jobs.
+//! What the state keeps of associations and jobs.
 
 use slurm_text::items::Items;
 use slurm_text::name::Name;
-use slurm_text::plain::conf::{AssocConf, NodeConf};
+use slurm_text::plain::conf::AssocConf;
 use slurm_text::plain::job::JobDesc;
 use slurm_text::plain::limit::Limit;
 use slurm_text::plain::mem_ask::MemAsk;
 use slurm_text::plain::orders::CpuIds;
 use slurm_text::plain::state::JobState;
-
-/// The last report of a node that was accepted.
-#[derive(Clone, Copy, Debug, PartialEq, Eq)]
-pub struct Heard {
-    /// The boot number of the daemon.
-    pub boot: u64,
-    /// The number of the report.
-    pub number: u64,
-    /// The second at which it was accepted.
-    pub moment: u64,
-}
-
-/// A node and what the controller knows of it.
-#[derive(Drop)]
-pub struct NodeRecord {
-    pub conf: NodeConf,
-    /// None where no report of it was accepted yet.
-    pub heard: Option<Heard>,
-}
 
 /// An association.
 #[derive(Drop)]
@@ -54,6 +35,8 @@ pub struct JobRecord {
     pub user: Name,
     /// What it asks for.
     pub desc: JobDesc,
+    /// The place of its partition in the list of partitions.
+    pub partition: u32,
     /// The second at which it was handed in.
     pub submit: u64,
     /// How long it may run.

@@ -1,5 +1,5 @@
 -- The folded text of names is a host expression of the same names.
-use Rattle.std.proofs.Common.{ℕ, ◌≡◌, ◌+◌, ◌≤◌, ◌||◌, Bool, true, false, None, List, [], ◌∷◌, ◌++◌, ◌&&◌, if◌then◌else◌, fold, length, map, sym, refl, ap, ◌∙◌, arith}
+use Rattle.std.proofs.Common.{ℕ, ◌≡◌, ◌+◌, ◌≤◌, ◌||◌, Bool, true, false, None, List, [], ◌∷◌, ◌++◌, if◌then◌else◌, fold, length, map, sym, refl, ap, ◌∙◌, arith}
 use Rattle.std.specs.List.{list_all}
 use Rattle.std.proofs.lemmas.List.{length-append}
 use Rattle.small_texts.specs.Name.{is_name}

@@ -8,7 +8,9 @@ use Rattle.host_lists.specs.Hosts.{numbers_in, range_names, padded, with_name}
 -- names behind others, where they are names and all together at most 1,024
 unfoldable pub few_with : List (List ℕ) → List (List ℕ) → Option (List (List ℕ))
 few_with others names =
-    if list_all is_name names && nat_le (length (fold with_name others names)) 1024 then Some (fold with_name others names) else None
+    if list_all is_name names && nat_le (length (fold with_name others names)) 1024
+    then Some (fold with_name others names)
+    else None
 
 -- the names of one part behind others
 unfoldable pub with_part : List ℕ → List (List ℕ) → List ℕ → Option (List (List ℕ))

@@ -116,7 +116,8 @@ items_of_rest (Some rest) = host_items rest
 -- the place of the first item that has no names, where the first item stands at a place
 abbrev pub bad_from : ℕ → List (List ℕ) → Option ℕ
 bad_from place [] = None
-bad_from place (item ∷ items) = if is_some (item_names item) then bad_from (place + (length item + 1)) items else Some place
+bad_from place (item ∷ items) =
+    if is_some (item_names item) then bad_from (place + (length item + 1)) items else Some place
 
 -- the first byte of the first bad item
 unfoldable pub first_bad_item : List ℕ → Option ℕ

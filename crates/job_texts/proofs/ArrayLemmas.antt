@@ -1,8 +1,7 @@
 -- The numbers that items name, and how they are marked.
-use Rattle.std.proofs.Common.{ℕ, ◌≡◌, ◌+◌, ◌-◌, ◌*◌, ◌/◌, ◌%◌, ◌<◌, ◌≤◌, ◌||◌, ◌&&◌, Bool, true, false, eqb, leb, ltb, List, length, get_or, set, refl, sym, ap, ◌∙◌, ◌⊎◌, inl, inr, arith}
+use Rattle.std.proofs.Common.{ℕ, ◌≡◌, ◌+◌, ◌-◌, ◌*◌, ◌/◌, ◌%◌, ◌<◌, ◌≤◌, ◌||◌, ◌&&◌, Bool, true, false, ltb, List, length, get_or, set, refl, sym, ap, ◌∙◌, ◌⊎◌, inl, inr, arith}
 use Rattle.std.specs.List.{All, AllPairs, list_any}
 use Rattle.std.proofs.lemmas.Bool.{cases_order, cases_lt, and_from, and_left, and_right, or_right, le-leb, lt-ltb, le-ltb, eq-eqb, ne_eqb}
-use Rattle.std.proofs.lemmas.Bool.Decides.{nat_tests}
 use Rattle.std.proofs.lemmas.List.{get_or-set_other}
 use Rattle.std.proofs.lemmas.Grind.{get_or-set_at}
 use Rattle.std.proofs.lemmas.List.Folds.{list_any_at}
@@ -11,7 +10,7 @@ use Rattle.std.proofs.Math.Nat.{add-mul-mod_self_right}
 use Rattle.job_texts.specs.Array.{names, index_bound, indices_of}
 use Rattle.job_texts.specs.Marks.{IsLong, marked}
 use Rattle.job_texts.specs.declared.array.Stretch.{Stretch}
-use Rattle.job_texts.proofs.MarkLemmas.{passing, passing-long, passing-rising, passing-below, marked-passing}
+use Rattle.job_texts.proofs.MarkLemmas.{passing-long, passing-rising, passing-below, marked-passing}
 
 pub index_bound-is : index_bound ≡ 100000
 unfolding index_bound
@@ -33,6 +32,7 @@ unnamed s at n after step above below =
   where
     whole : n - s.first ≡ (at - s.first) / s.step * s.step + (n - at)
     whole = omega (arith, div-add-mod' (at - s.first) s.step)
+
     away : (n - s.first) % s.step ≡ n - at
     away = ap (λ m. m % s.step) whole ∙ mod-mul-add ((at - s.first) / s.step) s.step (n - at) (omega arith)
 
@@ -49,6 +49,7 @@ mark-more s was marks at by same after before step some inside each n =
     neither : at < n → (names s n && ltb n (at + by)) ≡ false
     neither more =
         elim (cases_lt n (at + by)) [ inl less ↦ and_left _ _ (unnamed s at n after step more (omega arith)) | inr past ↦ and_right _ _ (le-ltb _ _ past) ]
+
     by_order : (n ≡ at) ⊎ ((n < at) ⊎ (at < n)) → get_or (set marks at true) n false ≡ (get_or was n false || (names s n && ltb n (at + by)))
     by_order (inl here) =
         get_or-set_at marks at n true false here inside

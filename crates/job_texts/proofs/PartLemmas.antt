@@ -1,5 +1,5 @@
 -- The parts of a text, read from the left.
-use Rattle.std.proofs.Common.{ℕ, ◌≡◌, List, [], ◌∷◌, ◌++◌, map, Option, Some, None, option_map, refl, ap, sym, append_assoc}
+use Rattle.std.proofs.Common.{ℕ, suc, length, arith, ◌≡◌, List, [], ◌∷◌, ◌++◌, map, Option, Some, None, option_map, refl, ap, sym, append_assoc}
 use Rattle.std.proofs.lemmas.List.{append-nil}
 use Rattle.slurm_text.specs.Hosts.{all_some}
 
@@ -28,3 +28,15 @@ pub behind-bad : {X : Type 0} (meaning : List ℕ → Option X) (parts : List X)
 behind-bad meaning parts text texts e = rw e refl
 
 pub ruleset part_steps = (behind-none, behind-end, behind-more, behind-bad)
+
+-- a text has as many parts as fields
+longer : {X : Type 0} (x : X) (others : Option (List X)) (xs : List X) (n : ℕ) → ((more : List X) → others ≡ Some more → length more ≡ n) → option_map (λ more. x ∷ more) others ≡ Some xs → length xs ≡ suc n
+longer x None xs n as_many e = cc
+longer x (Some more) xs n as_many e =
+    let same : x ∷ more ≡ xs = cc in
+    omega (arith, ap length same, as_many more refl)
+
+pub length-all_some : {X : Type 0} (options : List (Option X)) (xs : List X) → all_some options ≡ Some xs → length xs ≡ length options
+length-all_some [] xs e = let none : [] ≡ xs = cc in sym (ap length none)
+length-all_some (None ∷ options) xs e = cc
+length-all_some (Some x ∷ options) xs e = longer x (all_some options) xs (length options) (length-all_some options) e

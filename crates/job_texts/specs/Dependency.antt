@@ -1,5 +1,5 @@
 -- What a text says that a job waits for.
-use Rattle.std.specs.Prelude.{ℕ, ◌==◌, nat_le, Bool, if◌then◌else◌, Option, Some, None, option_map, List, [], ◌∷◌, length, map, sum_by, bytes_eq, codes}
+use Rattle.std.specs.Prelude.{ℕ, ◌==◌, nat_le, Bool, if◌then◌else◌, Option, Some, None, List, [], ◌∷◌, length, map, sum_by, bytes_eq, codes}
 use Rattle.std.specs.List.{list_any}
 use Rattle.std.specs.Str.{byte}
 use Rattle.slurm_text.specs.Digits.{number_within}
@@ -65,8 +65,12 @@ is_any text = list_any (λ b. b == byte "?") text
 abbrev pub items_in : List ℕ → Option (List DepItem)
 items_in text = parts_in item_in (if is_any text then byte "?" else byte ",") text
 
+-- how many jobs the items name
+abbrev pub count_ids : List DepItem → ℕ
+count_ids items = sum_by (λ item. length item.ids) items
+
 -- all items together name 64 jobs at most
 unfoldable pub dependency_in : List ℕ → Option DepSpec
 dependency_in text = do
   items ← items_in text
-  if nat_le (sum_by (λ item. length item.ids) items) 64 then Some (record { any = is_any text; items = items }) else None
+  if nat_le (count_ids items) 64 then Some (record { any = is_any text; items = items }) else None

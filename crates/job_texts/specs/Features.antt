@@ -14,4 +14,5 @@ names_in text = parts_in name_in (byte "&") text
 
 -- such lists, of which one is enough
 unfoldable pub features_in : List ℕ → Option FeatureExpr
-features_in text = option_map (λ alternatives. record { alternatives = alternatives }) (parts_in names_in (byte "|") text)
+features_in text =
+    option_map (λ alternatives. record { alternatives = alternatives }) (parts_in names_in (byte "|") text)

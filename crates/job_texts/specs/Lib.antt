@@ -3,3 +3,4 @@ pub mod Dependency
 pub mod Features
 pub mod Marks
 pub mod Parts
+pub mod Refusals

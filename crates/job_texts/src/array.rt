@@ -29,6 +29,11 @@ pub enum ArrayRefusal {
 }
 
 impl fmt::Display for ArrayRefusal {
+    ghost use Rattle.std.specs.Prelude.{Some};
+    ghost use Rattle.job_texts.specs.Refusals.{array_message};
+
+    ghost output = { λ refusal. Some (array_message refusal) };
+
     fn fmt<W: fmt::Write>(&self, f: &mut fmt::Formatter<W>) -> fmt::Result {
         f.write_str(match self {
             ArrayRefusal::BadArray => "bad array",
@@ -52,7 +57,7 @@ impl From<Memory> for ArrayRefusal {
 
 // The numbers that an item names: from a first one, in steps, to a last.
 #[derive(Clone, Copy)]
-pub(crate) struct Stretch {
+struct Stretch {
     first: Ranged<0, 99999>,
     last: Ranged<0, 99999>,
     step: Ranged<1, 4294967295>,
@@ -159,16 +164,16 @@ fn has_long(stretches: &[Stretch]) -> bool
     false
 }
 
-// A number behind all that are named.
-fn end_of(stretches: &[Stretch]) -> usize
-    ensures behind { All (λ (stretch : Stretch). stretch.last < result) stretches.now }
+// A bound that all numbers that are named lie below.
+fn bound_of(stretches: &[Stretch]) -> usize
+    ensures above { All (λ (stretch : Stretch). stretch.last < result) stretches.now }
     ensures small { result ≤ 100_000 }
 {
-    let mut end = 0;
+    let mut greatest = 0;
     for stretch in stretches {
-        end = stretch.last.get().max(end);
+        greatest = stretch.last.get().max(greatest);
     }
-    end as usize + 1
+    greatest as usize + 1
 }
 
 // A mark at each number that is named.
@@ -176,8 +181,8 @@ fn make_marks(alloc: Global, stretches: &[Stretch]) -> Result<Vec<bool>, Memory>
     ensures named { IfOk result (λ marks. marked marks.items ≡ indices_of stretches.now) }
     ensures small { IfOk result (λ marks. length marks.items ≤ 100_000) }
 {
-    let end = end_of(stretches);
-    let mut marks = vec![in alloc; false; end]?;
+    let bound = bound_of(stretches);
+    let mut marks = vec![in alloc; false; bound]?;
     for stretch in stretches {
         stretch.mark(&mut marks);
     }
@@ -240,14 +245,12 @@ pub fn read_array(alloc: Global, text: &[u8]) -> Result<ArraySpec, ArrayRefusal>
 {
     let (items, most) = match up_to_three(text, b'%') {
         UpToThree::One(items) => (items, None),
-        UpToThree::Two(items, most) => match read_count(most) {
-            Some(most) => (items, Some(most)),
-            None => return Err(ArrayRefusal::BadArray),
-        },
+        UpToThree::Two(items, most) => (
+            items,
+            Some(read_count(most).ok_or(ArrayRefusal::BadArray)?),
+        ),
         _ => return Err(ArrayRefusal::BadArray),
     };
-    match read_indices(alloc, items)? {
-        Some(indices) => Ok(ArraySpec { indices, most }),
-        None => Err(ArrayRefusal::BadArray),
-    }
+    let indices = read_indices(alloc, items)?.ok_or(ArrayRefusal::BadArray)?;
+    Ok(ArraySpec { indices, most })
 }

@@ -1,9 +1,8 @@
 //! What a job waits for.
 
-ghost use Rattle.std.specs.Prelude.{◌≡◌, nat_le, [], ◌∷◌, sum_by, length, IfOk, IsErrOf, Some, None};
+ghost use Rattle.std.specs.Prelude.{◌≡◌, ◌≤◌, nat_le, [], ◌∷◌, length, IsFalse, IfOk, IsErrOf, Some, None};
 ghost use Rattle.slurm_text.specs.Fields.{fields};
-ghost use Rattle.slurm_text.specs.declared.plain.dependency.DepItem.{DepItem};
-ghost use Rattle.job_texts.specs.Dependency.{u32_in, kind_in, id_in, item_naming, item_of, item_in, dependency_in};
+ghost use Rattle.job_texts.specs.Dependency.{u32_in, kind_in, id_in, item_naming, item_of, item_in, count_ids, dependency_in};
 
 use crate::parts::{Part, read_parts};
 use slurm_text::digits::parse_number;
@@ -28,6 +27,11 @@ pub enum DepRefusal {
 }
 
 impl fmt::Display for DepRefusal {
+    ghost use Rattle.std.specs.Prelude.{Some};
+    ghost use Rattle.job_texts.specs.Refusals.{dep_message};
+
+    ghost output = { λ refusal. Some (dep_message refusal) };
+
     fn fmt<W: fmt::Write>(&self, f: &mut fmt::Formatter<W>) -> fmt::Result {
         f.write_str(match self {
             DepRefusal::BadDep => "bad dependency",
@@ -141,7 +145,7 @@ fn read_singleton(alloc: Global, word: &[u8]) -> Option<DepItem>
 }
 
 fn name_few_jobs(items: &[DepItem]) -> bool
-    ensures { result ≡ nat_le (sum_by (λ (item : DepItem). length item.ids) items.now) 64 }
+    ensures { result ≡ nat_le (count_ids items.now) 64 }
 {
     let mut left = MOST_IDS;
     for item in items {
@@ -160,14 +164,15 @@ fn name_few_jobs(items: &[DepItem]) -> bool
 pub fn read_dependency(alloc: Global, text: &[u8]) -> Result<DepSpec, DepRefusal>
     ensures value { IfOk result (λ dependency. dependency_in text.now ≡ Some dependency) }
     ensures refused { IsErrOf result DepRefusal.BadDep → dependency_in text.now ≡ None }
+    ensures few { IfOk result (λ dependency. count_ids dependency.items ≤ 64) }
+    ensures single { IfOk result (λ dependency. length dependency.items ≡ 1 → IsFalse dependency.any) }
 {
     let any = text.contains(&b'?');
     let separator = if any { b'?' } else { b',' };
-    let Some(items) = read_parts(alloc, text, separator)? else {
-        return Err(DepRefusal::BadDep);
-    };
-    if !name_few_jobs(items.as_slice()) {
-        return Err(DepRefusal::BadDep);
+    let items = read_parts(alloc, text, separator)?.ok_or(DepRefusal::BadDep)?;
+    if name_few_jobs(items.as_slice()) {
+        Ok(DepSpec { any, items })
+    } else {
+        Err(DepRefusal::BadDep)
     }
-    Ok(DepSpec { any, items })
 }

@@ -22,6 +22,11 @@ pub enum FeaturesRefusal {
 }
 
 impl fmt::Display for FeaturesRefusal {
+    ghost use Rattle.std.specs.Prelude.{Some};
+    ghost use Rattle.job_texts.specs.Refusals.{features_message};
+
+    ghost output = { λ refusal. Some (features_message refusal) };
+
     fn fmt<W: fmt::Write>(&self, f: &mut fmt::Formatter<W>) -> fmt::Result {
         f.write_str(match self {
             FeaturesRefusal::BadFeatures => "bad features",
@@ -70,8 +75,6 @@ pub fn read_features(alloc: Global, text: &[u8]) -> Result<FeatureExpr, Features
     ensures value { IfOk result (λ features. features_in text.now ≡ Some features) }
     ensures refused { IsErrOf result FeaturesRefusal.BadFeatures → features_in text.now ≡ None }
 {
-    match read_parts(alloc, text, b'|')? {
-        Some(alternatives) => Ok(FeatureExpr { alternatives }),
-        None => Err(FeaturesRefusal::BadFeatures),
-    }
+    let alternatives = read_parts(alloc, text, b'|')?.ok_or(FeaturesRefusal::BadFeatures)?;
+    Ok(FeatureExpr { alternatives })
 }

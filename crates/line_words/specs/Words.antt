@@ -20,7 +20,9 @@ is_blank b = b == 32 || b == 9
 -- where a line stands behind a byte outside quotes: 39 is ', 34 is " and 92 is \
 abbrev pub mode_outside : ℕ → Mode
 mode_outside b =
-    if is_blank b then Between else (if b == 39 then Single else (if b == 34 then Double else (if b == 92 then Escaped else Plain)))
+    if is_blank b
+    then Between
+    else (if b == 39 then Single else (if b == 34 then Double else (if b == 92 then Escaped else Plain)))
 
 -- where a line stands behind a byte
 abbrev pub mode_after : Mode → ℕ → Mode
@@ -58,7 +60,9 @@ abbrev pub words_from : Mode → List ℕ → List (List ℕ)
 words_from Between [] = []
 words_from _ [] = [] ∷ []
 words_from mode (b ∷ text) =
-    if ends_word mode b then [] ∷ words_from Between text else prepend (written mode b) (words_from (mode_after mode b) text)
+    if ends_word mode b
+    then [] ∷ words_from Between text
+    else prepend (written mode b) (words_from (mode_after mode b) text)
 
 -- the words of a line
 unfoldable pub words_in : List ℕ → List (List ℕ)

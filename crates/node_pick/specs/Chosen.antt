@@ -17,13 +17,16 @@ same_unless_before (place ∷ one) (second ∷ other) not_first not_second =
           let first_same : eqb place second ≡ true = eq-eqb place second same in
           let second_low : ltb second place ≡ false = le-ltb second place (omega arith) in
           let second_same : eqb second place ≡ true = eq-eqb second place (sym same) in
-          ap (λ n. n ∷ one) same ∙ ap (λ rest. second ∷ rest) (same_unless_before one other (λ before. not_first (rw (first_low, first_same) before)) (λ before. not_second (rw (second_low, second_same) before)))
+          ap (λ n. n ∷ one) same ∙ ap (λ rest. second ∷ rest)
+          (same_unless_before one other (λ before. not_first (rw (first_low, first_same) before))
+          (λ before. not_second (rw (second_low, second_same) before)))
       | inr apart ↦ elim apart [
         | inl below ↦ let low : ltb place second ≡ true = lt-ltb place second below in absurd (not_first (rw low refl))
         | inr above ↦ let low : ltb second place ≡ true = lt-ltb second place above in absurd (not_second (rw low refl))
       ]
     ]
 
-pub IsChosen-unique : (caps : List ℕ) (need : Need) (one other : List ℕ) → IsChosen caps need one → IsChosen caps need other → one ≡ other
+pub IsChosen-unique : (caps : List ℕ) (need : Need) (one other : List ℕ)
+    → IsChosen caps need one → IsChosen caps need other → one ≡ other
 IsChosen-unique caps need one other first second =
     same_unless_before one other (second.first one first.fits) (first.first other second.fits)

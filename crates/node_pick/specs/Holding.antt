@@ -1,4 +1,4 @@
--- The reserve: which candidates there are, and which of them are held. Of the proof alone: what the loops of the choice keep.
+-- The reserve: which candidates there are, and which of them are held. Of the proof alone: what the loops keep.
 use Rattle.std.specs.Prelude.{◌≡◌, ◌≢◌, ℕ, ◌≤◌, ◌<◌, ◌⊎◌, List, length, slice_index, sum, count_by, nat_lt, map, All, AllPairs, Contains}
 use Rattle.std.specs.List.{AllWithin, HoldsAt}
 use Rattle.std.specs.List.Sorted.{IsNonDecreasingBy}
@@ -19,7 +19,8 @@ pub record IsCandidate (caps : List ℕ) (required end : ℕ) (one : Candidate) 
 -- the candidates are the places from `required` on, and before `end`, that can give a task, each once
 pub record AreCandidates (caps : List ℕ) (required end : ℕ) (candidates : List Candidate) : Type 0 where
   pub each : All (IsCandidate caps required end) candidates
-  pub all : (place : ℕ) → required ≤ place → place < end → 1 ≤ capacity caps place → Contains (candidate_places candidates) place
+  pub all : (place : ℕ) → required ≤ place → place < end → 1 ≤ capacity caps place
+      → Contains (candidate_places candidates) place
   pub once : AllPairs (λ one other. one ≢ other) (candidate_places candidates)
 
 -- some candidate from `low` on is the place
@@ -37,7 +38,8 @@ held_count held = count_by (λ tasks. nat_lt 0 tasks) held
 abbrev pub IsHeldOrSmall : List ℕ → List Candidate → ℕ → List ℕ → ℕ → Type 0
 IsHeldOrSmall caps candidates least held place =
     (slice_index held place ≡ capacity caps place)
-    ⊎ ((slice_index held place ≡ 0) × AllWithin (λ (one : Candidate). capacity caps place ≤ one.tasks) candidates least (length candidates))
+    ⊎ ((slice_index held place ≡ 0)
+    × AllWithin (λ (one : Candidate). capacity caps place ≤ one.tasks) candidates least (length candidates))
 
 -- what is held when the places before `from` are passed, and no candidate before `least` is held
 pub record IsHolding (caps : List ℕ) (from : ℕ) (candidates : List Candidate) (least : ℕ) (held : List ℕ) : Type 0 where

@@ -18,8 +18,10 @@ struct Begun {
 // The required places, or none where one of them gives no task.
 fn required_places(alloc: Global, caps: &[u32], need: &Need) -> Result<Option<Begun>, AllocError>
     requires { need.now.required ≤ length caps.now }
-    ensures begun { IfOk result (λ begun. IfSome begun (λ begun. IsRequiredBeginning caps.now need.now need.now.required begun.set.items)) }
-    ensures wanting { IfOk result (λ begun. IfSome begun (λ begun. begun.wanting ≡ need.now.tasks - tasks_given caps.now begun.set.items)) }
+    ensures begun { IfOk result (λ begun. IfSome begun (λ begun.
+        IsRequiredBeginning caps.now need.now need.now.required begun.set.items)) }
+    ensures wanting { IfOk result (λ begun. IfSome begun (λ begun.
+        begun.wanting ≡ need.now.tasks - tasks_given caps.now begun.set.items)) }
     ensures none { IfOk result (λ begun. IfNone begun ((set : List ℕ) → ¬ Fits caps.now need.now set)) }
 {
     let mut set = Vec::with_capacity(alloc, caps.len())?;
@@ -43,11 +45,13 @@ fn completed(
     mut reserve: Reserve,
 ) -> Result<Vec<u32>, AllocError>
     requires small { length caps.now < 2 ^ 32 }
-    requires required { (need.now.required ≤ length caps.now) × (need.now.required ≤ need.now.most) × (need.now.required ≤ need.now.tasks) }
+    requires required { (need.now.required ≤ length caps.now)
+        × (need.now.required ≤ need.now.most) × (need.now.required ≤ need.now.tasks) }
     requires begun { IsRequiredBeginning caps.now need.now need.now.required begun.set.items }
     requires wanting { begun.wanting ≡ need.now.tasks - tasks_given caps.now begun.set.items }
     requires reserve { IsReserve caps.now need.now.required reserve }
-    requires full { IsFull caps.now need.now.required (min need.now.most need.now.tasks - need.now.required) reserve.held.items }
+    requires full { IsFull caps.now need.now.required
+        (min need.now.most need.now.tasks - need.now.required) reserve.held.items }
     requires few { reserve.count + need.now.required ≤ min need.now.most need.now.tasks }
     requires least { need.now.least ≤ need.now.required + reserve.count }
     requires enough { begun.wanting ≤ reserve.tasks }

@@ -4,8 +4,8 @@ ghost use Rattle.node_pick.specs.declared.Need.{Need};
 ghost use Rattle.node_pick.specs.Sets.{capacity, Fits, IsChosen, AsksNoMore};
 ghost use Rattle.node_pick.specs.Choosing.{chosen};
 
-/// The choice as a function gives the set that fits and that no other fitting one is before; it gives none exactly where
-/// no set fits.
+/// The choice as a function gives the set that fits and that no other fitting one is before; it gives none exactly
+/// where no set fits.
 pub fn chosen_is_first()
     ensures some { (caps : List ℕ) (need : Need) (set : List ℕ) → chosen caps need ≡ Some set → IsChosen caps need set }
     ensures none { (caps : List ℕ) (need : Need) (set : List ℕ) → chosen caps need ≡ None → ¬ Fits caps need set }

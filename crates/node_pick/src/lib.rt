@@ -59,7 +59,8 @@ impl From<AllocError> for Memory {
 /// capacities once and then walks along them, O(n log n) for n capacities, whatever the number of sets.
 pub fn pick(alloc: Global, caps: &[u32], need: &Need, out: &mut Vec<Dealt>) -> Result<bool, Memory>
     ensures chosen { IfOk result (λ found. OnTrue found (IsChosen caps.now need.now (places out.new.items))) }
-    ensures dealt { IfOk result (λ found. OnTrue found (out.new.items ≡ dealt caps.now need.now.tasks (places out.new.items))) }
+    ensures dealt { IfOk result (λ found.
+        OnTrue found (out.new.items ≡ dealt caps.now need.now.tasks (places out.new.items))) }
     ensures choice { IfOk result (λ found. OnTrue found (chosen caps.now need.now ≡ Some (places out.new.items))) }
     ensures none_fits { IfOk result (λ found. OnFalse found ((set : List ℕ) → ¬ Fits caps.now need.now set)) }
     ensures no_choice { IfOk result (λ found. OnFalse found (chosen caps.now need.now ≡ None)) }

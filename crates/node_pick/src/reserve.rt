@@ -53,7 +53,8 @@ fn first_held(candidates: &[Candidate], held: &[u32], from: usize) -> usize
     requires places { All (λ (one : Candidate). one.place < length held.now) candidates.now }
     ensures from { from ≤ result }
     ensures before { AllWithin (λ (one : Candidate). slice_index held.now one.place ≡ 0) candidates.now from result }
-    ensures found { result < length candidates.now → HoldsAt (λ (one : Candidate). 1 ≤ slice_index held.now one.place) candidates.now result }
+    ensures found { result < length candidates.now
+        → HoldsAt (λ (one : Candidate). 1 ≤ slice_index held.now one.place) candidates.now result }
 {
     let mut index = from;
     while index < candidates.len() && held[candidates[index].place as usize] == 0 {
@@ -95,15 +96,16 @@ impl Reserve {
         })
     }
 
-    // Whether the set can take this place, which is the next one, and still be completed to give `wanting` tasks. If so,
-    // the place, or else the least one held, is held no more.
+    // Whether the set can take this place, which is the next one, and still be completed to give `wanting` tasks. If
+    // so, the place, or else the least one held, is held no more.
     pub(crate) fn admits(&mut self, caps: &[u32], place: u32, wanting: u32) -> bool
         requires place { place < length caps.now }
         requires reserve { IsReserve caps.now place self.old }
         requires some { 0 < self.old.count }
         requires enough { wanting ≤ self.old.tasks }
         ensures reserve { IsReserve caps.now (place + 1) self.new }
-        ensures all { AreAllHeld caps.now place self.old.held.items → AreAllHeld caps.now (place + 1) self.new.held.items }
+        ensures all { AreAllHeld caps.now place self.old.held.items
+            → AreAllHeld caps.now (place + 1) self.new.held.items }
         ensures giving { OnTrue result (1 ≤ capacity caps.now place) }
         ensures count { OnTrue result (self.new.count + 1 ≡ self.old.count) }
         ensures enough { OnTrue result (wanting ≤ capacity caps.now place + self.new.tasks) }
@@ -112,7 +114,9 @@ impl Reserve {
         ensures not_held { OnFalse result (slice_index self.old.held.items place ≡ 0) }
 
         // No set that goes on from here with this place gives so many tasks.
-        ensures too_few { OnFalse result ((later : List ℕ) → IsRisingFrom (place + 1) later → length later < self.old.count → 1 ≤ capacity caps.now place → capacity caps.now place + tasks_given caps.now later < wanting) }
+        ensures too_few { OnFalse result ((later : List ℕ)
+            → IsRisingFrom (place + 1) later → length later < self.old.count → 1 ≤ capacity caps.now place
+            → capacity caps.now place + tasks_given caps.now later < wanting) }
     {
         let given = caps[place as usize];
         if self.held[place as usize] > 0 {

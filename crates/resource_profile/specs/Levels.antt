@@ -1,5 +1,5 @@
--- How a profile keeps what a node has free: by levels, each from its moment on and until the next one begins. Of the public
--- calls only the profile's invariant speaks of it.
+-- How a profile keeps what a node has free: by levels, each from its moment on and until the next one begins. Of the
+-- public calls only the profile's invariant speaks of it.
 use Rattle.std.specs.Prelude.{◌≡◌, ℕ, ◌+◌, ◌-◌, ◌≤◌, ◌<◌, ◌&&◌, nat_le, nat_lt, if◌then◌else◌, List, length, slice_index_or}
 use Rattle.resource_profile.specs.declared.NodeRoom.{NodeRoom}
 use Rattle.resource_profile.specs.declared.Hold.{Hold}
@@ -10,7 +10,8 @@ use Rattle.resource_profile.specs.declared.levels.Level.{Level}
 pub record HasLevels (levels : List Level) : Type 0 where
   pub some : 0 < length levels
   pub first : (d : Level) → (slice_index_or levels 0 d).from ≡ 0
-  pub rising : (i j : ℕ) (d : Level) → i < j → j < length levels → (slice_index_or levels i d).from < (slice_index_or levels j d).from
+  pub rising : (i j : ℕ) (d : Level) → i < j → j < length levels
+      → (slice_index_or levels i d).from < (slice_index_or levels j d).from
 
 -- each level says what is free at every moment from its own on and before the next level's
 pub record IsLevelled (free : ℕ → Amount) (levels : List Level) : Type 0 where
@@ -35,7 +36,8 @@ more amount free = record { cpus = free.cpus + amount.cpus; mem = free.mem + amo
 
 -- what is free once it is changed over a window
 abbrev pub changed : (Amount → Amount) → ℕ → ℕ → (ℕ → Amount) → ℕ → Amount
-changed change from until free moment = if nat_le from moment && nat_lt moment until then change (free moment) else free moment
+changed change from until free moment =
+    if nat_le from moment && nat_lt moment until then change (free moment) else free moment
 
 -- one level with its amount changed
 abbrev pub changed_level : (Amount → Amount) → Level → Level
@@ -44,7 +46,8 @@ changed_level change level = record { from = level.from; free = change level.fre
 -- the levels from `first` on and before `end` are changed, and no others
 pub record AreChanged (change : Amount → Amount) (first end : ℕ) (levels after : List Level) : Type 0 where
   pub same_length : length after ≡ length levels
-  pub inside : (i : ℕ) (d : Level) → first ≤ i → i < end → slice_index_or after i d ≡ changed_level change (slice_index_or levels i d)
+  pub inside : (i : ℕ) (d : Level) → first ≤ i → i < end
+      → slice_index_or after i d ≡ changed_level change (slice_index_or levels i d)
   pub before : (i : ℕ) (d : Level) → i < first → slice_index_or after i d ≡ slice_index_or levels i d
   pub behind : (i : ℕ) (d : Level) → end ≤ i → slice_index_or after i d ≡ slice_index_or levels i d
 

@@ -1,5 +1,5 @@
--- How a profile keeps its holds: in a list, by node in the levels of what is free, and by their ends. Of public calls only
--- the profile's invariant speaks of it.
+-- How a profile keeps its holds: in a list, by node in the levels of what is free, and by their ends. Of public calls
+-- only the profile's invariant speaks of it.
 use Rattle.std.specs.Prelude.{◌≡◌, ℕ, ◌+◌, ◌*◌, ◌≤◌, ◌<◌, nat_eq, if◌then◌else◌, List, length, sum_by, slice_index_or, vec_len, vec_capacity}
 use Rattle.std.specs.List.Sorted.{IsNonDecreasing}
 use Rattle.resource_profile.specs.declared.NodeRoom.{NodeRoom}
@@ -28,10 +28,12 @@ pub record IsTimeline (rooms : List NodeRoom) (holds : List Hold) (node spare : 
   pub room : vec_len timeline.levels + (2 * timeline.holds + 4 * spare) ≤ vec_capacity timeline.levels
 
 -- the profile's parts agree
-pub record AreKept (rooms : List NodeRoom) (holds : List Hold) (ends : List ℕ) (timelines : List Timeline) (spare : ℕ) : Type 0 where
+pub record AreKept (rooms : List NodeRoom) (holds : List Hold) (ends : List ℕ) (timelines : List Timeline) (spare : ℕ)
+    : Type 0 where
   pub within : AreWithin rooms holds
   pub long : length timelines ≡ length rooms
-  pub each : (node : ℕ) (d : Timeline) → node < length rooms → IsTimeline rooms holds node spare (slice_index_or timelines node d)
+  pub each : (node : ℕ) (d : Timeline) → node < length rooms
+      → IsTimeline rooms holds node spare (slice_index_or timelines node d)
   pub same_ends : (end : ℕ) → holds_until holds end ≡ ends_at ends end
   pub sorted : IsNonDecreasing ends
 

@@ -8,14 +8,17 @@ use Rattle.resource_profile.specs.Free.{free_cpus, free_mem, least_over}
 
 -- what the node has free at a moment
 abbrev pub free_of : List NodeRoom → List Hold → ℕ → ℕ → Amount
-free_of rooms holds node moment = record { cpus = free_cpus rooms holds node moment; mem = free_mem rooms holds node moment }
+free_of rooms holds node moment =
+    record { cpus = free_cpus rooms holds node moment; mem = free_mem rooms holds node moment }
 
--- The least that is free over the window from `from` to `until`, and over each that begins and ends no earlier, but early
--- enough.
+-- The least that is free over the window from `from` to `until`, and over each that begins and ends no earlier, but
+-- early enough.
 pub record IsSteady (free : ℕ → Amount) (from until : ℕ) (window : Window) : Type 0 where
   pub begins : from < window.begins_before
   pub ends : until ≤ window.ends_up_to
-  pub cpus : (begin end : ℕ) → from ≤ begin → begin < window.begins_before → until ≤ end → end ≤ window.ends_up_to → begin < end
+  pub cpus : (begin end : ℕ)
+      → from ≤ begin → begin < window.begins_before → until ≤ end → end ≤ window.ends_up_to → begin < end
       → window.free.cpus ≡ least_over (λ moment. (free moment).cpus) begin end
-  pub mem : (begin end : ℕ) → from ≤ begin → begin < window.begins_before → until ≤ end → end ≤ window.ends_up_to → begin < end
+  pub mem : (begin end : ℕ)
+      → from ≤ begin → begin < window.begins_before → until ≤ end → end ≤ window.ends_up_to → begin < end
       → window.free.mem ≡ least_over (λ moment. (free moment).mem) begin end

@@ -1,4 +1,4 @@
-//! What the nodes have free over time: the rooms of the nodes and the holds on them, and a count of the planner's steps.
+//! What the nodes have free over time: the rooms of the nodes, the holds on them, and a count of the planner's steps.
 #![tactic(auto)]
 
 use std::alloc::AllocError;
@@ -6,6 +6,7 @@ use std::error::Error;
 use std::fmt;
 
 mod ends;
+pub mod laws;
 mod levels;
 mod profile;
 mod steps;

@@ -13,8 +13,8 @@ use crate::{Hold, Memory, NodeRoom};
 use std::alloc::Global;
 use std::marker::Model;
 
-/// The rooms of the nodes and the holds on them. Beside the list of the holds it keeps what each node has free over time,
-/// and the ends of the holds in order.
+/// The rooms of the nodes and the holds on them. Beside the list of the holds it keeps what each node has free over
+/// time, and the ends of the holds in order.
 #[derive(Drop)]
 pub struct Profile {
     rooms: Vec<NodeRoom>,
@@ -34,9 +34,14 @@ impl Model for Profile {
 
     ghost Value = { ProfileView };
 
-    ghost view = { λ profile. record { rooms = profile.rooms.items; holds = profile.holds.items; spare = profile.room_for } };
+    ghost view = { λ profile. record {
+      rooms = profile.rooms.items;
+      holds = profile.holds.items;
+      spare = profile.room_for;
+    } };
 
-    ghost invariant = { λ profile. AreKept profile.rooms.items profile.holds.items profile.ends.items profile.timelines.items profile.room_for
+    ghost invariant = { λ profile.
+        AreKept profile.rooms.items profile.holds.items profile.ends.items profile.timelines.items profile.room_for
         × (vec_len profile.holds + profile.room_for ≤ vec_capacity profile.holds)
         × (vec_len profile.ends + profile.room_for ≤ vec_capacity profile.ends) };
 }
@@ -61,7 +66,9 @@ fn reserve_each(timelines: &mut Vec<Timeline>, count: u32) -> Result<(), Memory>
     ensures long { length timelines.new.items ≡ length timelines.old.items }
     ensures each { (node : ℕ) (d : OneTimeline) → node < length timelines.old.items
         → StaysAsItWas (slice_index_or timelines.old.items node d) (slice_index_or timelines.new.items node d) }
-    ensures room { OnOk result (All (λ (timeline : OneTimeline). vec_len timeline.levels + (2 * timeline.holds + 4 * count) ≤ vec_capacity timeline.levels) timelines.new.items) }
+    ensures room { OnOk result (All (λ (timeline : OneTimeline).
+        vec_len timeline.levels + (2 * timeline.holds + 4 * count) ≤ vec_capacity timeline.levels)
+        timelines.new.items) }
 {
     for i in 0..timelines.len() {
         timelines[i].reserve(u64::from(count))?;
@@ -196,7 +203,8 @@ impl Profile {
     /// there is no such node.
     pub fn free_min(&self, node: u32, from: u64, until: u64) -> (u32, u64)
         requires { from < until }
-        ensures cpus { result.0 ≡ least_over (λ moment. free_cpus self.now.rooms self.now.holds node moment) from until }
+        ensures cpus { result.0
+            ≡ least_over (λ moment. free_cpus self.now.rooms self.now.holds node moment) from until }
         ensures mem { result.1 ≡ least_over (λ moment. free_mem self.now.rooms self.now.holds node moment) from until }
     {
         if node as usize >= self.rooms.len() {

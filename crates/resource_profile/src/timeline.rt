@@ -16,7 +16,8 @@ pub(crate) struct Timeline {
 impl Timeline {
     // The room, always free.
     pub(crate) fn new(alloc: Global, room: &NodeRoom) -> Result<Self, Memory>
-        ensures levels { IfOk result (λ timeline. IsLevelled (λ _. record { cpus = room.now.cpus; mem = room.now.mem }) timeline.levels.items) }
+        ensures levels { IfOk result (λ timeline.
+            IsLevelled (λ _. record { cpus = room.now.cpus; mem = room.now.mem }) timeline.levels.items) }
         ensures holds { IfOk result (λ timeline. timeline.holds ≡ 0) }
         ensures room { IfOk result (λ timeline. vec_len timeline.levels ≤ vec_capacity timeline.levels) }
     {
@@ -41,7 +42,8 @@ impl Timeline {
         ensures holds { self.new.holds ≡ self.old.holds }
         ensures len { vec_len self.new.levels ≡ vec_len self.old.levels }
         ensures capacity { vec_capacity self.old.levels ≤ vec_capacity self.new.levels }
-        ensures room { OnOk result (vec_len self.new.levels + (2 * self.old.holds + 4 * count) ≤ vec_capacity self.new.levels) }
+        ensures room { OnOk result
+            (vec_len self.new.levels + (2 * self.old.holds + 4 * count) ≤ vec_capacity self.new.levels) }
     {
         let Some(more) = (2 * self.holds).checked_add(4 * count as usize) else {
             return Err(Memory);

@@ -3,6 +3,10 @@
 use percent_encoding::percent_decode;
 use std::alloc::{AllocError, Global};
 
+/// The file slurm.conf(5) of a case that has none of its own.
+const USUAL_CONF: &[u8] = b"ClusterName=c\nSlurmdTimeout=0\nDefMemPerCPU=1000\n\
+    NodeName=n1 CPUs=4 RealMemory=4000\nPartitionName=main Nodes=ALL Default=YES\n";
+
 /// The lines of a case that were read so far. Lists are numbers with a blank between two.
 #[derive(Drop)]
 pub struct Case<'a> {
@@ -10,10 +14,14 @@ pub struct Case<'a> {
     pub words: &'a str,
     /// How many bytes a read gives and a write takes at most, one number a run.
     pub pieces: &'a str,
+    /// The numbers of the reads of files that fail, counted from 1.
+    pub failing_files: &'a str,
     /// The numbers of the reads that fail, counted from 1.
     pub failing_reads: &'a str,
     /// The numbers of the writes that fail, counted from 1.
     pub failing_writes: &'a str,
+    /// The file slurm.conf(5), where the case has one of its own.
+    pub conf: Option<Vec<u8>>,
     /// The bytes that the program reads.
     pub input: Vec<u8>,
 }
@@ -22,11 +30,21 @@ impl<'a> Case<'a> {
     /// An empty script that is answered in pieces of one byte and of many.
     pub fn new(alloc: Global) -> Self {
         Case {
-            words: "slurmctld --script",
+            words: "slurmctld --script -f slurm.conf",
             pieces: "4096 1",
+            failing_files: "",
             failing_reads: "",
             failing_writes: "",
+            conf: None,
             input: Vec::new(alloc),
+        }
+    }
+
+    /// The bytes of its file slurm.conf(5).
+    pub fn conf(&self) -> &[u8] {
+        match &self.conf {
+            Some(conf) => conf.as_slice(),
+            None => USUAL_CONF,
         }
     }
 
@@ -35,25 +53,44 @@ impl<'a> Case<'a> {
         match key {
             "words" => self.words = text,
             "pieces" => self.pieces = text,
+            "files" => self.failing_files = text,
             "reads" => self.failing_reads = text,
             "writes" => self.failing_writes = text,
-            "<" => {
-                percent_decode(text.as_bytes()).append_to(&mut self.input)?;
-                self.input.push(b'\n')?;
-            }
-            "<!" => percent_decode(text.as_bytes()).append_to(&mut self.input)?,
-            "<*" => self.repeat(text)?,
+            "<" | "<!" | "<*" => push_text(&mut self.input, key, text)?,
+            "=" | "=!" | "=*" => self.take_conf(key, text)?,
             _ => return Ok(false),
         }
         Ok(true)
     }
 
-    // `8192 x` is the input `x` so many times.
-    fn repeat(&mut self, text: &str) -> Result<(), AllocError> {
-        let (count, piece) = text.split_once(' ').unwrap_or((text, ""));
-        for _ in 0..count.parse::<u16>().unwrap_or(0) {
-            percent_decode(piece.as_bytes()).append_to(&mut self.input)?;
-        }
+    fn take_conf(&mut self, key: &str, text: &str) -> Result<(), AllocError> {
+        let mut conf = match self.conf.take() {
+            Some(conf) => conf,
+            None => Vec::new(*self.input.allocator()),
+        };
+        push_text(&mut conf, key, text)?;
+        self.conf = Some(conf);
         Ok(())
     }
+}
+
+// A line of a text; with `!` behind its key one without an end, with `*` a text so many times.
+fn push_text(out: &mut Vec<u8>, key: &str, text: &str) -> Result<(), AllocError> {
+    if key.ends_with('*') {
+        return push_repeated(out, text);
+    }
+    percent_decode(text.as_bytes()).append_to(out)?;
+    if !key.ends_with('!') {
+        out.push(b'\n')?;
+    }
+    Ok(())
+}
+
+// `8192 x` is the text `x` so many times.
+fn push_repeated(out: &mut Vec<u8>, text: &str) -> Result<(), AllocError> {
+    let (count, piece) = text.split_once(' ').unwrap_or((text, ""));
+    for _ in 0..count.parse::<u16>().unwrap_or(0) {
+        percent_decode(piece.as_bytes()).append_to(out)?;
+    }
+    Ok(())
 }

@@ -2,7 +2,7 @@
 ghost use Rattle.std.specs.Prelude.{◌<◌};
 
 use crate::case::Case;
-use slurm_io::{MemLink, Pair};
+use slurm_io::{MemLink, MemShelf, Pair};
 use slurm_top::run;
 use std::alloc::{AllocError, Global};
 
@@ -42,11 +42,20 @@ fn numbers_of(alloc: Global, text: &str) -> Result<Vec<u64>, AllocError> {
     Ok(numbers)
 }
 
+// The shelf of the case, with its file slurm.conf(5).
+fn shelf_of(alloc: Global, case: &Case<'_>) -> Result<MemShelf, AllocError> {
+    let name = String::from_str(alloc, "slurm.conf")?;
+    let conf = Vec::from_slice(alloc, case.conf())?;
+    let failing = numbers_of(alloc, case.failing_files)?;
+    Ok(MemShelf::new(vec![in alloc; (name, conf)]?, failing))
+}
+
 /// Runs the case with at most so many bytes a call.
 pub fn outcome_of(alloc: Global, case: &Case<'_>, most: u32) -> Result<Outcome, AllocError>
     requires { 0 < most }
 {
     let words = words_of(alloc, case.words)?;
+    let mut shelf = shelf_of(alloc, case)?;
     let bytes = Vec::from_slice(alloc, case.input.as_slice())?;
     let reads = numbers_of(alloc, case.failing_reads)?;
     let writes = numbers_of(alloc, case.failing_writes)?;
@@ -54,7 +63,13 @@ pub fn outcome_of(alloc: Global, case: &Case<'_>, most: u32) -> Result<Outcome, 
     let output = MemLink::new(alloc, Vec::new(alloc), most, Vec::new(alloc), writes);
     let mut link = Pair::new(input, output);
     let mut errors = MemLink::new(alloc, Vec::new(alloc), 64, Vec::new(alloc), Vec::new(alloc));
-    let status = run(alloc, words.as_slice(), &mut link, &mut errors);
+    let status = run(
+        alloc,
+        words.as_slice(),
+        &mut shelf,
+        &mut link,
+        &mut errors,
+    );
     Ok(Outcome {
         status,
         output: Vec::from_slice(alloc, link.sink.taken())?,

@@ -6,7 +6,7 @@ use crate::{Failed, Sink, Source};
 use std::io::{Error, ErrorKind, Read, Write};
 
 /// How often one call is tried that a signal interrupts.
-const MOST_TRIES: u32 = 1024;
+pub(crate) const MOST_TRIES: u32 = 1024;
 
 /// A reader of std as a source, such as standard input. A read that a signal interrupts (`ErrorKind::Interrupted`) is
 /// tried again, up to 1,024 times in all; each other error, and the last interruption, is a fault.
@@ -42,7 +42,7 @@ impl<R: Read> Source for ReaderSource<R> {
     }
 }
 
-fn is_interrupted(error: &Error) -> bool {
+pub(crate) fn is_interrupted(error: &Error) -> bool {
     error.kind() == ErrorKind::Interrupted
 }
 

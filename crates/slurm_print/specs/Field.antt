@@ -1,5 +1,5 @@
 -- Fields of a fixed width.
-use Rattle.std.specs.Prelude.{ℕ, ◌-◌, Bool, true, if◌then◌else◌, List, ◌++◌, length, take, replicate, codes}
+use Rattle.std.specs.Prelude.{ℕ, ◌-◌, Bool, true, false, if◌then◌else◌, List, ◌++◌, length, take, replicate, codes}
 
 -- the blanks (32) that a text lacks
 abbrev pub padding : ℕ → List ℕ → List ℕ
@@ -14,3 +14,7 @@ field width dot text =
 -- a field with the padding on the left, and the blank behind it
 unfoldable pub cell : ℕ → List ℕ → List ℕ
 cell width text = field width true text ++ codes " "
+
+-- a field with the padding on the right, and the blank behind it
+unfoldable pub left_cell : ℕ → List ℕ → List ℕ
+left_cell width text = field width false text ++ codes " "

@@ -1,10 +1,13 @@
 -- The text of a refusal.
 use Rattle.std.specs.Prelude.{ℕ, List, [], ◌++◌, codes, decimal}
 use Rattle.slurm_text.specs.declared.plain.refusal.Refusal.{Refusal}
-use Rattle.slurm_text.specs.declared.plain.refusal.Refusal.TheVariants.{InvalidAccount, NodesNotAvailable, AccessDenied, UnknownNode, StaleReport, JobIdsSpent, MomentTooLarge}
+use Rattle.slurm_text.specs.declared.plain.refusal.Refusal.TheVariants.{PartitionClosed, InvalidAccount, InvalidPartition, NotAllowedHere, NodesNotAvailable, AccessDenied, UnknownNode, StaleReport, JobIdsSpent, MomentTooLarge}
 
 abbrev pub refusal_name : Refusal → List ℕ
+refusal_name PartitionClosed = codes "PartitionClosed"
 refusal_name InvalidAccount = codes "InvalidAccount"
+refusal_name InvalidPartition = codes "InvalidPartition"
+refusal_name NotAllowedHere = codes "NotAllowedHere"
 refusal_name NodesNotAvailable = codes "NodesNotAvailable"
 refusal_name AccessDenied = codes "AccessDenied"
 refusal_name UnknownNode = codes "UnknownNode"
@@ -13,7 +16,10 @@ refusal_name JobIdsSpent = codes "JobIdsSpent"
 refusal_name MomentTooLarge = codes "MomentTooLarge"
 
 abbrev pub refusal_number : Refusal → ℕ
+refusal_number PartitionClosed = 1
 refusal_number InvalidAccount = 2
+refusal_number InvalidPartition = 3
+refusal_number NotAllowedHere = 6
 refusal_number NodesNotAvailable = 5
 refusal_number AccessDenied = 11
 refusal_number UnknownNode = 16

@@ -7,10 +7,10 @@ use Rattle.slurm_text.specs.declared.plain.state.JobState.{JobState}
 use Rattle.slurm_text.specs.declared.plain.state.JobState.TheVariants.{Pending, Running, Completing, Ended}
 use Rattle.slurm_text.specs.declared.plain.state.Final.TheVariants.{Completed, Cancelled, Failed, Timeout, NodeFail, Requeue}
 use Rattle.slurm_text.specs.declared.plain.state.Reason.{Reason}
-use Rattle.slurm_text.specs.declared.plain.state.Reason.TheVariants.{Resources, Priority}
+use Rattle.slurm_text.specs.declared.plain.state.Reason.TheVariants.{PartitionInactive, PartitionDown, PartitionTimeLimit, PartitionNodeLimit, Resources, Priority}
 use Rattle.slurm_text.specs.declared.plain.view.JobRow.{JobRow}
 use Rattle.slurm_text.specs.declared.plain.view.Row.{Row}
-use Rattle.slurm_text.specs.declared.plain.view.Row.TheVariants.{Job}
+use Rattle.slurm_text.specs.declared.plain.view.Row.TheVariants.{Job, States}
 use Rattle.slurm_text.specs.declared.plain.view.View.{View}
 use Rattle.slurm_print.specs.Field.{cell}
 
@@ -26,6 +26,10 @@ state_code (Ended NodeFail) = codes "NF"
 state_code (Ended Requeue) = codes "RQ"
 
 abbrev pub reason_name : Reason → List ℕ
+reason_name PartitionInactive = codes "PartitionInactive"
+reason_name PartitionDown = codes "PartitionDown"
+reason_name PartitionTimeLimit = codes "PartitionTimeLimit"
+reason_name PartitionNodeLimit = codes "PartitionNodeLimit"
 reason_name Resources = codes "Resources"
 reason_name Priority = codes "Priority"
 
@@ -77,6 +81,7 @@ job_line starts row = line (λ column. column.text row) (columns starts) (place_
 
 abbrev pub row_line : Bool → Row → List ℕ
 row_line starts (Job row) = job_line starts row
+row_line starts (States row) = []
 
 -- the lines, below their titles where these are wanted
 abbrev pub squeue_text : Bool → Bool → View → List ℕ

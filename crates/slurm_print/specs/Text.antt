@@ -1,13 +1,15 @@
 -- The text of a reply, as a function of the request and the reply.
 use Rattle.std.specs.Prelude.{ℕ, List, [], ◌++◌, codes, decimal}
-use Rattle.slurm_text.specs.declared.plain.query.Query.TheVariants.{Squeue}
+use Rattle.slurm_text.specs.declared.plain.query.Query.TheVariants.{Squeue, Sinfo}
 use Rattle.slurm_text.specs.declared.plain.reply.Reply.{Reply}
 use Rattle.slurm_text.specs.declared.plain.reply.Reply.TheVariants.{Submitted, Passed, Orders, Idle, Shown, Refused, NotBuilt}
 use Rattle.slurm_text.specs.declared.plain.request.Request.{Request}
 use Rattle.slurm_text.specs.declared.plain.request.Request.TheVariants.{Submit, Report, Pass, Show}
 use Rattle.slurm_text.specs.declared.plain.view.View.{View}
+use Rattle.slurm_print.specs.Malformed.{not_built_text}
 use Rattle.slurm_print.specs.Orders.{orders_text}
 use Rattle.slurm_print.specs.Refusal.{refusal_line}
+use Rattle.slurm_print.specs.Sinfo.{sinfo_text}
 use Rattle.slurm_print.specs.Squeue.{squeue_text}
 
 -- the command that makes the request
@@ -16,6 +18,7 @@ command_of (Submit desc) = codes "sbatch"
 command_of (Report report) = codes "report"
 command_of Pass = codes "pass"
 command_of (Show (Squeue titles starts)) = codes "squeue"
+command_of (Show (Sinfo partition titles)) = codes "sinfo"
 
 abbrev pub submitted_line : ℕ → List ℕ
 submitted_line id = codes "Submitted batch job " ++ decimal id ++ codes "\n"
@@ -32,11 +35,8 @@ idle_text request = []
 -- only a query shows anything
 abbrev pub shown_text : Request → View → List ℕ
 shown_text (Show (Squeue titles starts)) view = squeue_text titles starts view
+shown_text (Show (Sinfo partition titles)) view = sinfo_text titles view
 shown_text request view = []
-
--- what the controller can't do yet
-abbrev pub not_built_text : List ℕ
-not_built_text = codes "slurm: error: NotBuilt\n"
 
 abbrev pub text_of : Request → Reply → List ℕ
 text_of request (Submitted id) = submitted_line id

@@ -1,7 +1,7 @@
 //! Fields of a fixed width.
 
 ghost use Rattle.std.specs.Prelude.{◌≡◌, ◌≤◌, ◌++◌, OnOk, replicate};
-ghost use Rattle.slurm_print.specs.Field.{field, cell};
+ghost use Rattle.slurm_print.specs.Field.{field, cell, left_cell};
 
 use crate::line::push_text;
 use slurm_text::memory_error::Memory;
@@ -35,6 +35,16 @@ pub(crate) fn push_cell(out: &mut Vec<u8>, width: usize, text: &[u8]) -> Result<
     ensures { OnOk result (out.new.items ≡ out.old.items ++ cell width text.now) }
 {
     push_field(out, width, true, text)?;
+    push_text(out, b" ")
+}
+
+/// The same with the padding on the right, and a blank behind it.
+#[tactic(auto, unfolding(crate::specs::Field::left_cell))]
+pub(crate) fn push_left_cell(out: &mut Vec<u8>, width: usize, text: &[u8]) -> Result<(), Memory>
+    requires { width ≤ 1024 }
+    ensures { OnOk result (out.new.items ≡ out.old.items ++ left_cell width text.now) }
+{
+    push_field(out, width, false, text)?;
     push_text(out, b" ")
 }
 

@@ -1,10 +1,12 @@
-//! The texts that the controller's replies are printed as.
+//! The texts that answer what is asked of the controller.
 #![tactic(auto)]
 
 mod field;
 mod line;
+pub mod malformed;
 mod orders;
 mod ranges;
 mod refusal;
+mod sinfo;
 mod squeue;
 pub mod text;

@@ -55,7 +55,7 @@ fn push_launch(out: &mut Vec<u8>, launch: &Launch) -> Result<(), Memory>
     push_text(out, b"launch ")?;
     push_start(out, &launch.start)?;
     push_text(out, b" cpus=")?;
-    push_ranges(out, launch.cpus.as_slice())?;
+    push_ranges(out, launch.cpus.iter().as_slice())?;
     push_labelled(out, b" mem=", launch.mem)?;
     push_if_known(out, b" run=", launch.run)?;
     push_if_known(out, b" exit=", launch.exit)?;

@@ -29,7 +29,10 @@ fn name(refusal: &Refusal) -> &'static [u8]
     ensures { result.now ≡ refusal_name refusal.now }
 {
     match refusal {
+        Refusal::PartitionClosed => b"PartitionClosed",
         Refusal::InvalidAccount => b"InvalidAccount",
+        Refusal::InvalidPartition => b"InvalidPartition",
+        Refusal::NotAllowedHere => b"NotAllowedHere",
         Refusal::NodesNotAvailable => b"NodesNotAvailable",
         Refusal::AccessDenied => b"AccessDenied",
         Refusal::UnknownNode => b"UnknownNode",
@@ -43,7 +46,10 @@ fn number(refusal: &Refusal) -> u64
     ensures { result ≡ refusal_number refusal.now }
 {
     match refusal {
+        Refusal::PartitionClosed => 1,
         Refusal::InvalidAccount => 2,
+        Refusal::InvalidPartition => 3,
+        Refusal::NotAllowedHere => 6,
         Refusal::NodesNotAvailable => 5,
         Refusal::AccessDenied => 11,
         Refusal::UnknownNode => 16,

@@ -36,8 +36,9 @@ fn push_rows(alloc: Global, out: &mut Vec<u8>, starts: bool, rows: &[Row]) -> Re
     ensures { OnOk result (out.new.items ≡ out.old.items ++ flat_map (row_line starts) rows.now) }
 {
     for row in rows {
-        let Row::Job(job) = row;
-        push_job(alloc, out, starts, job)?;
+        if let Row::Job(job) = row {
+            push_job(alloc, out, starts, job)?;
+        }
     }
     Ok(())
 }
@@ -142,6 +143,10 @@ fn reason_name(reason: Reason) -> &'static [u8]
     ensures { result.now ≡ reason_name reason }
 {
     match reason {
+        Reason::PartitionInactive => b"PartitionInactive",
+        Reason::PartitionDown => b"PartitionDown",
+        Reason::PartitionTimeLimit => b"PartitionTimeLimit",
+        Reason::PartitionNodeLimit => b"PartitionNodeLimit",
         Reason::Resources => b"Resources",
         Reason::Priority => b"Priority",
     }

@@ -1,11 +1,13 @@
 //! The text of a reply.
 
 ghost use Rattle.std.specs.Prelude.{◌≡◌, ◌++◌, IfOk, OnOk};
-ghost use Rattle.slurm_print.specs.Text.{text_of, not_built_text, command_of, submitted_line, passed_line, idle_text, shown_text};
+ghost use Rattle.slurm_print.specs.Text.{text_of, command_of, submitted_line, passed_line, idle_text, shown_text};
 
 use crate::line::{push_labelled, push_text};
+use crate::malformed::not_built;
 use crate::orders::push_orders;
 use crate::refusal::push_refusal;
+use crate::sinfo::push_sinfo;
 use crate::squeue::push_view;
 use slurm_text::memory_error::Memory;
 use slurm_text::plain::query::Query;
@@ -33,13 +35,6 @@ pub fn text(alloc: Global, request: &Request, reply: &Reply) -> Result<Vec<u8>, 
         Reply::NotBuilt => push_text(&mut out, not_built())?,
     }
     Ok(out)
-}
-
-/// The text that answers what the controller can't do yet, a request or a header (own).
-pub fn not_built() -> &'static [u8]
-    ensures { result.now ≡ not_built_text }
-{
-    b"slurm: error: NotBuilt\n"
 }
 
 fn push_submitted(out: &mut Vec<u8>, id: u32) -> Result<(), Memory>
@@ -81,6 +76,7 @@ fn push_shown(
         Request::Show(Query::Squeue { titles, starts }) => push_view(
             alloc, out, *titles, *starts, view,
         ),
+        Request::Show(Query::Sinfo { titles, .. }) => push_sinfo(alloc, out, *titles, view),
         _ => Ok(()),
     }
 }
@@ -93,5 +89,6 @@ fn command(request: &Request) -> &'static [u8]
         Request::Report(_) => b"report",
         Request::Pass => b"pass",
         Request::Show(Query::Squeue { .. }) => b"squeue",
+        Request::Show(Query::Sinfo { .. }) => b"sinfo",
     }
 }

@@ -5,7 +5,7 @@ use Rattle.std.proofs.lemmas.List.{take_all}
 use Rattle.std.specs.Io.KnownBytes.{Appends}
 use Rattle.slurm_io.specs.Bytes.{AppendsFront}
 use Rattle.slurm_io.specs.Faults.{CountsFault}
-use Rattle.slurm_top.specs.Run.{Tells}
+use Rattle.slurm_top.specs.Lines.{Tells}
 
 -- one call that writes all of a line
 pub tells_line : {T E : Type 0} (result : Result T E) (taken taken' : Option (List ℕ)) (faults faults' : ℕ) (line : List ℕ)

@@ -11,7 +11,7 @@ use Rattle.ctl_state.specs.State.{State}
 use Rattle.ctl_state.specs.Soundness.{IsSound}
 use Rattle.ctl_desk.specs.Desk.{Seat, Sight, sight_of}
 use Rattle.ctl_desk.specs.History.{StaysSound, of_session}
-use Rattle.ctl_session.specs.declared.meaning.Meaning.{Meaning}
+use Rattle.command_words.specs.declared.header.Meaning.{Meaning}
 use Rattle.ctl_session.specs.declared.session.How.{How}
 use Rattle.ctl_session.specs.declared.session.How.TheVariants as how
 use Rattle.ctl_session.specs.declared.session.Ended.{Ended}

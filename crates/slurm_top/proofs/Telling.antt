@@ -11,8 +11,8 @@ use Rattle.ctl_core.specs.Step.{reply_of, state_after, is_entered, raised}
 use Rattle.ctl_desk.specs.declared.entry.Entry.{Entry}
 use Rattle.ctl_desk.specs.Desk.{state_at}
 use Rattle.ctl_desk.specs.History.{after_all, StaysSound, entry_of}
-use Rattle.ctl_session.specs.declared.meaning.Meaning.{Meaning}
-use Rattle.ctl_session.specs.declared.meaning.Meaning.TheVariants.{Asks, NotBuilt}
+use Rattle.command_words.specs.declared.header.Meaning.{Meaning}
+use Rattle.command_words.specs.declared.header.Meaning.TheVariants.{Asks}
 use Rattle.ctl_session.specs.Answers.{Answered, IsAnswerIn, Rise, behind, entries, meanings, replies}
 use Rattle.ctl_session.specs.Meaning.{told, state_behind, entry_made}
 use Rattle.slurm_top.specs.Script.{told_all, state_behind_all}
@@ -58,8 +58,6 @@ state_next : (opening : State) (number : ℕ) (history : List Entry) (meaning : 
     → entry ≡ entry_made (state_at opening history place) number meaning
     → ((e : Entry) → entry ≡ Some e → slice_get history place ≡ Some e)
     → state_at opening history (place + length (option_to_list entry)) ≡ state_behind (state_at opening history place) meaning
-state_next opening number history NotBuilt place entry alike sound made stands =
-    ap (λ (o : Option Entry). state_at opening history (place + length (option_to_list o))) made ∙ ap (state_at opening history) (add-zero place)
 state_next opening number history (Asks asked) place entry alike sound made stands =
     let s = state_at opening history place in
     elim (cases_Bool (is_entered (reply_of s asked.moment asked.user asked.request))) [
@@ -73,6 +71,8 @@ state_next opening number history (Asks asked) place entry alike sound made stan
           ∙ ap (state_at opening history) (add-zero place)
           ∙ state_stays s asked refuses
     ]
+state_next opening number history meaning place entry alike sound made stands =
+    ap (λ (o : Option Entry). state_at opening history (place + length (option_to_list o))) made ∙ ap (state_at opening history) (add-zero place)
 
 -- each entry has a place of its own
 entries_fit : (low : ℕ) (answers : List Answered) (high : ℕ) → Rise low answers high → length (entries answers) + low ≤ high

@@ -1,3 +1,4 @@
 pub mod Cluster
+pub mod Lines
 pub mod Run
 pub mod Script

@@ -1,51 +1,34 @@
-//! The built-in cluster.
+//! The cluster before any request.
 
-ghost use Rattle.std.specs.Prelude.{◌≡◌, [], IfOk};
+ghost use Rattle.std.specs.Prelude.{◌≡◌, ℕ, [], IfOk, IsErrOf, Ok, Err, IsTrue};
+ghost use Rattle.ctl_state.specs.State.{State};
 ghost use Rattle.ctl_state.specs.Soundness.{IsSound};
-ghost use Rattle.slurm_top.specs.Cluster.{built_in_settings, built_in_conf, built_in_assocs, built_in_opening};
+ghost use Rattle.conf_reader.specs.Reader.{conf_in};
+ghost use Rattle.conf_values.specs.declared.refusal.ConfKind.{ConfKind};
+ghost use Rattle.slurm_text.specs.Name.{is_name};
+ghost use Rattle.slurm_top.specs.Cluster.{built_in_assocs, opening_in};
 
+use conf_reader::read_conf;
+use conf_reader::refusal::ConfRefusal;
 use ctl_core::controller::Ctl;
 use ctl_desk::book::Book;
 use ctl_desk::own_desk::{OwnDesk, own_desk};
 use slurm_text::items::Items;
 use slurm_text::memory_error::Memory;
 use slurm_text::name::{Name, NameRefusal};
-use slurm_text::plain::conf::{AssocConf, AssocFile, Conf, NodeConf, PartConf, Settings};
-use slurm_text::plain::mem_ask::MemAsk;
-use slurm_text::ranged::Ranged;
+use slurm_text::plain::conf::{AssocConf, AssocFile};
 use std::alloc::Global;
 
-#[tactic(auto, unfolding(crate::specs::Cluster::built_in_settings))]
-fn built_in_settings(alloc: Global) -> Result<Settings, Memory>
-    ensures { IfOk result (λ settings. settings ≡ built_in_settings) }
+// A name that is known to be one.
+fn name(alloc: Global, text: &[u8]) -> Result<Name, Memory>
+    requires { IsTrue (is_name text.now) }
+    ensures { IfOk result (λ name. name ≡ text.now) }
 {
-    Ok(Settings {
-        min_job_age: Ranged::new(300),
-        slurm_user: name(alloc, b"root")?,
-        bf_window: Ranged::new(1440),
-        mem_default: Some(MemAsk::PerCpu(Ranged::new(1000))),
-    })
-}
-
-/// One node, n1, of four processors and 4,000 megabytes, in the partition main.
-#[tactic(auto, unfolding(crate::specs::Cluster::built_in_conf))]
-fn built_in_conf(alloc: Global) -> Result<Conf, Memory>
-    ensures { IfOk result (λ conf. conf ≡ built_in_conf) }
-{
-    let settings = built_in_settings(alloc)?;
-    let node = NodeConf {
-        name: name(alloc, b"n1")?,
-        cpus: Ranged::new(4),
-        mem: Ranged::new(4000),
-    };
-    let partition = PartConf {
-        name: name(alloc, b"main")?,
-    };
-    Ok(Conf {
-        settings,
-        nodes: Items::from_vec(vec![in alloc; node]?),
-        partition,
-    })
+    match Name::read(alloc, text) {
+        Ok(name) => Ok(name),
+        Err(NameRefusal::BadName) => unreachable!(),
+        Err(NameRefusal::Memory) => Err(Memory),
+    }
 }
 
 /// The account acct with the users alice and bob.
@@ -54,14 +37,17 @@ fn built_in_assocs(alloc: Global) -> Result<AssocFile, Memory>
     ensures { IfOk result (λ file. file ≡ built_in_assocs) }
 {
     let account = AssocConf {
+        parent: None,
         name: name(alloc, b"acct")?,
         user: false,
     };
     let alice = AssocConf {
+        parent: Some(0),
         name: name(alloc, b"alice")?,
         user: true,
     };
     let bob = AssocConf {
+        parent: Some(0),
         name: name(alloc, b"bob")?,
         user: true,
     };
@@ -70,31 +56,29 @@ fn built_in_assocs(alloc: Global) -> Result<AssocFile, Memory>
     })
 }
 
-fn name(alloc: Global, text: &[u8]) -> Result<Name, Memory>
-    ensures { IfOk result (λ name. name ≡ text.now) }
-{
-    match Name::read(alloc, text) {
-        Ok(name) => Ok(name),
-        Err(NameRefusal::BadName) => Err(Memory),
-        Err(NameRefusal::Memory) => Err(Memory),
-    }
-}
-
-#[tactic(auto, unfolding(crate::specs::Cluster::built_in_opening))]
-fn built_in_controller(alloc: Global) -> Result<Ctl, Memory>
-    ensures opening { IfOk result (λ ctl. ctl.state ≡ built_in_opening) }
+// The controller of the cluster of a file slurm.conf(5), before any request.
+#[tactic(auto, unfolding(crate::specs::Cluster::opening_in))]
+fn controller(alloc: Global, file: &[u8]) -> Result<Ctl, ConfRefusal>
+    ensures opening { IfOk result (λ ctl. opening_in file.now ≡ Ok ctl.state) }
     ensures sound { IfOk result (λ ctl. IsSound ctl.state) }
+    ensures refused { (line : ℕ) → (kind : ConfKind)
+        → IsErrOf result (ConfRefusal.At line kind) → conf_in file.now ≡ Err (ConfRefusal.At line kind) }
 {
-    let conf = built_in_conf(alloc)?;
+    let conf = read_conf(alloc, file)?;
     let assocs = built_in_assocs(alloc)?;
-    Ctl::new(alloc, conf, assocs)
+    let ctl = Ctl::new(alloc, conf, assocs)?;
+    Ok(ctl)
 }
 
-/// A desk of its own at the controller of the built-in cluster, before any request.
-pub fn built_in_desk(alloc: Global) -> Result<OwnDesk, Memory>
-    ensures { IfOk result (λ desk. desk ≡ record { opening = built_in_opening; before = []; since = [] }) }
+/// A desk of its own at the controller of the cluster of a file slurm.conf(5), before any request. The book keeps its
+/// opening as a second controller, so the file is read twice.
+pub fn open_desk(alloc: Global, file: &[u8]) -> Result<OwnDesk, ConfRefusal>
+    ensures fresh { IfOk result (λ desk. (s : State) × (opening_in file.now ≡ Ok s)
+        × (desk ≡ record { opening = s; before = []; since = [] })) }
+    ensures refused { (line : ℕ) → (kind : ConfKind)
+        → IsErrOf result (ConfRefusal.At line kind) → conf_in file.now ≡ Err (ConfRefusal.At line kind) }
 {
-    let ctl = built_in_controller(alloc)?;
-    let opening = built_in_controller(alloc)?;
+    let ctl = controller(alloc, file)?;
+    let opening = controller(alloc, file)?;
     Ok(own_desk(Book::new(alloc, ctl, opening)))
 }

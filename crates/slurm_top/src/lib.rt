@@ -2,8 +2,9 @@
 #![tactic(auto)]
 
 mod cluster;
-mod errors;
+mod end;
 mod program;
 mod script;
 
+pub use end::End;
 pub use program::{WordsFault, run, run_without_words};

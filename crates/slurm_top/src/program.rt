@@ -1,31 +1,44 @@
 //! The program, over objects of the outside.
 
-ghost use Rattle.std.specs.Prelude.{◌≡◌, ◌≢◌, ◌⊎◌, ◌↔◌, ◌≤◌, ℕ, List, Some, [], true, false, IsTrue, length, map, string_bytes, if◌then◌else◌};
+ghost use Rattle.std.specs.Prelude.{◌≡◌, ◌⊎◌, ◌↔◌, ◌≤◌, ℕ, List, Some, None, Err, Ok, [], length, map, string_bytes, option_copied};
 ghost use Rattle.block_frame.specs.declared.form.Form.TheVariants.{Plain};
 ghost use Rattle.block_frame.specs.Grammar.{blocks_of, rest_of};
+ghost use Rattle.conf_values.specs.declared.refusal.ConfKind.{ConfKind};
 ghost use Rattle.ctl_state.specs.State.{State};
 ghost use Rattle.ctl_session.specs.declared.session.How.{How};
 ghost use Rattle.ctl_session.specs.Session.{most_blocks};
 ghost use Rattle.slurm_io.specs.Wire.{Wire};
+ghost use Rattle.slurm_text.specs.Confs.{ConfView};
+ghost use Rattle.slurm_top.specs.Lines.{CountsNone, Tells, status_of, line_of};
+ghost use Rattle.slurm_top.specs.Run.{conf_named, end_without_words, IsEnd, IsEndOn, Finds, IsWholeScript};
 ghost use Rattle.slurm_top.specs.Script.{IsScript};
-ghost use Rattle.slurm_top.specs.Run.{is_script_call, error_line, place_line, is_status, status_without_words, CountsNone, Ran, RanUpTo, Tells};
 
-use crate::errors::{room_for_line, tell, tell_place};
-use crate::script::{a_script_may_end_unread, run_script};
+use crate::end::{End, tell};
+use crate::script::run_script;
 use block_frame::{
     bad_texts_stay, blocks_are_cut_once, blocks_go_first, kinds_are_apart, nothing_is_partial,
     texts_are_cut,
 };
-use ctl_session::How;
-use slurm_io::{Link, Sink};
+use conf_reader::refusal::ConfRefusal;
+use slurm_io::{Link, Shelf, ShelfRefusal, Sink, read_file};
 use std::alloc::Global;
 
-fn is_script_call(words: &[String]) -> bool
-    ensures { result ≡ is_script_call (map string_bytes words.now) }
+/// The most bytes of slurm.conf(5) that are read, but for one that tells a longer file.
+const LONGEST_CONF: u64 = 1_048_576;
+
+// The name of the file slurm.conf(5), where the words ask for a script to be run.
+fn conf_named(words: &[String]) -> Option<&str>
+    ensures { option_copied result ≡ conf_named (map string_bytes words.now) }
 {
     match words {
-        [command, mode] => command.as_str() == "slurmctld" && mode.as_str() == "--script",
-        _ => false,
+        [command, mode, option, name]
+            if command.as_str() == "slurmctld"
+                && mode.as_str() == "--script"
+                && option.as_str() == "-f" =>
+        {
+            Some(name.as_str())
+        }
+        _ => None,
     }
 }
 
@@ -45,6 +58,41 @@ fn whole_inputs_are_answered()
     nothing_is_partial();
 }
 
+// Reads the file slurm.conf(5) of this name, and runs the script on its cluster.
+fn run_on_file<Q: Shelf, L: Link>(alloc: Global, name: &str, shelf: &mut Q, link: &mut L) -> End
+    ensures { IsEndOn name.now
+        (record { files = Q.files shelf.old; faults = Q.shelf_faults shelf.old; wire = L.wire link.old })
+        (record { files = Q.files shelf.new; faults = Q.shelf_faults shelf.new; wire = L.wire link.new }) result }
+{
+    let file = match read_file(alloc, shelf, name, LONGEST_CONF) {
+        Ok(file) => file,
+        Err(ShelfRefusal::Failed) => return End::NoConf,
+        Err(ShelfRefusal::Memory) => return End::Memory,
+    };
+    match run_script(alloc, file.as_slice(), link) {
+        Ok(how) => End::Script(how),
+        Err(ConfRefusal::At { line, kind }) => End::BadConf { line, kind },
+        Err(ConfRefusal::Memory) => End::Memory,
+    }
+}
+
+// How the run of these words ends.
+fn run_words<Q: Shelf, L: Link>(
+    alloc: Global,
+    words: &[String],
+    shelf: &mut Q,
+    link: &mut L,
+) -> End
+    ensures { IsEnd (map string_bytes words.now)
+        (record { files = Q.files shelf.old; faults = Q.shelf_faults shelf.old; wire = L.wire link.old })
+        (record { files = Q.files shelf.new; faults = Q.shelf_faults shelf.new; wire = L.wire link.new }) result }
+{
+    match conf_named(words) {
+        Some(name) => run_on_file(alloc, name, shelf, link),
+        None => End::Usage,
+    }
+}
+
 /// Why the words behind the program's name are not at hand.
 #[derive(Clone, Copy, Debug, PartialEq, Eq)]
 pub enum WordsFault {
@@ -56,84 +104,59 @@ pub enum WordsFault {
 /// What the program does where its words are not at hand, and the status that it ends with: that of words that are off,
 /// or of want of memory.
 pub fn run_without_words<E: Sink>(errors: &mut E, fault: WordsFault) -> u8
-    ensures status { result ≡ status_without_words fault }
-    ensures errors { Tells (E.taken errors.old) (E.taken errors.new)
-        (E.write_faults errors.old) (E.write_faults errors.new) (error_line result) }
+    ensures status { result ≡ status_of (end_without_words fault) }
+    ensures errors { Tells (E.taken errors.old) (E.taken errors.new) (E.write_faults errors.old) (E.write_faults errors.new)
+        (line_of (end_without_words fault)) }
 {
-    match fault {
-        WordsFault::NotText => {
-            tell(errors, b"slurm: error: usage\n");
-            2
-        }
-        WordsFault::Memory => {
-            tell(errors, b"slurm: error: memory\n");
-            8
-        }
-    }
+    let end = match fault {
+        WordsFault::NotText => End::Usage,
+        WordsFault::Memory => End::Memory,
+    };
+    tell(errors, end);
+    end.status()
 }
 
-/// What the program does with the words behind its name, and the status that it ends with. With `--script` it answers
-/// the blocks of the link's input on its output, by a controller of the built-in cluster.
-#[tactic(auto, using(crate::proofs::Lines::tells_nothing))]
-pub fn run<L: Link, E: Sink>(alloc: Global, words: &[String], link: &mut L, errors: &mut E) -> u8
-    // The words are off, exactly there, and nothing is read or written but a line of errors.
-    ensures usage { (result ≡ 2) ↔ (is_script_call (map string_bytes words.now) ≡ false) }
-    ensures untouched { result ≡ 2 → L.wire link.new ≡ L.wire link.old }
-
-    // Each other status says how the script ended.
-    ensures done { result ≡ 0 → Ran How.Closed (L.wire link.old) (L.wire link.new) }
-    ensures read { result ≡ 5 → Ran How.ReadFault (L.wire link.old) (L.wire link.new) }
-    ensures write { result ≡ 6 → Ran How.WriteFault (L.wire link.old) (L.wire link.new) }
-    ensures block { result ≡ 7 → (place : ℕ) × RanUpTo place (L.wire link.old) (L.wire link.new)
+/// What the program does with the words behind its name, and the status that it ends with. With `--script` it reads the
+/// file slurm.conf(5) that `-f` names, and answers the blocks of the link's input on its output by a controller of that
+/// cluster.
+pub fn run<Q: Shelf, L: Link, E: Sink>(
+    alloc: Global,
+    words: &[String],
+    shelf: &mut Q,
+    link: &mut L,
+    errors: &mut E,
+) -> u8
+    // The run has one of the ends; it leaves what that says, the status is that end's, and so is the line of errors,
+    // of which a beginning was taken where its writing fails.
+    ensures ended { (end : End) × (result ≡ status_of end)
         × Tells (E.taken errors.old) (E.taken errors.new) (E.write_faults errors.old) (E.write_faults errors.new)
-        (place_line place) }
-    ensures memory { result ≡ 8 → Ran How.Memory (L.wire link.old) (L.wire link.new) }
-    ensures spent { result ≡ 9 → Ran How.Spent (L.wire link.old) (L.wire link.new) }
-    ensures statuses { IsTrue (is_status result) }
+        (line_of end)
+        × IsEnd (map string_bytes words.now)
+        (record { files = Q.files shelf.old; faults = Q.shelf_faults shelf.old; wire = L.wire link.old })
+        (record { files = Q.files shelf.new; faults = Q.shelf_faults shelf.new; wire = L.wire link.new }) end }
 
-    // The line of errors, or a beginning of it where its writing fails.
-    ensures errors { result ≢ 7 → Tells (E.taken errors.old) (E.taken errors.new)
-        (E.write_faults errors.old) (E.write_faults errors.new) (error_line result) }
+    // The words are off exactly where the status says so.
+    ensures usage { (result ≡ 2) ↔ (conf_named (map string_bytes words.now) ≡ None) }
 
-    // Good words and an input of whole blocks, no more than one session answers, are answered to the end, unless a
+    // Where the shelf tells its files: a missing file is told by 5, a bad one by 3 unless its reading fails, but for want
+    // of memory.
+    ensures missing { Finds (map string_bytes words.now) (Q.files shelf.old) None → (result ≡ 5) ⊎ (result ≡ 8) }
+    ensures refused { (line : ℕ) → (kind : ConfKind)
+        → Finds (map string_bytes words.now) (Q.files shelf.old) (Some (Err (ConfRefusal.At line kind)))
+        → CountsNone (Q.shelf_faults shelf.old) (Q.shelf_faults shelf.new) → (result ≡ 3) ⊎ (result ≡ 8) }
+
+    // A good file and an input of whole blocks, no more than one session answers, are answered to the end, unless a
     // count of faults rises or memory is wanting.
-    ensures complete { (bytes : List ℕ) → is_script_call (map string_bytes words.now) ≡ true
-        → (L.wire link.old).left ≡ Some bytes → rest_of Plain bytes ≡ [] → length (blocks_of Plain bytes) ≤ most_blocks
+    ensures complete { (conf : ConfView)
+        → Finds (map string_bytes words.now) (Q.files shelf.old) (Some (Ok conf))
+        → IsWholeScript (L.wire link.old).left
+        → CountsNone (Q.shelf_faults shelf.old) (Q.shelf_faults shelf.new)
         → CountsNone (L.wire link.old).reads (L.wire link.new).reads
         → CountsNone (L.wire link.old).writes (L.wire link.new).writes
         → (result ≡ 0) ⊎ (result ≡ 8) }
 {
-    if !is_script_call(words) {
-        tell(errors, b"slurm: error: usage\n");
-        return 2;
-    }
     whole_inputs_are_answered();
-    let Ok(room) = room_for_line(alloc) else {
-        a_script_may_end_unread();
-        tell(errors, b"slurm: error: memory\n");
-        return 8;
-    };
-    match run_script(alloc, link) {
-        How::Closed => 0,
-        How::Truncated { place } | How::Bad { place } => {
-            tell_place(errors, room, place);
-            7
-        }
-        How::Spent => {
-            tell(errors, b"slurm: error: spent\n");
-            9
-        }
-        How::ReadFault => {
-            tell(errors, b"slurm: error: read\n");
-            5
-        }
-        How::WriteFault => {
-            tell(errors, b"slurm: error: write\n");
-            6
-        }
-        How::Memory => {
-            tell(errors, b"slurm: error: memory\n");
-            8
-        }
-    }
+    let end = run_words(alloc, words, shelf, link);
+    tell(errors, end);
+    end.status()
 }

@@ -1,37 +1,36 @@
 //! A script from a link's input to its output.
 
+ghost use Rattle.std.specs.Prelude.{◌≡◌, ℕ, IfOk, OnErr, IsErrOf, Ok, Err};
+ghost use Rattle.conf_reader.specs.Reader.{conf_in};
+ghost use Rattle.conf_values.specs.declared.refusal.ConfKind.{ConfKind};
 ghost use Rattle.ctl_state.specs.State.{State};
-ghost use Rattle.ctl_session.specs.declared.session.How.{How};
-ghost use Rattle.slurm_io.specs.Wire.{Wire};
-ghost use Rattle.slurm_top.specs.Cluster.{built_in_opening};
+ghost use Rattle.slurm_top.specs.Cluster.{opening_in};
 ghost use Rattle.slurm_top.specs.Script.{IsScript};
 
-use crate::cluster::built_in_desk;
+use crate::cluster::open_desk;
 use block_frame::{Form, blocks_are_cut_once, blocks_go_first, nothing_is_partial, spellings_join};
+use conf_reader::refusal::ConfRefusal;
 use ctl_core::laws::raised_moments_decide_alike;
 use ctl_session::{How, serve_link};
 use resource_profile::start;
 use slurm_io::Link;
 use std::alloc::Global;
 
-/// A run without memory that reads nothing and writes nothing is a script's.
-pub fn a_script_may_end_unread()
-    ensures { (s : State) (wire : Wire) → IsScript s wire wire How.Memory }
-{}
-
-/// Answers the blocks of a link, by a controller of the built-in cluster that no one else asks.
-pub fn run_script<L: Link>(alloc: Global, link: &mut L) -> How
-    ensures { IsScript built_in_opening (L.wire link.old) (L.wire link.new) result }
+/// Answers the blocks of a link, by a controller of the cluster of a file slurm.conf(5) that no one else asks. Where the
+/// file is refused, or memory is wanting before, nothing is read or written.
+pub fn run_script<L: Link>(alloc: Global, file: &[u8], link: &mut L) -> Result<How, ConfRefusal>
+    ensures ran { IfOk result (λ how. (s : State) × (opening_in file.now ≡ Ok s)
+        × IsScript s (L.wire link.old) (L.wire link.new) how) }
+    ensures refused { (line : ℕ) → (kind : ConfKind)
+        → IsErrOf result (ConfRefusal.At line kind) → conf_in file.now ≡ Err (ConfRefusal.At line kind) }
+    ensures err { OnErr result (L.wire link.new ≡ L.wire link.old) }
 {
-    a_script_may_end_unread();
     raised_moments_decide_alike();
     blocks_are_cut_once();
     blocks_go_first();
     nothing_is_partial();
     spellings_join();
-    let Ok(mut desk) = built_in_desk(alloc) else {
-        return How::Memory;
-    };
+    let mut desk = open_desk(alloc, file)?;
     let ended = serve_link(alloc, Form::Plain, link, &mut desk, &mut start());
-    ended.how
+    Ok(ended.how)
 }

@@ -76,7 +76,8 @@ moment_of text now = moment_of_parts now (fields 43 text) >>= λ moment. up_to_l
 -- `YYYY-MM-DD`
 abbrev pub date_text : CivilDate → List ℕ
 date_text date =
-    two_digits (date.year / 100) ++ two_digits (date.year % 100) ++ codes "-" ++ two_digits date.month ++ codes "-" ++ two_digits date.day
+    two_digits (date.year / 100) ++ two_digits (date.year % 100) ++ codes "-" ++ two_digits date.month ++ codes "-"
+    ++ two_digits date.day
 
 -- `HH:MM:SS`, of so many seconds of a day
 abbrev pub clock_text : ℕ → List ℕ

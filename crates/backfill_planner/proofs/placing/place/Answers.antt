@@ -22,7 +22,7 @@ returns-in_default-clause-placed g c =
     rw rooms_are at c.in_ok-placed.ensures.placement in
     let none : All (λ (hold : Hold). hold.until ≤ c.loop-start.start) c.args.profile.now.holds = rw c.in_default.is at c.next_rise.ensures.none in
     placed-none c.args.base.now.rooms c.args.profile.now.holds c.args.job.now c.args.lo c.args.hi (c.args.hi + 1) (omega arith)
-    (NonePlaced-more c.args.base.now.rooms c.args.profile.now.holds c.args.job.now c.args.lo c.args.hi c.loop-start.start (c.args.hi + 1) c.in_ok-placed.placed
+    (NonePlaced-more c.lower_laws.ensures c.args.base.now.rooms c.args.profile.now.holds c.args.job.now c.args.lo c.args.hi c.loop-start.start (c.args.hi + 1) c.in_ok-placed.placed
     c.loop-start.invariant.none_placed is nothing c.placement_at.ensures.window c.requires.last (NoneEnds-ever c.args.profile.now.holds c.loop-start.start (c.args.hi + 1) none))
 
 pub loop-start-preserved : goal.loop-start-preserved
@@ -33,7 +33,7 @@ loop-start-preserved g c =
     rw rooms_are at c.in_ok-placed.ensures.placement in
     let next : IsNextEnd c.args.profile.now.holds c.loop-start.start c.in-Some.rise = rw c.in-Some.is at c.next_rise.ensures.some in
     record {
-      none_placed = NonePlaced-more c.args.base.now.rooms c.args.profile.now.holds c.args.job.now c.args.lo c.args.hi c.loop-start.start c.in-Some.rise c.in_ok-placed.placed
+      none_placed = NonePlaced-more c.lower_laws.ensures c.args.base.now.rooms c.args.profile.now.holds c.args.job.now c.args.lo c.args.hi c.loop-start.start c.in-Some.rise c.in_ok-placed.placed
           c.loop-start.invariant.none_placed is nothing c.placement_at.ensures.window c.requires.last (NoneEnds-before c.args.profile.now.holds c.loop-start.start c.in-Some.rise next);
       from = omega (arith, c.loop-start.invariant.from, next.later);
       swept = rw rooms_are at c.placement_at.ensures.swept;

@@ -1,7 +1,7 @@
 use Rattle.std.proofs.Common.{◌≡◌, ◌*◌, ◌<◌, ◌^◌, length, All, map, arith, ap, ◌∙◌, Some, None}
 use Rattle.node_pick.specs.Sets.{dealt, places, IsChosen}
 use Rattle.node_pick.specs.Choosing.{chosen}
-use Rattle.node_pick.proofs.Choosing.{chosen-none_fits}
+use Rattle.backfill_planner.proofs.Rises.{chosen-none_fits}
 use Rattle.backfill_planner.specs.Plans.{share_of}
 use Rattle.backfill_planner.proofs.Dealing.{IsGiven, dealt-given, places_in_range, tasks_in_range, placement-none, placement-some, length-capacities}
 use Rattle.backfill_planner.proofs.Holding.{placement-holds}
@@ -11,7 +11,7 @@ pub returns-then-sweep-from-clause-placement : goal.returns-then-sweep-from-clau
 returns-then-sweep-from-clause-placement c =
     let caps = c.go_to.new.self.caps.items in
     let need = c.args.job.now.need in
-    let nowhere : chosen caps need ≡ None = chosen-none_fits caps need (λ set fits.
+    let nowhere : chosen caps need ≡ None = chosen-none_fits c.lower_laws.ensures caps need (λ set fits.
     omega (arith, c.fitting_sets_are_within.ensures caps need set fits, c.go_to.ensures.swept.total, c.if-sweep-from.true, c.from.ensures)) in
     placement-none c.args.rooms.now c.args.profile.now.holds c.args.job.now c.args.start caps c.go_to.ensures.capacities nowhere
 

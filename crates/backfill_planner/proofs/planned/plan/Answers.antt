@@ -61,7 +61,7 @@ loop-job-preserved g c =
             count = rw w.placements-is (omega (arith, longer, c.loop-job.invariant.count));
             room = rw w.placements-is (omega (arith, w.push.ensures.capacity, c.loop-job.invariant.room));
             index = omega (arith, c.loop-job.invariant.index);
-            seen = rw w.profile-is (seen-held c.args.base.rooms c.loop-job.profile.holds _ w.hold.new.profile.holds ranked c.args.now c.search.new.searches.seen.items w.in_ok-hold.ensures.holds seen);
+            seen = rw w.profile-is (seen-held c.lower_laws.ensures c.args.base.rooms c.loop-job.profile.holds _ w.hold.new.profile.holds ranked c.args.now c.search.new.searches.seen.items w.in_ok-hold.ensures.holds seen);
             steps = ticks;
           }
       | in_default w ↦
@@ -108,13 +108,13 @@ returns g c =
     let fits : Fits base = subst Fits c.base.view_is c.base.invariant in
     let past : length ranked ≤ c.loop-job.job-index = rw c.deref-job-items.ensures.value at c.loop-job-test.false in
     let jobs : All IsPlannable ranked = rw (take_all c.loop-job.job-index ranked past) at c.loop-job.invariant.jobs in
-    let within = plan-within base ranked c.args.now fits.0 fits.1 c.requires.nodes jobs in
+    let within = plan-within c.lower_laws.ensures base ranked c.args.now fits.0 fits.1 c.requires.nodes jobs in
     record {
       parts = search rules;
       jobs = jobs;
       within = within;
       starts_fit = starts-fit base ranked c.args.now within;
-      apart = plan-parts base ranked c.args.now fits.1 c.requires.nodes jobs;
+      apart = plan-parts c.lower_laws.ensures base ranked c.args.now fits.1 c.requires.nodes jobs;
       steps = search rules;
       steps_err = search rules;
     }

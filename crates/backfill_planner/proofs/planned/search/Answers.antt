@@ -1,9 +1,7 @@
-use Rattle.std.proofs.Common.{◌≡◌, ◌≤◌, ◌<◌, All, length, get_or, Some, None, arith, refl, sym, ap, ◌∙◌}
+use Rattle.std.proofs.Common.{◌≡◌, get_or, refl, sym, ap, ◌∙◌}
 use Rattle.std.proofs.lemmas.List.{get_or_default}
-use Rattle.backfill_planner.specs.declared.job.PlanJob.{PlanJob}
 use Rattle.backfill_planner.specs.Bases.{BaseView}
 use Rattle.backfill_planner.specs.Plans.{placed_of}
-use Rattle.backfill_planner.specs.Searches.{IsSeen}
 use Rattle.backfill_planner.specs.Lesser.{NoneBefore}
 use Rattle.backfill_planner.proofs.Lessening.{placed-later, bound-shown, bound_of}
 use Rattle.backfill_planner.proofs.planned.search.Goals as goal
@@ -33,7 +31,7 @@ returns-clause-seen g c =
       | in-Some w ↦ rw (w.bound-is, w.in-Some.is) refl
       | in-None w ↦ rw (w.bound-is, w.in-None.is) refl
     ] in
-    let shown : NoneBefore rooms holds job c.args.now c.match-placed.bound = rw bound_is at (bound-shown rooms holds job c.args.now horizon c.in_ok-placed.placed placed_is) in
+    let shown : NoneBefore rooms holds job c.args.now c.match-placed.bound = rw bound_is at (bound-shown c.lower_laws.ensures rooms holds job c.args.now horizon c.in_ok-placed.placed placed_is) in
     c.add.ensures rooms holds ranked c.args.now c.requires.seen (record {
       there = c.requires.inside;
       none = λ d.

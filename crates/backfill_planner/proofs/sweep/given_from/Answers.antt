@@ -1,6 +1,4 @@
-use Rattle.std.proofs.Common.{◌≡◌, ◌*◌, ◌≤◌, ◌<◌, ◌^◌, get_or, false, arith, refl, sym, ap, ◌∙◌, Some}
-use Rattle.resource_profile.specs.declared.NodeRoom.{NodeRoom}
-use Rattle.resource_profile.specs.Free.{room_at}
+use Rattle.std.proofs.Common.{arith}
 use Rattle.resource_profile.specs.Windows.{free_of, IsSteady}
 use Rattle.backfill_planner.specs.Giving.{window_end}
 use Rattle.backfill_planner.proofs.Sweeping.{gives-until, in-reach-some, in-reach-none, end-some, end-none}

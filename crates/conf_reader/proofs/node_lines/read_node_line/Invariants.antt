@@ -1,5 +1,6 @@
 use Rattle.std.proofs.Common.{◌≡◌, ◌≤◌, length}
-use Rattle.conf_reader.specs.NodeLines.{names_of, node_word, with_entry, no_node_words}
+use Rattle.slurm_text.specs.Confs.{node_names}
+use Rattle.conf_reader.specs.NodeLines.{node_word, with_entry, no_node_words}
 use Rattle.conf_reader.specs.Words.{said_by}
 use Rattle.conf_reader.proofs.node_lines.read_node_line.Given as goal
 
@@ -8,5 +9,5 @@ decreases-loop-word l = length l.rest
 
 abbrev pub invariant-loop-word : goal.invariant-loop-word
 invariant-loop-word l =
-    (said_by with_entry (node_word (names_of l.known)) l.words l.rest ≡ said_by with_entry (node_word (names_of l.known)) no_node_words l.line)
+    (said_by with_entry (node_word (node_names l.known)) l.words l.rest ≡ said_by with_entry (node_word (node_names l.known)) no_node_words l.line)
     × (length l.rest ≤ length l.line)

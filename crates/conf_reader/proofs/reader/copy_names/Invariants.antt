@@ -1,6 +1,6 @@
 use Rattle.std.proofs.Common.{◌≡◌, take}
-use Rattle.conf_reader.specs.NodeLines.{names_of}
+use Rattle.slurm_text.specs.Confs.{node_names}
 use Rattle.conf_reader.proofs.reader.copy_names.Given as goal
 
 abbrev pub invariant-loop-node : goal.invariant-loop-node
-invariant-loop-node l = l.names.items ≡ names_of (take l.node-index l.nodes)
+invariant-loop-node l = l.names.items ≡ node_names (take l.node-index l.nodes)

@@ -1,7 +1,7 @@
 use Rattle.std.proofs.Common.{◌≡◌, drop}
-use Rattle.conf_reader.specs.NodeLines.{names_of}
+use Rattle.slurm_text.specs.Confs.{node_names}
 use Rattle.conf_reader.specs.Reader.{first_unknown}
 use Rattle.conf_reader.proofs.reader.first_unknown.Given as goal
 
 abbrev pub invariant-loop-line : goal.invariant-loop-line
-invariant-loop-line l = first_unknown (names_of l.known) (drop l.line-index l.lines) ≡ first_unknown (names_of l.known) l.lines
+invariant-loop-line l = first_unknown (node_names l.known) (drop l.line-index l.lines) ≡ first_unknown (node_names l.known) l.lines

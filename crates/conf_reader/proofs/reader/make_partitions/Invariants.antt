@@ -1,5 +1,5 @@
 use Rattle.std.proofs.Common.{◌≡◌, ◌++◌, length}
-use Rattle.conf_reader.specs.NodeLines.{names_of}
+use Rattle.slurm_text.specs.Confs.{node_names}
 use Rattle.conf_reader.specs.Reader.{partitions_by}
 use Rattle.conf_reader.proofs.reader.make_partitions.Given as goal
 
@@ -7,4 +7,4 @@ abbrev pub decreases-loop-alloc : goal.decreases-loop-alloc
 decreases-loop-alloc l = length l.lines.items
 
 abbrev pub invariant-loop-alloc : goal.invariant-loop-alloc
-invariant-loop-alloc l = l.partitions.items ++ partitions_by (names_of l.known) l.lines.items ≡ partitions_by (names_of l.known) l.initial.lines.items
+invariant-loop-alloc l = l.partitions.items ++ partitions_by (node_names l.known) l.lines.items ≡ partitions_by (node_names l.known) l.initial.lines.items

@@ -21,17 +21,21 @@ loop-placed-preserved c =
     let nodes = c.args.nodes.now in
     let placed = c.placed-item.result in
     let later = drop (c.loop-placed.placed-index + 1) c.args.placements.now in
-    let so_far = λ (jobs : List JobRecord) (can : CanBegin jobs c.args.held.now c.args.placements.now). rw (next c.args.placements.now c.loop-placed.placed-index placed c.loop-placed-test.true c.placed-item.is) at (c.loop-placed.invariant jobs can) in
+    let rest = next c.args.placements.now c.loop-placed.placed-index placed c.loop-placed-test.true c.placed-item.is in
+    let so_far = λ (jobs : List JobRecord) (can : CanBegin jobs c.args.held.now c.args.placements.now). rw rest at (c.loop-placed.invariant jobs can) in
     elim c.if-placed-now.branch [
       | then-placed-now+in_ok-parts+in_ok-push w ↦
           let start : JobStart = record { id = placed.id; parts = w.in_ok-parts.parts.items } in
           let is : start ≡ record { id = placed.id; parts = map (part_by (map room_of nodes) c.loop-placed.held) placed.parts } =
           ap (λ (parts : List Part). record { id = placed.id; parts = parts }) (w.in_ok-parts.ensures.parts ∙ ap (map (part_by (map room_of nodes) c.loop-placed.held)) w.as_slice.ensures) in
           λ jobs can. rw (w.starts-is, w.held-is, w.in_ok-push.ensures.items, w.from_vec.ensures)
-          (first-begun c.args.now nodes jobs c.loop-placed.held w.take_parts.new.held placed later c.loop-placed.starts.items _ start c.requires.nodes w.if-placed-now.true is w.in_ok-parts.ensures.held (so_far jobs can))
-      | else-placed-now w ↦ λ jobs can. rw (w.starts-is, w.held-is) (first-passed c.args.now nodes jobs c.loop-placed.held placed later c.loop-placed.starts.items _ w.if-placed-now.false (so_far jobs can))
+          (first-begun c.args.now nodes jobs c.loop-placed.held w.take_parts.new.held placed later c.loop-placed.starts.items _ start c.requires.nodes
+          w.if-placed-now.true is w.in_ok-parts.ensures.held (so_far jobs can))
+      | else-placed-now w ↦ λ jobs can. rw (w.starts-is, w.held-is)
+          (first-passed c.args.now nodes jobs c.loop-placed.held placed later c.loop-placed.starts.items _ w.if-placed-now.false (so_far jobs can))
     ]
 
 pub returns : goal.returns
 unfolding started
-returns c = λ jobs can. sym (append-nil c.loop-placed.starts.items) ∙ (rw (drop_all c.loop-placed.placed-index c.args.placements.now c.loop-placed-test.false) at (c.loop-placed.invariant jobs can)).whole
+returns c = λ jobs can. sym (append-nil c.loop-placed.starts.items)
+    ∙ (rw (drop_all c.loop-placed.placed-index c.args.placements.now c.loop-placed-test.false) at (c.loop-placed.invariant jobs can)).whole

@@ -1,4 +1,4 @@
-use Rattle.std.proofs.Common.{ℕ, ◌≡◌, ◌+◌, ◌<◌, ◌≤◌, ◌∙◌, List, [], ◌∷◌, ◌++◌, length, get_or, take, Option, sym, refl, ap, arith, append-nil}
+use Rattle.std.proofs.Common.{◌≡◌, ◌+◌, ◌≤◌, [], ◌++◌, length, take, sym, refl, arith, append-nil}
 use Rattle.std.specs.List.{filter_map, cons_option}
 use Rattle.std.proofs.lemmas.List.{take_more, take_all}
 use Rattle.ctl_report.proofs.Launching.{launches-rise}
@@ -12,7 +12,8 @@ loop-job-preserved c =
     let jobs = c.args.jobs.now in
     let i = c.loop-job.job-index in
     let launch = launch_of c.args.node c.args.report.now in
-    let more : filter_map launch (take (i + 1) jobs) ≡ filter_map launch (take i jobs) ++ cons_option (launch c.job-item.result) [] = rw (take_more jobs i c.job-item.result (omega arith), ← c.job-item.is, filter_map-append) in
+    let more : filter_map launch (take (i + 1) jobs) ≡ filter_map launch (take i jobs) ++ cons_option (launch c.job-item.result) [] =
+    rw (take_more jobs i c.job-item.result (omega arith), ← c.job-item.is, filter_map-append) in
     elim c.match-branch-2.branch [
       | in-Some+in_ok-push w ↦ rw (w.launches-is, w.in_ok-push.ensures.items, c.loop-job.invariant, more, ← c.in_ok-launch.ensures, w.in-Some.is) refl
       | in_default w ↦ rw (w.launches-is, c.loop-job.invariant, more, ← c.in_ok-launch.ensures, w.in_default.is) (sym (append-nil _))

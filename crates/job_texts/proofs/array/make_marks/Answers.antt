@@ -1,4 +1,4 @@
-use Rattle.std.proofs.Common.{ℕ, ◌≡◌, List, take, ap, ◌∙◌, take_all, arith}
+use Rattle.std.proofs.Common.{List, ap, ◌∙◌, take_all, arith}
 use Rattle.std.specs.List.{list_any}
 use Rattle.job_texts.specs.Array.{names}
 use Rattle.job_texts.specs.declared.array.Stretch.{Stretch}

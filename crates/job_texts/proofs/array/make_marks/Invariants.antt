@@ -6,4 +6,4 @@ use Rattle.job_texts.proofs.array.make_marks.Given as goal
 
 abbrev pub invariant-loop-stretch : goal.invariant-loop-stretch
 invariant-loop-stretch l =
-    (length l.marks.items ≡ l.end) × ((n : ℕ) → get_or l.marks.items n false ≡ list_any (λ (stretch : Stretch). names stretch n) (take l.stretch-index l.stretches))
+    (length l.marks.items ≡ l.bound) × ((n : ℕ) → get_or l.marks.items n false ≡ list_any (λ (stretch : Stretch). names stretch n) (take l.stretch-index l.stretches))

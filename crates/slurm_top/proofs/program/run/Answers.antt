@@ -1,13 +1,11 @@
-use Rattle.std.proofs.Common.{inl, inr}
+use Rattle.slurm_top.proofs.Ends.{complete, refused}
 use Rattle.slurm_top.proofs.program.run.Goals as goal
 
--- the place is where the input ended within a block, or where no block can begin
-pub returns-in-Truncated-clause-block : goal.returns-in-Truncated-clause-block
-returns-in-Truncated-clause-block g c = λ _. (
-  c.in-Truncated.place,
-  elim c.in-Truncated.is [
-    | inl cut ↦ inl (rw cut at c.run_script.ensures)
-    | inr bad ↦ inr (rw bad at c.run_script.ensures)
-  ],
-  c.tell_place.ensures,
-)
+pub returns-clause-refused : goal.returns-clause-refused
+returns-clause-refused g c = λ line kind finds none.
+    rw c.status.ensures (refused _ _ _ c.run_words-end.result line kind c.run_words-end.ensures finds none)
+
+pub returns-clause-complete : goal.returns-clause-complete
+returns-clause-complete g c = λ conf finds whole none reads writes.
+    rw c.status.ensures
+    (complete c.whole_inputs_are_answered.ensures _ _ _ c.run_words-end.result conf c.run_words-end.ensures finds whole none reads writes)

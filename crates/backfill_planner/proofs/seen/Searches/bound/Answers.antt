@@ -1,4 +1,4 @@
-use Rattle.std.proofs.Common.{◌≡◌, ◌≤◌, ◌<◌, length, get_or, arith, sym, ◌∙◌}
+use Rattle.std.proofs.Common.{◌<◌, length, get_or, arith}
 use Rattle.backfill_planner.specs.declared.seen.Seen.{Seen}
 use Rattle.backfill_planner.specs.Lesser.{IsLesser}
 use Rattle.backfill_planner.proofs.Lessening.{seen-none}
@@ -16,7 +16,7 @@ loop-one-preserved c =
           let lesser : IsLesser w.index-ranked-one.result c.args.job.now = rw w.if-is_lesser.true at w.is_lesser.ensures in
           rw w.bound-is (record {
             from = omega (arith, c.loop-one.invariant.from, w.if-one-bound.true);
-            none = λ rooms holds all. rw c.as_slice-one-items.ensures.value (seen-none rooms holds c.args.ranked.now c.args.now (get_or items i none) w.index-ranked-one.result c.args.job.now (all i none inside) (rw c.as_slice-one-items.ensures.value at w.index-ranked-one.is) lesser);
+            none = λ rooms holds all. rw c.as_slice-one-items.ensures.value (seen-none c.lower_laws.ensures rooms holds c.args.ranked.now c.args.now (get_or items i none) w.index-ranked-one.result c.args.job.now (all i none inside) (rw c.as_slice-one-items.ensures.value at w.index-ranked-one.is) lesser);
           })
       | else-one-bound w ↦ rw w.bound-is c.loop-one.invariant
     ]

@@ -1,6 +1,7 @@
-use Rattle.std.proofs.Common.{rules, ℕ, ◌≡◌, [], ◌∷◌, ◌++◌, map, List, ap, sym, ◌∙◌}
+use Rattle.std.proofs.Common.{rules, ℕ, ◌≡◌, [], ◌∷◌, ◌++◌, List, ap, sym, ◌∙◌}
 use Rattle.std.proofs.lemmas.List.{map-append}
-use Rattle.conf_values.specs.declared.conf.NodeConf.{NodeConf}
+use Rattle.slurm_text.specs.Confs.{node_names}
+use Rattle.slurm_text.specs.declared.plain.conf.NodeConf.{NodeConf}
 use Rattle.conf_values.proofs.NameLemmas.{has-insert}
 use Rattle.conf_values.proofs.node_table.NodeTable.push.Goals as goal
 
@@ -8,6 +9,6 @@ pub invariant_of-self-2 : goal.invariant_of-self-2
 invariant_of-self-2 c =
     λ q. let items : c.push.new.self.items ≡ c.self.inside.nodes.items ++ c.args.node ∷ [] = search rules in
     let name : c.in_ok-name.name ≡ c.args.node.name = search rules in
-    let names : map (λ (node : NodeConf). node.name) (c.self.inside.nodes.items ++ c.args.node ∷ []) ≡ map (λ (node : NodeConf). node.name) c.self.inside.nodes.items ++ c.in_ok-name.name ∷ [] =
-    map-append (λ (node : NodeConf). node.name) c.self.inside.nodes.items (c.args.node ∷ []) ∙ ap (λ (n : List ℕ). map (λ (node : NodeConf). node.name) c.self.inside.nodes.items ++ n ∷ []) (sym name) in
-    rw (items, names) (has-insert q c.in_ok-name.name (map (λ (node : NodeConf). node.name) c.self.inside.nodes.items) _ _ (c.self.invariant q) (c.in_ok-insert.ensures.updates.0 q))
+    let names : node_names (c.self.inside.nodes.items ++ c.args.node ∷ []) ≡ node_names c.self.inside.nodes.items ++ c.in_ok-name.name ∷ [] =
+    map-append (λ (node : NodeConf). node.name) c.self.inside.nodes.items (c.args.node ∷ []) ∙ ap (λ (n : List ℕ). node_names c.self.inside.nodes.items ++ n ∷ []) (sym name) in
+    rw (items, names) (has-insert q c.in_ok-name.name (node_names c.self.inside.nodes.items) _ _ (c.self.invariant q) (c.in_ok-insert.ensures.updates.0 q))

@@ -1,0 +1,22 @@
+-- What a query finds once for all rows that it shows. Of the proof alone: no public call speaks of it.
+use Rattle.std.specs.Prelude.{◌≡◌, ℕ, ◌^◌, ◌-◌, ◌<◌, min, nat_eq, List, length, slice_index, slice_get}
+use Rattle.std.specs.HashMap.{get}
+use Rattle.slurm_text.specs.declared.plain.view.NodeGroup.{NodeGroup}
+use Rattle.ctl_state.specs.declared.record.Part.{Part}
+use Rattle.ctl_state.specs.State.{State}
+use Rattle.ctl_core.specs.declared.showing.Outlook.{Outlook}
+use Rattle.ctl_core.specs.Standing.{cpus_held, group_at}
+use Rattle.ctl_core.specs.Showing.{highest, planned_start}
+
+-- each count is how many processors of the node at its place the parts hold, as far as its type counts
+pub record CountsParts (parts : List Part) (counts : List ℕ) : Type 0 where
+  pub each : (node : ℕ) → node < length counts → slice_index counts node ≡ min (cpus_held parts node) (2 ^ 64 - 1)
+
+-- each node is in the group of its place
+pub record GroupsNodes (s : State) (groups : List NodeGroup) : Type 0 where
+  pub each : (place : ℕ) → slice_get groups place ≡ group_at s place
+
+-- the job that is highest in rank, and the second that the plan gives each job
+pub record IsOutlook (s : State) (outlook : Outlook) : Type 0 where
+  pub highest : (now : ℕ) → outlook.highest ≡ highest s now
+  pub starts : (id : ℕ) → get nat_eq outlook.starts id ≡ planned_start s.plan id

@@ -1,0 +1,9 @@
+use Rattle.std.proofs.Common.{◌≡◌, take}
+use Rattle.std.specs.Prelude.{option_copied}
+use Rattle.ctl_state.specs.State.{state_of}
+use Rattle.ctl_pass.proofs.Ranks.{highest_of}
+use Rattle.ctl_pass.proofs.ranking.highest.Given as goal
+
+-- the highest of the candidates so far
+abbrev pub invariant-loop-job : goal.invariant-loop-job
+invariant-loop-job l = option_copied l.highest ≡ highest_of (state_of l.cluster) (take l.job-index l.cluster.jobs.items)

@@ -1,0 +1,171 @@
+//! The jobs that a pass can plan, by rank, and what they need.
+
+ghost use Rattle.std.specs.Prelude.{◌≡◌, ◌≤◌, ◌<◌, All, IfOk, IfSome, OnOk, length, map, filter, filter_map, option_map, slice_get, List, ℕ};
+ghost use Rattle.backfill_planner.specs.declared.job.PlanJob.{PlanJob};
+ghost use Rattle.ctl_state.specs.declared.record.JobRecord.{JobRecord};
+ghost use Rattle.ctl_state.specs.Planning;
+ghost use Rattle.ctl_state.specs.Soundness.{IsSound};
+ghost use Rattle.ctl_state.specs.State.{state_of};
+ghost use Rattle.partitions.specs.Partitions.{IsOnNodes};
+ghost use Rattle.ctl_pass.specs.Readiness;
+
+use crate::reasons::hindrance;
+use backfill_planner::PlanJob;
+use ctl_state::cluster::Cluster;
+use ctl_state::jobs::is_pending;
+use ctl_state::laws::a_stable_sort_makes_the_order;
+use ctl_state::planning::{node_order, plan_job};
+use ctl_state::record::JobRecord;
+use node_state::record::NodeRecord;
+use partitions::bounds::bounds_of;
+use partitions::record::PartRecord;
+use slurm_text::items::Items;
+use slurm_text::memory_error::Memory;
+use std::alloc::Global;
+
+fn tier_of(cluster: &Cluster, job: &JobRecord) -> u64
+    ensures { result ≡ Readiness.tier_of (state_of cluster.now) job.now }
+{
+    match cluster.partitions.at(job.partition) {
+        Some(partition) => partition.conf.tier.get(),
+        None => 0,
+    }
+}
+
+// Whether the job waits, and nothing hinders it.
+fn is_candidate(cluster: &Cluster, job: &JobRecord) -> bool
+    ensures { result ≡ Readiness.is_candidate (state_of cluster.now) job.now }
+{
+    is_pending(job) && hindrance(cluster, job).is_none()
+}
+
+// The candidates in the order of their numbers.
+fn candidates_of(alloc: Global, cluster: &Cluster) -> Result<Vec<&JobRecord>, Memory>
+    ensures { IfOk result (λ jobs. map (λ job. job.now) jobs.items
+        ≡ filter (Readiness.is_candidate (state_of cluster.now)) cluster.now.jobs.items) }
+{
+    Ok(
+        cluster
+            .jobs
+            .iter()
+            .filter(|job| is_candidate(cluster, job))
+            .collect(alloc)?,
+    )
+}
+
+// The candidates, highest in rank first: a stable sort, linear where no tier rises.
+fn by_rank(alloc: Global, cluster: &Cluster) -> Result<Vec<&JobRecord>, Memory>
+    ensures { IfOk result (λ jobs. (now : ℕ) → map (λ job. job.now) jobs.items
+        ≡ Readiness.candidates (state_of cluster.now) now) }
+{
+    let mut jobs = candidates_of(alloc, cluster)?;
+    a_stable_sort_makes_the_order::<&JobRecord>();
+    jobs.sort_by(|one, other| tier_of(cluster, other).cmp(&tier_of(cluster, one)))?;
+    Ok(jobs)
+}
+
+// The order of the nodes of each partition.
+fn node_orders(
+    alloc: Global,
+    nodes: &[NodeRecord],
+    partitions: &[PartRecord],
+) -> Result<Vec<Items<u32>>, Memory>
+    requires { All (IsOnNodes (length nodes.now)) partitions.now }
+    ensures { IfOk result (λ orders. orders.items ≡ map (Planning.node_order nodes.now) partitions.now) }
+{
+    let mut orders = Vec::with_capacity(alloc, partitions.len())?;
+    for partition in partitions {
+        orders.push(Items::from_vec(node_order(alloc, nodes, partition)?))?;
+    }
+    Ok(orders)
+}
+
+// What a job needs in its partition, if it can be had there.
+#[tactic(auto, unfolding(crate::specs::Readiness::needs_of))]
+fn need_of(
+    alloc: Global,
+    cluster: &Cluster,
+    orders: &[Items<u32>],
+    job: &JobRecord,
+) -> Result<Option<PlanJob>, Memory>
+    requires partitions { All (IsOnNodes (length cluster.now.nodes.records)) cluster.now.partitions }
+    requires orders { orders.now ≡ map (Planning.node_order cluster.now.nodes.records) cluster.now.partitions }
+    ensures need { IfOk result (λ need. need ≡ Readiness.needs_of (state_of cluster.now) job.now) }
+    ensures nodes { IfOk result (λ need. IfSome need (λ plan.
+        All (λ node. node < length cluster.now.nodes.records) plan.nodes)) }
+    ensures tasks { IfOk result (λ need. IfSome need (λ plan. 1 ≤ plan.need.tasks)) }
+{
+    let Some(partition) = cluster.partitions.at(job.partition) else {
+        return Ok(None);
+    };
+    let Some(bounds) = bounds_of(partition, &job.desc) else {
+        return Ok(None);
+    };
+    let order = orders[job.partition as usize].as_slice();
+    let nodes = cluster.nodes.records();
+    Ok(Some(plan_job(alloc, nodes, partition, order, bounds, job)?))
+}
+
+// What the jobs need, in their order.
+fn needs_of(
+    alloc: Global,
+    cluster: &Cluster,
+    orders: &[Items<u32>],
+    jobs: &[&JobRecord],
+) -> Result<Vec<PlanJob>, Memory>
+    requires partitions { All (IsOnNodes (length cluster.now.nodes.records)) cluster.now.partitions }
+    requires orders { orders.now ≡ map (Planning.node_order cluster.now.nodes.records) cluster.now.partitions }
+    ensures ranked { IfOk result (λ ranked. ranked.items
+        ≡ filter_map (Readiness.needs_of (state_of cluster.now)) (map (λ job. job.now) jobs.now)) }
+    ensures nodes { IfOk result (λ ranked.
+        All (λ (job : PlanJob). All (λ node. node < length cluster.now.nodes.records) job.nodes) ranked.items) }
+    ensures tasks { IfOk result (λ ranked. All (λ (job : PlanJob). 1 ≤ job.need.tasks) ranked.items) }
+{
+    let mut ranked = Vec::with_capacity(alloc, jobs.len())?;
+    for job in jobs {
+        if let Some(need) = need_of(alloc, cluster, orders, job)? {
+            ranked.push(need)?;
+        }
+    }
+    Ok(ranked)
+}
+
+/// What the jobs need that the pass plans, highest in rank first. Linear in the jobs, and for each candidate in the
+/// nodes of its partition; where tiers rise among the candidates, these are sorted. Each partition's nodes are sorted
+/// once.
+pub(crate) fn rank(alloc: Global, cluster: &Cluster, now: u64) -> Result<Vec<PlanJob>, Memory>
+    requires { IsSound (state_of cluster.now) }
+    ensures ranked { IfOk result (λ ranked.
+        ranked.items ≡ Readiness.ranked (Readiness.ready (state_of cluster.now) now) now) }
+    ensures nodes { IfOk result (λ ranked.
+        All (λ (job : PlanJob). All (λ node. node < length cluster.now.nodes.records) job.nodes) ranked.items) }
+    ensures tasks { IfOk result (λ ranked. All (λ (job : PlanJob). 1 ≤ job.need.tasks) ranked.items) }
+{
+    let jobs = by_rank(alloc, cluster)?;
+    let orders = node_orders(alloc, cluster.nodes.records(), cluster.partitions.records())?;
+    needs_of(alloc, cluster, orders.as_slice(), jobs.as_slice())
+}
+
+fn is_higher(cluster: &Cluster, one: &JobRecord, other: &JobRecord) -> bool
+    ensures { result ≡ Readiness.is_higher (state_of cluster.now) one.now other.now }
+{
+    tier_of(cluster, one) > tier_of(cluster, other)
+}
+
+/// The number of the candidate that is highest in rank, None where there is no candidate. Linear in the jobs.
+pub fn highest(cluster: &Cluster) -> Option<u32>
+    ensures { (now : ℕ) → result
+        ≡ option_map (λ (job : JobRecord). job.id) (slice_get (Readiness.candidates (state_of cluster.now) now) 0) }
+{
+    let mut highest: Option<&JobRecord> = None;
+    for job in &cluster.jobs {
+        let comes_first = match highest {
+            Some(first) => is_higher(cluster, job, first),
+            None => true,
+        };
+        if comes_first && is_candidate(cluster, job) {
+            highest = Some(job);
+        }
+    }
+    Some(highest?.id)
+}

@@ -1,0 +1,119 @@
+-- The nodes that a job may take: in what order, that they are nodes that there are, and each once.
+use Rattle.std.proofs.Common.{◌≡◌, ◌≢◌, ℕ, ◌<◌, Bool, true, false, not, ◌&&◌, List, [], ◌∷◌, length, filter, get_or, slice_get, All, AllPairs, Some, None, option_map, unwrap_or, refl, sym, ap, ◌∙◌, arith, Bor, Ordering}
+use Rattle.std.specs.Cmp.{IsStrictWeakOrder}
+use Rattle.std.specs.Fn.{ComputesKey, Mut}
+use Rattle.std.specs.List.Sorted.{IsSortedByKeyClosure, IsStableByKeyClosure, ties}
+use Rattle.std.specs.Ordering.{is_lt, nat_cmp, ordering_then}
+use Rattle.std.proofs.lemmas.Bool.{both_ways, cond_both, not-true}
+use Rattle.std.proofs.lemmas.Bool.Decides.{nat_tests}
+use Rattle.std.proofs.lemmas.List.Elements.{All-append, All-filter, All-head, All-nil, All-tail, filter_agree, filter_passes}
+use Rattle.std.proofs.lemmas.List.Kept.{AllPairs-filter}
+use Rattle.std.proofs.lemmas.List.Sorted.{All-permutation}
+use Rattle.std.proofs.lemmas.Option.{slice_get-get_or}
+use Rattle.slurm_text.specs.declared.plain.job.JobDesc.{JobDesc}
+use Rattle.node_state.specs.declared.record.NodeRecord.{NodeRecord}
+use Rattle.partitions.specs.declared.record.PartRecord.{PartRecord}
+use Rattle.partitions.specs.Partitions.{IsOnNodes}
+use Rattle.ctl_state.specs.Planning.{are_there, is_at, is_taken_before, may_run, must_have, node_order, nodes_among, required_first, weight_at}
+use Rattle.ctl_state.proofs.Lists.{pairs-append}
+use Rattle.ctl_state.proofs.Ordering.{ordered-moves, ordered-pairs, sorted-is_ordered}
+
+-- nodes are taken by weight, then by place
+abbrev pub key_of : List NodeRecord → ℕ → ℕ × ℕ
+key_of nodes place = (weight_at nodes place, place)
+
+abbrev by_both : ℕ × ℕ → ℕ × ℕ → Ordering
+by_both one other = ordering_then (nat_cmp one.0 other.0) (nat_cmp one.1 other.1)
+
+by-key : (nodes : List NodeRecord) (one other : ℕ) → is_taken_before nodes one other ≡ is_lt (by_both (key_of nodes one) (key_of nodes other))
+by-key nodes one other = grind (arith, nat_tests)
+
+weak : (nodes : List NodeRecord) → IsStrictWeakOrder (is_taken_before nodes)
+weak nodes = record { one_way = λ x y less. grind (arith, nat_tests); chain = λ x y z low high. grind (arith, nat_tests) }
+
+pub sorted-node_order : {F : Type 0} {g : Mut F (Bor ℕ × Unit {0}) (ℕ × ℕ)} {f : F} (nodes : List NodeRecord) (partition : PartRecord) (order : List ℕ)
+    → ComputesKey g (key_of nodes) f → IsSortedByKeyClosure g by_both f order → IsStableByKeyClosure g by_both f partition.nodes order
+    → order ≡ node_order nodes partition
+unfolding node_order
+sorted-node_order nodes partition order computes sorted stable =
+    let before = is_taken_before nodes in
+    let lower : ℕ → ℕ → Bool = λ one other. is_lt (by_both (key_of nodes one) (key_of nodes other)) in
+    let by : (x y : ℕ) → ties before x y ≡ ties lower x y = λ x y.
+    ap (λ b. not b && not (before y x)) (by-key nodes x y) ∙ ap (λ b. not (lower x y) && not b) (by-key nodes y x) in
+    sorted-is_ordered before (weak nodes) partition.nodes order (λ k d low below. by-key nodes _ _ ∙ sorted (key_of nodes) computes k d low below)
+    (λ x. filter_agree _ _ (by x) order ∙ stable (key_of nodes) computes x ∙ sym (filter_agree (ties before x) (ties lower x) (by x) partition.nodes))
+
+-- they are the partition's nodes
+pub order-there : (nodes : List NodeRecord) (partition : PartRecord) → IsOnNodes (length nodes) partition
+    → All (λ place. place < length nodes) (node_order nodes partition)
+unfolding node_order
+order-there nodes partition on = All-permutation (λ place. place < length nodes) _ _ (ordered-moves (is_taken_before nodes) partition.nodes) on.there
+
+order-once : (nodes : List NodeRecord) (partition : PartRecord) → IsOnNodes (length nodes) partition → AllPairs (λ one other. one ≢ other) (node_order nodes partition)
+unfolding node_order
+order-once nodes partition on = ordered-pairs (is_taken_before nodes) (λ one other. one ≢ other) (λ one other differ same. differ (sym same)) partition.nodes on.once
+
+-- a job that says nothing of its nodes takes them as they stand
+runs-anywhere : (desc : JobDesc) (node : NodeRecord) → desc.excluded ≡ [] → desc.features ≡ None → may_run desc node ≡ true
+runs-anywhere desc node none any = rw (none, any) refl
+
+must-nowhere : (nodes : List NodeRecord) (desc : JobDesc) (place : ℕ) → desc.required ≡ [] → is_at (must_have desc) nodes place ≡ false
+must-nowhere nodes desc place none =
+    elim (slice_get nodes place) as (λ node. unwrap_or (option_map (must_have desc) node) false ≡ false) [ None ↦ refl | Some node ↦ rw none refl ]
+
+at-place : (test : NodeRecord → Bool) (nodes : List NodeRecord) (place : ℕ) → ((node : NodeRecord) → test node ≡ true) → place < length nodes
+    → is_at test nodes place ≡ true
+at-place test [] place passes below = absurd (omega (arith, below))
+at-place test (node ∷ nodes) place passes below =
+    rw (slice_get-get_or (node ∷ nodes) place node below) (passes (get_or (node ∷ nodes) place node))
+
+filter-passing : (p : ℕ → Bool) (xs : List ℕ) → All (λ x. p x ≡ true) xs → filter p xs ≡ xs
+filter-passing p [] all = refl
+filter-passing p (x ∷ xs) all = rw (All-head (λ y. p y ≡ true) x xs all) (ap (λ l. x ∷ l) (filter-passing p xs (All-tail (λ y. p y ≡ true) x xs all)))
+
+filter-none : (xs : List ℕ) → filter (λ x. false) xs ≡ []
+filter-none [] = refl
+filter-none (x ∷ xs) = filter-none xs
+
+first-none : (nodes : List NodeRecord) (desc : JobDesc) (places : List ℕ) → desc.required ≡ [] → required_first nodes desc places ≡ places
+first-none nodes desc places none =
+    let must = is_at (must_have desc) nodes in
+    let first : filter must places ≡ [] = filter_agree must (λ place. false) (λ place. must-nowhere nodes desc place none) places ∙ filter-none places in
+    rw first (filter-passing (λ place. not (must place)) places (λ k d below. rw (must-nowhere nodes desc (get_or places k d) none) refl))
+
+pub any-among : (nodes : List NodeRecord) (desc : JobDesc) (order : List ℕ)
+    → (desc.required ≡ []) × (desc.excluded ≡ []) × (desc.features ≡ None)
+    → All (λ place. place < length nodes) order → nodes_among nodes desc order ≡ order
+any-among nodes desc order says there =
+    let may = is_at (may_run desc) nodes in
+    let all : filter may order ≡ order =
+    filter-passing may order (λ k d below. at-place (may_run desc) nodes _ (λ node. runs-anywhere desc node says.1 says.2) (there k d below)) in
+    let known : are_there nodes desc (filter may order) ≡ true = rw says.0 refl in
+    rw (known, all) (first-none nodes desc order says.0)
+
+-- those that a job may get are nodes that there are, each once
+pub among-there : (nodes : List NodeRecord) (desc : JobDesc) (partition : PartRecord) → IsOnNodes (length nodes) partition
+    → All (λ place. place < length nodes) (nodes_among nodes desc (node_order nodes partition))
+among-there nodes desc partition on =
+    let there : ℕ → Type 0 = λ place. place < length nodes in
+    let must : ℕ → Bool = is_at (must_have desc) nodes in
+    let rest : ℕ → Bool = λ place. not (must place) in
+    let places = filter (is_at (may_run desc) nodes) (node_order nodes partition) in
+    let all = All-filter (is_at (may_run desc) nodes) there (node_order nodes partition) (order-there nodes partition on) in
+    cond_both (are_there nodes desc places) (required_first nodes desc places) [] (All there)
+    (λ known. All-append there (filter must places) (filter rest places) (All-filter must there places all) (All-filter rest there places all))
+    (λ unknown. All-nil there)
+
+pub among-once : (nodes : List NodeRecord) (desc : JobDesc) (partition : PartRecord) → IsOnNodes (length nodes) partition
+    → AllPairs (λ one other. one ≢ other) (nodes_among nodes desc (node_order nodes partition))
+among-once nodes desc partition on =
+    let differ : ℕ → ℕ → Type 0 = λ one other. one ≢ other in
+    let must : ℕ → Bool = is_at (must_have desc) nodes in
+    let rest : ℕ → Bool = λ place. not (must place) in
+    let places = filter (is_at (may_run desc) nodes) (node_order nodes partition) in
+    let once = AllPairs-filter differ (is_at (may_run desc) nodes) (node_order nodes partition) (order-once nodes partition on) in
+    cond_both (are_there nodes desc places) (required_first nodes desc places) [] (AllPairs differ)
+    (λ known. pairs-append differ (filter must places) (filter rest places) (AllPairs-filter differ must places once) (AllPairs-filter differ rest places once)
+    (λ k d below j e within same. both_ways (must (get_or (filter must places) k d)) (ap must same ∙ not-true _ (filter_passes rest places j e within))
+    (filter_passes must places k d below)))
+    (λ unknown i j d before below. absurd (omega (arith, below)))

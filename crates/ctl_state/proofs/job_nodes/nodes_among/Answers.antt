@@ -1,0 +1,8 @@
+use Rattle.std.proofs.Common.{◌∙◌, refl, sym}
+use Rattle.ctl_state.proofs.Choosing.{any-among}
+use Rattle.ctl_state.proofs.job_nodes.nodes_among.Goals as goal
+
+pub returns-then-takes_any : goal.returns-then-takes_any
+returns-then-takes_any c =
+    c.in_ok-from_slice.ensures.items
+    ∙ sym (any-among c.args.nodes.now c.args.desc.now c.args.order.now (c.if-takes_any.ensures.0 refl) c.requires)

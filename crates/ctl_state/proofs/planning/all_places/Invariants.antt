@@ -1,7 +1,0 @@
--- The places so far.
-use Rattle.std.proofs.Common.{◌≡◌}
-use Rattle.std.specs.List.{range_with_len}
-use Rattle.ctl_state.proofs.planning.all_places.Given as goal
-
-abbrev pub invariant-loop-place : goal.invariant-loop-place
-invariant-loop-place l = l.places.items ≡ range_with_len 0 l.place

@@ -1,0 +1,140 @@
+//! The nodes that a job may get.
+
+ghost use Rattle.std.specs.Prelude.{◌≡◌, ◌↔◌, ◌<◌, [], length, filter, None, IfOk, IsTrue, All};
+ghost use Rattle.std.specs.List.{list_any};
+ghost use Rattle.node_state.specs.Nodes.{is_named};
+ghost use Rattle.ctl_state.specs.Planning.{are_there, has, is_at, may_run, must_have, nodes_among, required_first};
+
+use node_state::record::NodeRecord;
+use node_state::standing::has_features;
+use slurm_text::items::Items;
+use slurm_text::memory_error::Memory;
+use slurm_text::name::Name;
+use slurm_text::plain::job::JobDesc;
+use std::alloc::Global;
+
+// Whether the name is among the names.
+fn has(names: &Items<Name>, name: &Name) -> bool
+    ensures { result ≡ has names.now name.now }
+{
+    names.iter().any(|one| name.is(one))
+}
+
+// Whether the job may run on the node, as far as it says.
+fn may_run(desc: &JobDesc, node: &NodeRecord) -> bool
+    ensures { result ≡ may_run desc.now node.now }
+{
+    let may = !has(&desc.excluded, &node.conf.name);
+    match &desc.features {
+        Some(features) => may && has_features(node, features),
+        None => may,
+    }
+}
+
+fn may_run_at(nodes: &[NodeRecord], desc: &JobDesc, place: u32) -> bool
+    ensures { result ≡ is_at (may_run desc.now) nodes.now place }
+{
+    nodes
+        .get(place as usize)
+        .is_some_and(|node| may_run(desc, node))
+}
+
+fn must_have_at(nodes: &[NodeRecord], desc: &JobDesc, place: u32) -> bool
+    ensures { result ≡ is_at (must_have desc.now) nodes.now place }
+{
+    nodes
+        .get(place as usize)
+        .is_some_and(|node| has(&desc.required, &node.conf.name))
+}
+
+fn is_named_at(nodes: &[NodeRecord], name: &Name, place: u32) -> bool
+    ensures { result ≡ is_at (is_named name.now) nodes.now place }
+{
+    nodes
+        .get(place as usize)
+        .is_some_and(|node| node.conf.name.is(name))
+}
+
+// Those of the places at which the job may run.
+fn allowed(
+    alloc: Global,
+    nodes: &[NodeRecord],
+    desc: &JobDesc,
+    order: &[u32],
+) -> Result<Vec<u32>, Memory>
+    ensures { IfOk result (λ places. places.items ≡ filter (is_at (may_run desc.now) nodes.now) order.now) }
+{
+    Ok(
+        order
+            .iter()
+            .copied()
+            .filter(|place| may_run_at(nodes, desc, *place))
+            .collect(alloc)?,
+    )
+}
+
+// Whether the node with this name is at one of the places.
+fn is_there(nodes: &[NodeRecord], name: &Name, places: &[u32]) -> bool
+    ensures { result ≡ list_any (is_at (is_named name.now) nodes.now) places.now }
+{
+    places.iter().any(|place| is_named_at(nodes, name, *place))
+}
+
+// Whether each node that the job must have is at one of the places.
+fn are_there(nodes: &[NodeRecord], desc: &JobDesc, places: &[u32]) -> bool
+    ensures { result ≡ are_there nodes.now desc.now places.now }
+{
+    desc.required
+        .iter()
+        .all(|name| is_there(nodes, name, places))
+}
+
+// The places, those of nodes that the job must have first.
+fn required_first(
+    alloc: Global,
+    nodes: &[NodeRecord],
+    desc: &JobDesc,
+    places: &[u32],
+) -> Result<Vec<u32>, Memory>
+    ensures { IfOk result (λ first. first.items ≡ required_first nodes.now desc.now places.now) }
+{
+    let required = places
+        .iter()
+        .copied()
+        .filter(|place| must_have_at(nodes, desc, *place));
+    let others = places
+        .iter()
+        .copied()
+        .filter(|place| !must_have_at(nodes, desc, *place));
+    Ok(required.chain(others).collect(alloc)?)
+}
+
+// Whether the job says nothing of its nodes.
+fn takes_any(desc: &JobDesc) -> bool
+    ensures { IsTrue result ↔ ((desc.now.required ≡ []) × (desc.now.excluded ≡ []) × (desc.now.features ≡ None)) }
+{
+    desc.required.as_slice().is_empty()
+        && desc.excluded.as_slice().is_empty()
+        && desc.features.is_none()
+}
+
+/// The places of the job's nodes among those of a partition in their order, in the order in which it takes them. Linear
+/// in the nodes, and for a job that names nodes or features in what it names for each of them.
+pub(crate) fn nodes_among(
+    alloc: Global,
+    nodes: &[NodeRecord],
+    desc: &JobDesc,
+    order: &[u32],
+) -> Result<Vec<u32>, Memory>
+    requires { All (λ place. place < length nodes.now) order.now }
+    ensures { IfOk result (λ places. places.items ≡ nodes_among nodes.now desc.now order.now) }
+{
+    if takes_any(desc) {
+        return Ok(Vec::from_slice(alloc, order)?);
+    }
+    let places = allowed(alloc, nodes, desc, order)?;
+    if !are_there(nodes, desc, &places) {
+        return Ok(Vec::new(alloc));
+    }
+    required_first(alloc, nodes, desc, &places)
+}

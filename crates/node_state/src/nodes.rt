@@ -1,0 +1,136 @@
+//! The nodes, with an index of their names.
+
+ghost use Rattle.std.specs.Prelude.{◌≡◌, ℕ, List, map, bytes_eq, IfOk};
+ghost use Rattle.std.specs.HashMap.{get};
+ghost use Rattle.node_state.specs.Nodes.{AreNamedOnce, place_named};
+ghost use Rattle.node_state.specs.Nodes as spec;
+
+use crate::change;
+use crate::record::{NodeChange, NodeRecord};
+use crate::standing::{has_features, is_available, opened};
+use slurm_text::memory_error::Memory;
+use slurm_text::name::Name;
+use slurm_text::plain::conf::NodeConf;
+use slurm_text::plain::features::FeatureExpr;
+use std::alloc::Global;
+use std::collections::HashMap;
+use std::marker::Model;
+
+/// The nodes of the cluster. A contract sees the records of them.
+#[derive(Drop)]
+pub struct Nodes {
+    records: Vec<NodeRecord>,
+    places: HashMap<Name, u32>,
+}
+
+impl Model for Nodes {
+    ghost use Rattle.std.specs.Prelude.{◌≡◌, ℕ, List, bytes_eq};
+    ghost use Rattle.std.specs.HashMap.{get};
+    ghost use Rattle.node_state.specs.Nodes.{NodesView, AreNamedOnce, place_named};
+
+    ghost Value = { NodesView };
+
+    ghost view = { λ nodes. record { records = nodes.records.items } };
+
+    ghost invariant = { λ nodes. AreNamedOnce nodes.records.items
+        × ((name : List ℕ) → get bytes_eq nodes.places name ≡ place_named name nodes.records.items) };
+}
+
+fn records_of(alloc: Global, confs: Vec<NodeConf>) -> Result<Vec<NodeRecord>, Memory>
+    ensures { IfOk result (λ records. records.items ≡ map spec.opened confs.items) }
+{
+    Ok(confs.into_iter().map(opened).collect(alloc)?)
+}
+
+// The places of the nodes, by their names.
+fn places_of(alloc: Global, records: &[NodeRecord]) -> Result<HashMap<Name, u32>, Memory>
+    requires { AreNamedOnce records.now }
+    ensures { IfOk result (λ places. (name : List ℕ) → get bytes_eq places name ≡ place_named name records.now) }
+{
+    let mut places = HashMap::with_capacity(alloc, records.len())?;
+    for (place, node) in records.iter().enumerate() {
+        places.insert(node.conf.name.copy()?, place as u32)?;
+    }
+    Ok(places)
+}
+
+impl Nodes {
+    ghost use Rattle.std.specs.Prelude.{◌≡◌, ◌≢◌, ◌↔◌, ◌<◌, ◌≤◌, map, length, AllPairs, IfOk, IfSome, IsFalse, IsTrue, [], slice_get, option_copied};
+    ghost use Rattle.std.specs.List.{HoldsAt};
+    ghost use Rattle.node_state.specs.Nodes as spec;
+
+    /// The nodes of slurm.conf(5), before anything was heard of them. Linear in their number.
+    pub fn build(alloc: Global, confs: Vec<NodeConf>) -> Result<Nodes, Memory>
+        requires few { length confs.items ≤ 1024 }
+        requires once { AllPairs (λ one other. one.name ≢ other.name) confs.items }
+        ensures { IfOk result (λ nodes. nodes.records ≡ map spec.opened confs.items) }
+    {
+        let records = records_of(alloc, confs)?;
+        let places = places_of(alloc, records.as_slice())?;
+        Ok(Nodes { records, places })
+    }
+
+    /// The records of the nodes, in the order of slurm.conf(5).
+    pub fn records(&self) -> &[NodeRecord]
+        ensures value { result.now ≡ self.now.records }
+        ensures named { AreNamedOnce self.now.records }
+    {
+        self.records.as_slice()
+    }
+
+    /// How many nodes there are.
+    pub fn len(&self) -> u32
+        ensures value { result ≡ length self.now.records }
+        ensures few { result ≤ 1024 }
+    {
+        self.records.len() as u32
+    }
+
+    /// Whether there are no nodes.
+    pub fn is_empty(&self) -> bool
+        ensures { IsTrue result ↔ (self.now.records ≡ []) }
+    {
+        self.records.is_empty()
+    }
+
+    /// The record of the node at a place, counted from 0.
+    pub fn at(&self, place: u32) -> Option<&NodeRecord>
+        ensures { option_copied result ≡ slice_get self.now.records place }
+    {
+        self.records.get(place as usize)
+    }
+
+    /// The place of the node with this name, in constant time.
+    pub fn find(&self, name: &Name) -> Option<u32>
+        ensures value { result ≡ place_named name.now self.now.records }
+        ensures there { IfSome result (λ place. place < length self.now.records) }
+    {
+        self.places.get(name).copied()
+    }
+
+    /// Whether jobs may start on the node at a place.
+    pub fn available(&self, place: u32) -> bool
+        requires { place < length self.now.records }
+        ensures { HoldsAt (λ node. result ≡ spec.is_available node) self.now.records place }
+    {
+        is_available(&self.records[place as usize])
+    }
+
+    /// Whether the node at a place has the features that a job wants.
+    pub fn matches(&self, place: u32, features: &FeatureExpr) -> bool
+        requires { place < length self.now.records }
+        ensures { HoldsAt (λ node. result ≡ spec.has_features features.now node) self.now.records place }
+    {
+        has_features(&self.records[place as usize], features)
+    }
+
+    /// Changes the node at a place, and tells whether it is another one than before. It takes constant time, and no
+    /// memory.
+    pub fn set_state(&mut self, place: u32, change: NodeChange) -> bool
+        requires { place < length self.old.records }
+        ensures changed { self.new.records ≡ spec.change_at place change self.old.records }
+        ensures same { IsFalse result ↔ (self.new.records ≡ self.old.records) }
+    {
+        change::apply(&mut self.records[place as usize], change)
+    }
+}

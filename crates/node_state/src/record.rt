@@ -1,0 +1,57 @@
+//! What is kept of a node.
+
+use slurm_text::plain::conf::NodeConf;
+
+/// The last report of a node that was accepted.
+#[derive(Clone, Copy, Debug, PartialEq, Eq)]
+pub struct Heard {
+    /// The boot number of the daemon.
+    pub boot: u64,
+    /// The number of the report.
+    pub number: u64,
+    /// The second at which it was accepted.
+    pub moment: u64,
+}
+
+/// By whom a node is down.
+#[derive(Clone, Copy, Debug, PartialEq, Eq)]
+pub enum DownBy {
+    /// It is up.
+    No,
+    /// Its daemon wasn't heard for too long.
+    Silent,
+    /// An operator, or slurm.conf, set it down.
+    Set,
+}
+
+/// A node and what the controller knows of it.
+#[derive(Drop)]
+pub struct NodeRecord {
+    pub conf: NodeConf,
+    pub down: DownBy,
+    /// Whether it is to be drained: nothing starts there.
+    pub drain: bool,
+    /// Whether it was set down, and a report without running starts was accepted since then.
+    pub empty: bool,
+    /// None where no report of it was accepted yet.
+    pub heard: Option<Heard>,
+}
+
+/// What may happen to a node. "State" of `update NodeName` in scontrol(1), and (own) silence and reports.
+#[derive(Clone, Copy, Debug)]
+pub enum NodeChange {
+    /// It wasn't heard for too long.
+    Silent,
+    /// An operator sets it down.
+    Down,
+    /// An operator wants it drained.
+    Drain,
+    /// An operator lets it go on.
+    Resume,
+    /// A report of it was accepted.
+    Heard {
+        heard: Heard,
+        /// Whether the report lists no running start.
+        empty: bool,
+    },
+}

@@ -1,0 +1,14 @@
+//! What is kept of a partition.
+
+use slurm_text::items::Items;
+use slurm_text::plain::conf::{PartConf, PartState};
+
+/// A partition and how it stands.
+#[derive(Drop)]
+pub struct PartRecord {
+    pub conf: PartConf,
+    /// What it does with jobs now.
+    pub state: PartState,
+    /// The places of its nodes in the list of nodes, in the order of its line.
+    pub nodes: Items<u32>,
+}

@@ -1,0 +1,33 @@
+-- What is told of blocks that ask nothing.
+use Rattle.std.specs.Prelude.{ℕ, List, ◌++◌, codes, decimal}
+use Rattle.option_words.specs.Refusal.{kind_text}
+use Rattle.option_words.specs.declared.refusal.WordKind.{WordKind}
+use Rattle.option_words.specs.declared.refusal.WordKind.TheVariants.{UnknownCommand, UnknownOption, MissingValue, MissingWord, BadValue, StrayWord, TooLong, NoHashBang}
+use Rattle.command_words.specs.Command.{name_of}
+use Rattle.command_words.specs.declared.command.Command.{Command}
+use Rattle.command_words.specs.declared.fault.WordFault.{WordFault}
+use Rattle.command_words.specs.declared.fault.WordFault.TheVariants.{Word, Line}
+
+-- who tells what is wrong: no command does where there is no such command
+abbrev pub teller : Command → WordKind → List ℕ
+teller command UnknownCommand = codes "slurm"
+teller command kind = name_of command
+
+-- `COMMAND: error: word NUMBER: KIND`, or the same of a line
+abbrev pub fault_line : Command → List ℕ → ℕ → WordKind → List ℕ
+fault_line command place number kind =
+    teller command kind ++ codes ": error:" ++ place ++ decimal number ++ codes ": " ++ kind_text kind ++ codes "\n"
+
+abbrev pub malformed_text : Command → WordFault → List ℕ
+malformed_text command (Word word kind) = fault_line command (codes " word ") word kind
+malformed_text command (Line line kind) = fault_line command (codes " line ") line kind
+
+abbrev pub bad_words_text : ℕ → List ℕ
+bad_words_text place = codes "slurm: error: byte " ++ decimal place ++ codes ": BadWords\n"
+
+abbrev pub bad_header_text : List ℕ
+bad_header_text = codes "slurm: error: BadHeader\n"
+
+-- what the controller can't do yet
+abbrev pub not_built_text : List ℕ
+not_built_text = codes "slurm: error: NotBuilt\n"

@@ -1,0 +1,82 @@
+//! The texts that answer blocks which ask nothing.
+
+ghost use Rattle.std.specs.Prelude.{◌≡◌, ◌++◌, IfOk, OnOk};
+ghost use Rattle.option_words.specs.Refusal.{kind_text};
+ghost use Rattle.slurm_print.specs.Malformed.{teller, fault_line, malformed_text, bad_words_text, bad_header_text, not_built_text};
+
+use crate::line::{push_labelled, push_text};
+use command_words::command::Command;
+use command_words::fault::{WordFault, WordKind};
+use slurm_text::memory_error::Memory;
+use std::alloc::Global;
+
+/// The text that answers malformed words, or a malformed script (own).
+pub fn malformed(alloc: Global, command: Command, fault: WordFault) -> Result<Vec<u8>, Memory>
+    ensures { IfOk result (λ text. text.items ≡ malformed_text command fault) }
+{
+    let mut out = Vec::new(alloc);
+    match fault {
+        WordFault::Word { word, kind } => push_fault(alloc, &mut out, command, b" word ", word, kind)?,
+        WordFault::Line { line, kind } => push_fault(alloc, &mut out, command, b" line ", line, kind)?,
+    }
+    Ok(out)
+}
+
+/// The text that answers a header which is no list of words: it is wrong at this byte, counted from 0 (own).
+pub fn bad_words(alloc: Global, place: u32) -> Result<Vec<u8>, Memory>
+    ensures { IfOk result (λ text. text.items ≡ bad_words_text place) }
+{
+    let mut out = Vec::new(alloc);
+    push_labelled(&mut out, b"slurm: error: byte ", u64::from(place))?;
+    push_text(&mut out, b": BadWords\n")?;
+    Ok(out)
+}
+
+/// The text that answers a header without a moment, a user or a command (own).
+pub fn bad_header() -> &'static [u8]
+    ensures { result.now ≡ bad_header_text }
+{
+    b"slurm: error: BadHeader\n"
+}
+
+/// The text that answers what the controller can't do yet, a request or a header (own).
+pub fn not_built() -> &'static [u8]
+    ensures { result.now ≡ not_built_text }
+{
+    b"slurm: error: NotBuilt\n"
+}
+
+fn teller(command: Command, kind: WordKind) -> &'static [u8]
+    ensures { result.now ≡ teller command kind }
+{
+    match kind {
+        WordKind::UnknownCommand => b"slurm",
+        _ => command.name(),
+    }
+}
+
+fn push_kind(alloc: Global, out: &mut Vec<u8>, kind: WordKind) -> Result<(), Memory>
+    ensures { OnOk result (out.new.items ≡ out.old.items ++ kind_text kind) }
+{
+    let text = kind.to_string(alloc)?;
+    push_text(out, text.as_bytes())
+}
+
+fn push_fault(
+    alloc: Global,
+    out: &mut Vec<u8>,
+    command: Command,
+    place: &[u8],
+    number: u32,
+    kind: WordKind,
+) -> Result<(), Memory>
+    ensures { OnOk result (out.new.items ≡ out.old.items ++ fault_line command place.now number kind) }
+{
+    push_text(out, teller(command, kind))?;
+    push_text(out, b": error:")?;
+    push_labelled(out, place, u64::from(number))?;
+    push_text(out, b": ")?;
+    push_kind(alloc, out, kind)?;
+    push_text(out, b"\n")?;
+    Ok(())
+}

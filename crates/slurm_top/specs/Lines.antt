@@ -1,0 +1,64 @@
+-- How a run ends: its status, and the line that is written to errors.
+use Rattle.std.specs.Prelude.{◌≡◌, ℕ, ◌-◌, ◌^◌, ◌<◌, Option, List, [], ◌++◌, take, codes, decimal}
+use Rattle.std.specs.Io.KnownBytes.{Appends}
+use Rattle.conf_values.specs.declared.refusal.ConfKind.{ConfKind}
+use Rattle.conf_values.specs.Refusal.{kind_text}
+use Rattle.ctl_session.specs.declared.session.How.{How}
+use Rattle.ctl_session.specs.declared.session.How.TheVariants as how
+use Rattle.slurm_top.specs.declared.end.End.{End}
+use Rattle.slurm_top.specs.declared.end.End.TheVariants.{Usage, NoConf, BadConf, Memory, Script}
+
+-- the status of a script's run
+abbrev pub script_status : How → ℕ
+script_status how.Closed = 0
+script_status how.ReadFault = 5
+script_status how.WriteFault = 6
+script_status (how.Truncated place) = 7
+script_status (how.Bad place) = 7
+script_status how.Memory = 8
+script_status how.Spent = 9
+
+-- the status of a run
+abbrev pub status_of : End → ℕ
+status_of Usage = 2
+status_of (BadConf line kind) = 3
+status_of NoConf = 5
+status_of Memory = 8
+status_of (Script how) = script_status how
+
+-- the line that tells where no block begins, or where one begins that doesn't end
+abbrev pub place_line : ℕ → List ℕ
+place_line place = codes "slurm: error: block at byte " ++ decimal place ++ codes "\n"
+
+-- the line that tells which line of slurm.conf is bad, and why
+abbrev pub conf_line : ℕ → ConfKind → List ℕ
+conf_line line kind =
+    codes "slurmctld: error: conf line " ++ decimal line ++ codes ": " ++ kind_text kind ++ codes "\n"
+
+-- the line of a script's run; there is none where the input was answered to its end
+abbrev pub script_line : How → List ℕ
+script_line how.Closed = []
+script_line how.ReadFault = codes "slurm: error: read\n"
+script_line how.WriteFault = codes "slurm: error: write\n"
+script_line (how.Truncated place) = place_line place
+script_line (how.Bad place) = place_line place
+script_line how.Memory = codes "slurm: error: memory\n"
+script_line how.Spent = codes "slurm: error: spent\n"
+
+-- the line of a run
+abbrev pub line_of : End → List ℕ
+line_of Usage = codes "slurm: error: usage\n"
+line_of (BadConf line kind) = conf_line line kind
+line_of NoConf = codes "slurm: error: read\n"
+line_of Memory = codes "slurm: error: memory\n"
+line_of (Script how) = script_line how
+
+-- a count of faults didn't rise, and doesn't stand at its last value
+abbrev pub CountsNone : ℕ → ℕ → Type 0
+CountsNone before after = (after ≡ before) × (before < 2 ^ 64 - 1)
+
+-- What errors took is a beginning of a line, whatever fails, and all of it where no write fails: what was taken, and
+-- how many writes failed, before and after.
+pub record Tells (taken taken' : Option (List ℕ)) (faults faults' : ℕ) (line : List ℕ) : Type 0 where
+  pub begun : (n : ℕ) × Appends taken taken' (take n line)
+  pub whole : CountsNone faults faults' → Appends taken taken' line

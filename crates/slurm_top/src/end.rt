@@ -1,0 +1,107 @@
+//! How a run ends, and what is told of it.
+
+ghost use Rattle.std.specs.Prelude.{◌≡◌, ◌≤◌, ◌++◌, length, codes};
+ghost use Rattle.slurm_top.specs.Lines.{Tells, status_of, line_of, place_line, conf_line};
+
+use arrayvec::ArrayString;
+use conf_reader::refusal::ConfKind;
+use ctl_session::How;
+use itoa::Buffer;
+use slurm_io::{Sink, write_all};
+
+/// Room for a line of errors.
+const LINE_LEN: usize = 128;
+
+/// How a run ends.
+#[derive(Clone, Copy, Debug, PartialEq, Eq)]
+pub enum End {
+    /// The words are off.
+    Usage,
+    /// A read of slurm.conf(5) failed.
+    NoConf,
+    /// A line of slurm.conf(5) is bad.
+    BadConf { line: u32, kind: ConfKind },
+    /// Memory was wanting before the script.
+    Memory,
+    /// The script was run, and ended so.
+    Script(How),
+}
+
+impl End {
+    /// The status that the program ends with.
+    pub fn status(self) -> u8
+        ensures { result ≡ status_of self }
+    {
+        match self {
+            End::Script(How::Closed) => 0,
+            End::Usage => 2,
+            End::BadConf { .. } => 3,
+            End::NoConf | End::Script(How::ReadFault) => 5,
+            End::Script(How::WriteFault) => 6,
+            End::Script(How::Truncated { .. } | How::Bad { .. }) => 7,
+            End::Memory | End::Script(How::Memory) => 8,
+            End::Script(How::Spent) => 9,
+        }
+    }
+}
+
+// A line that names a cause.
+fn cause_line(cause: &str) -> ArrayString<LINE_LEN>
+    requires { length cause.now ≤ 16 }
+    ensures { result.bytes ≡ codes "slurm: error: " ++ cause.now ++ codes "\n" }
+{
+    let mut line = ArrayString::new();
+    line.push_str("slurm: error: ");
+    line.push_str(cause);
+    line.push_str("\n");
+    line
+}
+
+fn place_line(place: u64) -> ArrayString<LINE_LEN>
+    ensures { result.bytes ≡ place_line place }
+{
+    let mut line = ArrayString::new();
+    let mut buffer = Buffer::new();
+    line.push_str("slurm: error: block at byte ");
+    line.push_str(buffer.format(place));
+    line.push_str("\n");
+    line
+}
+
+fn conf_line(number: u32, kind: ConfKind) -> ArrayString<LINE_LEN>
+    ensures { result.bytes ≡ conf_line number kind }
+{
+    let mut line = ArrayString::new();
+    let mut buffer = Buffer::new();
+    line.push_str("slurmctld: error: conf line ");
+    line.push_str(buffer.format(number));
+    line.push_str(": ");
+    line.push_str(kind.name());
+    line.push_str("\n");
+    line
+}
+
+// The line of a run that ended so. It takes no memory.
+fn line_of(end: End) -> ArrayString<LINE_LEN>
+    ensures { result.bytes ≡ line_of end }
+{
+    match end {
+        End::Script(How::Closed) => ArrayString::new(),
+        End::Usage => cause_line("usage"),
+        End::BadConf { line, kind } => conf_line(line, kind),
+        End::NoConf | End::Script(How::ReadFault) => cause_line("read"),
+        End::Script(How::WriteFault) => cause_line("write"),
+        End::Script(How::Truncated { place } | How::Bad { place }) => place_line(place),
+        End::Memory | End::Script(How::Memory) => cause_line("memory"),
+        End::Script(How::Spent) => cause_line("spent"),
+    }
+}
+
+/// Writes the line of a run that ended so, in one piece, and passes over a fault: the status says what went wrong before.
+pub fn tell<E: Sink>(errors: &mut E, end: End)
+    ensures { Tells (E.taken errors.old) (E.taken errors.new) (E.write_faults errors.old) (E.write_faults errors.new)
+        (line_of end) }
+{
+    let line = line_of(end);
+    let _ = write_all(errors, line.as_str().as_bytes());
+}
