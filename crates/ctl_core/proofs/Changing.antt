@@ -1,14 +1,9 @@
 -- What an accepted request makes is another state, before it bears its moment: a submission adds a job, a report is heard that comes after the last
 -- one, and a pass that would change nothing is idle.
-use Rattle.std.proofs.Common.{◌≡◌, ◌≢◌, ℕ, zero, suc, ◌<◌, ◌∙◌, Bool, true, false, List, [], ◌∷◌, length, map, position, get_or, Option, Some, None, refl, sym, ap, arith, inl, inr}
-use Rattle.std.specs.Prelude.{nat_lt, nat_eq, not, ◌&&◌, is_none}
+use Rattle.std.proofs.Common.{◌≡◌, ◌≢◌, ℕ, zero, suc, ◌<◌, ◌∙◌, Bool, true, false, List, [], ◌∷◌, length, drop, get_or, Option, Some, None, refl, sym, ap, arith, inl, inr}
+use Rattle.std.specs.Prelude.{nat_lt, nat_eq, not, ◌&&◌, is_none, option_and_then}
 use Rattle.std.proofs.lemmas.Bool.{cases_Bool, both_ways, le-ltb}
-use Rattle.std.specs.List.{slice_get}
 use Rattle.std.proofs.lemmas.Bool.Decides.{nat_tests}
-use Rattle.std.proofs.lemmas.List.{get_or-map}
-use Rattle.std.proofs.lemmas.List.Folds.{find_at}
-use Rattle.std.proofs.lemmas.List.Sums.{position_or_len_is}
-use Rattle.std.proofs.lemmas.Option.{slice_get-get_or}
 use Rattle.std.proofs.lemmas.List.Quantifiers.{position-Some}
 use Rattle.slurm_text.specs.declared.plain.job.JobDesc.{JobDesc}
 use Rattle.slurm_text.specs.declared.plain.refusal.Refusal.{Refusal}
@@ -18,14 +13,16 @@ use Rattle.slurm_text.specs.declared.plain.report.Report.{Report as Told}
 use Rattle.slurm_text.specs.declared.plain.request.Request.{Request}
 use Rattle.slurm_text.specs.declared.plain.request.Request.TheVariants.{Submit, Report, Pass, Show}
 use Rattle.node_state.specs.declared.record.NodeRecord.{NodeRecord}
+use Rattle.partitions.specs.declared.record.PartRecord.{PartRecord}
 use Rattle.ctl_state.specs.State.{State, last_moment}
 use Rattle.ctl_state.specs.Refusals.{refused_if, first_refusal, unless_refused, is_privileged}
 use Rattle.ctl_state.specs.Verdicts.{Verdict, Makes}
 use Rattle.ctl_pass.specs.Passing.{pass_after, pass_made, is_idle}
-use Rattle.ctl_report.specs.Reporting.{is_named, heard_of, heard_at}
-use Rattle.ctl_report.specs.Answering.{node_of, staleness, made_by_report}
-use Rattle.ctl_core.specs.Submission.{submit_after}
-use Rattle.ctl_core.specs.Step.{raised, refusals_of, made, verdict_of, is_unbuilt}
+use Rattle.node_state.specs.Nodes.{is_named, place_named}
+use Rattle.ctl_report.specs.Reporting.{heard_of, heard_nodes}
+use Rattle.ctl_report.specs.Answering.{node_of, last_heard, staleness, made_by_report}
+use Rattle.ctl_core.specs.Submission.{place_for, partition_for, made_in}
+use Rattle.ctl_core.specs.Step.{raised, refusals_of, made, worked, verdict_of, is_unbuilt}
 use Rattle.ctl_core.proofs.Stepping.{none-first}
 
 -- the state that a verdict makes
@@ -42,22 +39,23 @@ stale-after-itself : (now : ℕ) (report : Told) → staleness report (Some (rec
 stale-after-itself now report fresh = grind (arith, nat_tests)
 
 -- were the nodes as before, this very report would be the last one of its node, and wouldn't come after itself: so an accepted report changes the nodes
-nodes-change : (now : ℕ) (report : Told) (nodes : List NodeRecord) (node : ℕ) → position (is_named report.node) nodes ≡ Some node → staleness report (heard_of nodes report.node) ≡ None
-    → map (heard_at now report) nodes ≢ nodes
-nodes-change now report [] node named fresh same = absurd (cc)
-nodes-change now report (first ∷ later) node named fresh same =
-    let nodes = first ∷ later in
-    let there = position-Some (is_named report.node) nodes node first named in
-    let place = position_or_len_is (is_named report.node) nodes node first (omega (arith, there.0)) there.2 (λ within. there.1) in
-    let found = find_at (is_named report.node) nodes ∙ ap (slice_get nodes) place ∙ slice_get-get_or nodes node first there.0 in
-    let itself = sym (get_or-map (heard_at now report) nodes node first first there.0) ∙ ap (λ nodes. get_or nodes node first) same in
-    let heard = ap (λ (node : NodeRecord). node.heard) (rw there.1 at itself) in
-    stale-after-itself now report (rw (found, ← heard) at fresh)
+nodes-change : (now : ℕ) (report : Told) (nodes : List NodeRecord) (node : ℕ) → node < length nodes → staleness report (heard_of nodes node) ≡ None → heard_nodes now node report nodes ≢ nodes
+nodes-change now report [] node within fresh same = absurd (omega (arith, within))
+nodes-change now report (first ∷ later) zero within fresh same =
+    let heard = ap (λ (nodes : List NodeRecord). (get_or nodes 0 first).heard) same in
+    stale-after-itself now report (rw (← heard) at fresh)
+nodes-change now report (first ∷ later) (suc node) within fresh same =
+    nodes-change now report later node (omega (arith, within)) fresh (ap (λ (nodes : List NodeRecord). drop 1 nodes) same)
 
-told-changes : (s : State) (now : ℕ) (report : Told) (node : Option ℕ) {reply : Reply} {after : State} → node_of s report ≡ node → staleness report (heard_of s.nodes report.node) ≡ None
+named-within : (name : List ℕ) (nodes : List NodeRecord) (node : ℕ) → place_named name nodes ≡ Some node → node < length nodes
+named-within name [] node named = absurd (cc)
+named-within name (first ∷ later) node named = (position-Some (is_named name) (first ∷ later) node first named).0
+
+told-changes : (s : State) (now : ℕ) (report : Told) (node : Option ℕ) {reply : Reply} {after : State} → node_of s report ≡ node → staleness report (option_and_then (heard_of s.nodes) node) ≡ None
     → made_by_report s now report node ≡ Makes reply after → after ≢ s
 told-changes s now report None named fresh makes same = absurd (cc)
-told-changes s now report (Some node) named fresh makes same = nodes-change now report s.nodes node named fresh (ap (λ (t : State). t.nodes) (made-after makes ∙ same))
+told-changes s now report (Some node) named fresh makes same =
+    nodes-change now report s.nodes node (named-within report.node s.nodes node named) fresh (ap (λ (t : State). t.nodes) (made-after makes ∙ same))
 
 -- a pass that would change nothing is idle
 abbrev pub OnlyIdle : Type 0
@@ -69,13 +67,19 @@ pass-changes only s now makes same = elim (cases_Bool (is_idle s now)) [
   | inr busy ↦ both_ways (is_idle s now) busy (only s now (made-after (rw busy at makes) ∙ same))
 ]
 
+submitted-changes : (s : State) (moment : ℕ) (user : List ℕ) (desc : JobDesc) (place : Option ℕ) (partition : Option PartRecord) {reply : Reply} {after : State}
+    → made_in s moment user desc place partition ≡ Makes reply after → after ≢ s
+submitted-changes s moment user desc None partition makes same = absurd (cc)
+submitted-changes s moment user desc (Some place) None makes same = absurd (cc)
+submitted-changes s moment user desc (Some place) (Some partition) makes same = omega (arith, ap (λ (t : State). t.next_id) (made-after makes ∙ same))
+
 made-changes : OnlyIdle → (s : State) (moment : ℕ) (user : List ℕ) (request : Request) {reply : Reply} {after : State} → first_refusal (refusals_of s moment user request) ≡ None
     → made s moment user request ≡ Makes reply after → after ≢ s
-made-changes only s moment user (Submit desc) none makes same = omega (arith, ap (λ (t : State). t.next_id) (made-after makes ∙ same))
+made-changes only s moment user (Submit desc) none makes same = submitted-changes s moment user desc (place_for s desc) (partition_for s desc) makes same
 made-changes only s moment user (Report report) none makes same =
     let allowed = none-first AccessDenied (not (is_privileged s user)) _ none in
     let known = none-first UnknownNode (is_none (node_of s report)) _ allowed.1 in
-    let fresh = elim (staleness report (heard_of s.nodes report.node)) as (λ refusal. first_refusal (refusal ∷ []) ≡ None → refusal ≡ None) [ None ↦ λ none. refl | Some refusal ↦ λ none. none ] known.1 in
+    let fresh = elim (staleness report (last_heard s report)) as (λ refusal. first_refusal (refusal ∷ []) ≡ None → refusal ≡ None) [ None ↦ λ none. refl | Some refusal ↦ λ none. none ] known.1 in
     told-changes s moment report (node_of s report) refl fresh makes same
 made-changes only s moment user Pass none makes same = pass-changes only s moment makes same
 made-changes only s moment user (Show query) none makes same = absurd (cc)
@@ -85,6 +89,7 @@ pub step-changes : OnlyIdle → (s : State) (now : ℕ) (user : List ℕ) (reque
 step-changes only s now user request makes same = elim (cases_Bool (is_unbuilt s request)) [
   | inl unbuilt ↦ let never = rw unbuilt at makes in absurd (cc)
   | inr built ↦
-      let worked = judged (first_refusal (refused_if (nat_lt last_moment now) MomentTooLarge ∷ refusals_of s (raised s now) user request)) _ (rw built at makes) in
-      made-changes only s (raised s now) user request (none-first MomentTooLarge (nat_lt last_moment now) _ worked.0).1 worked.1 same
+      let early = judged (refused_if (nat_lt last_moment now) MomentTooLarge) (worked s (raised s now) user request) (rw built at makes) in
+      let made = judged (first_refusal (refusals_of s (raised s now) user request)) (made s (raised s now) user request) early.1 in
+      made-changes only s (raised s now) user request made.0 made.1 same
 ]

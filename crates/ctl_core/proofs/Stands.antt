@@ -1,6 +1,6 @@
 -- How the nodes stand: counts of the processors held, and the rows of partitions, with one more of each.
-use Rattle.std.proofs.Common.{◌≡◌, ◌≢◌, ℕ, zero, suc, ◌+◌, ◌-◌, ◌^◌, ◌<◌, ◌≤◌, ◌∙◌, List, [], ◌∷◌, ◌++◌, length, replicate, set, get_or, take, map, All, Some, refl, sym, ap, arith, append_assoc, ⊎_elim, rules}
-use Rattle.std.specs.Prelude.{min, slice_get, flat_map, nat_eq}
+use Rattle.std.proofs.Common.{◌≡◌, ◌≢◌, ℕ, zero, suc, ◌+◌, ◌-◌, ◌^◌, ◌<◌, ◌≤◌, ◌∙◌, List, [], ◌∷◌, ◌++◌, length, replicate, set, get_or, take, map, All, Some, refl, sym, ap, arith, append_assoc, ⊎_elim, eq-eqb}
+use Rattle.std.specs.Prelude.{min, slice_get, flat_map, sum_by, nat_eq}
 use Rattle.std.proofs.lemmas.Bool.{cases_eq, cases_lt}
 use Rattle.std.proofs.lemmas.Bool.Decides.{nat_tests}
 use Rattle.std.proofs.lemmas.List.{take_more, length-set, get_or-set_same, get_or-set_other, append-nil}
@@ -8,12 +8,11 @@ use Rattle.std.proofs.lemmas.List.Concat.{flat_map-append, get_or-flat_map}
 use Rattle.std.proofs.lemmas.List.Elements.{filter-append, filter_map-append}
 use Rattle.std.proofs.lemmas.List.Folds.{length-flat_map-take}
 use Rattle.std.proofs.lemmas.List.Sums.{sum_by_push}
-use Rattle.std.proofs.lemmas.Option.{slice_get_past}
-use Rattle.resource_profile.specs.declared.NodeRoom.{NodeRoom}
+use Rattle.std.proofs.lemmas.Option.{slice_get_past, slice_get_read, get_or_from_slice_get}
 use Rattle.node_state.specs.declared.record.NodeRecord.{NodeRecord}
 use Rattle.ctl_state.specs.declared.record.Part.{Part}
 use Rattle.ctl_state.specs.declared.record.JobRecord.{JobRecord}
-use Rattle.ctl_state.specs.Holding.{IsHeldOnce, parts_of}
+use Rattle.ctl_state.specs.Holding.{parts_of}
 use Rattle.ctl_state.specs.State.{State}
 use Rattle.slurm_text.specs.declared.plain.view.NodeGroup.{NodeGroup}
 use Rattle.ctl_core.specs.Found.{CountsParts, GroupsNodes}
@@ -23,45 +22,50 @@ use Rattle.ctl_core.specs.Standing.{cpus_in, cpus_held, names_standing, group_by
 capped : (a b most : ℕ) → min (min a most + b) most ≡ min (a + b) most
 capped a b most = omega arith
 
-pub counts-none : (n : ℕ) → CountsParts [] (replicate n 0)
-unfolding cpus_held
-counts-none n = record { each = λ node within. zero-at n node } where
-  zero-at : (n node : ℕ) → get_or (replicate n 0) node 0 ≡ 0
-  zero-at zero node = refl
-  zero-at (suc n) zero = refl
-  zero-at (suc n) (suc node) = zero-at n node
+zero-at : (n node : ℕ) → ◌≡◌ {A = ℕ} (get_or (replicate n 0) node 0) 0
+zero-at zero node = refl
+zero-at (suc n) zero = refl
+zero-at (suc n) (suc node) = zero-at n node
 
-counts-push : (before : List Part) (counts : List ℕ) (part : Part) → part.node < length counts → CountsParts before counts
-    → CountsParts (before ++ part ∷ []) (set counts part.node (min (get_or counts part.node 0 + length part.cpus) (2 ^ 64 - 1)))
+pub counts-none : (counts : List ℕ) (n : ℕ) → counts ≡ replicate n 0 → CountsParts [] counts
 unfolding cpus_held
-counts-push before counts part inside counted = record { each = λ node within.
-    let below : node < length counts = omega (arith, within, length-set counts part.node _) in
-    rw (sum_by_push (cpus_in node) before part)
-    (⊎_elim
-    (λ here. rw (← here, get_or-set_same counts part.node _ 0 inside, counted.each part.node inside) (grind (arith, nat_tests)))
-    (λ other. let elsewhere : node ≢ part.node = λ same. other (sym same) in rw (get_or-set_other counts part.node node _ 0 elsewhere, counted.each node below) (grind (arith, nat_tests, other)))
+counts-none counts n are = record { each = λ node within. rw are (zero-at n node) }
+
+counts-push : (before : List Part) (counts : List ℕ) (part : Part) (count : ℕ) → part.node < length counts → count ≡ min (get_or counts part.node 0 + length part.cpus) (2 ^ 64 - 1) → CountsParts before counts
+    → CountsParts (before ++ part ∷ []) (set counts part.node count)
+unfolding cpus_held
+counts-push before counts part count inside is counted = record { each = λ node within.
+    let below : node < length counts = omega (arith, within, length-set counts part.node count) in
+    rw (sum_by_push (cpus_in node) before part) (⊎_elim
+    (λ here. let there : part.node < length counts = inside in
+      at node (get_or (set counts part.node count) node 0) (sum_by (cpus_in node) before) (get_or counts part.node 0) part count here (rw (← here) (get_or-set_same counts part.node count 0 there)) (rw (← here) (counted.each part.node there)) is)
+    (λ other. let elsewhere : node ≢ part.node = λ same. other (sym same) in
+      away node (get_or (set counts part.node count) node 0) (sum_by (cpus_in node) before) part other (get_or-set_other counts part.node node count 0 elsewhere ∙ counted.each node below))
     (cases_eq part.node node)) }
+  where
+    at : (node got held had : ℕ) (part : Part) (count : ℕ) → part.node ≡ node → got ≡ count → had ≡ min held (2 ^ 64 - 1) → count ≡ min (had + length part.cpus) (2 ^ 64 - 1) → got ≡ min (held + cpus_in node part) (2 ^ 64 - 1)
+    at node got held had part count here gets has is = rw (eq-eqb part.node node here) (gets ∙ is ∙ ap (λ n. min (n + length part.cpus) (2 ^ 64 - 1)) has ∙ capped held (length part.cpus) (2 ^ 64 - 1))
+    away : (node got held : ℕ) (part : Part) → part.node ≢ node → got ≡ min held (2 ^ 64 - 1) → got ≡ min (held + cpus_in node part) (2 ^ 64 - 1)
+    away node got held part other has = grind (arith, nat_tests)
 
 -- the counts of one more part
 pub counts-more : (before parts : List Part) (i : ℕ) (part : Part) (counts : List ℕ) (count : ℕ) → i < length parts → part ≡ get_or parts i part → part.node < length counts
     → count ≡ min (get_or counts part.node 0 + length part.cpus) (2 ^ 64 - 1) → CountsParts (before ++ take i parts) counts → CountsParts (before ++ take (i + 1) parts) (set counts part.node count)
 counts-more before parts i part counts count below is inside counts_on counted =
-    rw (take_more parts i part below, ← is, ← append_assoc, counts_on) (counts-push (before ++ take i parts) counts part inside counted)
+    rw (take_more parts i part below, ← is, ← append_assoc) (counts-push (before ++ take i parts) counts part count inside counts_on counted)
 
 -- the parts of one more job
 pub parts-more : (jobs : List JobRecord) (i : ℕ) (job : JobRecord) → i < length jobs → job ≡ get_or jobs i job → parts_of (take (i + 1) jobs) ≡ parts_of (take i jobs) ++ job.parts
 parts-more jobs i job below is =
     rw (take_more jobs i job below, ← is, flat_map-append (λ (job : JobRecord). job.parts) (take i jobs) (job ∷ []), append-nil) refl
 
--- each part of a job is on a node that there is
-pub parts-there : (rooms : List NodeRoom) (count : ℕ) (jobs : List JobRecord) (i : ℕ) (job : JobRecord) → IsHeldOnce rooms (parts_of jobs) → count ≡ length rooms → i < length jobs → job ≡ get_or jobs i job
-    → All (λ (part : Part). part.node < count) job.parts
-parts-there rooms count jobs i job held long below is k d inside =
+-- what holds of all parts holds of a job's
+pub parts-there : (P : Part → Type 0) (jobs : List JobRecord) (i : ℕ) (job : JobRecord) → All P (parts_of jobs) → i < length jobs → job ≡ get_or jobs i job → All P job.parts
+parts-there P jobs i job each below is k d inside =
     let parts = λ (job : JobRecord). job.parts in
-    let at = length (flat_map parts (take i jobs)) + k in
     let there : k < length (parts (get_or jobs i job)) = rw (← is) inside in
-    let part = (held.each at d (omega (arith, length-flat_map-take parts jobs i job below, there))).node in
-    omega (arith, long, rw (get_or-flat_map parts jobs i k job d below there, ← is) at part)
+    let at : P (get_or (flat_map parts jobs) (length (flat_map parts (take i jobs)) + k) d) = each (length (flat_map parts (take i jobs)) + k) d (omega (arith, length-flat_map-take parts jobs i job below, there)) in
+    rw (get_or-flat_map parts jobs i k job d below there, ← is) at at
 
 -- one more element at a list's end
 pub slice_get-front : {X : Type 0} (xs ys : List X) (k : ℕ) → k < length xs → slice_get (xs ++ ys) k ≡ slice_get xs k
@@ -77,9 +81,10 @@ slice_get-seam (y ∷ ys) x (suc k) long = slice_get-seam ys x k (omega (arith, 
 
 -- how a node stands, of which the counts tell what is held
 pub group-here : (s : State) (counts : List ℕ) (place held : ℕ) (node : NodeRecord) (group : NodeGroup) → CountsParts (parts_of s.jobs) counts → place < length counts → slice_get s.nodes place ≡ Some node
-    → held ≡ get_or counts place 0 → ((count : ℕ) → held ≡ min count (2 ^ 64 - 1) → group ≡ group_by count node) → Some group ≡ group_at s place
+    → held ≡ get_or counts place held → ((count : ℕ) → held ≡ min count (2 ^ 64 - 1) → group ≡ group_by count node) → Some group ≡ group_at s place
 group-here s counts place held node group counted inside there is stands =
-    rw there (ap Some (stands (cpus_held (parts_of s.jobs) place) (is ∙ counted.each place inside)))
+    let read : get_or counts place 0 ≡ held = get_or_from_slice_get counts place held 0 (slice_get_read counts (length counts) place held refl inside is) in
+    rw there (ap Some (stands (cpus_held (parts_of s.jobs) place) (sym read ∙ counted.each place inside)))
 
 pub groups-all : (s : State) (groups : List NodeGroup) → length groups ≡ length s.nodes → ((k : ℕ) → k < length s.nodes → slice_get groups k ≡ group_at s k) → GroupsNodes s groups
 groups-all s groups long each = record { each = λ place.
@@ -95,7 +100,7 @@ groups-more s groups group place long before here k below =
     (cases_eq k place)
 
 -- the names of one more node
-pub names-more : (s : State) (group : NodeGroup) (places : List ℕ) (i place : ℕ) → i < length places → place ≡ get_or places i place
-    → names_standing s group (take (i + 1) places) ≡ names_standing s group (take i places) ++ names_standing s group (place ∷ [])
+pub names-more : (s : State) (group : NodeGroup) (places : List ℕ) (i : ℕ) → i < length places
+    → names_standing s group (take (i + 1) places) ≡ names_standing s group (take i places) ++ names_standing s group (get_or places i 0 ∷ [])
 unfolding names_standing
-names-more s group places i place below is = rw (take_more places i place below, ← is, filter-append, filter_map-append)
+names-more s group places i below = rw (take_more places i 0 below, filter-append, filter_map-append)

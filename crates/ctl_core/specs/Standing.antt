@@ -65,11 +65,13 @@ row_by partition group (name ∷ names) = Some (States (record {
   nodes = name ∷ names;
 }))
 
+-- the ways in which a node may stand, in the order of their rows
+abbrev pub groups : List NodeGroup
+groups = Down ∷ Draining ∷ Drained ∷ Allocated ∷ Mixed ∷ Idle ∷ []
+
 -- the rows of a partition: one for each way in which nodes of it stand
 unfoldable pub rows_of_partition : State → PartRecord → List Row
-rows_of_partition s partition =
-    filter_map (λ group. row_by partition group (names_standing s group partition.nodes))
-    (Down ∷ Draining ∷ Drained ∷ Allocated ∷ Mixed ∷ Idle ∷ [])
+rows_of_partition s partition = filter_map (λ group. row_by partition group (names_standing s group partition.nodes)) groups
 
 -- the partition is the one that is asked for, if one is
 abbrev pub is_asked : Option (List ℕ) → PartRecord → Bool

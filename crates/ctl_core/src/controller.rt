@@ -1,10 +1,10 @@
 //! The controller.
 
-ghost use Rattle.std.specs.Prelude.{◌≡◌, ◌≤◌, IfOk, OnOk, OnErr, if◌then◌else◌, Some, None, map, All};
+ghost use Rattle.std.specs.Prelude.{◌≡◌, IfOk, OnOk, OnErr, if◌then◌else◌, Some, None, map, All};
 ghost use Rattle.slurm_text.specs.declared.plain.request.Request.TheVariants.{Pass};
 ghost use Rattle.resource_profile.specs.Counts.{ticked, IsTickedUpTo};
-ghost use Rattle.ctl_state.specs.State.{opening, last_job_id};
-ghost use Rattle.ctl_state.specs.Soundness.{IsSound, IsNode, HasRanges};
+ghost use Rattle.ctl_state.specs.State.{opening};
+ghost use Rattle.ctl_state.specs.Soundness.{IsSound, IsLimit, IsNode, HasLimits, HasRanges};
 ghost use Rattle.ctl_core.specs.Step.{reply_of, state_after, is_entered, raised, steps_of};
 
 use crate::answering::{ask, ask_pass};
@@ -15,10 +15,12 @@ use ctl_state::record::AssocRecord;
 use node_state::nodes::Nodes;
 use node_state::record::NodeRecord;
 use partitions::partitions::Partitions;
+use partitions::record::PartRecord;
 use resource_profile::Steps;
 use slurm_text::memory_error::Memory;
 use slurm_text::name::Name;
 use slurm_text::plain::conf::{AssocConf, AssocFile, Conf, Settings};
+use slurm_text::plain::limit::Limit;
 use slurm_text::plain::request::Request;
 use std::alloc::Global;
 use std::marker::Model;
@@ -52,6 +54,7 @@ impl Ctl {
         let nodes = Nodes::build(alloc, conf.nodes.into_vec())?;
         nodes_in_range(nodes.records());
         let partitions = Partitions::build(alloc, conf.partitions.into_vec(), &nodes)?;
+        partitions_in_range(partitions.records());
         let cluster = Cluster {
             next_id: conf.settings.first_job_id.get() as u32,
             settings: conf.settings,
@@ -116,14 +119,38 @@ fn nodes_in_range(nodes: &[NodeRecord])
     }
 }
 
+fn is_limit(limit: &Limit)
+    ensures { IsLimit limit.now }
+{
+    if let Limit::Minutes(minutes) = limit {
+        let _ = minutes.get();
+    }
+}
+
+fn has_limits(partition: &PartRecord)
+    ensures { HasLimits partition.now }
+{
+    is_limit(&partition.conf.max_time);
+    if let Some(limit) = &partition.conf.default_time {
+        is_limit(limit);
+    }
+}
+
+// It tells what the type of partitions keeps of them.
+fn partitions_in_range(partitions: &[PartRecord])
+    ensures { All HasLimits partitions.now }
+{
+    for partition in partitions {
+        has_limits(partition);
+    }
+}
+
 // It tells what the type of settings keeps of them.
 fn settings_in_range(settings: &Settings)
-    ensures ranges { HasRanges settings.now }
-    ensures first { (1 ≤ settings.now.first_job_id) × (settings.now.first_job_id ≤ last_job_id) }
+    ensures { HasRanges settings.now }
 {
     let _ = settings.bf_window.get();
     let _ = settings.min_job_age.get();
-    let _ = settings.first_job_id.get();
 }
 
 fn assoc_records(alloc: Global, confs: Vec<AssocConf>) -> Result<Vec<AssocRecord>, Memory>

@@ -9,4 +9,5 @@ mod ranges;
 pub mod reply;
 mod reporting;
 mod showing;
+mod standing;
 mod submitting;

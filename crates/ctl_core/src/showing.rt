@@ -1,6 +1,6 @@
 //! Queries.
 
-ghost use Rattle.std.specs.Prelude.{◌≡◌, ◌≤◌, ◌<◌, ℕ, List, IfOk, All, length, map, filter, nat_eq, unwrap_or};
+ghost use Rattle.std.specs.Prelude.{◌≡◌, ◌≢◌, ◌≤◌, ◌<◌, ℕ, List, IfOk, All, AllPairs, length, map, filter, nat_eq, unwrap_or};
 ghost use Rattle.std.specs.HashMap.{get};
 ghost use Rattle.backfill_planner.specs.declared.Placed.{Placed};
 ghost use Rattle.ctl_state.specs.State.{state_of, last_moment};
@@ -101,12 +101,13 @@ fn view_of(alloc: Global, cluster: &Cluster, moment: u64, query: &Query) -> Resu
 
 // The seconds that the plan gives, by the numbers of the jobs. Linear in the plan.
 fn starts_of(alloc: Global, plan: &[Placed]) -> Result<HashMap<u32, Second>, Memory>
-    requires { All (λ (placed : Placed). placed.start ≤ 250002592000) plan.now }
+    requires once { AllPairs (λ (one other : Placed). one.id ≢ other.id) plan.now }
+    requires last { All (λ (placed : Placed). placed.start ≤ 250002592000) plan.now }
     ensures { IfOk result (λ starts. (id : ℕ) → get nat_eq starts id ≡ Showing.planned_start plan.now id) }
 {
     let mut starts = HashMap::with_capacity(alloc, plan.len())?;
     for placed in plan {
-        starts.entry(placed.id)?.or_insert(Ranged::new(placed.start));
+        starts.insert(placed.id, Ranged::new(placed.start))?;
     }
     Ok(starts)
 }

@@ -9,7 +9,7 @@ ghost use Rattle.ctl_core.specs.Found.{CountsParts, GroupsNodes};
 ghost use Rattle.ctl_core.specs.Standing;
 
 use ctl_state::cluster::Cluster;
-use ctl_state::record::Part;
+use ctl_state::record::{JobRecord, Part};
 use node_state::record::NodeRecord;
 use node_state::standing::is_up;
 use partitions::record::PartRecord;
@@ -40,6 +40,15 @@ fn count_parts(counts: &mut [u64], parts: &[Part])
     }
 }
 
+fn count_jobs(counts: &mut [u64], jobs: &[JobRecord])
+    requires { All (λ (part : Part). part.node < length counts.old) (parts_of jobs.now) }
+    ensures { CountsParts [] counts.old → CountsParts (parts_of jobs.now) counts.new }
+{
+    for job in jobs {
+        count_parts(counts, job.parts.as_slice());
+    }
+}
+
 // How many processors of each node are held. Linear in the nodes and the jobs' parts.
 fn held_of(alloc: Global, cluster: &Cluster) -> Result<Vec<u64>, Memory>
     requires { IsSound (state_of cluster.now) }
@@ -47,9 +56,7 @@ fn held_of(alloc: Global, cluster: &Cluster) -> Result<Vec<u64>, Memory>
     ensures counts { IfOk result (λ held. CountsParts (parts_of cluster.now.jobs.items) held.items) }
 {
     let mut held = vec![in alloc; 0; cluster.nodes.records().len()]?;
-    for job in &cluster.jobs {
-        count_parts(&mut held, job.parts.as_slice());
-    }
+    count_jobs(&mut held, &cluster.jobs);
     Ok(held)
 }
 
@@ -192,6 +199,7 @@ fn is_asked(asked: &Option<Name>, partition: &PartRecord) -> bool
 
 /// The rows of the partitions that are asked for. Linear in the nodes and the jobs' parts, and in the nodes of the
 /// partitions that are shown, six times.
+#[tactic(auto, unfolding(crate::specs::Standing::state_rows))]
 pub(crate) fn state_rows(
     alloc: Global,
     cluster: &Cluster,

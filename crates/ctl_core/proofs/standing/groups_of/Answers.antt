@@ -1,4 +1,4 @@
-use Rattle.std.proofs.Common.{length, arith, refl}
+use Rattle.std.proofs.Common.{◌≡◌, length, arith, refl, ap}
 use Rattle.std.proofs.lemmas.Option.{slice_get_read}
 use Rattle.ctl_state.specs.State.{state_of}
 use Rattle.ctl_core.proofs.Stands.{group-here, groups-more, groups-all}
@@ -21,4 +21,6 @@ pub returns : goal.returns
 returns c =
     let s = state_of c.args.cluster.now in
     let nodes = c.records-nodes.ensures.value in
-    groups-all s c.loop-place.groups.items ? ?
+    let done = c.loop-place.invariant in
+    let all : c.loop-place.place ≡ length s.nodes = omega (arith, c.loop-place.auto.place-end, c.loop-place-test.false, ap length nodes) in
+    groups-all s c.loop-place.groups.items (omega (arith, done.len, all)) (λ k inside. done.each k (omega (arith, inside, all)))

@@ -11,7 +11,7 @@ loop-place-init c = c.new-names.ensures.items
 
 pub loop-place-preserved : goal.loop-place-preserved
 loop-place-preserved c =
-    let more = names-more (state_of c.args.cluster.now) c.args.group c.args.places.now c.loop-place.place-index _ c.loop-place-test.true refl in
+    let more = names-more (state_of c.args.cluster.now) c.args.group c.args.places.now c.loop-place.place-index c.loop-place-test.true in
     elim c.match-name_standing.branch [
       | in-Some+in_ok-copy+in_ok-push w ↦ rw (w.names-is, w.in_ok-push.ensures.items, w.in_ok-copy.ensures, c.loop-place.invariant, more, ← w.in-Some.ensures) refl
       | in_default w ↦ rw (w.names-is, c.loop-place.invariant, more, ← w.in_default.ensures) (sym (append-nil _))

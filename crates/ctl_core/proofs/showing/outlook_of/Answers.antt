@@ -1,0 +1,10 @@
+use Rattle.std.proofs.Common.{ap, ◌∙◌}
+use Rattle.ctl_core.specs.Showing.{highest, planned_start}
+use Rattle.ctl_core.proofs.showing.outlook_of.Goals as goal
+
+pub returns : goal.returns
+unfolding highest
+returns c = record {
+  highest = c.highest.ensures;
+  starts = λ id. c.in_ok-starts_of.ensures id ∙ ap (λ plan. planned_start plan id) c.deref.ensures.value;
+}
