@@ -35,5 +35,9 @@ sound-opening s ranges nodes on_nodes limits no_jobs no_plan next moment = recor
   jobs = rw no_jobs (λ k d within. absurd (omega (arith, within)));
   held = rw no_jobs (none-held (map room_of s.nodes));
   up = rw no_jobs (λ k d within. absurd (omega (arith, within)));
-  plan = rw no_plan (record { pending = λ k d within. absurd (omega (arith, within)); once = λ i j d before within. absurd (omega (arith, within)); last = λ k d within. absurd (omega (arith, within)) });
+  plan = rw no_plan (record {
+    pending = λ k d within. absurd (omega (arith, within));
+    once = λ i j d before within. absurd (omega (arith, within));
+    last = λ k d within. absurd (omega (arith, within));
+  });
 }

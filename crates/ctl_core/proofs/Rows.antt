@@ -35,7 +35,8 @@ find-none : {X : Type 0} (p : X → Bool) (xs : List X) → All (λ x. p x ≡ f
 find-none p [] none = refl
 find-none p (x ∷ xs) none = rw (All-head (λ x. p x ≡ false) x xs none) (find-none p xs (All-tail (λ x. p x ≡ false) x xs none))
 
-pub planned-more : (plan : List Placed) (i : ℕ) (placed : Placed) (id : ℕ) (was now : Option ℕ) → AllPairs (λ (one other : Placed). one.id ≢ other.id) plan → i < length plan → placed ≡ get_or plan i placed
+pub planned-more : (plan : List Placed) (i : ℕ) (placed : Placed) (id : ℕ) (was now : Option ℕ) → AllPairs (λ (one other : Placed). one.id ≢ other.id) plan
+    → i < length plan → placed ≡ get_or plan i placed
     → was ≡ planned_start (take i plan) id → now ≡ (if nat_eq placed.id id then Some placed.start else was) → now ≡ planned_start (take (i + 1) plan) id
 planned-more plan i placed id was now once below is before after =
     rw (take_more plan i placed below, ← is, find-append, after, before) (by (find (λ (one : Placed). nat_eq one.id id) (take i plan)) (nat_eq placed.id id) alone) where

@@ -1,5 +1,5 @@
 -- How the nodes stand: counts of the processors held, and the rows of partitions, with one more of each.
-use Rattle.std.proofs.Common.{◌≡◌, ◌≢◌, ℕ, zero, suc, ◌+◌, ◌-◌, ◌^◌, ◌<◌, ◌≤◌, ◌∙◌, List, [], ◌∷◌, ◌++◌, length, replicate, set, get_or, take, map, All, Some, refl, sym, ap, arith, append_assoc, ⊎_elim, eq-eqb}
+use Rattle.std.proofs.Common.{◌≡◌, ◌≢◌, ℕ, zero, suc, ◌+◌, ◌<◌, ◌≤◌, ◌∙◌, List, [], ◌∷◌, ◌++◌, length, replicate, set, get_or, take, map, All, Some, refl, sym, ap, arith, append_assoc, ⊎_elim, eq-eqb}
 use Rattle.std.specs.Prelude.{min, slice_get, flat_map, sum_by, nat_eq}
 use Rattle.std.proofs.lemmas.Bool.{cases_eq, cases_lt}
 use Rattle.std.proofs.lemmas.Bool.Decides.{nat_tests}
@@ -15,7 +15,7 @@ use Rattle.ctl_state.specs.declared.record.JobRecord.{JobRecord}
 use Rattle.ctl_state.specs.Holding.{parts_of}
 use Rattle.ctl_state.specs.State.{State}
 use Rattle.slurm_text.specs.declared.plain.view.NodeGroup.{NodeGroup}
-use Rattle.ctl_core.specs.Found.{CountsParts, GroupsNodes}
+use Rattle.ctl_core.specs.Found.{CountsParts, GroupsNodes, last_count}
 use Rattle.ctl_core.specs.Standing.{cpus_in, cpus_held, names_standing, group_by, group_at}
 
 -- a count that stands still at its type's end
@@ -31,26 +31,31 @@ pub counts-none : (counts : List ℕ) (n : ℕ) → counts ≡ replicate n 0 →
 unfolding cpus_held
 counts-none counts n are = record { each = λ node within. rw are (zero-at n node) }
 
-counts-push : (before : List Part) (counts : List ℕ) (part : Part) (count : ℕ) → part.node < length counts → count ≡ min (get_or counts part.node 0 + length part.cpus) (2 ^ 64 - 1) → CountsParts before counts
-    → CountsParts (before ++ part ∷ []) (set counts part.node count)
+-- a count of a node's processors, with one more part: it grows where the part is on the node, and else it stays
+count-grown : (node got had held : ℕ) (part : Part) (count : ℕ) → part.node ≡ node → got ≡ count → had ≡ min held last_count → count ≡ min (had + length part.cpus) last_count
+    → got ≡ min (held + cpus_in node part) last_count
+count-grown node got had held part count here gets has is =
+    rw (eq-eqb part.node node here) (gets ∙ is ∙ ap (λ n. min (n + length part.cpus) last_count) has ∙ capped held (length part.cpus) last_count)
+
+count-same : (node got held : ℕ) (part : Part) → part.node ≢ node → got ≡ min held last_count → got ≡ min (held + cpus_in node part) last_count
+count-same node got held part other has = grind (arith, nat_tests)
+
+counts-push : (before : List Part) (counts : List ℕ) (part : Part) (count : ℕ) → part.node < length counts
+    → count ≡ min (get_or counts part.node 0 + length part.cpus) last_count → CountsParts before counts → CountsParts (before ++ part ∷ []) (set counts part.node count)
 unfolding cpus_held
 counts-push before counts part count inside is counted = record { each = λ node within.
     let below : node < length counts = omega (arith, within, length-set counts part.node count) in
+    let held = sum_by (cpus_in node) before in
     rw (sum_by_push (cpus_in node) before part) (⊎_elim
-    (λ here. let there : part.node < length counts = inside in
-      at node (get_or (set counts part.node count) node 0) (sum_by (cpus_in node) before) (get_or counts part.node 0) part count here (rw (← here) (get_or-set_same counts part.node count 0 there)) (rw (← here) (counted.each part.node there)) is)
+    (λ here. count-grown node _ (get_or counts part.node 0) held part count here
+      (rw (← here) (get_or-set_same counts part.node count 0 inside)) (rw (← here) (counted.each part.node inside)) is)
     (λ other. let elsewhere : node ≢ part.node = λ same. other (sym same) in
-      away node (get_or (set counts part.node count) node 0) (sum_by (cpus_in node) before) part other (get_or-set_other counts part.node node count 0 elsewhere ∙ counted.each node below))
+      count-same node _ held part other (get_or-set_other counts part.node node count 0 elsewhere ∙ counted.each node below))
     (cases_eq part.node node)) }
-  where
-    at : (node got held had : ℕ) (part : Part) (count : ℕ) → part.node ≡ node → got ≡ count → had ≡ min held (2 ^ 64 - 1) → count ≡ min (had + length part.cpus) (2 ^ 64 - 1) → got ≡ min (held + cpus_in node part) (2 ^ 64 - 1)
-    at node got held had part count here gets has is = rw (eq-eqb part.node node here) (gets ∙ is ∙ ap (λ n. min (n + length part.cpus) (2 ^ 64 - 1)) has ∙ capped held (length part.cpus) (2 ^ 64 - 1))
-    away : (node got held : ℕ) (part : Part) → part.node ≢ node → got ≡ min held (2 ^ 64 - 1) → got ≡ min (held + cpus_in node part) (2 ^ 64 - 1)
-    away node got held part other has = grind (arith, nat_tests)
 
 -- the counts of one more part
 pub counts-more : (before parts : List Part) (i : ℕ) (part : Part) (counts : List ℕ) (count : ℕ) → i < length parts → part ≡ get_or parts i part → part.node < length counts
-    → count ≡ min (get_or counts part.node 0 + length part.cpus) (2 ^ 64 - 1) → CountsParts (before ++ take i parts) counts → CountsParts (before ++ take (i + 1) parts) (set counts part.node count)
+    → count ≡ min (get_or counts part.node 0 + length part.cpus) last_count → CountsParts (before ++ take i parts) counts → CountsParts (before ++ take (i + 1) parts) (set counts part.node count)
 counts-more before parts i part counts count below is inside counts_on counted =
     rw (take_more parts i part below, ← is, ← append_assoc) (counts-push (before ++ take i parts) counts part count inside counts_on counted)
 
@@ -64,7 +69,8 @@ pub parts-there : (P : Part → Type 0) (jobs : List JobRecord) (i : ℕ) (job :
 parts-there P jobs i job each below is k d inside =
     let parts = λ (job : JobRecord). job.parts in
     let there : k < length (parts (get_or jobs i job)) = rw (← is) inside in
-    let at : P (get_or (flat_map parts jobs) (length (flat_map parts (take i jobs)) + k) d) = each (length (flat_map parts (take i jobs)) + k) d (omega (arith, length-flat_map-take parts jobs i job below, there)) in
+    let place = length (flat_map parts (take i jobs)) + k in
+    let at : P (get_or (flat_map parts jobs) place d) = each place d (omega (arith, length-flat_map-take parts jobs i job below, there)) in
     rw (get_or-flat_map parts jobs i k job d below there, ← is) at at
 
 -- one more element at a list's end
@@ -80,8 +86,8 @@ slice_get-seam (y ∷ ys) x zero long = absurd (omega (arith, long))
 slice_get-seam (y ∷ ys) x (suc k) long = slice_get-seam ys x k (omega (arith, long))
 
 -- how a node stands, of which the counts tell what is held
-pub group-here : (s : State) (counts : List ℕ) (place held : ℕ) (node : NodeRecord) (group : NodeGroup) → CountsParts (parts_of s.jobs) counts → place < length counts → slice_get s.nodes place ≡ Some node
-    → held ≡ get_or counts place held → ((count : ℕ) → held ≡ min count (2 ^ 64 - 1) → group ≡ group_by count node) → Some group ≡ group_at s place
+pub group-here : (s : State) (counts : List ℕ) (place held : ℕ) (node : NodeRecord) (group : NodeGroup) → CountsParts (parts_of s.jobs) counts → place < length counts
+    → slice_get s.nodes place ≡ Some node → held ≡ get_or counts place held → ((count : ℕ) → held ≡ min count last_count → group ≡ group_by count node) → Some group ≡ group_at s place
 group-here s counts place held node group counted inside there is stands =
     let read : get_or counts place 0 ≡ held = get_or_from_slice_get counts place held 0 (slice_get_read counts (length counts) place held refl inside is) in
     rw there (ap Some (stands (cpus_held (parts_of s.jobs) place) (sym read ∙ counted.each place inside)))

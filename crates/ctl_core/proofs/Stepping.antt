@@ -54,8 +54,8 @@ unrefused refusal true none = absurd (cc)
 unrefused refusal false none = refl
 
 -- a submission that isn't refused
-pub sound-submitted : Adding → (s : State) (moment : ℕ) (user : List ℕ) (desc : JobDesc) (place : ℕ) (partition : PartRecord) → IsSound s → s.moment ≤ moment → moment ≤ last_moment → IsInRange (Submit desc)
-    → slice_get s.partitions place ≡ Some partition → s.next_id ≤ last_job_id → IsSound (stamped moment (submit_after s (new_job s moment user desc place partition)))
+pub sound-submitted : Adding → (s : State) (moment : ℕ) (user : List ℕ) (desc : JobDesc) (place : ℕ) (partition : PartRecord) → IsSound s → s.moment ≤ moment → moment ≤ last_moment
+    → IsInRange (Submit desc) → slice_get s.partitions place ≡ Some partition → s.next_id ≤ last_job_id → IsSound (stamped moment (submit_after s (new_job s moment user desc place partition)))
 sound-submitted adding s moment user desc place partition sound later in_time ranges there room =
     let job = new_job s moment user desc place partition in
     let limits = All-at HasLimits s.partitions place partition sound.limits there in
@@ -75,8 +75,9 @@ sound-submitted adding s moment user desc place partition sound later in_time ra
     only P holds (suc k) d within = absurd (omega (arith, within))
 
 -- what a submission makes for these of its association, its place and its partition, where none of its refusals stands
-submitted-made : Adding → (s : State) (moment : ℕ) (user : List ℕ) (desc : JobDesc) (assoc : Option AssocRecord) (place : Option ℕ) (partition : Option PartRecord) → IsSound s → s.moment ≤ moment → moment ≤ last_moment
-    → IsInRange (Submit desc) → is_none assoc ≡ false → option_and_then (slice_get s.partitions) place ≡ partition → first_refusal (refusals_there s moment user desc assoc place partition) ≡ None
+submitted-made : Adding → (s : State) (moment : ℕ) (user : List ℕ) (desc : JobDesc) (assoc : Option AssocRecord) (place : Option ℕ) (partition : Option PartRecord)
+    → IsSound s → s.moment ≤ moment → moment ≤ last_moment → IsInRange (Submit desc)
+    → is_none assoc ≡ false → option_and_then (slice_get s.partitions) place ≡ partition → first_refusal (refusals_there s moment user desc assoc place partition) ≡ None
     → MakesSound s moment (made_in s moment user desc place partition)
 submitted-made adding s moment user desc None place partition sound later in_time ranges known there none = absurd (cc)
 submitted-made adding s moment user desc (Some assoc) None partition sound later in_time ranges known there none = tt
@@ -104,7 +105,8 @@ sound-made adding reports passes s moment user (Submit desc) sound later in_time
     submitted-made adding s moment user desc (assoc_for s user desc) (place_for s desc) (partition_for s desc) sound later in_time ranges known.0 refl named.1
 sound-made adding reports passes s moment user (Report report) sound later in_time ranges none =
     elim (node_of s report) as (λ node. MakesSound s moment (made_by_report s moment report node)) [ None ↦ tt | Some node ↦ reports s moment node report sound later in_time ]
-sound-made adding reports passes s moment user Pass sound later in_time ranges none = cond_both (is_idle s moment) Stays _ (MakesSound s moment) (λ idle. tt) (λ busy. passes s moment sound later in_time)
+sound-made adding reports passes s moment user Pass sound later in_time ranges none =
+    cond_both (is_idle s moment) Stays _ (MakesSound s moment) (λ idle. tt) (λ busy. passes s moment sound later in_time)
 sound-made adding reports passes s moment user (Show query) sound later in_time ranges none = tt
 
 sound-judged : (s : State) (moment : ℕ) (refusal : Option Refusal) (verdict : Verdict) → (refusal ≡ None → MakesSound s moment verdict) → MakesSound s moment (unless_refused refusal verdict)

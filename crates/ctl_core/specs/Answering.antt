@@ -1,5 +1,5 @@
--- What private calls of the controller answer: a verdict's reply, and what it leaves. Of the proof alone: no public call
--- speaks of it.
+-- What private calls of the controller answer: a verdict's reply, and what it leaves. Of the proof alone: no public
+-- call speaks of it.
 use Rattle.std.specs.Prelude.{◌≡◌, if◌then◌else◌, Some, None}
 use Rattle.ctl_state.specs.State.{State}
 use Rattle.ctl_state.specs.Verdicts.{Verdict, reply_by, left_by}

@@ -8,9 +8,13 @@ use Rattle.ctl_core.specs.declared.showing.Outlook.{Outlook}
 use Rattle.ctl_core.specs.Standing.{cpus_held, group_at}
 use Rattle.ctl_core.specs.Showing.{highest, planned_start}
 
--- each count is how many processors of the node at its place the parts hold, as far as its type counts
+-- where a count stands still
+abbrev pub last_count : ℕ
+last_count = 2 ^ 64 - 1
+
+-- each count is how many processors of the node at its place the parts hold, as far as it counts
 pub record CountsParts (parts : List Part) (counts : List ℕ) : Type 0 where
-  pub each : (node : ℕ) → node < length counts → slice_index counts node ≡ min (cpus_held parts node) (2 ^ 64 - 1)
+  pub each : (node : ℕ) → node < length counts → slice_index counts node ≡ min (cpus_held parts node) last_count
 
 -- each node is in the group of its place
 pub record GroupsNodes (s : State) (groups : List NodeGroup) : Type 0 where

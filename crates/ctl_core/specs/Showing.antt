@@ -46,11 +46,15 @@ partition_name s job = unwrap_or (option_map (λ (partition : PartRecord). parti
 
 -- the second that the last plan gives a job
 abbrev pub planned_start : List Placed → ℕ → Option ℕ
-planned_start plan id = option_map (λ (placed : Placed). placed.start) (find (λ (placed : Placed). nat_eq placed.id id) plan)
+planned_start plan id =
+    option_map (λ (placed : Placed). placed.start) (find (λ (placed : Placed). nat_eq placed.id id) plan)
 
 -- the names of the nodes of these parts
 unfoldable pub names_of : List NodeRecord → List Part → List (List ℕ)
-names_of nodes parts = filter_map (λ (part : Part). option_map (λ (node : NodeRecord). node.conf.name) (slice_get nodes part.node)) parts
+names_of nodes parts =
+    filter_map
+    (λ (part : Part). option_map (λ (node : NodeRecord). node.conf.name) (slice_get nodes part.node))
+    parts
 
 -- what is shown of a pending job
 abbrev pub pending_row : State → ℕ → JobRecord → JobRow

@@ -71,7 +71,8 @@ groups = Down ∷ Draining ∷ Drained ∷ Allocated ∷ Mixed ∷ Idle ∷ []
 
 -- the rows of a partition: one for each way in which nodes of it stand
 unfoldable pub rows_of_partition : State → PartRecord → List Row
-rows_of_partition s partition = filter_map (λ group. row_by partition group (names_standing s group partition.nodes)) groups
+rows_of_partition s partition =
+    filter_map (λ group. row_by partition group (names_standing s group partition.nodes)) groups
 
 -- the partition is the one that is asked for, if one is
 abbrev pub is_asked : Option (List ℕ) → PartRecord → Bool

@@ -42,7 +42,8 @@ made s moment user (Show query) = Tells (view_of s moment query)
 
 -- what a user's request at a moment that is none too large comes to, where it is worked
 abbrev pub worked : State → ℕ → List ℕ → Request → Verdict
-worked s moment user request = unless_refused (first_refusal (refusals_of s moment user request)) (made s moment user request)
+worked s moment user request =
+    unless_refused (first_refusal (refusals_of s moment user request)) (made s moment user request)
 
 -- What a user's request at a moment comes to.
 abbrev pub verdict_of : State → ℕ → List ℕ → Request → Verdict
@@ -67,11 +68,14 @@ is_entered NotBuilt = false
 -- the state after it: an entry makes another, which bears its moment
 abbrev pub state_after : State → ℕ → List ℕ → Request → State
 state_after s now user request =
-    if is_entered (reply_of s now user request) then stamped (raised s now) (left_by s (verdict_of s now user request)) else s
+    if is_entered (reply_of s now user request)
+    then stamped (raised s now) (left_by s (verdict_of s now user request))
+    else s
 
 -- how many steps a pass of this user counts: one for each job that it plans, where it is allowed
 abbrev pub steps_of : State → ℕ → List ℕ → ℕ
-steps_of s now user = if not (nat_lt last_moment now) && is_privileged s user then jobs_planned s (raised s now) else 0
+steps_of s now user =
+    if not (nat_lt last_moment now) && is_privileged s user then jobs_planned s (raised s now) else 0
 
 -- the request is in its ranges, as its type keeps them
 abbrev pub IsInRange : Request → Type 0

@@ -25,7 +25,9 @@ use Rattle.ctl_state.specs.Verdicts.{Verdict, Refuses, Makes}
 -- the account that an association belongs to; there is one, root, that no association stands for
 abbrev pub account_of : List AssocRecord → AssocRecord → List ℕ
 account_of assocs assoc =
-    unwrap_or (option_map (λ (parent : AssocRecord). parent.conf.name) (option_and_then (slice_get assocs) assoc.conf.parent)) (codes "root")
+    unwrap_or
+    (option_map (λ (parent : AssocRecord). parent.conf.name) (option_and_then (slice_get assocs) assoc.conf.parent))
+    (codes "root")
 
 -- an association is the user's, of the account that is asked for, if one is
 abbrev pub is_of_account : List AssocRecord → Option (List ℕ) → AssocRecord → Bool
@@ -33,7 +35,8 @@ is_of_account assocs None assoc = true
 is_of_account assocs (Some account) assoc = bytes_eq (account_of assocs assoc) account
 
 abbrev pub is_users : List AssocRecord → List ℕ → Option (List ℕ) → AssocRecord → Bool
-is_users assocs user account assoc = assoc.conf.user && (bytes_eq assoc.conf.name user && is_of_account assocs account assoc)
+is_users assocs user account assoc =
+    assoc.conf.user && (bytes_eq assoc.conf.name user && is_of_account assocs account assoc)
 
 -- the association that a submission counts for: the first one
 abbrev pub assoc_for : State → List ℕ → JobDesc → Option AssocRecord
@@ -107,7 +110,8 @@ refusals_of_job s assoc partition job =
     ∷ []
 
 -- the refusals of a submission for an association, to the partition at a place
-abbrev pub refusals_there : State → ℕ → List ℕ → JobDesc → Option AssocRecord → Option ℕ → Option PartRecord → List (Option Refusal)
+abbrev pub refusals_there
+    : State → ℕ → List ℕ → JobDesc → Option AssocRecord → Option ℕ → Option PartRecord → List (Option Refusal)
 refusals_there s moment user desc (Some assoc) (Some place) (Some partition) =
     refusals_of_job s assoc partition (new_job s moment user desc place partition)
 refusals_there s moment user desc assoc place partition = []

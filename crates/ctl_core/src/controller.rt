@@ -68,11 +68,11 @@ impl Ctl {
         Ok(Ctl { alloc, cluster })
     }
 
-    /// Decides one request, and changes the state where it is accepted. A submission is linear in associations, partitions
-    /// and nodes, sorts the nodes of its partition, and for each of these costs what it names of nodes and features; a
-    /// report is linear in the jobs, and for each job of the node in what it tells; a pass costs what its plan costs. A
-    /// query is linear in the jobs, their parts and the plan, or in the nodes, the jobs' parts and the nodes of the
-    /// partitions that it shows.
+    /// Decides one request, and changes the state where it is accepted. A submission is linear in associations,
+    /// partitions and nodes, sorts the nodes of its partition, and costs for each of these what it names of nodes and
+    /// features; a report is linear in the jobs, and for each job of the node in what it tells; a pass costs what its
+    /// plan costs. A query of jobs is linear in these, their parts and the plan; one of partitions in the nodes, the
+    /// jobs' parts and the nodes of the partitions that it shows.
     pub fn ask(&mut self, now: u64, user: &Name, request: &Request) -> Result<Decided, Memory>
         ensures reply { IfOk result (λ decided. decided.reply ≡ reply_of self.old.state now user.now request.now) }
         ensures entered { IfOk result (λ decided.

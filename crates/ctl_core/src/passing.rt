@@ -62,8 +62,8 @@ pub(crate) fn pass<L>(
         (unless_refused (first_refusal (pass_refusals (state_of cluster.old) user.now))
         (pass_made (state_of cluster.old) moment))) }
     ensures err { OnErr result (state_of cluster.new ≡ state_of cluster.old) }
-    ensures steps { OnOk result (steps.new
-        ≡ ticked steps.old (if is_privileged (state_of cluster.old) user.now then jobs_planned (state_of cluster.old) moment else 0)) }
+    ensures steps { OnOk result (steps.new ≡ ticked steps.old
+        (if is_privileged (state_of cluster.old) user.now then jobs_planned (state_of cluster.old) moment else 0)) }
     ensures steps_err { OnErr result (IsTickedUpTo
         (if is_privileged (state_of cluster.old) user.now then jobs_planned (state_of cluster.old) moment else 0)
         steps.old steps.new) }

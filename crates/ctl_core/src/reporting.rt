@@ -1,7 +1,7 @@
 //! Reports of nodes.
 
-ghost use Rattle.std.specs.Prelude.{◌≡◌, ◌≤◌, IfOk, OnErr};
-ghost use Rattle.ctl_state.specs.State.{state_of, last_moment};
+ghost use Rattle.std.specs.Prelude.{◌≡◌, IfOk, OnErr};
+ghost use Rattle.ctl_state.specs.State.{state_of};
 ghost use Rattle.ctl_state.specs.Soundness.{IsSound};
 ghost use Rattle.ctl_state.specs.Refusals.{first_refusal, unless_refused};
 ghost use Rattle.ctl_report.specs.Answering.{report_refusals, report_made};
@@ -26,9 +26,7 @@ pub(crate) fn report(
     user: &Name,
     report: &Report,
 ) -> Result<Answered, Memory>
-    requires sound { IsSound (state_of cluster.old) }
-    requires raised { cluster.old.moment ≤ moment }
-    requires in_time { moment ≤ last_moment }
+    requires { IsSound (state_of cluster.old) }
     ensures ok { IfOk result (Answers (state_of cluster.old) (state_of cluster.new)
         (unless_refused (first_refusal (report_refusals (state_of cluster.old) user.now report.now))
         (report_made (state_of cluster.old) moment report.now))) }

@@ -64,7 +64,6 @@ pub(crate) fn show(
     query: &Query,
 ) -> Result<Answered, Memory>
     requires sound { IsSound (state_of cluster.now) }
-    requires raised { cluster.now.moment ≤ moment }
     requires in_time { moment ≤ last_moment }
     ensures { IfOk result (Answers (state_of cluster.now) (state_of cluster.now)
         (unless_refused (first_refusal (Showing.show_refusals (state_of cluster.now) query.now))
@@ -86,7 +85,6 @@ pub(crate) fn show(
 #[tactic(auto, unfolding(crate::specs::Showing::view_of))]
 fn view_of(alloc: Global, cluster: &Cluster, moment: u64, query: &Query) -> Result<View, Memory>
     requires sound { IsSound (state_of cluster.now) }
-    requires raised { cluster.now.moment ≤ moment }
     requires in_time { moment ≤ last_moment }
     ensures { IfOk result (λ view. view ≡ Showing.view_of (state_of cluster.now) moment query.now) }
 {
@@ -126,7 +124,6 @@ fn outlook_of(alloc: Global, cluster: &Cluster) -> Result<Outlook, Memory>
 // The rows of the jobs that are shown.
 fn job_rows(alloc: Global, cluster: &Cluster, moment: u64, starts: bool) -> Result<Vec<Row>, Memory>
     requires sound { IsSound (state_of cluster.now) }
-    requires raised { cluster.now.moment ≤ moment }
     requires in_time { moment ≤ last_moment }
     ensures { IfOk result (λ rows. rows.items ≡ Showing.job_rows (state_of cluster.now) moment starts) }
 {

@@ -1,11 +1,11 @@
 //! How the nodes of partitions stand.
 
-ghost use Rattle.std.specs.Prelude.{◌≡◌, ◌∷◌, [], ◌++◌, ◌-◌, ◌^◌, ◌<◌, ℕ, List, min, All, IfOk, OnOk, length, slice_get, option_copied, option_to_list};
+ghost use Rattle.std.specs.Prelude.{◌≡◌, ◌∷◌, [], ◌++◌, ◌<◌, ℕ, List, min, All, IfOk, OnOk, length, slice_get, option_copied, option_to_list};
 ghost use Rattle.ctl_state.specs.declared.record.Part.{Part};
 ghost use Rattle.ctl_state.specs.Holding.{parts_of};
 ghost use Rattle.ctl_state.specs.State.{state_of};
 ghost use Rattle.ctl_state.specs.Soundness.{IsSound};
-ghost use Rattle.ctl_core.specs.Found.{CountsParts, GroupsNodes};
+ghost use Rattle.ctl_core.specs.Found.{CountsParts, GroupsNodes, last_count};
 ghost use Rattle.ctl_core.specs.Standing;
 
 use ctl_state::cluster::Cluster;
@@ -29,7 +29,7 @@ const GROUPS: [NodeGroup; 6] = [
     NodeGroup::Idle,
 ];
 
-// Adds to the counts of the nodes what the parts hold of them.
+// Adds to the counts of the nodes what the parts hold of them. A count stands still at its type's end.
 fn count_parts(counts: &mut [u64], parts: &[Part])
     requires { All (λ (part : Part). part.node < length counts.old) parts.now }
     ensures { (before : List Part) → CountsParts before counts.old → CountsParts (before ++ parts.now) counts.new }
@@ -62,7 +62,7 @@ fn held_of(alloc: Global, cluster: &Cluster) -> Result<Vec<u64>, Memory>
 
 // How the node stands of which so many processors are held, as far as they are counted.
 fn group_of(node: &NodeRecord, held: u64) -> NodeGroup
-    ensures { (count : ℕ) → held ≡ min count (2 ^ 64 - 1) → result ≡ Standing.group_by count node.now }
+    ensures { (count : ℕ) → held ≡ min count last_count → result ≡ Standing.group_by count node.now }
 {
     if !is_up(node) {
         NodeGroup::Down

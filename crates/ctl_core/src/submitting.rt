@@ -1,9 +1,9 @@
 //! Submissions.
 
-ghost use Rattle.std.specs.Prelude.{◌≡◌, ◌≤◌, ◌+◌, ◌<◌, ◌++◌, ◌∷◌, [], IfOk, OnErr, length, option_copied};
+ghost use Rattle.std.specs.Prelude.{◌≡◌, ◌≤◌, IfOk, OnErr, length, option_copied};
 ghost use Rattle.partitions.specs.declared.record.PartRecord.{PartRecord};
 ghost use Rattle.partitions.specs.Partitions.{IsOnNodes};
-ghost use Rattle.ctl_state.specs.State.{state_of, last_moment, last_job_id};
+ghost use Rattle.ctl_state.specs.State.{state_of, last_job_id};
 ghost use Rattle.ctl_state.specs.Soundness.{IsSound};
 ghost use Rattle.ctl_state.specs.Refusals.{first_refusal, unless_refused};
 ghost use Rattle.ctl_core.specs.Answering.{Answers};
@@ -244,9 +244,7 @@ pub(crate) fn submit(
     user: &Name,
     desc: &JobDesc,
 ) -> Result<Answered, Memory>
-    requires sound { IsSound (state_of cluster.old) }
-    requires raised { cluster.old.moment ≤ moment }
-    requires in_time { moment ≤ last_moment }
+    requires { IsSound (state_of cluster.old) }
     ensures ok { IfOk result (Answers (state_of cluster.old) (state_of cluster.new)
         (unless_refused (first_refusal (Submission.submit_refusals (state_of cluster.old) moment user.now desc.now))
         (Submission.submit_made (state_of cluster.old) moment user.now desc.now))) }

@@ -57,4 +57,10 @@ pub record Seat : Type 0 where
   pub since : List Entry
 
 abbrev pub sight_of : Seat → Sight
-sight_of seat = record { opening = seat.opening; number = 0; before = seat.before; since = seat.since; mine = seat.since }
+sight_of seat = record {
+  opening = seat.opening;
+  number = 0;
+  before = seat.before;
+  since = seat.since;
+  mine = seat.since;
+}

@@ -28,7 +28,13 @@ StaysSound opening entries = (n : ℕ) → IsSound (after_all opening (take n en
 
 -- the entry that a session's request makes in a state
 abbrev pub entry_of : State → ℕ → ℕ → List ℕ → Request → Entry
-entry_of s session now user request = record { session = session; moment = raised s now; user = user; request = request; reply = reply_of s now user request }
+entry_of s session now user request = record {
+  session = session;
+  moment = raised s now;
+  user = user;
+  request = request;
+  reply = reply_of s now user request;
+}
 
 -- the entries that bear the number of a session
 abbrev pub of_session : ℕ → List Entry → List Entry
