@@ -1,5 +1,5 @@
 -- What a header and its attachment ask.
-use Rattle.std.specs.Prelude.{ℕ, List, [], ◌∷◌, drop, slice_get, Option, Some, None}
+use Rattle.std.specs.Prelude.{ℕ, List, drop, slice_get, Option, Some, None}
 use Rattle.slurm_text.specs.Options.{◌>>=◌}
 use Rattle.slurm_text.specs.Words.{first_bad, words_in}
 use Rattle.command_words.specs.Command.{command_named}

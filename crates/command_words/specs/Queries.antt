@@ -1,5 +1,5 @@
 -- What the options of squeue and sinfo say.
-use Rattle.std.specs.Prelude.{ℕ, Bool, true, false, List, [], ◌∷◌, Option, Some, None, option_map, map}
+use Rattle.std.specs.Prelude.{ℕ, true, false, List, [], ◌∷◌, Option, Some, None, option_map, map}
 use Rattle.option_words.specs.Arguments.{Part, plain, bad, flag, valued, lacking, parts_left}
 use Rattle.option_words.specs.declared.arguments.Takes.{Takes}
 use Rattle.slurm_text.specs.Options.{◌>>=◌}
