@@ -53,8 +53,14 @@ pub(crate) fn read_sbatch(
 {
     match read_job(alloc, words, script, now) {
         Ok(job) => Ok(wanted_job(job)),
-        Err(JobRefusal::BadWord { word, kind }) => Ok(Wanted::Malformed(WordFault::Word { word, kind })),
-        Err(JobRefusal::BadLine { line, kind }) => Ok(Wanted::Malformed(WordFault::Line { line, kind })),
+        Err(JobRefusal::BadWord { word, kind }) => Ok(Wanted::Malformed(WordFault::Word {
+            word,
+            kind,
+        })),
+        Err(JobRefusal::BadLine { line, kind }) => Ok(Wanted::Malformed(WordFault::Line {
+            line,
+            kind,
+        })),
         Err(JobRefusal::Memory) => Err(Memory),
     }
 }

@@ -67,7 +67,11 @@ fn read_lone(alloc: Global, command: Command, words: &Words) -> Result<Option<Re
 fn read_pass(words: &Words) -> Option<Request>
     ensures { result ≡ pass_by words.now }
 {
-    if words.len() == 1 { Some(Request::Pass) } else { None }
+    if words.len() == 1 {
+        Some(Request::Pass)
+    } else {
+        None
+    }
 }
 
 fn without(attachment: Option<&[u8]>, request: Option<Request>) -> Wanted

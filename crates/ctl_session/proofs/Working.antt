@@ -1,18 +1,19 @@
 -- What a desk's answer is to a session.
-use Rattle.std.proofs.Common.{◌≡◌, ℕ, ◌+◌, true, false, List, [], ◌∷◌, ◌++◌, length, take, slice_get, Some, None, refl, sym, ap, ◌∙◌, arith, length-append, append_assoc, inl, inr, All, Result, Ok, Err, OnErr}
+use Rattle.std.proofs.Common.{◌≡◌, ℕ, ◌+◌, true, false, List, [], ◌∷◌, ◌++◌, length, take, slice_get, Some, None, refl, sym, ap, ◌∙◌, arith, length-append, append_assoc, inl, inr, All, Result, Ok, Err, IfOk, OnErr, subst}
 use Rattle.std.proofs.lemmas.Bool.{cases_Bool}
 use Rattle.std.proofs.lemmas.List.{append_cancel_left, append-nil, length-take-le}
 use Rattle.std.proofs.lemmas.List.Elements.{All-cons, All-nil}
 use Rattle.command_words.specs.declared.header.Asked.{Asked}
+use Rattle.command_words.specs.declared.header.Meaning.{Meaning}
+use Rattle.command_words.specs.declared.header.Meaning.TheVariants.{Asks}
 use Rattle.ctl_state.specs.State.{State}
 use Rattle.ctl_core.specs.Step.{reply_of, is_entered}
 use Rattle.ctl_desk.specs.declared.entry.Answer.{Answer}
 use Rattle.ctl_desk.specs.Desk.{Sight, GoesOn, IsAnswered, seen, state_at}
 use Rattle.ctl_desk.specs.History.{entry_of, of_session}
-use Rattle.slurm_print.specs.Text.{text_of, not_built_text}
-use Rattle.ctl_session.specs.declared.meaning.Meaning.TheVariants.{Asks, NotBuilt}
+use Rattle.slurm_print.specs.Text.{text_of}
 use Rattle.ctl_session.specs.Answers.{Answered, IsAnswerIn, Answers}
-use Rattle.ctl_session.specs.Meaning.{entry_made}
+use Rattle.ctl_session.specs.Meaning.{told, entry_made}
 use Rattle.ctl_session.specs.Turn.{AnswersOne}
 
 slice_get_seam : {X : Type 0} (xs : List X) (x : X) → slice_get (xs ++ x ∷ []) (length xs) ≡ Some x
@@ -117,10 +118,12 @@ answered_one desk desk' asked answer goes answered =
       | inr refuses ↦ idle_one desk desk' asked answer goes answered refuses
     ]
 
--- a desk that was not asked answers by the line of what is not built
-pub not_built_one : (desk : Sight) → (one : AnswersOne NotBuilt desk desk) × (not_built_text ≡ one.answer.reply)
-not_built_one desk =
-    let a : Answered = record { meaning = NotBuilt; place = length (seen desk); reply = not_built_text; entry = None } in (
+-- a block that asks nothing of a desk is told the same in every state
+unasked_one : (desk : Sight) (meaning : Meaning) (text : List ℕ) → ((s : State) → text ≡ told s meaning) → ((s : State) (number : ℕ) → entry_made s number meaning ≡ None)
+    → (one : AnswersOne meaning desk desk) × (text ≡ one.answer.reply)
+unasked_one desk meaning text tells makes =
+    let s = state_at desk.opening (seen desk) (length (seen desk)) in
+    let a : Answered = record { meaning = meaning; place = length (seen desk); reply = text; entry = None } in (
       record {
         answer = a;
         means = refl;
@@ -130,8 +133,8 @@ not_built_one desk =
           own = refl;
           each = all_one (IsAnswerIn desk.opening desk.number (seen desk)) a (record {
             within = omega arith;
-            reply = refl;
-            entry = refl;
+            reply = tells s;
+            entry = sym (makes s desk.number);
             stands = λ e is. absurd (none_is_some e is);
           });
           rise = (omega arith, omega arith);
@@ -139,6 +142,16 @@ not_built_one desk =
       },
       refl,
     )
+
+-- what a call tells such a block
+pub unasked : {X E : Type 0} (result : Result X E) (items : X → List ℕ) (desk : Sight) (meaning meant : Meaning) (text : List ℕ) → meaning ≡ meant
+    → ((s : State) → text ≡ told s meaning) → ((s : State) (number : ℕ) → entry_made s number meaning ≡ None)
+    → IfOk result (λ x. items x ≡ text) → IfOk result (λ x. (one : AnswersOne meant desk desk) × (items x ≡ one.answer.reply))
+unasked (Ok x) items desk meaning meant text means tells makes is =
+    let one = unasked_one desk meaning text tells makes in
+    let Told : Meaning → Type 0 = λ m. (one : AnswersOne m desk desk) × (items x ≡ one.answer.reply) in
+    subst Told means (one.0, is ∙ one.1)
+unasked (Err e) items desk meaning meant text means tells makes is = tt
 
 -- a desk that went on and made nothing
 pub nothing_made : (desk desk' : Sight) → GoesOn desk desk' → desk'.mine ≡ desk.mine → Answers desk desk' []

@@ -2,11 +2,11 @@
 use Rattle.std.specs.Prelude.{◌≡◌, ℕ, ◌+◌, ◌≤◌, Option, Some, List, [], ◌∷◌, length, slice_get, map, All}
 use Rattle.std.specs.List.{flat_map}
 use Rattle.std.specs.Option.{option_to_list}
+use Rattle.command_words.specs.declared.header.Meaning.{Meaning}
 use Rattle.ctl_state.specs.State.{State}
 use Rattle.ctl_desk.specs.declared.entry.Entry.{Entry}
 use Rattle.ctl_desk.specs.Desk.{Sight, later, seen, state_at}
 use Rattle.ctl_desk.specs.History.{of_session}
-use Rattle.ctl_session.specs.declared.meaning.Meaning.{Meaning}
 use Rattle.ctl_session.specs.Meaning.{told, entry_made}
 
 -- A block that was answered: what it asked, the place of the history at which it was answered, the text that it was

@@ -7,10 +7,10 @@ use Rattle.slurm_io.specs.Wire.{Wire}
 use Rattle.block_frame.specs.declared.block.Block.{Block}
 use Rattle.block_frame.specs.Grammar.{IsPartial, IsBad}
 use Rattle.block_frame.specs.State.{BlocksState}
+use Rattle.command_words.specs.declared.header.Meaning.{Meaning}
 use Rattle.ctl_desk.specs.Desk.{Sight}
 use Rattle.ctl_session.specs.declared.answer.Fault.{Fault}
 use Rattle.ctl_session.specs.declared.answer.Fault.TheVariants as fault
-use Rattle.ctl_session.specs.declared.meaning.Meaning.{Meaning}
 use Rattle.ctl_session.specs.declared.session.How.{How}
 use Rattle.ctl_session.specs.declared.session.How.TheVariants as how
 use Rattle.ctl_session.specs.Answers.{Answered, Answers}

@@ -2,20 +2,21 @@
 
 ghost use Rattle.std.specs.Prelude.{◌≡◌, ◌⊎◌, [], IfOk, OnErr};
 ghost use Rattle.ctl_desk.specs.Desk.{GoesOn, IsAnswered};
-ghost use Rattle.ctl_session.specs.declared.meaning.Meaning.TheVariants.{Asks};
+ghost use Rattle.command_words.specs.declared.header.Meaning.TheVariants.{Asks};
 ghost use Rattle.ctl_session.specs.Answers.{Answers};
 ghost use Rattle.ctl_session.specs.Meaning.{meaning_of};
 ghost use Rattle.ctl_session.specs.Turn.{AnswersBlock, AnswersOne};
 
-use crate::meaning::{Meaning, read_meaning};
+use crate::meaning::read_meaning;
 use crate::outside::write_text;
 use block_frame::Block;
-use command_words::header::Asked;
+use command_words::header::{Asked, Meaning};
 use ctl_desk::desk::Desk;
 use ctl_desk::entry::Answer;
 use resource_profile::{Plain, Steps};
 use slurm_io::{Failed, Link};
-use slurm_print::text::{not_built, text};
+use slurm_print::malformed::{bad_header, bad_words, malformed, not_built};
+use slurm_print::text::text;
 use slurm_text::memory_error::Memory;
 use slurm_text::plain::request::Request;
 use std::alloc::Global;
@@ -56,6 +57,13 @@ fn ask<D: Desk>(
     }
 }
 
+fn copied(alloc: Global, text: &[u8]) -> Result<Vec<u8>, Memory>
+    ensures { IfOk result (λ copy. copy.items ≡ text.now) }
+{
+    let copy = Vec::from_slice(alloc, text)?;
+    Ok(copy)
+}
+
 /// The text that answers a block. After want of memory its request may have been worked all the same.
 fn reply_to<D: Desk>(
     alloc: Global,
@@ -70,10 +78,10 @@ fn reply_to<D: Desk>(
 {
     match read_meaning(alloc, block)? {
         Meaning::Asks(asked) => ask(alloc, desk, steps, &asked),
-        Meaning::NotBuilt => {
-            let told = Vec::from_slice(alloc, not_built())?;
-            Ok(told)
-        }
+        Meaning::Malformed { command, fault } => malformed(alloc, command, fault),
+        Meaning::NotBuilt => copied(alloc, not_built()),
+        Meaning::BadWords { place } => bad_words(alloc, place),
+        Meaning::BadHeader => copied(alloc, bad_header()),
     }
 }
 

@@ -16,8 +16,12 @@ pub fn malformed(alloc: Global, command: Command, fault: WordFault) -> Result<Ve
 {
     let mut out = Vec::new(alloc);
     match fault {
-        WordFault::Word { word, kind } => push_fault(alloc, &mut out, command, b" word ", word, kind)?,
-        WordFault::Line { line, kind } => push_fault(alloc, &mut out, command, b" line ", line, kind)?,
+        WordFault::Word { word, kind } => push_fault(
+            alloc, &mut out, command, b" word ", word, kind,
+        )?,
+        WordFault::Line { line, kind } => push_fault(
+            alloc, &mut out, command, b" line ", line, kind,
+        )?,
     }
     Ok(out)
 }

@@ -1,9 +1,10 @@
-use Rattle.std.proofs.Common.{◌≡◌, ◌∙◌, sym, subst, IfOk}
-use Rattle.ctl_session.specs.declared.meaning.Meaning.{Meaning}
-use Rattle.ctl_session.specs.declared.meaning.Meaning.TheVariants.{Asks, NotBuilt}
+use Rattle.std.proofs.Common.{◌≡◌, ◌∙◌, sym, subst, refl, IfOk}
+use Rattle.command_words.specs.declared.header.Meaning.{Meaning}
+use Rattle.command_words.specs.declared.header.Meaning.TheVariants.{Asks, Malformed, NotBuilt, BadWords, BadHeader}
+use Rattle.slurm_print.specs.Malformed.{malformed_text, not_built_text, bad_words_text, bad_header_text}
 use Rattle.ctl_session.specs.Meaning.{meaning_of}
 use Rattle.ctl_session.specs.Turn.{AnswersOne}
-use Rattle.ctl_session.proofs.Working.{not_built_one}
+use Rattle.ctl_session.proofs.Working.{unasked}
 use Rattle.ctl_session.proofs.answer.reply_to.Goals as goal
 
 pub returns-in-Asks-clause-ok : goal.returns-in-Asks-clause-ok
@@ -14,10 +15,22 @@ returns-in-Asks-clause-ok g c =
     let told = λ (m : Meaning). IfOk c.ask.result (λ told. (one : AnswersOne m old new) × (told.items ≡ one.answer.reply)) in
     subst told means c.ask.ensures.ok
 
-pub returns-in_ok-told-in-NotBuilt-clause-ok : goal.returns-in_ok-told-in-NotBuilt-clause-ok
-returns-in_ok-told-in-NotBuilt-clause-ok g c =
-    let desk = g.D.Desk.sight c.args.desk.now in
-    let means : NotBuilt ≡ meaning_of c.args.block.now = sym c.in-NotBuilt.is ∙ c.in_ok-asked.ensures in
-    let told = λ (m : Meaning). (one : AnswersOne m desk desk) × (c.in_ok-told-in-NotBuilt.told.items ≡ one.answer.reply) in
-    let one = not_built_one desk in
-    subst told means (one.0, c.in_ok-told-in-NotBuilt.ensures.items ∙ c.not_built.ensures ∙ one.1)
+pub returns-in-Malformed-clause-ok : goal.returns-in-Malformed-clause-ok
+returns-in-Malformed-clause-ok g c =
+    unasked c.malformed.result (λ told. told.items) (g.D.Desk.sight c.args.desk.now) (Malformed c.in-Malformed.command c.in-Malformed.fault) (meaning_of c.args.block.now) (malformed_text c.in-Malformed.command c.in-Malformed.fault)
+    (sym c.in-Malformed.is ∙ c.in_ok-asked.ensures) (λ s. refl) (λ s n. refl) c.malformed.ensures
+
+pub returns-in-NotBuilt-clause-ok : goal.returns-in-NotBuilt-clause-ok
+returns-in-NotBuilt-clause-ok g c =
+    unasked c.copied.result (λ told. told.items) (g.D.Desk.sight c.args.desk.now) NotBuilt (meaning_of c.args.block.now) not_built_text
+    (sym c.in-NotBuilt.is ∙ c.in_ok-asked.ensures) (λ s. refl) (λ s n. refl) (rw c.not_built.ensures at c.copied.ensures)
+
+pub returns-in-BadWords-clause-ok : goal.returns-in-BadWords-clause-ok
+returns-in-BadWords-clause-ok g c =
+    unasked c.bad_words.result (λ told. told.items) (g.D.Desk.sight c.args.desk.now) (BadWords c.in-BadWords.place) (meaning_of c.args.block.now) (bad_words_text c.in-BadWords.place)
+    (sym c.in-BadWords.is ∙ c.in_ok-asked.ensures) (λ s. refl) (λ s n. refl) c.bad_words.ensures
+
+pub returns-in-BadHeader-clause-ok : goal.returns-in-BadHeader-clause-ok
+returns-in-BadHeader-clause-ok g c =
+    unasked c.copied-in-BadHeader.result (λ told. told.items) (g.D.Desk.sight c.args.desk.now) BadHeader (meaning_of c.args.block.now) bad_header_text
+    (sym c.in-BadHeader.is ∙ c.in_ok-asked.ensures) (λ s. refl) (λ s n. refl) (rw c.bad_header.ensures at c.copied-in-BadHeader.ensures)
