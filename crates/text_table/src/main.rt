@@ -4,7 +4,6 @@
 mod answer;
 mod blocks;
 mod fields;
-mod headers;
 mod hosts;
 mod picks;
 mod plans;

@@ -1,7 +1,7 @@
 // The lines of a table, one after another.
 
 use crate::answer::{Unanswered, number};
-use crate::{blocks, headers, hosts, picks, plans, profiles, rows, texts, times, words};
+use crate::{blocks, hosts, picks, plans, profiles, rows, texts, times, words};
 use percent_encoding::{AsciiSet, CONTROLS, percent_decode, percent_encode};
 use std::alloc::{AllocError, Global};
 
@@ -46,7 +46,6 @@ fn text_answer(alloc: Global, function: &str, arguments: &[&[u8]]) -> Result<Vec
 fn answer(alloc: Global, function: &str, arguments: &[&[u8]]) -> Result<Vec<u8>, Unanswered> {
     match (function, arguments) {
         ("cut", [piece, text]) => blocks::cut(alloc, piece, text),
-        ("header", [text]) => headers::header(alloc, text),
         ("row", [columns, job]) => rows::row(alloc, columns, job),
         ("pick", [places, tasks, least, most, required]) => {
             picks::pick(alloc, places, tasks, least, most, required)
