@@ -46,6 +46,7 @@ planned-more plan i placed id was now once below is before after =
       by None false none = refl
       by (Some one) true none = absurd (let never = none refl in cc)
       by (Some one) false none = refl
+
       alone : nat_eq placed.id id ≡ true → find (λ (one : Placed). nat_eq one.id id) (take i plan) ≡ None
       alone same = find-none (λ (one : Placed). nat_eq one.id id) (take i plan) (λ k d inside.
           let first : k < i = omega (arith, inside, length-take-le i plan (omega (arith, below))) in

@@ -43,15 +43,17 @@ count-same node got held part other has = grind (arith, nat_tests)
 counts-push : (before : List Part) (counts : List ℕ) (part : Part) (count : ℕ) → part.node < length counts
     → count ≡ min (get_or counts part.node 0 + length part.cpus) last_count → CountsParts before counts → CountsParts (before ++ part ∷ []) (set counts part.node count)
 unfolding cpus_held
-counts-push before counts part count inside is counted = record { each = λ node within.
-    let below : node < length counts = omega (arith, within, length-set counts part.node count) in
-    let held = sum_by (cpus_in node) before in
-    rw (sum_by_push (cpus_in node) before part) (⊎_elim
-    (λ here. count-grown node _ (get_or counts part.node 0) held part count here
+counts-push before counts part count inside is counted = record {
+  each = λ node within.
+      let below : node < length counts = omega (arith, within, length-set counts part.node count) in
+      let held = sum_by (cpus_in node) before in
+      rw (sum_by_push (cpus_in node) before part) (⊎_elim
+      (λ here. count-grown node _ (get_or counts part.node 0) held part count here
       (rw (← here) (get_or-set_same counts part.node count 0 inside)) (rw (← here) (counted.each part.node inside)) is)
-    (λ other. let elsewhere : node ≢ part.node = λ same. other (sym same) in
+      (λ other. let elsewhere : node ≢ part.node = λ same. other (sym same) in
       count-same node _ held part other (get_or-set_other counts part.node node count 0 elsewhere ∙ counted.each node below))
-    (cases_eq part.node node)) }
+      (cases_eq part.node node));
+}
 
 -- the counts of one more part
 pub counts-more : (before parts : List Part) (i : ℕ) (part : Part) (counts : List ℕ) (count : ℕ) → i < length parts → part ≡ get_or parts i part → part.node < length counts
@@ -93,8 +95,10 @@ group-here s counts place held node group counted inside there is stands =
     rw there (ap Some (stands (cpus_held (parts_of s.jobs) place) (sym read ∙ counted.each place inside)))
 
 pub groups-all : (s : State) (groups : List NodeGroup) → length groups ≡ length s.nodes → ((k : ℕ) → k < length s.nodes → slice_get groups k ≡ group_at s k) → GroupsNodes s groups
-groups-all s groups long each = record { each = λ place.
-    ⊎_elim (λ inside. each place inside) (λ past. rw (slice_get_past groups place (omega (arith, long, past)), slice_get_past s.nodes place past) refl) (cases_lt place (length s.nodes)) }
+groups-all s groups long each = record {
+  each = λ place.
+      ⊎_elim (λ inside. each place inside) (λ past. rw (slice_get_past groups place (omega (arith, long, past)), slice_get_past s.nodes place past) refl) (cases_lt place (length s.nodes));
+}
 
 -- the groups of one more node
 pub groups-more : (s : State) (groups : List NodeGroup) (group : NodeGroup) (place : ℕ) → length groups ≡ place → ((k : ℕ) → k < place → slice_get groups k ≡ group_at s k)

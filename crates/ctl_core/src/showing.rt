@@ -48,7 +48,10 @@ fn refusal_of(cluster: &Cluster, query: &Query) -> Option<Refusal>
     ensures { result ≡ first_refusal (Showing.show_refusals (state_of cluster.now) query.now) }
 {
     match query {
-        Query::Sinfo { partition: Some(name), .. } => match cluster.partitions.find(Some(name)) {
+        Query::Sinfo {
+            partition: Some(name),
+            ..
+        } => match cluster.partitions.find(Some(name)) {
             Some(_) => None,
             None => Some(Refusal::InvalidPartition),
         },

@@ -126,8 +126,13 @@ fn enter(
     ensures reply { result.reply ≡ decided.reply }
     ensures place { result.place ≡ length entries.old.items }
     ensures entries { entries.new.items ≡ (if is_entered decided.reply
-        then entries.old.items ++ record { session = session; moment = decided.moment; user = user;
-            request = request; reply = decided.reply } ∷ []
+        then entries.old.items ++ record {
+          session = session;
+          moment = decided.moment;
+          user = user;
+          request = request;
+          reply = decided.reply;
+        } ∷ []
         else entries.old.items) }
 {
     let place = entries.len() as u64;

@@ -7,9 +7,9 @@ ghost use Rattle.std.specs.Cmp.{partial_equiv_from_equiv};
 ghost use Rattle.std.specs.Cmp.Lexicographic.{nat_list_eq_equiv};
 ghost use Rattle.request_data.specs.Starts.{InOrder, LaunchesInOrder};
 
+use crate::report::Start;
 use plain_data::Plain;
 use plain_data::items::Items;
-use crate::report::Start;
 use small_texts::memory_error::Memory;
 use small_texts::name::Name;
 use std::marker::Model;

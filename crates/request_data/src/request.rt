@@ -2,9 +2,9 @@
 
 ghost use Rattle.std.specs.Prelude.{◌≡◌, IfOk};
 
-use plain_data::job::JobDesc;
 use crate::query::Query;
 use crate::report::Report;
+use plain_data::job::JobDesc;
 use small_texts::memory_error::Memory;
 
 /// A request to the controller.

@@ -63,13 +63,7 @@ pub fn outcome_of(alloc: Global, case: &Case<'_>, most: u32) -> Result<Outcome, 
     let output = MemLink::new(alloc, Vec::new(alloc), most, Vec::new(alloc), writes);
     let mut link = Pair::new(input, output);
     let mut errors = MemLink::new(alloc, Vec::new(alloc), 64, Vec::new(alloc), Vec::new(alloc));
-    let status = run(
-        alloc,
-        words.as_slice(),
-        &mut shelf,
-        &mut link,
-        &mut errors,
-    );
+    let status = run(alloc, words.as_slice(), &mut shelf, &mut link, &mut errors);
     Ok(Outcome {
         status,
         output: Vec::from_slice(alloc, link.sink.taken())?,

@@ -34,10 +34,7 @@ fn conf_named(words: &[String]) -> Option<&str>
         [command, mode, option, name]
             if command.as_str() == "slurmctld"
                 && mode.as_str() == "--script"
-                && option.as_str() == "-f" =>
-        {
-            Some(name.as_str())
-        }
+                && option.as_str() == "-f" => { Some(name.as_str()) }
         _ => None,
     }
 }
@@ -77,12 +74,7 @@ fn run_on_file<Q: Shelf, L: Link>(alloc: Global, name: &str, shelf: &mut Q, link
 }
 
 // How the run of these words ends.
-fn run_words<Q: Shelf, L: Link>(
-    alloc: Global,
-    words: &[String],
-    shelf: &mut Q,
-    link: &mut L,
-) -> End
+fn run_words<Q: Shelf, L: Link>(alloc: Global, words: &[String], shelf: &mut Q, link: &mut L) -> End
     ensures { IsEnd (map string_bytes words.now)
         (record { files = Q.files shelf.old; faults = Q.shelf_faults shelf.old; wire = L.wire link.old })
         (record { files = Q.files shelf.new; faults = Q.shelf_faults shelf.new; wire = L.wire link.new }) result }

@@ -12,7 +12,7 @@ loop-job-preserved c =
     let row = λ (job : JobRecord). Job (row_of (state_of c.args.cluster.now) c.args.moment job) in
     let same = c.deref-job-items.ensures.value in
     let more = rw (← c.is_shown.ensures) at
-      (map-filter-more row (is_shown c.args.starts) c.args.cluster.now.jobs.items c.loop-job.job-index c.job-item.result (rw same at c.loop-job-test.true) (rw same at c.job-item.is)) in
+    (map-filter-more row (is_shown c.args.starts) c.args.cluster.now.jobs.items c.loop-job.job-index c.job-item.result (rw same at c.loop-job-test.true) (rw same at c.job-item.is)) in
     elim c.if-is_shown.branch [
       | then-is_shown+in_ok-row+in_ok-push w ↦ rw (w.rows-is, w.in_ok-push.ensures.items, c.loop-job.invariant, w.in_ok-row.ensures, more, w.if-is_shown.true) refl
       | else-is_shown w ↦ rw (w.rows-is, c.loop-job.invariant, more, w.if-is_shown.false) (sym (append-nil _))

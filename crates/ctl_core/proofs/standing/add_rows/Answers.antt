@@ -12,9 +12,9 @@ loop-group-preserved c =
     let row = λ (group : NodeGroup). row_by partition group (names_standing (state_of c.args.cluster.now) group partition.nodes) in
     elim c.match-branch-2.branch [
       | in-Some+in_ok-push w ↦ rw (w.rows-is, w.in_ok-push.ensures.items, c.loop-group.invariant)
-        (filter_map-more row groups c.loop-group.group-index _ c.args.rows.now.items (Some w.in-Some.row) c.loop-group-test.true (sym w.in-Some.is ∙ c.in_ok-row.ensures))
+          (filter_map-more row groups c.loop-group.group-index _ c.args.rows.now.items (Some w.in-Some.row) c.loop-group-test.true (sym w.in-Some.is ∙ c.in_ok-row.ensures))
       | in_default w ↦ rw (w.rows-is, c.loop-group.invariant)
-        (sym (append-nil _) ∙ filter_map-more row groups c.loop-group.group-index _ c.args.rows.now.items None c.loop-group-test.true (sym w.in_default.is ∙ c.in_ok-row.ensures))
+          (sym (append-nil _) ∙ filter_map-more row groups c.loop-group.group-index _ c.args.rows.now.items None c.loop-group-test.true (sym w.in_default.is ∙ c.in_ok-row.ensures))
     ]
 
 pub returns : goal.returns

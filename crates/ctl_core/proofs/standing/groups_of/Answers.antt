@@ -12,7 +12,7 @@ loop-place-preserved c =
     let inside = rw nodes at c.loop-place-test.true in
     let there = slice_get_read s.nodes (length s.nodes) c.loop-place.place c.index-nodes-place.result refl inside (rw nodes at c.index-nodes-place.is) in
     let here = group-here s c.in_ok-held.held.items c.loop-place.place c.index.result.now c.index-nodes-place.result c.group_of.result
-      c.in_ok-held.ensures.counts (omega (arith, c.in_ok-held.ensures.len, inside)) there c.index.ensures c.group_of.ensures in
+    c.in_ok-held.ensures.counts (omega (arith, c.in_ok-held.ensures.len, inside)) there c.index.ensures c.group_of.ensures in
     record {
       len = omega (arith, c.in_ok-push.ensures.len, before.len);
       each = rw c.in_ok-push.ensures.items (groups-more s c.loop-place.groups.items c.group_of.result c.loop-place.place before.len before.each here);
