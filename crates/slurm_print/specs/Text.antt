@@ -1,5 +1,5 @@
 -- The text of a reply, as a function of the request and the reply.
-use Rattle.std.specs.Prelude.{ℕ, List, [], ◌++◌, codes, decimal}
+use Rattle.std.specs.Prelude.{ℕ, List, [], ◌++◌, codes, decimal, Bool, false, if◌then◌else◌}
 use Rattle.slurm_text.specs.declared.plain.query.Query.TheVariants.{Squeue, Sinfo}
 use Rattle.slurm_text.specs.declared.plain.reply.Reply.{Reply}
 use Rattle.slurm_text.specs.declared.plain.reply.Reply.TheVariants.{Submitted, Passed, Orders, Idle, Shown, Refused, NotBuilt}
@@ -23,6 +23,16 @@ command_of (Show (Sinfo partition titles)) = codes "sinfo"
 abbrev pub submitted_line : ℕ → List ℕ
 submitted_line id = codes "Submitted batch job " ++ decimal id ++ codes "\n"
 
+-- the answer is the number alone where the submission asks for that
+abbrev pub is_parsable : Request → Bool
+is_parsable (Submit desc) = desc.parsable
+is_parsable (Report report) = false
+is_parsable Pass = false
+is_parsable (Show query) = false
+
+abbrev pub submitted_text : Bool → ℕ → List ℕ
+submitted_text parsable id = if parsable then decimal id ++ codes "\n" else submitted_line id
+
 abbrev pub passed_line : ℕ → ℕ → ℕ → List ℕ
 passed_line ended started planned =
     codes "pass: ended " ++ decimal ended ++ codes " started " ++ decimal started ++ codes " planned " ++ decimal planned ++ codes "\n"
@@ -39,7 +49,7 @@ shown_text (Show (Sinfo partition titles)) view = sinfo_text titles view
 shown_text request view = []
 
 abbrev pub text_of : Request → Reply → List ℕ
-text_of request (Submitted id) = submitted_line id
+text_of request (Submitted id) = submitted_text (is_parsable request) id
 text_of request (Passed ended started planned) = passed_line ended started planned
 text_of request (Orders orders) = orders_text orders
 text_of request Idle = idle_text request

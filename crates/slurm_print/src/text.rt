@@ -1,9 +1,9 @@
 //! The text of a reply.
 
 ghost use Rattle.std.specs.Prelude.{◌≡◌, ◌++◌, IfOk, OnOk};
-ghost use Rattle.slurm_print.specs.Text.{text_of, command_of, submitted_line, passed_line, idle_text, shown_text};
+ghost use Rattle.slurm_print.specs.Text.{text_of, command_of, is_parsable, submitted_text, passed_line, idle_text, shown_text};
 
-use crate::line::{push_labelled, push_text};
+use crate::line::{push_labelled, push_number, push_text};
 use crate::malformed::not_built;
 use crate::orders::push_orders;
 use crate::refusal::push_refusal;
@@ -22,7 +22,7 @@ pub fn text(alloc: Global, request: &Request, reply: &Reply) -> Result<Vec<u8>, 
 {
     let mut out = Vec::new(alloc);
     match reply {
-        Reply::Submitted { id } => push_submitted(&mut out, *id)?,
+        Reply::Submitted { id } => push_submitted(&mut out, is_parsable(request), *id)?,
         Reply::Passed {
             ended,
             started,
@@ -37,10 +37,24 @@ pub fn text(alloc: Global, request: &Request, reply: &Reply) -> Result<Vec<u8>, 
     Ok(out)
 }
 
-fn push_submitted(out: &mut Vec<u8>, id: u32) -> Result<(), Memory>
-    ensures { OnOk result (out.new.items ≡ out.old.items ++ submitted_line id) }
+// Whether the answer is the number alone: `--parsable` of sbatch(1).
+fn is_parsable(request: &Request) -> bool
+    ensures { result ≡ is_parsable request.now }
 {
-    push_labelled(out, b"Submitted batch job ", u64::from(id))?;
+    match request {
+        Request::Submit(desc) => desc.parsable,
+        _ => false,
+    }
+}
+
+fn push_submitted(out: &mut Vec<u8>, parsable: bool, id: u32) -> Result<(), Memory>
+    ensures { OnOk result (out.new.items ≡ out.old.items ++ submitted_text parsable id) }
+{
+    if parsable {
+        push_number(out, u64::from(id))?;
+    } else {
+        push_labelled(out, b"Submitted batch job ", u64::from(id))?;
+    }
     push_text(out, b"\n")
 }
 
