@@ -2,4 +2,5 @@
 //! nothing.
 #![tactic(auto)]
 
+pub mod confs;
 pub mod scripts;

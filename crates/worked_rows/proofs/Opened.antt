@@ -1,0 +1,113 @@
+-- What rows compute with. A row whose line of `unfolding` has one of these words opens all that the word names.
+use Rattle.std.specs.Fmt.{digits}
+use Rattle.std.specs.Str.{is_utf8, chars}
+use lib.Utf8.{encode}
+use Rattle.conf_lines.specs.Lines.{without_return, lines_of_rest}
+use Rattle.conf_lines.specs.Words.{words_in}
+use Rattle.conf_lines.specs.Pairs.{unquoted, pair_of_parts, pair_in}
+use Rattle.conf_values.specs.Keys.{setting_key, node_key, partition_key}
+use Rattle.conf_values.specs.Values.{number_in, names_in, nodes_in, node_start, part_state, yes_or_no, mem_per_cpu}
+use Rattle.conf_values.specs.Scheduler.{no_items}
+use Rattle.conf_reader.specs.Words.{entry_in, said_by}
+use Rattle.conf_reader.specs.SettingLines.{setting_entry, setting_word, with_setting, no_settings, setting_line, settings_of}
+use Rattle.conf_reader.specs.NodeLines.{node_name, node_entry, names_fault, entry_fault, node_word, with_entry, no_node_words, node_line, over, processors, node_conf}
+use Rattle.conf_reader.specs.PartitionLines.{part_name, part_nodes, part_entry, part_fault, part_word, with_part, no_part_words, part_line, over as parts_over, part_conf, line_of}
+use Rattle.conf_reader.specs.Reader.{kind_of, is_for_nodes, listed, with_nodes, after_node_line, is_for_partitions, after_part_line, after_line}
+use Rattle.conf_reader.specs.Reader.{nothing_said, has_unknown, first_unknown, nodes_by, conf_of_lines, whole_file, conf_in}
+use Rattle.slurm_num.specs.Elapsed.{elapsed_text}
+use Rattle.slurm_num.specs.Limits.{seconds_of_clock, seconds_of_day, seconds_of_parts, seconds_of, limit_of_minutes, limit_of}
+use Rattle.slurm_text.specs.Digits.{number_within}
+use Rattle.slurm_text.specs.Name.{is_name, is_job_name}
+use Rattle.slurm_text.specs.Memory.{in_megabytes, megabytes_of}
+use Rattle.slurm_text.specs.Hosts.{numbers_of, range_names, made_behind, made_by, few, host_items, first_bad_item, hosts_in}
+use Rattle.worked_rows.specs.Clusters.{usual_settings, usual_partition, one_node, on_one_node, small_node, four_nodes, on_four_nodes}
+use Rattle.slurm_top.specs.Cluster.{built_in_assocs}
+use Rattle.slurm_top.specs.Script.{script_of}
+use Rattle.ctl_session.specs.Session.{most_blocks}
+use Rattle.block_frame.specs.Grammar.{first_block, blocks_within, blocks_of}
+use Rattle.block_frame.specs.Attachments.{reading_at}
+use Rattle.slurm_text.specs.Words.{words_in as line_words_in, before_comment, open_place, first_bad}
+use Rattle.command_words.specs.Command.{command_named}
+use Rattle.command_words.specs.Header.{head_in, asked_by, meaning_by, meaning_in}
+use Rattle.command_words.specs.Wanted.{lone_by, wanted_by}
+use Rattle.command_words.specs.Sbatch.{is_built, sbatch_by}
+use Rattle.option_words.specs.Arguments.{parts_left}
+use Rattle.sbatch_options.specs.Table.{options}
+use Rattle.sbatch_options.specs.Entries.{value_entry, entry_in as option_entry, with_entry as with_option, no_words}
+use Rattle.sbatch_options.specs.Values.{number_in as option_number}
+use Rattle.sbatch_reader.specs.Description.{least_nodes, are_crossed, all_tasks, last_part, job_of}
+use Rattle.sbatch_reader.specs.Drafts.{nothing_said as no_option_said, after, draft_job}
+use Rattle.sbatch_reader.specs.Job.{all_said, job_in}
+use Rattle.sbatch_reader.specs.Lines.{split_text, one_line_says, script_says}
+use Rattle.command_words.specs.Report.{start_of, done_of, listed_of, listed_by, report_by}
+use Rattle.command_words.specs.Queries.{query_words, squeue_options, sinfo_options, squeue_by, sinfo_by}
+use Rattle.node_pick.specs.Choosing.{numbers_from, filled_sets, sets, fits, chosen}
+use Rattle.resource_profile.specs.Free.{least_after}
+use Rattle.backfill_planner.specs.Giving.{capacities}
+use Rattle.backfill_planner.specs.Plans.{placement_at, first_second, placed_of, plan_beside, plan_of}
+use Rattle.partitions.specs.Partitions.{bounds_of}
+use Rattle.ctl_state.specs.Ordered.{ordered_by}
+use Rattle.ctl_state.specs.Planning.{node_order, plan_job}
+use Rattle.ctl_state.specs.Holding.{times_held, free_ids}
+use Rattle.ctl_pass.specs.Reasons.{hindrance}
+use Rattle.ctl_pass.specs.Readiness.{base_of, candidates, needs_of, ranked, planned}
+use Rattle.ctl_pass.specs.Starting.{started}
+use Rattle.ctl_pass.specs.Passing.{is_idle}
+use Rattle.ctl_core.specs.Submission.{is_placeable}
+use Rattle.ctl_report.specs.Ordering.{in_order, orders_of}
+use Rattle.slurm_print.specs.Ranges.{run_text}
+use Rattle.ctl_core.specs.Showing.{highest, names_of, row_of, view_of}
+use Rattle.ctl_core.specs.Standing.{cpus_held, names_standing, rows_of_partition, state_rows}
+use Rattle.slurm_print.specs.Field.{field, cell, left_cell}
+use Rattle.slurm_text.specs.Folding.{in_byte_order, digits_len, grouped, run_text as folded_run, group_text, folded}
+
+-- what the lines of a file say
+unfoldable pub files : Unit {0}
+unfolding is_utf8 chars encode digits without_return lines_of_rest words_in unquoted pair_of_parts pair_in
+    setting_key node_key partition_key number_in names_in nodes_in node_start part_state yes_or_no mem_per_cpu
+    no_items entry_in said_by setting_entry setting_word with_setting no_settings setting_line settings_of node_name
+    node_entry names_fault entry_fault node_word with_entry no_node_words node_line over processors node_conf
+    part_name part_nodes part_entry part_fault part_word with_part no_part_words part_line parts_over part_conf
+    line_of kind_of is_for_nodes listed with_nodes after_node_line is_for_partitions after_part_line after_line
+    nothing_said has_unknown first_unknown nodes_by conf_of_lines whole_file conf_in seconds_of_clock seconds_of_day
+    seconds_of_parts seconds_of limit_of_minutes limit_of number_within is_name is_job_name in_megabytes
+    megabytes_of numbers_of range_names made_behind made_by few host_items first_bad_item hosts_in
+files = tt
+
+-- the clusters, and scripts on them
+unfoldable pub clusters : Unit {0}
+unfolding digits usual_settings usual_partition one_node on_one_node small_node four_nodes on_four_nodes
+    built_in_assocs script_of most_blocks
+clusters = tt
+
+-- blocks, and what their words ask
+unfoldable pub headers : Unit {0}
+unfolding first_block blocks_within blocks_of reading_at line_words_in before_comment open_place first_bad
+    command_named head_in asked_by meaning_by meaning_in lone_by wanted_by is_built sbatch_by parts_left options
+    value_entry option_entry with_option no_words option_number least_nodes are_crossed all_tasks last_part job_of
+    no_option_said after draft_job all_said job_in split_text one_line_says script_says number_within is_name
+    is_job_name seconds_of_clock seconds_of_day seconds_of_parts seconds_of limit_of_minutes limit_of
+headers = tt
+
+-- what reports and queries say
+unfoldable pub told : Unit {0}
+unfolding start_of done_of listed_of listed_by report_by query_words squeue_options sinfo_options squeue_by sinfo_by
+told = tt
+
+-- plans, and what starts by them
+unfoldable pub plans : Unit {0}
+unfolding numbers_from filled_sets sets fits chosen least_after capacities placement_at first_second placed_of
+    plan_beside plan_of bounds_of ordered_by node_order plan_job times_held free_ids hindrance base_of candidates
+    needs_of ranked planned started is_idle is_placeable
+plans = tt
+
+-- what nodes are ordered
+unfoldable pub orders : Unit {0}
+unfolding in_order orders_of run_text
+orders = tt
+
+-- what is shown
+unfoldable pub rows : Unit {0}
+unfolding highest names_of row_of view_of cpus_held names_standing rows_of_partition state_rows elapsed_text field
+    cell left_cell in_byte_order digits_len grouped folded_run group_text folded
+rows = tt

@@ -1,0 +1,83 @@
+-- The clusters of the rows.
+use Rattle.std.specs.Prelude.{true, false, [], ◌∷◌, Some, None, codes}
+use Rattle.slurm_text.specs.declared.plain.conf.Settings.{Settings}
+use Rattle.slurm_text.specs.declared.plain.conf.NodeConf.{NodeConf}
+use Rattle.slurm_text.specs.declared.plain.conf.PartConf.{PartConf}
+use Rattle.slurm_text.specs.declared.plain.conf.NodeStart.TheVariants.{Unknown, Down}
+use Rattle.slurm_text.specs.declared.plain.conf.PartState.TheVariants.{Up}
+use Rattle.slurm_text.specs.declared.plain.limit.Limit.TheVariants.{Minutes, Unlimited}
+use Rattle.slurm_text.specs.declared.plain.mem_ask.MemAsk.TheVariants.{PerCpu}
+use Rattle.slurm_text.specs.Confs.{ConfView}
+use Rattle.ctl_state.specs.State.{State, opening}
+use Rattle.slurm_top.specs.Cluster.{built_in_assocs}
+
+-- the settings of a file that gives none
+unfoldable pub usual_settings : Settings
+usual_settings = record {
+  first_job_id = 1;
+  max_job_count = 10000;
+  max_array_size = 1001;
+  min_job_age = 300;
+  slurmd_timeout = 300;
+  job_requeue = true;
+  slurm_user = codes "root";
+  max_age = 10080;
+  weight_age = 0;
+  weight_fairshare = 0;
+  weight_job_size = 0;
+  weight_partition = 0;
+  weight_qos = 0;
+  bf_window = 1440;
+  bf_interval = 30;
+  mem_default = None;
+}
+
+-- a partition of no nodes whose file gives nothing else
+unfoldable pub usual_partition : PartConf
+usual_partition = record {
+  name = codes "main";
+  nodes = [];
+  is_default = true;
+  max_time = Unlimited;
+  default_time = None;
+  state = Up;
+  factor = 1;
+  tier = 1;
+  min_nodes = 0;
+  max_nodes = None;
+  accounts = None;
+  qos = None;
+  exclusive = false;
+  mem_default = None;
+}
+
+-- one node of four processors; a processor comes with 1,000 megabytes
+unfoldable pub one_node : ConfView
+one_node = record {
+  settings = record usual_settings { slurmd_timeout = 0; mem_default = Some (PerCpu 1000) };
+  nodes = record { name = codes "n1"; cpus = 4; mem = 4000; weight = 1; features = []; state = Unknown } ∷ [];
+  partitions = record usual_partition { nodes = codes "n1" ∷ [] } ∷ [];
+}
+
+-- the state before any request there
+unfoldable pub on_one_node : State
+on_one_node = opening one_node built_in_assocs
+
+-- a node of two processors
+unfoldable pub small_node : NodeConf
+small_node = record { name = codes "n1"; cpus = 2; mem = 2000; weight = 1; features = []; state = Unknown }
+
+-- three nodes that are up, and one that is down
+unfoldable pub four_nodes : ConfView
+four_nodes = record {
+  settings = usual_settings;
+  nodes = small_node ∷ record small_node { name = codes "n2" } ∷ record small_node { name = codes "n3" }
+      ∷ record small_node { name = codes "m1"; state = Down } ∷ [];
+  partitions = record usual_partition {
+    nodes = codes "n1" ∷ codes "n2" ∷ codes "n3" ∷ codes "m1" ∷ [];
+    max_time = Minutes 1440;
+  } ∷ [];
+}
+
+unfoldable pub on_four_nodes : State
+on_four_nodes = opening four_nodes built_in_assocs
