@@ -1,3 +1,4 @@
+pub mod Cancel
 pub mod Command
 pub mod Cut
 pub mod Header
@@ -5,4 +6,5 @@ pub mod Names
 pub mod Queries
 pub mod Report
 pub mod Sbatch
+pub mod Targets
 pub mod Wanted

@@ -1,57 +1,89 @@
 -- What the options of squeue and sinfo say.
-use Rattle.std.specs.Prelude.{ℕ, true, false, List, [], ◌∷◌, Option, Some, None, option_map, map}
-use Rattle.option_words.specs.Arguments.{Part, plain, bad, flag, valued, lacking, parts_left}
-use Rattle.option_words.specs.declared.arguments.Takes.{Takes}
+use Rattle.std.specs.Prelude.{ℕ, true, false, nat_lt, if◌then◌else◌, List, [], ◌∷◌, length, Option, Some, None, option_map, map}
+use Rattle.option_words.specs.Arguments.{Part, Table, plain, bad, flag, valued, lacking, parts_left}
 use Rattle.slurm_text.specs.Options.{◌>>=◌}
+use Rattle.slurm_text.specs.declared.plain.query.JobQuery.{JobQuery}
+use Rattle.slurm_text.specs.declared.plain.query.Piece.{Piece}
 use Rattle.slurm_text.specs.declared.plain.query.Query.{Query}
 use Rattle.slurm_text.specs.declared.plain.query.Query.TheVariants.{Squeue, Sinfo}
+use Rattle.slurm_text.specs.declared.plain.query.Who.TheVariants.{Anyone, Asker, User}
+use Rattle.squeue_format.specs.Format.{format_in}
 use Rattle.command_words.specs.Names.{name_by}
+use Rattle.command_words.specs.Targets.{states_by, targets_by}
 use Rattle.command_words.specs.declared.queries.TheConstants.{SQUEUE_OPTIONS, SINFO_OPTIONS}
 use Rattle.command_words.specs.declared.queries.QueryFlag.{QueryFlag}
-use Rattle.command_words.specs.declared.queries.QueryFlag.TheVariants.{NoHeader, Start}
+use Rattle.command_words.specs.declared.queries.QueryFlag.TheVariants.{NoHeader, Start, Me}
 use Rattle.command_words.specs.declared.queries.QueryOption.{QueryOption}
 use Rattle.command_words.specs.declared.queries.QueryOption.TheVariants as option
 use Rattle.command_words.specs.declared.queries.QueryEntry.{QueryEntry}
-use Rattle.command_words.specs.declared.queries.QueryEntry.TheVariants.{NoTitles, Starts, Partition}
-use Rattle.command_words.specs.declared.queries.QueryWords.{QueryWords}
+use Rattle.command_words.specs.declared.queries.QueryEntry.TheVariants.{NoTitles, Starts, Whose, Jobs, Partition, States, Format}
+
+-- a format of at most 1,024 bytes
+abbrev pub format_by : List ℕ → Option (List Piece)
+format_by text = if nat_lt 1024 (length text) then None else format_in text
+
+-- what an option and its value say, where the value is good
+abbrev pub value_of : QueryOption → List ℕ → Option QueryEntry
+value_of option.User text = option_map (λ name. Whose (User name)) (name_by text)
+value_of option.Jobs text = option_map Jobs (targets_by text)
+value_of option.Partition text = option_map Partition (name_by text)
+value_of option.States text = option_map States (states_by text)
+value_of option.Format text = option_map Format (format_by text)
+
+-- what an option without a value says
+abbrev pub flag_entry : QueryFlag → QueryEntry
+flag_entry NoHeader = NoTitles
+flag_entry Start = Starts
+flag_entry Me = Whose Asker
 
 -- what a part of a command says; all but options with good values is off
 abbrev pub entry_of : Part QueryFlag QueryOption → Option QueryEntry
-entry_of (flag number NoHeader) = Some NoTitles
-entry_of (flag number Start) = Some Starts
-entry_of (valued number option.Partition place text) = option_map Partition (name_by text)
+entry_of (flag number own) = Some (flag_entry own)
+entry_of (valued number wanted place text) = value_of wanted text
 entry_of (plain number text) = None
 entry_of (bad number kind) = None
 entry_of (lacking number wanted) = None
 
 -- an entry takes the place of an earlier one of its kind
-abbrev pub with_entry : QueryWords → QueryEntry → QueryWords
-with_entry words NoTitles = record words { titles = false }
-with_entry words Starts = record words { starts = true }
-with_entry words (Partition name) = record words { partition = Some name }
+abbrev pub with_entry : JobQuery → QueryEntry → JobQuery
+with_entry query NoTitles = record query { titles = false }
+with_entry query Starts = record query { starts = true }
+with_entry query (Whose who) = record query { who = who }
+with_entry query (Jobs targets) = record query { jobs = Some targets }
+with_entry query (Partition name) = record query { partition = Some name }
+with_entry query (States states) = record query { states = Some states }
+with_entry query (Format pieces) = record query { format = Some pieces }
 
--- titles, and all partitions
-abbrev pub nothing_said : QueryWords
-nothing_said = record { titles = true; starts = false; partition = None }
+-- all jobs that haven't ended, with titles, in the usual format
+abbrev pub nothing_said : JobQuery
+nothing_said = record {
+  who = Anyone;
+  jobs = None;
+  partition = None;
+  states = None;
+  titles = true;
+  starts = false;
+  format = None;
+}
 
 -- what parts of a command say, on top of what was said before
-abbrev pub said_by : QueryWords → List (Part QueryFlag QueryOption) → Option QueryWords
-said_by words [] = Some words
-said_by words (part ∷ parts) = entry_of part >>= λ entry. said_by (with_entry words entry) parts
+abbrev pub said_by : JobQuery → List (Part QueryFlag QueryOption) → Option JobQuery
+said_by query [] = Some query
+said_by query (part ∷ parts) = entry_of part >>= λ entry. said_by (with_entry query entry) parts
 
 -- what the words behind a command's name say, by a table of its options
-unfoldable pub query_words : List (List ℕ × Option ℕ × Takes QueryFlag QueryOption) → List (List ℕ) → Option QueryWords
+unfoldable pub query_words : Table QueryFlag QueryOption → List (List ℕ) → Option JobQuery
 query_words table words = said_by nothing_said (parts_left table words (record { place = 1; ended = false }))
 
 -- the options of squeue and of sinfo, as they stand in their tables
-unfoldable pub squeue_options : List (List ℕ × Option ℕ × Takes QueryFlag QueryOption)
+unfoldable pub squeue_options : Table QueryFlag QueryOption
 squeue_options = map (λ row. (row.0.now, row.1, row.2)) SQUEUE_OPTIONS
 
-unfoldable pub sinfo_options : List (List ℕ × Option ℕ × Takes QueryFlag QueryOption)
+unfoldable pub sinfo_options : Table QueryFlag QueryOption
 sinfo_options = map (λ row. (row.0.now, row.1, row.2)) SINFO_OPTIONS
 
 unfoldable pub squeue_by : List (List ℕ) → Option Query
-squeue_by words = option_map (λ said. Squeue said.titles said.starts) (query_words squeue_options words)
+squeue_by words = option_map Squeue (query_words squeue_options words)
 
 unfoldable pub sinfo_by : List (List ℕ) → Option Query
 sinfo_by words = option_map (λ said. Sinfo said.partition said.titles) (query_words sinfo_options words)

@@ -1,5 +1,5 @@
 -- What the words of sbatch and its script want.
-use Rattle.std.specs.Prelude.{ℕ, ◌==◌, Bool, false, not, ◌&&◌, if◌then◌else◌, List, length, Option, is_none, Result, Ok, Err}
+use Rattle.std.specs.Prelude.{ℕ, ◌==◌, Bool, false, ◌&&◌, if◌then◌else◌, List, Option, is_none, Result, Ok, Err}
 use Rattle.sbatch_reader.specs.Job.{job_in}
 use Rattle.sbatch_reader.specs.declared.refusal.JobRefusal.{JobRefusal}
 use Rattle.sbatch_reader.specs.declared.refusal.JobRefusal.TheVariants.{BadWord, BadLine, Memory}
@@ -19,9 +19,7 @@ has_usual_nice (Raise number) = false
 unfoldable pub is_built : JobDesc → Bool
 is_built job =
     is_none job.account && is_none job.qos && is_none job.reservation && is_none job.begin
-    && has_usual_nice job.nice && not job.held && is_none job.features
-    && length job.required == 0 && length job.excluded == 0
-    && is_none job.array && is_none job.dependency
+    && has_usual_nice job.nice && is_none job.dependency
 
 abbrev pub wanted_job : JobDesc → Wanted
 wanted_job job = if is_built job then Request (Submit job) else NotBuilt

@@ -10,6 +10,8 @@ pub enum Command {
     Sbatch,
     /// squeue(1).
     Squeue,
+    /// scancel(1).
+    Scancel,
     /// sinfo(1).
     Sinfo,
     /// A node's daemon tells what it runs (own).
@@ -29,6 +31,7 @@ impl Command {
         match self {
             Command::Sbatch => b"sbatch",
             Command::Squeue => b"squeue",
+            Command::Scancel => b"scancel",
             Command::Sinfo => b"sinfo",
             Command::Report => b"report",
             Command::Pass => b"pass",
@@ -45,6 +48,8 @@ pub(crate) fn command_named(word: &[u8]) -> Option<Command>
         Some(Command::Sbatch)
     } else if word == b"squeue".as_slice() {
         Some(Command::Squeue)
+    } else if word == b"scancel".as_slice() {
+        Some(Command::Scancel)
     } else if word == b"sinfo".as_slice() {
         Some(Command::Sinfo)
     } else if word == b"report".as_slice() {

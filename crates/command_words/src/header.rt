@@ -2,14 +2,14 @@
 
 ghost use Rattle.std.specs.Prelude.{◌≡◌, ◌≤◌, length, option_copied, option_map, IfOk, OnSome};
 ghost use Rattle.command_words.specs.Header.{head_in, command_in, asked_by, meaning_by, meaning_in};
-ghost use Rattle.command_words.specs.Names.{name_by};
 
 use crate::command::{Command, command_named};
 use crate::fault::WordFault;
+use crate::names::read_name;
 use crate::wanted::{Wanted, read_command};
 use slurm_text::digits::parse_number;
 use slurm_text::memory_error::Memory;
-use slurm_text::name::{Name, NameRefusal};
+use slurm_text::name::Name;
 use slurm_text::plain::request::Request;
 use slurm_text::words::{Words, WordsRefusal, split_words};
 use std::alloc::Global;
@@ -33,8 +33,8 @@ pub enum Meaning {
     Malformed { command: Command, fault: WordFault },
     /// Nothing that is built yet.
     NotBuilt,
-    /// The header is no list of words: it has a bad byte at this place, counted in bytes from 0, or a quote or backslash
-    /// there that stays open.
+    /// The header is no list of words: it has a bad byte at this place, counted in bytes from 0, or a quote or
+    /// backslash there that stays open.
     BadWords { place: u32 },
     /// The words don't begin with a moment, a user and a command.
     BadHeader,
@@ -95,17 +95,6 @@ fn read_head(alloc: Global, words: &Words) -> Result<Option<Head>, Memory>
         return Ok(None);
     };
     Ok(Some(Head { moment, user }))
-}
-
-/// A word that is a name.
-pub(crate) fn read_name(alloc: Global, word: &[u8]) -> Result<Option<Name>, Memory>
-    ensures { IfOk result (λ name. name ≡ name_by word.now) }
-{
-    match Name::read(alloc, word) {
-        Err(NameRefusal::Memory) => Err(Memory),
-        Err(NameRefusal::BadName) => Ok(None),
-        Ok(name) => Ok(Some(name)),
-    }
 }
 
 fn command_in(words: &Words) -> Option<Command>

@@ -2,34 +2,52 @@
 
 ghost use Rattle.std.specs.Prelude.{◌≡◌, IfOk};
 ghost use Rattle.option_words.specs.Arguments.{part_of, rows};
-ghost use Rattle.command_words.specs.Queries.{entry_of, query_words, squeue_options, sinfo_options, squeue_by, sinfo_by};
+ghost use Rattle.command_words.specs.Queries.{entry_of, flag_entry, format_by, nothing_said, query_words, squeue_options, sinfo_options, squeue_by, sinfo_by, value_of, with_entry};
 
-use crate::header::read_name;
+use crate::names::read_name;
+use crate::targets::{read_states, read_targets};
 use option_words::arguments::Takes::{self, Nothing, Value};
 use option_words::arguments::{Argument, Cursor, next_argument};
+use slurm_text::items::Items;
 use slurm_text::memory_error::Memory;
 use slurm_text::name::Name;
-use slurm_text::plain::query::Query;
+use slurm_text::plain::query::{JobQuery, Piece, Query, StateCode, Who};
+use slurm_text::plain::target::Target;
 use slurm_text::words::Words;
+use squeue_format::format::{FormatRefusal, read_format};
 use std::alloc::Global;
+
+// A longer format isn't taken.
+const LONGEST_FORMAT: usize = 1024;
 
 /// An option that stands without a value.
 #[derive(Clone, Copy)]
 pub(crate) enum QueryFlag {
     NoHeader,
     Start,
+    Me,
 }
 
 /// An option that stands with a value.
 #[derive(Clone, Copy)]
 pub(crate) enum QueryOption {
+    User,
+    Jobs,
     Partition,
+    States,
+    Format,
 }
 
 /// The options of squeue(1).
-pub(crate) const SQUEUE_OPTIONS: [(&[u8], Option<u8>, Takes<QueryFlag, QueryOption>); 2] = [
+pub(crate) const SQUEUE_OPTIONS: [(&[u8], Option<u8>, Takes<QueryFlag, QueryOption>); 8] = [
     (b"noheader", Some(b'h'), Nothing(QueryFlag::NoHeader)),
     (b"start", None, Nothing(QueryFlag::Start)),
+    (b"me", None, Nothing(QueryFlag::Me)),
+    (b"user", Some(b'u'), Value(QueryOption::User)),
+    (b"jobs", Some(b'j'), Value(QueryOption::Jobs)),
+    (b"partition", Some(b'p'), Value(QueryOption::Partition)),
+    (b"states", Some(b't'), Value(QueryOption::States)),
+    (b"format", Some(b'o'), Value(QueryOption::Format)),
 ];
 
 /// The options of sinfo(1).
@@ -43,40 +61,40 @@ pub(crate) const SINFO_OPTIONS: [(&[u8], Option<u8>, Takes<QueryFlag, QueryOptio
 pub(crate) enum QueryEntry {
     NoTitles,
     Starts,
+    Whose(Who),
+    Jobs(Items<Target>),
     Partition(Name),
+    States(Items<StateCode>),
+    Format(Items<Piece>),
 }
 
-/// What options say together, of each kind the last.
-#[derive(Drop)]
-pub(crate) struct QueryWords {
-    pub(crate) titles: bool,
-    pub(crate) starts: bool,
-    pub(crate) partition: Option<Name>,
-}
-
-impl QueryWords {
-    ghost use Rattle.std.specs.Prelude.{◌≡◌};
-    ghost use Rattle.command_words.specs.Queries.{nothing_said, with_entry};
-
-    fn new() -> QueryWords
-        ensures { result ≡ nothing_said }
-    {
-        QueryWords {
-            titles: true,
-            starts: false,
-            partition: None,
-        }
+// All jobs that haven't ended, in the usual format.
+fn nothing_said() -> JobQuery
+    ensures { result ≡ nothing_said }
+{
+    JobQuery {
+        who: Who::Anyone,
+        jobs: None,
+        partition: None,
+        states: None,
+        titles: true,
+        starts: false,
+        format: None,
     }
+}
 
-    // Takes up what one option says.
-    fn put(&mut self, entry: QueryEntry)
-        ensures { self.new ≡ with_entry self.old entry }
-    {
-        match entry {
-            QueryEntry::NoTitles => self.titles = false,
-            QueryEntry::Starts => self.starts = true,
-            QueryEntry::Partition(name) => self.partition = Some(name),
-        }
+// Takes up what one option says.
+fn put_entry(query: &mut JobQuery, entry: QueryEntry)
+    ensures { query.new ≡ with_entry query.old entry }
+{
+    match entry {
+        QueryEntry::NoTitles => query.titles = false,
+        QueryEntry::Starts => query.starts = true,
+        QueryEntry::Whose(who) => query.who = who,
+        QueryEntry::Jobs(targets) => query.jobs = Some(targets),
+        QueryEntry::Partition(name) => query.partition = Some(name),
+        QueryEntry::States(states) => query.states = Some(states),
+        QueryEntry::Format(pieces) => query.format = Some(pieces),
     }
 }
 
@@ -88,24 +106,47 @@ fn read_entry(
     ensures { IfOk result (λ entry. entry ≡ entry_of (part_of argument.entry)) }
 {
     match argument {
-        Argument::Flag {
-            number: _,
-            flag: QueryFlag::NoHeader,
-        } => Ok(Some(QueryEntry::NoTitles)),
-        Argument::Flag {
-            number: _,
-            flag: QueryFlag::Start,
-        } => Ok(Some(QueryEntry::Starts)),
-        Argument::Valued {
-            number: _,
-            option: QueryOption::Partition,
-            place: _,
-            text,
-        } => match read_name(alloc, text)? {
-            Some(name) => Ok(Some(QueryEntry::Partition(name))),
-            None => Ok(None),
-        },
+        Argument::Flag { flag, .. } => Ok(Some(flag_entry(flag))),
+        Argument::Valued { option, text, .. } => read_value(alloc, option, text),
         _ => Ok(None),
+    }
+}
+
+fn flag_entry(flag: QueryFlag) -> QueryEntry
+    ensures { result ≡ flag_entry flag }
+{
+    match flag {
+        QueryFlag::NoHeader => QueryEntry::NoTitles,
+        QueryFlag::Start => QueryEntry::Starts,
+        QueryFlag::Me => QueryEntry::Whose(Who::Asker),
+    }
+}
+
+fn read_value(alloc: Global, option: QueryOption, text: &[u8]) -> Result<Option<QueryEntry>, Memory>
+    ensures { IfOk result (λ entry. entry ≡ value_of option text.now) }
+{
+    match option {
+        QueryOption::User => {
+            let user = read_name(alloc, text)?;
+            Ok(user.map(|name| QueryEntry::Whose(Who::User(name))))
+        }
+        QueryOption::Jobs => Ok(read_targets(alloc, text)?.map(QueryEntry::Jobs)),
+        QueryOption::Partition => Ok(read_name(alloc, text)?.map(QueryEntry::Partition)),
+        QueryOption::States => Ok(read_states(alloc, text)?.map(QueryEntry::States)),
+        QueryOption::Format => Ok(read_pieces(alloc, text)?.map(QueryEntry::Format)),
+    }
+}
+
+fn read_pieces(alloc: Global, text: &[u8]) -> Result<Option<Items<Piece>>, Memory>
+    ensures { IfOk result (λ pieces. pieces ≡ format_by text.now) }
+{
+    if text.len() > LONGEST_FORMAT {
+        return Ok(None);
+    }
+    match read_format(alloc, text) {
+        Ok(pieces) => Ok(Some(pieces)),
+        Err(FormatRefusal::BadFormat) => Ok(None),
+        Err(FormatRefusal::Memory) => Err(Memory),
     }
 }
 
@@ -115,10 +156,10 @@ fn read_options(
     alloc: Global,
     table: &[(&[u8], Option<u8>, Takes<QueryFlag, QueryOption>)],
     words: &Words,
-) -> Result<Option<QueryWords>, Memory>
+) -> Result<Option<JobQuery>, Memory>
     ensures { IfOk result (λ said. said ≡ query_words (rows table.now) words.now) }
 {
-    let mut said = QueryWords::new();
+    let mut said = nothing_said();
     let mut cursor = Cursor {
         place: 1,
         ended: false,
@@ -127,20 +168,20 @@ fn read_options(
         let Some(entry) = read_entry(alloc, argument)? else {
             return Ok(None);
         };
-        said.put(entry);
+        put_entry(&mut said, entry);
     }
     Ok(Some(said))
 }
 
 #[tactic(auto, unfolding(crate::specs::Queries::squeue_options))]
-fn squeue_words(alloc: Global, words: &Words) -> Result<Option<QueryWords>, Memory>
+fn squeue_words(alloc: Global, words: &Words) -> Result<Option<JobQuery>, Memory>
     ensures { IfOk result (λ said. said ≡ query_words squeue_options words.now) }
 {
     read_options(alloc, &SQUEUE_OPTIONS, words)
 }
 
 #[tactic(auto, unfolding(crate::specs::Queries::sinfo_options))]
-fn sinfo_words(alloc: Global, words: &Words) -> Result<Option<QueryWords>, Memory>
+fn sinfo_words(alloc: Global, words: &Words) -> Result<Option<JobQuery>, Memory>
     ensures { IfOk result (λ said. said ≡ query_words sinfo_options words.now) }
 {
     read_options(alloc, &SINFO_OPTIONS, words)
@@ -152,10 +193,7 @@ pub(crate) fn read_squeue(alloc: Global, words: &Words) -> Result<Option<Query>,
     ensures { IfOk result (λ query. query ≡ squeue_by words.now) }
 {
     match squeue_words(alloc, words)? {
-        Some(said) => Ok(Some(Query::Squeue {
-            titles: said.titles,
-            starts: said.starts,
-        })),
+        Some(said) => Ok(Some(Query::Squeue(said))),
         None => Ok(None),
     }
 }

@@ -2,11 +2,11 @@
 
 ghost use Rattle.std.specs.Prelude.{◌≡◌, drop, IfOk};
 ghost use Rattle.command_words.specs.Cut.{texts_of};
-ghost use Rattle.command_words.specs.Report.{report_by, pair_by, named, nothing_named, with_listed, listed_by, start_by, done_by, starts_by, dones_by};
-ghost use Rattle.command_words.specs.Names.{u32_by};
+ghost use Rattle.command_words.specs.Report.{report_by, pair_by, named, nothing_named, with_listed, listed_by, start_by, done_by};
 
 use crate::cut::cut_at;
-use crate::header::read_name;
+use crate::members::{Member, read_members};
+use crate::names::{read_name, read_u32};
 use slurm_text::digits::parse_number;
 use slurm_text::fields::{UpToThree, up_to_three};
 use slurm_text::items::Items;
@@ -117,14 +117,14 @@ fn read_list(alloc: Global, word: &[u8]) -> Result<Option<Listed>, Memory>
     match up_to_three(word, b'=') {
         UpToThree::Two(b"run", list) => {
             let texts = cut_at(alloc, list, b',')?;
-            let Some(starts) = read_starts(alloc, texts.as_slice())? else {
+            let Some(starts) = read_members(alloc, texts.as_slice())? else {
                 return Ok(None);
             };
             Ok(Some(Listed::Running(starts)))
         }
         UpToThree::Two(b"done", list) => {
             let texts = cut_at(alloc, list, b',')?;
-            let Some(starts) = read_dones(alloc, texts.as_slice())? else {
+            let Some(starts) = read_members(alloc, texts.as_slice())? else {
                 return Ok(None);
             };
             Ok(Some(Listed::Done(starts)))
@@ -133,32 +133,20 @@ fn read_list(alloc: Global, word: &[u8]) -> Result<Option<Listed>, Memory>
     }
 }
 
-#[tactic(auto, using(crate::proofs::Lists::listing))]
-fn read_starts(alloc: Global, texts: &[&[u8]]) -> Result<Option<Items<Start>>, Memory>
-    ensures { IfOk result (λ starts. starts ≡ starts_by (texts_of texts.now)) }
-{
-    let mut starts = Vec::with_capacity(alloc, texts.len())?;
-    for text in texts {
-        let Some(start) = read_start(text) else {
-            return Ok(None);
-        };
-        starts.push(start)?;
+impl Member for Start {
+    ghost meaning = { start_by };
+
+    fn read_member(text: &[u8]) -> Option<Start> {
+        read_start(text)
     }
-    Ok(Some(Items::from_vec(starts)))
 }
 
-#[tactic(auto, using(crate::proofs::Lists::listing))]
-fn read_dones(alloc: Global, texts: &[&[u8]]) -> Result<Option<Items<Done>>, Memory>
-    ensures { IfOk result (λ dones. dones ≡ dones_by (texts_of texts.now)) }
-{
-    let mut dones = Vec::with_capacity(alloc, texts.len())?;
-    for text in texts {
-        let Some(done) = read_done(text) else {
-            return Ok(None);
-        };
-        dones.push(done)?;
+impl Member for Done {
+    ghost meaning = { done_by };
+
+    fn read_member(text: &[u8]) -> Option<Done> {
+        read_done(text)
     }
-    Ok(Some(Items::from_vec(dones)))
 }
 
 #[tactic(auto, unfolding(crate::specs::Report::start_of))]
@@ -188,10 +176,4 @@ fn read_done(text: &[u8]) -> Option<Done>
         }),
         _ => None,
     }
-}
-
-fn read_u32(text: &[u8]) -> Option<u32>
-    ensures { result ≡ u32_by text.now }
-{
-    Some(parse_number(text, 10, 4_294_967_295)? as u32)
 }

@@ -33,11 +33,6 @@ fn is_built(job: &JobDesc) -> bool
         && job.reservation.is_none()
         && job.begin.is_none()
         && has_usual_nice(job.nice)
-        && !job.held
-        && job.features.is_none()
-        && job.required.as_slice().is_empty()
-        && job.excluded.as_slice().is_empty()
-        && job.array.is_none()
         && job.dependency.is_none()
 }
 

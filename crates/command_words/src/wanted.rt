@@ -3,6 +3,7 @@
 ghost use Rattle.std.specs.Prelude.{◌≡◌, option_copied, IfOk};
 ghost use Rattle.command_words.specs.Wanted.{pass_by, lone_by, wanted_by, without};
 
+use crate::cancel::read_scancel;
 use crate::command::Command;
 use crate::fault::{WordFault, WordKind};
 use crate::queries::{read_sinfo, read_squeue};
@@ -50,6 +51,10 @@ fn read_lone(alloc: Global, command: Command, words: &Words) -> Result<Option<Re
         Command::Sbatch => Ok(None),
         Command::Squeue => match read_squeue(alloc, words)? {
             Some(query) => Ok(Some(Request::Show(query))),
+            None => Ok(None),
+        },
+        Command::Scancel => match read_scancel(alloc, words)? {
+            Some(targets) => Ok(Some(Request::Cancel(targets))),
             None => Ok(None),
         },
         Command::Sinfo => match read_sinfo(alloc, words)? {

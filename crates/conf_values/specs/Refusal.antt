@@ -1,9 +1,11 @@
 -- Why a file was refused.
-use Rattle.std.specs.Prelude.{ℕ, List, codes, Result, Ok, Err}
+use Rattle.std.specs.Prelude.{ℕ, List, ◌++◌, codes, decimal, Result, Ok, Err}
 use Rattle.slurm_text.specs.declared.name.NameRefusal.{NameRefusal}
 use Rattle.slurm_text.specs.declared.name.NameRefusal.TheVariants.{BadName, Memory as NameMemory}
 use Rattle.conf_values.specs.declared.refusal.ConfKind.{ConfKind}
 use Rattle.conf_values.specs.declared.refusal.ConfKind.TheVariants.{NotUtf8, BadPair, UnknownKey, BadValue, TwiceNamed, UnknownNode, NoPartition, OverLimit}
+use Rattle.conf_values.specs.declared.refusal.ConfRefusal.{ConfRefusal}
+use Rattle.conf_values.specs.declared.refusal.ConfRefusal.TheVariants.{At, Memory as ConfMemory}
 use Rattle.conf_values.specs.declared.refusal.ValueRefusal.{ValueRefusal}
 use Rattle.conf_values.specs.declared.refusal.ValueRefusal.TheVariants.{BadValue as BadText, Memory as ValueMemory}
 use Rattle.conf_values.specs.declared.refusal.Fault.{Fault}
@@ -19,6 +21,11 @@ kind_text TwiceNamed = codes "TwiceNamed"
 kind_text UnknownNode = codes "UnknownNode"
 kind_text NoPartition = codes "NoPartition"
 kind_text OverLimit = codes "OverLimit"
+
+-- how a refusal is printed
+abbrev pub refusal_message : ConfRefusal → List ℕ
+refusal_message (At line kind) = codes "conf line " ++ decimal line ++ codes ": " ++ kind_text kind
+refusal_message ConfMemory = codes "out of memory"
 
 abbrev pub of_name : NameRefusal → ValueRefusal
 of_name BadName = BadText

@@ -69,6 +69,11 @@ pub enum ConfRefusal {
 }
 
 impl fmt::Display for ConfRefusal {
+    ghost use Rattle.std.specs.Prelude.{Some};
+    ghost use Rattle.conf_values.specs.Refusal.{refusal_message};
+
+    ghost output = { λ refusal. Some (refusal_message refusal) };
+
     fn fmt<W: fmt::Write>(&self, f: &mut fmt::Formatter<W>) -> fmt::Result {
         match self {
             ConfRefusal::At { line, kind } => write!(f, "conf line {line}: {kind}"),

@@ -1,95 +1,207 @@
--- What an accepted request makes is another state, before it bears its moment: a submission adds a job, a report is heard that comes after the last
--- one, and a pass that would change nothing is idle.
-use Rattle.std.proofs.Common.{◌≡◌, ◌≢◌, ℕ, zero, suc, ◌<◌, ◌∙◌, Bool, true, false, List, [], ◌∷◌, length, drop, get_or, Option, Some, None, refl, sym, ap, arith, inl, inr}
-use Rattle.std.specs.Prelude.{nat_lt, nat_eq, not, ◌&&◌, is_none, option_and_then}
-use Rattle.std.proofs.lemmas.Bool.{cases_Bool, both_ways, le-ltb}
+-- What an accepted request makes is another state, before it bears its moment: a submission adds jobs, cancelling
+-- changes one, a report is heard that comes after the last one, and a pass that would change nothing is idle.
+use Rattle.std.proofs.Common.{◌≡◌, ◌≢◌, ℕ, zero, suc, ◌<◌, ◌∙◌, Bool, true, false, List, [], ◌∷◌, length, drop, get_or, Option, Some, None, refl, ap, arith, inl, inr, if◌then◌else◌}
+use Rattle.std.specs.Prelude.{nat_lt, not, is_none, option_and_then}
+use Rattle.std.specs.List.{list_any}
+use Rattle.std.proofs.lemmas.Bool.{cases_Bool, both_ways}
 use Rattle.std.proofs.lemmas.Bool.Decides.{nat_tests}
 use Rattle.std.proofs.lemmas.List.Quantifiers.{position-Some}
 use Rattle.slurm_text.specs.declared.plain.job.JobDesc.{JobDesc}
 use Rattle.slurm_text.specs.declared.plain.refusal.Refusal.{Refusal}
 use Rattle.slurm_text.specs.declared.plain.refusal.Refusal.TheVariants.{AccessDenied, UnknownNode, MomentTooLarge}
 use Rattle.slurm_text.specs.declared.plain.reply.Reply.{Reply}
+use Rattle.slurm_text.specs.declared.plain.reply.Reply.TheVariants.{Idle}
 use Rattle.slurm_text.specs.declared.plain.report.Report.{Report as Told}
 use Rattle.slurm_text.specs.declared.plain.request.Request.{Request}
-use Rattle.slurm_text.specs.declared.plain.request.Request.TheVariants.{Submit, Report, Pass, Show}
+use Rattle.slurm_text.specs.declared.plain.request.Request.TheVariants.{Submit, Cancel, Report, Pass, Show}
+use Rattle.slurm_text.specs.declared.plain.target.Targets.{Targets}
 use Rattle.node_state.specs.declared.record.NodeRecord.{NodeRecord}
-use Rattle.partitions.specs.declared.record.PartRecord.{PartRecord}
+use Rattle.node_state.specs.Nodes.{is_named, place_named}
 use Rattle.ctl_state.specs.State.{State, last_moment}
 use Rattle.ctl_state.specs.Refusals.{refused_if, first_refusal, unless_refused, is_privileged}
-use Rattle.ctl_state.specs.Verdicts.{Verdict, Makes}
+use Rattle.ctl_state.specs.Soundness.{IsSound}
+use Rattle.ctl_state.specs.Verdicts.{Verdict, Refuses, Tells, Stays, Unbuilt, Makes, reply_by, left_by}
 use Rattle.ctl_pass.specs.Passing.{pass_after, pass_made, is_idle}
-use Rattle.node_state.specs.Nodes.{is_named, place_named}
 use Rattle.ctl_report.specs.Reporting.{heard_of, heard_nodes}
 use Rattle.ctl_report.specs.Answering.{node_of, last_heard, staleness, made_by_report}
-use Rattle.ctl_core.specs.Submission.{place_for, partition_for, made_in}
-use Rattle.ctl_core.specs.Step.{raised, refusals_of, made, worked, verdict_of, is_unbuilt}
-use Rattle.ctl_core.proofs.Stepping.{none-first}
+use Rattle.ctl_submit.specs.Submission.{made_under, submit_made, terms_of}
+use Rattle.ctl_cancel.specs.Cancelling.{cancel_after, cancel_made, goes}
+use Rattle.ctl_core.specs.Sizes.{has_room}
+use Rattle.ctl_core.specs.Step.{raised, refusals_of, made, worked, worked_on, unless_full, verdict_of, reply_of, is_unbuilt}
+
+-- what is known of requests that change nothing
+pub record OnlyIdle : Type 0 where
+  pub submissions : (s after : State) (now : ℕ) (user : List ℕ) (desc : JobDesc) (reply : Reply)
+      → submit_made s now user desc ≡ Makes reply after → after ≢ s
+  pub cancelling : (s : State) (now : ℕ) (user : List ℕ) (targets : Targets)
+      → cancel_after s now user targets ≡ s → list_any (goes s user targets) s.jobs ≡ false
+  pub passes : (s : State) (now : ℕ) → pass_after s now ≡ s → is_idle s now ≡ true
+
+-- the first of refusals that come to none: none of them stands
+none-first : (refusal : Refusal) (stands : Bool) (later : List (Option Refusal))
+    → first_refusal (refused_if stands refusal ∷ later) ≡ None → (stands ≡ false) × (first_refusal later ≡ None)
+none-first refusal true later none = absurd (cc)
+none-first refusal false later none = (refl, none)
 
 -- the state that a verdict makes
 made-after : {reply other : Reply} {after left : State} → Makes reply after ≡ Makes other left → after ≡ left
 made-after {reply} {other} {after} {left} same = cc
 
 -- a verdict that makes a state is refused for nothing
-judged : (refusal : Option Refusal) (verdict : Verdict) {reply : Reply} {after : State} → unless_refused refusal verdict ≡ Makes reply after → (refusal ≡ None) × (verdict ≡ Makes reply after)
+judged : (refusal : Option Refusal) (verdict : Verdict) {reply : Reply} {after : State}
+    → unless_refused refusal verdict ≡ Makes reply after → (refusal ≡ None) × (verdict ≡ Makes reply after)
 judged None verdict makes = (refl, makes)
 judged (Some refusal) verdict makes = absurd (cc)
 
+-- and has room
+full-made : (room : Bool) (verdict : Verdict) {reply : Reply} {after : State}
+    → unless_full room verdict ≡ Makes reply after → verdict ≡ Makes reply after
+full-made true verdict makes = makes
+full-made false (Refuses refusal) makes = absurd (cc)
+full-made false (Tells view) makes = absurd (cc)
+full-made false Stays makes = absurd (cc)
+full-made false Unbuilt makes = absurd (cc)
+full-made false (Makes other left) makes = absurd (cc)
+
 -- a report wouldn't come after itself
-stale-after-itself : (now : ℕ) (report : Told) → staleness report (Some (record { boot = report.boot; number = report.number; moment = now })) ≢ None
+stale-after-itself : (now : ℕ) (report : Told)
+    → staleness report (Some (record { boot = report.boot; number = report.number; moment = now })) ≢ None
 stale-after-itself now report fresh = grind (arith, nat_tests)
 
--- were the nodes as before, this very report would be the last one of its node, and wouldn't come after itself: so an accepted report changes the nodes
-nodes-change : (now : ℕ) (report : Told) (nodes : List NodeRecord) (node : ℕ) → node < length nodes → staleness report (heard_of nodes node) ≡ None → heard_nodes now node report nodes ≢ nodes
+-- were the nodes as before, this very report would be the last one of its node, and wouldn't come after itself: so an
+-- accepted report changes the nodes
+nodes-change : (now : ℕ) (report : Told) (nodes : List NodeRecord) (node : ℕ)
+    → node < length nodes → staleness report (heard_of nodes node) ≡ None → heard_nodes now node report nodes ≢ nodes
 nodes-change now report [] node within fresh same = absurd (omega (arith, within))
 nodes-change now report (first ∷ later) zero within fresh same =
     let heard = ap (λ (nodes : List NodeRecord). (get_or nodes 0 first).heard) same in
     stale-after-itself now report (rw (← heard) at fresh)
 nodes-change now report (first ∷ later) (suc node) within fresh same =
-    nodes-change now report later node (omega (arith, within)) fresh (ap (λ (nodes : List NodeRecord). drop 1 nodes) same)
+    nodes-change now report later node (omega (arith, within)) fresh
+    (ap (λ (nodes : List NodeRecord). drop 1 nodes) same)
 
-named-within : (name : List ℕ) (nodes : List NodeRecord) (node : ℕ) → place_named name nodes ≡ Some node → node < length nodes
+named-within : (name : List ℕ) (nodes : List NodeRecord) (node : ℕ)
+    → place_named name nodes ≡ Some node → node < length nodes
 named-within name [] node named = absurd (cc)
 named-within name (first ∷ later) node named = (position-Some (is_named name) (first ∷ later) node first named).0
 
-told-changes : (s : State) (now : ℕ) (report : Told) (node : Option ℕ) {reply : Reply} {after : State} → node_of s report ≡ node → staleness report (option_and_then (heard_of s.nodes) node) ≡ None
+told-changes : (s : State) (now : ℕ) (report : Told) (node : Option ℕ) {reply : Reply} {after : State}
+    → node_of s report ≡ node → staleness report (option_and_then (heard_of s.nodes) node) ≡ None
     → made_by_report s now report node ≡ Makes reply after → after ≢ s
 told-changes s now report None named fresh makes same = absurd (cc)
 told-changes s now report (Some node) named fresh makes same =
-    nodes-change now report s.nodes node (named-within report.node s.nodes node named) fresh (ap (λ (t : State). t.nodes) (made-after makes ∙ same))
+    nodes-change now report s.nodes node (named-within report.node s.nodes node named) fresh
+    (ap (λ (t : State). t.nodes) (made-after makes ∙ same))
 
 -- a pass that would change nothing is idle
-abbrev pub OnlyIdle : Type 0
-OnlyIdle = (s : State) (now : ℕ) → pass_after s now ≡ s → is_idle s now ≡ true
+pub pass-stays : ((s : State) (now : ℕ) → pass_after s now ≡ s → is_idle s now ≡ true)
+    → (s : State) (now : ℕ) → pass_after s now ≡ s → pass_made s now ≡ Stays
+pass-stays only s now same = rw (only s now same)
 
-pass-changes : OnlyIdle → (s : State) (now : ℕ) {reply : Reply} {after : State} → pass_made s now ≡ Makes reply after → after ≢ s
+-- cancelling that would change nothing cancels no job
+pub cancel-stays : ((s : State) (now : ℕ) (user : List ℕ) (targets : Targets)
+    → cancel_after s now user targets ≡ s → list_any (goes s user targets) s.jobs ≡ false)
+    → (s : State) (now : ℕ) (user : List ℕ) (targets : Targets)
+    → cancel_after s now user targets ≡ s → cancel_made s now user targets ≡ Stays
+cancel-stays only s now user targets same = rw (only s now user targets same)
+
+pass-changes : OnlyIdle → (s : State) (now : ℕ) {reply : Reply} {after : State}
+    → pass_made s now ≡ Makes reply after → after ≢ s
 pass-changes only s now makes same = elim (cases_Bool (is_idle s now)) [
   | inl idle ↦ let stays = rw idle at makes in absurd (cc)
-  | inr busy ↦ both_ways (is_idle s now) busy (only s now (made-after (rw busy at makes) ∙ same))
+  | inr busy ↦ both_ways (is_idle s now) busy (only.passes s now (made-after (rw busy at makes) ∙ same))
 ]
 
-submitted-changes : (s : State) (moment : ℕ) (user : List ℕ) (desc : JobDesc) (place : Option ℕ) (partition : Option PartRecord) {reply : Reply} {after : State}
-    → made_in s moment user desc place partition ≡ Makes reply after → after ≢ s
-submitted-changes s moment user desc None partition makes same = absurd (cc)
-submitted-changes s moment user desc (Some place) None makes same = absurd (cc)
-submitted-changes s moment user desc (Some place) (Some partition) makes same = omega (arith, ap (λ (t : State). t.next_id) (made-after makes ∙ same))
+cancel-changes : OnlyIdle → (s : State) (now : ℕ) (user : List ℕ) (targets : Targets) {reply : Reply} {after : State}
+    → cancel_made s now user targets ≡ Makes reply after → after ≢ s
+cancel-changes only s now user targets makes same = elim (cases_Bool (list_any (goes s user targets) s.jobs)) [
+  | inl some ↦
+      both_ways (list_any (goes s user targets) s.jobs)
+      (only.cancelling s now user targets (made-after (rw some at makes) ∙ same)) some
+  | inr none ↦ let stays = rw none at makes in absurd (cc)
+]
 
-made-changes : OnlyIdle → (s : State) (moment : ℕ) (user : List ℕ) (request : Request) {reply : Reply} {after : State} → first_refusal (refusals_of s moment user request) ≡ None
+made-changes : OnlyIdle → (s : State) (moment : ℕ) (user : List ℕ) (request : Request) {reply : Reply} {after : State}
+    → first_refusal (refusals_of s moment user request) ≡ None
     → made s moment user request ≡ Makes reply after → after ≢ s
-made-changes only s moment user (Submit desc) none makes same = submitted-changes s moment user desc (place_for s desc) (partition_for s desc) makes same
+made-changes only s moment user (Submit desc) {reply} {after} none makes same =
+    only.submissions s after moment user desc reply makes same
+made-changes only s moment user (Cancel targets) none makes same = cancel-changes only s moment user targets makes same
 made-changes only s moment user (Report report) none makes same =
     let allowed = none-first AccessDenied (not (is_privileged s user)) _ none in
     let known = none-first UnknownNode (is_none (node_of s report)) _ allowed.1 in
-    let fresh = elim (staleness report (last_heard s report)) as (λ refusal. first_refusal (refusal ∷ []) ≡ None → refusal ≡ None) [ None ↦ λ none. refl | Some refusal ↦ λ none. none ] known.1 in
+    let fresh = elim (staleness report (last_heard s report))
+    as (λ refusal. first_refusal (refusal ∷ []) ≡ None → refusal ≡ None)
+    [ None ↦ λ none. refl | Some refusal ↦ λ none. none ] known.1 in
     told-changes s moment report (node_of s report) refl fresh makes same
 made-changes only s moment user Pass none makes same = pass-changes only s moment makes same
 made-changes only s moment user (Show query) none makes same = absurd (cc)
 
 -- What an accepted request makes is another state.
-pub step-changes : OnlyIdle → (s : State) (now : ℕ) (user : List ℕ) (request : Request) {reply : Reply} {after : State} → verdict_of s now user request ≡ Makes reply after → after ≢ s
+pub step-changes : OnlyIdle → (s : State) (now : ℕ) (user : List ℕ) (request : Request) {reply : Reply} {after : State}
+    → verdict_of s now user request ≡ Makes reply after → after ≢ s
 step-changes only s now user request makes same = elim (cases_Bool (is_unbuilt s request)) [
   | inl unbuilt ↦ let never = rw unbuilt at makes in absurd (cc)
   | inr built ↦
-      let early = judged (refused_if (nat_lt last_moment now) MomentTooLarge) (worked s (raised s now) user request) (rw built at makes) in
-      let made = judged (first_refusal (refusals_of s (raised s now) user request)) (made s (raised s now) user request) early.1 in
-      made-changes only s (raised s now) user request made.0 made.1 same
+      let moment = raised s now in
+      let early = judged (refused_if (nat_lt last_moment now) MomentTooLarge) (worked s moment user request)
+      (rw built at makes) in
+      let judged = judged (first_refusal (refusals_of s moment user request)) _ early.1 in
+      let made = full-made (has_room s request) (made s moment user request) judged.1 in
+      made-changes only s moment user request judged.0 made same
+]
+
+-- what an idle request is known by
+pub record IdleKeeps : Type 0 where
+  pub cancelling : (s : State) (now : ℕ) (user : List ℕ) (targets : Targets)
+      → IsSound s → list_any (goes s user targets) s.jobs ≡ false → cancel_after s now user targets ≡ s
+  pub passes : (s : State) (now : ℕ) → is_idle s now ≡ true → pass_after s now ≡ s
+
+-- a verdict whose reply is that nothing changes is refused for nothing, and has room or needs none
+judged-idle : (refusal : Option Refusal) (verdict : Verdict)
+    → reply_by (unless_refused refusal verdict) ≡ Idle → reply_by verdict ≡ Idle
+judged-idle None verdict idle = idle
+judged-idle (Some refusal) verdict idle = absurd (cc)
+
+full-idle : (room : Bool) (verdict : Verdict) → reply_by (unless_full room verdict) ≡ Idle → reply_by verdict ≡ Idle
+full-idle true verdict idle = idle
+full-idle false (Refuses refusal) idle = absurd (cc)
+full-idle false (Tells view) idle = absurd (cc)
+full-idle false Stays idle = refl
+full-idle false Unbuilt idle = absurd (cc)
+full-idle false (Makes reply after) idle = absurd (cc)
+
+made-idle : IdleKeeps → (s : State) (moment : ℕ) (user : List ℕ) (request : Request)
+    → IsSound s → reply_by (made s moment user request) ≡ Idle → worked_on s moment user request ≡ s
+made-idle keeps s moment user (Submit desc) sound idle =
+    elim (terms_of s user desc)
+    as (λ terms. reply_by (made_under s moment user desc terms) ≡ Idle
+    → left_by s (made_under s moment user desc terms) ≡ s)
+    [ None ↦ λ idle. absurd (cc) | Some terms ↦ λ idle. absurd (cc) ] idle
+made-idle keeps s moment user (Cancel targets) sound idle = elim (cases_Bool (list_any (goes s user targets) s.jobs)) [
+  | inl some ↦ let done = rw some at idle in absurd (cc)
+  | inr none ↦ keeps.cancelling s moment user targets sound none
+]
+made-idle keeps s moment user (Report report) sound idle =
+    elim (node_of s report)
+    as (λ node. reply_by (made_by_report s moment report node) ≡ Idle
+    → left_by s (made_by_report s moment report node) ≡ s)
+    [ None ↦ λ idle. absurd (cc) | Some node ↦ λ idle. absurd (cc) ] idle
+made-idle keeps s moment user Pass sound idle = elim (cases_Bool (is_idle s moment)) [
+  | inl stays ↦ keeps.passes s moment stays
+  | inr busy ↦ let passed = rw busy at idle in absurd (cc)
+]
+made-idle keeps s moment user (Show query) sound idle = refl
+
+-- A request that is idle would change nothing.
+pub step-idle : IdleKeeps → (s : State) (now : ℕ) (user : List ℕ) (request : Request)
+    → IsSound s → reply_of s now user request ≡ Idle → worked_on s (raised s now) user request ≡ s
+step-idle keeps s now user request sound idle = elim (cases_Bool (is_unbuilt s request)) [
+  | inl unbuilt ↦ let never = rw unbuilt at idle in absurd (cc)
+  | inr built ↦
+      let moment = raised s now in
+      let early = judged-idle (refused_if (nat_lt last_moment now) MomentTooLarge) (worked s moment user request)
+      (rw built at idle) in
+      let judged = judged-idle (first_refusal (refusals_of s moment user request)) _ early in
+      made-idle keeps s moment user request sound (full-idle (has_room s request) (made s moment user request) judged)
 ]

@@ -1,5 +1,6 @@
-pub mod Rows
-pub mod Stands
 pub mod Openings
+pub mod Raised
+pub mod Sized
+pub mod Stamping
 pub mod Stepping
 pub mod Changing

@@ -13,16 +13,22 @@ use Rattle.ctl_state.specs.Soundness.{IsSound, HasRanges, HasLimits, AreNodes}
 
 none-held : (rooms : List NodeRoom) → IsHeldOnce rooms []
 unfolding times_held mem_held
-none-held rooms = record { each = λ k d within. absurd (omega (arith, within)); once = λ node cpu. omega arith; mem = λ node. omega arith }
+none-held rooms = record {
+  each = λ k d within. absurd (omega (arith, within));
+  once = λ node cpu. omega arith;
+  mem = λ node. omega arith;
+}
 
 -- the nodes have the names that slurm.conf gives them
-pub names-opened : (confs : List NodeConf) → map (λ (node : NodeRecord). node.conf.name) (map opened confs) ≡ node_names confs
+pub names-opened : (confs : List NodeConf) → map (λ (node : NodeRecord). node.conf.name) (map opened confs)
+    ≡ node_names confs
 names-opened [] = refl
 names-opened (conf ∷ confs) = ap (λ names. conf.name ∷ names) (names-opened confs)
 
-pub sound-opening : (s : State) → HasRanges s.settings → AreNodes s.nodes → All (IsOnNodes (length s.nodes)) s.partitions → All HasLimits s.partitions → s.jobs ≡ [] → s.plan ≡ []
-    → (1 ≤ s.next_id) × (s.next_id ≤ last_job_id) → s.moment ≡ 0 → IsSound s
-sound-opening s ranges nodes on_nodes limits no_jobs no_plan next moment = record {
+pub sound-opening : (s : State) → HasRanges s.settings → AreNodes s.nodes
+    → All (IsOnNodes (length s.nodes)) s.partitions → All HasLimits s.partitions → s.jobs ≡ [] → s.plan ≡ []
+    → (1 ≤ s.next_id) × (s.next_id ≤ last_job_id) → s.size ≡ 0 → s.moment ≡ 0 → IsSound s
+sound-opening s ranges nodes on_nodes limits no_jobs no_plan next size moment = record {
   settings = ranges;
   nodes = nodes;
   partitions = on_nodes;
@@ -30,6 +36,11 @@ sound-opening s ranges nodes on_nodes limits no_jobs no_plan next moment = recor
   of_partitions = rw no_jobs (λ k d within. absurd (omega (arith, within)));
   rising = rw no_jobs (λ i j d before within. absurd (omega (arith, within)));
   below_next = rw no_jobs (λ k d within. absurd (omega (arith, within)));
+  together = rw no_jobs (record {
+    after = λ k d within. absurd (omega (arith, within));
+    together = λ i j d before within. absurd (omega (arith, within));
+  });
+  size = omega (arith, size);
   next = (omega (arith, next), omega (arith, next));
   moment = omega (arith, moment);
   jobs = rw no_jobs (λ k d within. absurd (omega (arith, within)));

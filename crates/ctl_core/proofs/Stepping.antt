@@ -1,34 +1,31 @@
 -- Each step keeps all sound.
-use Rattle.std.proofs.Common.{◌≡◌, ℕ, zero, suc, ◌+◌, ◌<◌, ◌≤◌, ◌∙◌, Bool, true, false, List, [], ◌∷◌, ◌++◌, length, get_or, All, Option, Some, None, Result, Ok, Err, OnOk, OnErr, if◌then◌else◌, refl, sym, ap, arith, rules, tests, inl, inr}
-use Rattle.std.specs.Prelude.{max, nat_lt, not, unwrap_or, is_none, slice_get, option_and_then, IfSome}
-use Rattle.std.specs.Option.{option_or}
-use Rattle.std.proofs.lemmas.Option.{slice_get_within}
-use Rattle.std.proofs.lemmas.Bool.{cond_both, ltb-false, both_ways}
+use Rattle.std.proofs.Common.{◌≡◌, ℕ, ◌+◌, ◌≤◌, Bool, true, false, List, Option, Some, None, Result, Ok, Err, OnOk, OnErr, if◌then◌else◌, refl, arith}
+use Rattle.std.specs.Prelude.{nat_lt, IfSome}
+use Rattle.std.specs.List.{list_any}
+use Rattle.std.proofs.lemmas.Bool.{cond_both, leb-true, ltb-false}
+use Rattle.slurm_text.specs.declared.memory_error.Memory.{Memory}
 use Rattle.slurm_text.specs.declared.plain.job.JobDesc.{JobDesc}
-use Rattle.slurm_text.specs.declared.plain.limit.Limit.{Limit}
-use Rattle.slurm_text.specs.declared.plain.limit.Limit.TheVariants.{Minutes, Unlimited}
 use Rattle.slurm_text.specs.declared.plain.refusal.Refusal.{Refusal}
-use Rattle.slurm_text.specs.declared.plain.refusal.Refusal.TheVariants.{PartitionClosed, InvalidAccount, InvalidPartition, NotAllowedHere, NodesNotAvailable, JobIdsSpent, MomentTooLarge}
+use Rattle.slurm_text.specs.declared.plain.refusal.Refusal.TheVariants.{MomentTooLarge}
+use Rattle.slurm_text.specs.declared.plain.reply.Reply.{Reply}
 use Rattle.slurm_text.specs.declared.plain.report.Report.{Report as Told}
 use Rattle.slurm_text.specs.declared.plain.request.Request.{Request}
-use Rattle.slurm_text.specs.declared.plain.request.Request.TheVariants.{Submit, Report, Pass, Show}
-use Rattle.partitions.specs.declared.record.PartRecord.{PartRecord}
-use Rattle.ctl_state.specs.declared.record.AssocRecord.{AssocRecord}
-use Rattle.ctl_state.specs.declared.record.JobRecord.{JobRecord}
-use Rattle.ctl_state.specs.JobStates.{is_pending}
-use Rattle.ctl_state.specs.State.{State, last_moment, last_job_id}
-use Rattle.ctl_state.specs.Laws.{Adding}
-use Rattle.ctl_state.specs.Soundness.{IsSound, IsKept, IsAsked, IsLimit, HasLimits, IsWellRun, HasItsParts}
+use Rattle.slurm_text.specs.declared.plain.request.Request.TheVariants.{Submit, Cancel, Report, Pass, Show}
+use Rattle.slurm_text.specs.declared.plain.target.Targets.{Targets}
+use Rattle.ctl_state.specs.State.{State, last_moment, last_size}
+use Rattle.ctl_state.specs.Laws.{Sizing}
+use Rattle.ctl_state.specs.Soundness.{IsSound, IsAsked, IsLimit}
 use Rattle.ctl_state.specs.Refusals.{refused_if, first_refusal, unless_refused}
 use Rattle.ctl_state.specs.Verdicts.{Verdict, Refuses, Tells, Stays, Unbuilt, Makes, reply_by, left_by, stamped}
-use Rattle.slurm_text.specs.declared.memory_error.Memory.{Memory}
-use Rattle.ctl_core.specs.declared.reply.Decided.{Decided}
-use Rattle.ctl_pass.specs.Passing.{pass_after, pass_made, is_idle}
+use Rattle.ctl_pass.specs.Passing.{pass_after, is_idle}
 use Rattle.ctl_report.specs.Reporting.{report_after}
-use Rattle.ctl_report.specs.Answering.{report_made, made_by_report, node_of}
-use Rattle.ctl_core.specs.Submission.{assoc_for, place_for, partition_for, is_closed, is_allowed, is_placeable, new_job, submit_after, made_in, refusals_there}
-use Rattle.ctl_core.proofs.Rows.{All-at}
-use Rattle.ctl_core.specs.Step.{raised, refusals_of, made, worked, verdict_of, reply_of, is_entered, is_unbuilt, state_after, IsInRange}
+use Rattle.ctl_report.specs.Answering.{made_by_report, node_of}
+use Rattle.ctl_submit.specs.Submission.{submit_refusals, submit_made}
+use Rattle.ctl_cancel.specs.Cancelling.{cancel_after, goes}
+use Rattle.ctl_core.specs.declared.reply.Decided.{Decided}
+use Rattle.ctl_core.specs.Sizes.{has_room, size_of}
+use Rattle.ctl_core.specs.Step.{raised, refusals_of, made, worked, unless_full, verdict_of, is_entered, is_unbuilt, entered, state_after, IsInRange}
+use Rattle.ctl_core.proofs.Sized.{KeepsSize, worked-sized, worked-entered}
 
 -- what a verdict makes is sound, once it bears the moment
 abbrev pub MakesSound : State → ℕ → Verdict → Type 0
@@ -38,99 +35,122 @@ MakesSound s now Stays = Unit {0}
 MakesSound s now Unbuilt = Unit {0}
 MakesSound s now (Makes reply after) = IsSound (stamped now after)
 
--- the first of refusals that come to none: none of them stands
-pub none-first : (refusal : Refusal) (stands : Bool) (later : List (Option Refusal)) → first_refusal (refused_if stands refusal ∷ later) ≡ None → (stands ≡ false) × (first_refusal later ≡ None)
-none-first refusal true later none = absurd (cc)
-none-first refusal false later none = (refl, none)
+-- what accepted requests keep
+pub record AllKeep : Type 0 where
+  pub submissions : (s after : State) (now : ℕ) (user : List ℕ) (desc : JobDesc) (reply : Reply)
+      → IsSound s → s.moment ≤ now → now ≤ last_moment → IsAsked desc → IfSome desc.limit IsLimit
+      → first_refusal (submit_refusals s now user desc) ≡ None → submit_made s now user desc ≡ Makes reply after
+      → IsSound (stamped now after)
+  pub cancelling : (s : State) (now : ℕ) (user : List ℕ) (targets : Targets)
+      → IsSound s → s.moment ≤ now → now ≤ last_moment → IsSound (stamped now (cancel_after s now user targets))
+  pub reports : (s : State) (now node : ℕ) (report : Told)
+      → IsSound s → s.moment ≤ now → now ≤ last_moment → IsSound (stamped now (report_after s now node report))
+  pub passes : (s : State) (now : ℕ)
+      → IsSound s → s.moment ≤ now → now ≤ last_moment → IsSound (stamped now (pass_after s now))
+  pub sizes : Sizing
 
--- the limit in force is in its range
-limit-in : (asked unasked : Option Limit) (longest : Limit) → IfSome asked IsLimit → IfSome unasked IsLimit → IsLimit longest → IsLimit (unwrap_or (option_or asked unasked) longest)
-limit-in None None longest range left most = most
-limit-in None (Some limit) longest range left most = left
-limit-in (Some limit) unasked longest range left most = range
-
-pub unrefused : (refusal : Refusal) (stands : Bool) → refused_if stands refusal ≡ None → stands ≡ false
-unrefused refusal true none = absurd (cc)
-unrefused refusal false none = refl
-
--- a submission that isn't refused
-pub sound-submitted : Adding → (s : State) (moment : ℕ) (user : List ℕ) (desc : JobDesc) (place : ℕ) (partition : PartRecord) → IsSound s → s.moment ≤ moment → moment ≤ last_moment
-    → IsInRange (Submit desc) → slice_get s.partitions place ≡ Some partition → s.next_id ≤ last_job_id → IsSound (stamped moment (submit_after s (new_job s moment user desc place partition)))
-sound-submitted adding s moment user desc place partition sound later in_time ranges there room =
-    let job = new_job s moment user desc place partition in
-    let limits = All-at HasLimits s.partitions place partition sound.limits there in
-    let kept : IsKept moment job = record {
-      asked = ranges.0;
-      limit = limit-in desc.limit partition.conf.default_time partition.conf.max_time ranges.1 limits.unasked limits.longest;
-      run = search (rules, tests);
-      parts = record { some = refl; apart = λ i j d before within. absurd (omega (arith, within)) };
-    } in
-    adding s moment (s.next_id + 1) (job ∷ []) sound later in_time
-    (only (λ (one : JobRecord). one.partition < length s.partitions) (slice_get_within s.partitions place partition there))
-    (only (IsKept moment) kept) (only (λ (one : JobRecord). is_pending one.state ≡ true) refl) (λ i j d before within. absurd (omega (arith, before, within)))
-    (only (λ (one : JobRecord). s.next_id ≤ one.id) (omega arith)) (only (λ (one : JobRecord). one.id + 1 ≤ s.next_id + 1) (omega arith)) (omega arith) (omega (arith, room))
-  where
-    only : (P : JobRecord → Type 0) → P (new_job s moment user desc place partition) → All P (new_job s moment user desc place partition ∷ [])
-    only P holds zero d within = holds
-    only P holds (suc k) d within = absurd (omega (arith, within))
-
--- what a submission makes for these of its association, its place and its partition, where none of its refusals stands
-submitted-made : Adding → (s : State) (moment : ℕ) (user : List ℕ) (desc : JobDesc) (assoc : Option AssocRecord) (place : Option ℕ) (partition : Option PartRecord)
-    → IsSound s → s.moment ≤ moment → moment ≤ last_moment → IsInRange (Submit desc)
-    → is_none assoc ≡ false → option_and_then (slice_get s.partitions) place ≡ partition → first_refusal (refusals_there s moment user desc assoc place partition) ≡ None
-    → MakesSound s moment (made_in s moment user desc place partition)
-submitted-made adding s moment user desc None place partition sound later in_time ranges known there none = absurd (cc)
-submitted-made adding s moment user desc (Some assoc) None partition sound later in_time ranges known there none = tt
-submitted-made adding s moment user desc (Some assoc) (Some place) None sound later in_time ranges known there none = tt
-submitted-made adding s moment user desc (Some assoc) (Some place) (Some partition) sound later in_time ranges known there none =
-    let closed = none-first PartitionClosed (is_closed partition.state) _ none in
-    let allowed = none-first NotAllowedHere (not (is_allowed s assoc partition)) _ closed.1 in
-    let placeable = none-first NodesNotAvailable (not (is_placeable s partition (new_job s moment user desc place partition))) _ allowed.1 in
-    let left = none-first JobIdsSpent (nat_lt last_job_id s.next_id) _ placeable.1 in
-    sound-submitted adding s moment user desc place partition sound later in_time ranges there (ltb-false last_job_id s.next_id left.0)
-
--- what an accepted report, and a pass, keep
-abbrev pub ReportsKeep : Type 0
-ReportsKeep = (s : State) (now node : ℕ) (report : Told) → IsSound s → s.moment ≤ now → now ≤ last_moment → IsSound (stamped now (report_after s now node report))
-
-abbrev pub PassesKeep : Type 0
-PassesKeep = (s : State) (now : ℕ) → IsSound s → s.moment ≤ now → now ≤ last_moment → IsSound (stamped now (pass_after s now))
+-- a verdict makes what is sound, if whatever state it makes is
+sound-by : (s : State) (now : ℕ) (verdict : Verdict)
+    → ((reply : Reply) (after : State) → verdict ≡ Makes reply after → IsSound (stamped now after))
+    → MakesSound s now verdict
+sound-by s now (Refuses refusal) makes = tt
+sound-by s now (Tells view) makes = tt
+sound-by s now Stays makes = tt
+sound-by s now Unbuilt makes = tt
+sound-by s now (Makes reply after) makes = makes reply after refl
 
 -- what a request makes that isn't refused
-sound-made : Adding → ReportsKeep → PassesKeep → (s : State) (moment : ℕ) (user : List ℕ) (request : Request) → IsSound s → s.moment ≤ moment → moment ≤ last_moment → IsInRange request
+sound-made : AllKeep → (s : State) (moment : ℕ) (user : List ℕ) (request : Request)
+    → IsSound s → s.moment ≤ moment → moment ≤ last_moment → IsInRange request
     → first_refusal (refusals_of s moment user request) ≡ None → MakesSound s moment (made s moment user request)
-sound-made adding reports passes s moment user (Submit desc) sound later in_time ranges none =
-    let known = none-first InvalidAccount (is_none (assoc_for s user desc)) _ none in
-    let named = none-first InvalidPartition (is_none (partition_for s desc)) _ known.1 in
-    submitted-made adding s moment user desc (assoc_for s user desc) (place_for s desc) (partition_for s desc) sound later in_time ranges known.0 refl named.1
-sound-made adding reports passes s moment user (Report report) sound later in_time ranges none =
-    elim (node_of s report) as (λ node. MakesSound s moment (made_by_report s moment report node)) [ None ↦ tt | Some node ↦ reports s moment node report sound later in_time ]
-sound-made adding reports passes s moment user Pass sound later in_time ranges none =
-    cond_both (is_idle s moment) Stays _ (MakesSound s moment) (λ idle. tt) (λ busy. passes s moment sound later in_time)
-sound-made adding reports passes s moment user (Show query) sound later in_time ranges none = tt
+sound-made keep s moment user (Submit desc) sound later in_time ranges none =
+    sound-by s moment (submit_made s moment user desc) (λ reply after makes.
+    keep.submissions s after moment user desc reply sound later in_time ranges.0 ranges.1 none makes)
+sound-made keep s moment user (Cancel targets) sound later in_time ranges none =
+    cond_both (list_any (goes s user targets) s.jobs) _ Stays (MakesSound s moment)
+    (λ some. keep.cancelling s moment user targets sound later in_time) (λ none. tt)
+sound-made keep s moment user (Report report) sound later in_time ranges none =
+    elim (node_of s report) as (λ node. MakesSound s moment (made_by_report s moment report node))
+    [ None ↦ tt | Some node ↦ keep.reports s moment node report sound later in_time ]
+sound-made keep s moment user Pass sound later in_time ranges none =
+    cond_both (is_idle s moment) Stays _ (MakesSound s moment) (λ idle. tt)
+    (λ busy. keep.passes s moment sound later in_time)
+sound-made keep s moment user (Show query) sound later in_time ranges none = tt
 
-sound-judged : (s : State) (moment : ℕ) (refusal : Option Refusal) (verdict : Verdict) → (refusal ≡ None → MakesSound s moment verdict) → MakesSound s moment (unless_refused refusal verdict)
+sound-full : (s : State) (moment : ℕ) (room : Bool) (verdict : Verdict)
+    → MakesSound s moment verdict → MakesSound s moment (unless_full room verdict)
+sound-full s moment true verdict makes = makes
+sound-full s moment false (Refuses refusal) makes = tt
+sound-full s moment false (Tells view) makes = tt
+sound-full s moment false Stays makes = tt
+sound-full s moment false Unbuilt makes = tt
+sound-full s moment false (Makes reply after) makes = tt
+
+sound-judged : (s : State) (moment : ℕ) (refusal : Option Refusal) (verdict : Verdict)
+    → (refusal ≡ None → MakesSound s moment verdict) → MakesSound s moment (unless_refused refusal verdict)
 sound-judged s moment None verdict makes = makes refl
 sound-judged s moment (Some refusal) verdict makes = tt
 
-sound-left : (s : State) (moment : ℕ) (verdict : Verdict) → IsSound s → MakesSound s moment verdict → IsSound (if is_entered (reply_by verdict) then stamped moment (left_by s verdict) else s)
-sound-left s moment (Refuses refusal) sound makes = sound
-sound-left s moment (Tells view) sound makes = sound
-sound-left s moment Stays sound makes = sound
-sound-left s moment Unbuilt sound makes = sound
-sound-left s moment (Makes reply after) sound makes = cond_both (is_entered reply) (stamped moment after) s IsSound (λ entered. makes) (λ other. sound)
+-- what a verdict leaves is sound, once it bears moment and size
+sound-left : Sizing → (s : State) (moment size : ℕ) (verdict : Verdict)
+    → IsSound s → MakesSound s moment verdict → KeepsSize s verdict
+    → (is_entered (reply_by verdict) ≡ true → s.size + size ≤ last_size)
+    → IsSound (if is_entered (reply_by verdict) then entered moment size (left_by s verdict) else s)
+sound-left sizes s moment size (Refuses refusal) sound makes sized room = sound
+sound-left sizes s moment size (Tells view) sound makes sized room = sound
+sound-left sizes s moment size Stays sound makes sized room = sound
+sound-left sizes s moment size Unbuilt sound makes sized room = sound
+sound-left sizes s moment size (Makes reply after) sound makes sized room =
+    cond_both (is_entered reply) (entered moment size after) s IsSound
+    (λ enters. sizes (stamped moment after) (after.size + size) makes (rw sized (room enters))) (λ other. sound)
+
+-- what a request comes to at a moment that is none too large
+sound-worked : AllKeep → (s : State) (moment : ℕ) (user : List ℕ) (request : Request)
+    → IsSound s → s.moment ≤ moment → moment ≤ last_moment → IsInRange request
+    → MakesSound s moment (worked s moment user request)
+sound-worked keep s moment user request sound later in_time ranges =
+    sound-judged s moment (first_refusal (refusals_of s moment user request)) _ (λ none.
+    sound-full s moment (has_room s request) (made s moment user request)
+    (sound-made keep s moment user request sound later in_time ranges none))
+
+-- what a verdict keeps, and only enters where there is room
+pub record IsKept (s : State) (moment : ℕ) (request : Request) (verdict : Verdict) : Type 0 where
+  pub makes : MakesSound s moment verdict
+  pub sized : KeepsSize s verdict
+  pub room : is_entered (reply_by verdict) ≡ true → s.size + size_of request ≤ last_size
+
+kept-early : AllKeep → (s : State) (now : ℕ) (user : List ℕ) (request : Request) (early : Bool)
+    → IsSound s → IsInRange request → nat_lt last_moment now ≡ early
+    → IsKept s (raised s now) request (unless_refused (refused_if early MomentTooLarge)
+    (worked s (raised s now) user request))
+kept-early keep s now user request true sound ranges early =
+    record { makes = tt; sized = tt; room = λ enters. absurd (cc) }
+kept-early keep s now user request false sound ranges early =
+    let in_time = ltb-false last_moment now early in
+    let moment = raised s now in
+    record {
+      makes = sound-worked keep s moment user request sound (omega arith) (omega (arith, sound.moment, in_time)) ranges;
+      sized = worked-sized s moment user request;
+      room = λ enters. leb-true (s.size + size_of request) last_size (worked-entered s moment user request enters);
+    }
+
+kept-verdict : AllKeep → (s : State) (now : ℕ) (user : List ℕ) (request : Request)
+    → IsSound s → IsInRange request → IsKept s (raised s now) request (verdict_of s now user request)
+kept-verdict keep s now user request sound ranges =
+    cond_both (is_unbuilt s request) Unbuilt _ (IsKept s (raised s now) request)
+    (λ unbuilt. record { makes = tt; sized = tt; room = λ enters. absurd (cc) })
+    (λ built. kept-early keep s now user request (nat_lt last_moment now) sound ranges refl)
 
 -- Whatever is asked, what is sound stays sound.
-pub sound-step : Adding → ReportsKeep → PassesKeep → (s : State) (now : ℕ) (user : List ℕ) (request : Request) → IsSound s → IsInRange request → IsSound (state_after s now user request)
-sound-step adding reports passes s now user request sound ranges =
-    sound-left s (raised s now) (verdict_of s now user request) sound
-    (cond_both (is_unbuilt s request) Unbuilt _ (MakesSound s (raised s now)) (λ unbuilt. tt)
-    (λ built. sound-judged s (raised s now) (refused_if (nat_lt last_moment now) MomentTooLarge) (worked s (raised s now) user request) (λ early.
-    let in_time = ltb-false last_moment now (unrefused MomentTooLarge (nat_lt last_moment now) early) in
-    sound-judged s (raised s now) (first_refusal (refusals_of s (raised s now) user request)) (made s (raised s now) user request)
-    (λ none. sound-made adding reports passes s (raised s now) user request sound (omega arith) (omega (arith, sound.moment, in_time)) ranges none))))
+pub sound-step : AllKeep → (s : State) (now : ℕ) (user : List ℕ) (request : Request)
+    → IsSound s → IsInRange request → IsSound (state_after s now user request)
+sound-step keep s now user request sound ranges =
+    let kept = kept-verdict keep s now user request sound ranges in
+    sound-left keep.sizes s (raised s now) (size_of request) (verdict_of s now user request) sound
+    kept.makes kept.sized kept.room
 
 -- so what a step leaves is sound, whatever comes of it
-pub sound-either : (result : Result Decided Memory) (new old after : State) → OnOk result (new ≡ after) → OnErr result (new ≡ old) → IsSound old → IsSound after → IsSound new
+pub sound-either : (result : Result Decided Memory) (new old after : State)
+    → OnOk result (new ≡ after) → OnErr result (new ≡ old) → IsSound old → IsSound after → IsSound new
 sound-either (Ok decided) new old after made same was is = rw made is
 sound-either (Err memory) new old after made same was is = rw same was

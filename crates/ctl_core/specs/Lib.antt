@@ -1,7 +1,4 @@
-pub mod Submission
-pub mod Standing
-pub mod Showing
+pub mod Sizes
 pub mod Step
 pub mod Answering
-pub mod Found
 pub mod Views

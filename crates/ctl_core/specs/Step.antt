@@ -1,19 +1,21 @@
 -- One step of the controller: the reply to a request, and the state after it.
-use Rattle.std.specs.Prelude.{ℕ, Bool, true, false, ◌&&◌, not, if◌then◌else◌, nat_lt, max, List, [], ◌∷◌, Option, IfSome}
+use Rattle.std.specs.Prelude.{ℕ, ◌+◌, Bool, true, false, ◌&&◌, not, if◌then◌else◌, nat_lt, max, List, [], ◌∷◌, Option, IfSome}
 use Rattle.slurm_text.specs.declared.plain.request.Request.{Request}
-use Rattle.slurm_text.specs.declared.plain.request.Request.TheVariants.{Submit, Report, Pass, Show}
+use Rattle.slurm_text.specs.declared.plain.request.Request.TheVariants.{Submit, Cancel, Report, Pass, Show}
 use Rattle.slurm_text.specs.declared.plain.refusal.Refusal.{Refusal}
-use Rattle.slurm_text.specs.declared.plain.refusal.Refusal.TheVariants.{MomentTooLarge}
+use Rattle.slurm_text.specs.declared.plain.refusal.Refusal.TheVariants.{HistoryFull, MomentTooLarge}
 use Rattle.slurm_text.specs.declared.plain.reply.Reply.{Reply}
-use Rattle.slurm_text.specs.declared.plain.reply.Reply.TheVariants.{Submitted, Passed, Orders, Idle, Shown, Refused, NotBuilt}
+use Rattle.slurm_text.specs.declared.plain.reply.Reply.TheVariants.{Submitted, Done, Passed, Orders, Idle, Shown, Refused, NotBuilt}
 use Rattle.ctl_state.specs.State.{State, last_moment}
 use Rattle.ctl_state.specs.Soundness.{IsAsked, IsLimit}
 use Rattle.ctl_state.specs.Refusals.{refused_if, first_refusal, unless_refused, is_privileged}
-use Rattle.ctl_state.specs.Verdicts.{Verdict, Unbuilt, Tells, reply_by, left_by, stamped}
-use Rattle.ctl_pass.specs.Passing.{pass_refusals, pass_made, jobs_planned}
+use Rattle.ctl_state.specs.Verdicts.{Verdict, Refuses, Unbuilt, Tells, Makes, reply_by, left_by, stamped}
+use Rattle.ctl_pass.specs.Passing.{pass_refusals, pass_after, pass_made, jobs_planned}
 use Rattle.ctl_report.specs.Answering.{is_restarted, report_refusals, report_made}
-use Rattle.ctl_core.specs.Submission.{submit_refusals, submit_made}
-use Rattle.ctl_core.specs.Showing.{show_refusals, view_of}
+use Rattle.ctl_submit.specs.Submission.{submit_refusals, submit_made}
+use Rattle.ctl_cancel.specs.Cancelling.{cancel_refusals, cancel_after, cancel_made}
+use Rattle.ctl_show.specs.Showing.{show_refusals, view_of}
+use Rattle.ctl_core.specs.Sizes.{has_room, size_of}
 
 -- the moment of a request: the one handed in, or the last one where that is later
 abbrev pub raised : State → ℕ → ℕ
@@ -22,6 +24,7 @@ raised s now = max s.moment now
 -- what the controller can't do yet: to work the report of a restarted daemon
 abbrev pub is_unbuilt : State → Request → Bool
 is_unbuilt s (Submit desc) = false
+is_unbuilt s (Cancel targets) = false
 is_unbuilt s (Report report) = is_restarted s report
 is_unbuilt s Pass = false
 is_unbuilt s (Show query) = false
@@ -29,6 +32,7 @@ is_unbuilt s (Show query) = false
 -- why a user's request may be refused at a moment that is none too large, in their order
 abbrev pub refusals_of : State → ℕ → List ℕ → Request → List (Option Refusal)
 refusals_of s moment user (Submit desc) = submit_refusals s moment user desc
+refusals_of s moment user (Cancel targets) = cancel_refusals s user targets
 refusals_of s moment user (Report report) = report_refusals s user report
 refusals_of s moment user Pass = pass_refusals s user
 refusals_of s moment user (Show query) = show_refusals s query
@@ -36,14 +40,30 @@ refusals_of s moment user (Show query) = show_refusals s query
 -- what a request comes to that isn't refused
 abbrev pub made : State → ℕ → List ℕ → Request → Verdict
 made s moment user (Submit desc) = submit_made s moment user desc
+made s moment user (Cancel targets) = cancel_made s moment user targets
 made s moment user (Report report) = report_made s moment report
 made s moment user Pass = pass_made s moment
-made s moment user (Show query) = Tells (view_of s moment query)
+made s moment user (Show query) = Tells (view_of s moment user query)
+
+-- the state that a request would leave that isn't refused, before it bears its moment
+abbrev pub worked_on : State → ℕ → List ℕ → Request → State
+worked_on s moment user (Submit desc) = left_by s (submit_made s moment user desc)
+worked_on s moment user (Cancel targets) = cancel_after s moment user targets
+worked_on s moment user (Report report) = left_by s (report_made s moment report)
+worked_on s moment user Pass = pass_after s moment
+worked_on s moment user (Show query) = s
+
+-- what would make an entry is refused where the history can't take it
+abbrev pub unless_full : Bool → Verdict → Verdict
+unless_full true verdict = verdict
+unless_full false (Makes reply after) = Refuses HistoryFull
+unless_full false verdict = verdict
 
 -- what a user's request at a moment that is none too large comes to, where it is worked
 abbrev pub worked : State → ℕ → List ℕ → Request → Verdict
 worked s moment user request =
-    unless_refused (first_refusal (refusals_of s moment user request)) (made s moment user request)
+    unless_refused (first_refusal (refusals_of s moment user request))
+    (unless_full (has_room s request) (made s moment user request))
 
 -- What a user's request at a moment comes to.
 abbrev pub verdict_of : State → ℕ → List ℕ → Request → Verdict
@@ -58,6 +78,7 @@ reply_of s now user request = reply_by (verdict_of s now user request)
 -- whether a reply is entered in the history
 abbrev pub is_entered : Reply → Bool
 is_entered (Submitted id) = true
+is_entered Done = true
 is_entered (Passed ended started planned) = true
 is_entered (Orders orders) = true
 is_entered Idle = false
@@ -65,11 +86,15 @@ is_entered (Shown view) = false
 is_entered (Refused refusal) = false
 is_entered NotBuilt = false
 
--- the state after it: an entry makes another, which bears its moment
+-- a state that an entry of this moment and size has made
+abbrev pub entered : ℕ → ℕ → State → State
+entered now size s = record (stamped now s) { size = s.size + size }
+
+-- the state after it: an entry makes another, which bears its moment and its size
 abbrev pub state_after : State → ℕ → List ℕ → Request → State
 state_after s now user request =
     if is_entered (reply_of s now user request)
-    then stamped (raised s now) (left_by s (verdict_of s now user request))
+    then entered (raised s now) (size_of request) (left_by s (verdict_of s now user request))
     else s
 
 -- how many steps a pass of this user counts: one for each job that it plans, where it is allowed
@@ -80,6 +105,7 @@ steps_of s now user =
 -- the request is in its ranges, as its type keeps them
 abbrev pub IsInRange : Request → Type 0
 IsInRange (Submit desc) = IsAsked desc × IfSome desc.limit IsLimit
+IsInRange (Cancel targets) = Unit {0}
 IsInRange (Report report) = Unit {0}
 IsInRange Pass = Unit {0}
 IsInRange (Show query) = Unit {0}

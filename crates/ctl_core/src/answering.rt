@@ -1,20 +1,22 @@
 //! One step: a request is judged, and where it is accepted the cluster changes and bears its moment.
 
-ghost use Rattle.std.specs.Prelude.{◌≡◌, ◌≤◌, IfOk, OnOk, OnErr, if◌then◌else◌, Some, None};
+ghost use Rattle.std.specs.Prelude.{◌≡◌, ◌+◌, ◌^◌, ◌<◌, ◌≤◌, IfOk, OnOk, OnErr, if◌then◌else◌, Some, None};
 ghost use Rattle.slurm_text.specs.declared.plain.request.Request.TheVariants.{Pass};
 ghost use Rattle.resource_profile.specs.Counts.{ticked, IsTickedUpTo};
 ghost use Rattle.ctl_state.specs.State.{state_of, last_moment};
 ghost use Rattle.ctl_state.specs.Soundness.{IsSound};
-ghost use Rattle.ctl_state.specs.Verdicts.{stamped};
 ghost use Rattle.ctl_core.specs.Answering.{Answers};
-ghost use Rattle.ctl_core.specs.Step.{reply_of, state_after, is_entered, is_unbuilt, raised, steps_of, worked};
+ghost use Rattle.ctl_core.specs.Sizes.{has_room};
+ghost use Rattle.ctl_core.specs.Step.{reply_of, state_after, entered, is_entered, is_unbuilt, raised, steps_of, worked};
 
+use crate::cancelling::cancel_jobs;
 use crate::laws::a_step_keeps_all_sound;
 use crate::passing::pass;
 use crate::ranges::in_range;
 use crate::reply::{Answered, Decided};
 use crate::reporting::report;
 use crate::showing::show;
+use crate::sizes::room_for;
 use crate::submitting::submit;
 use ctl_report::is_restarted;
 use ctl_state::cluster::Cluster;
@@ -28,17 +30,19 @@ use std::alloc::Global;
 
 const LAST_MOMENT: u64 = 250_000_000_000;
 
-// The answer at a moment; an entry makes the cluster bear it.
-fn stamp(cluster: &mut Cluster, moment: u64, answered: Answered) -> Decided
-    requires { answered.entered ≡ (if is_entered answered.reply then Some answered.reply else None) }
+// The answer at a moment; an entry makes the cluster bear it, and its size.
+fn stamp(cluster: &mut Cluster, moment: u64, size: u64, answered: Answered) -> Decided
+    requires entered { answered.entered ≡ (if is_entered answered.reply then Some answered.reply else None) }
+    requires room { cluster.old.size + size < 2 ^ 64 }
     ensures reply { result.reply ≡ answered.reply }
     ensures entered { result.entered ≡ answered.entered }
     ensures moment { result.moment ≡ moment }
     ensures after { state_of cluster.new
-        ≡ (if is_entered answered.reply then stamped moment (state_of cluster.old) else state_of cluster.old) }
+        ≡ (if is_entered answered.reply then entered moment size (state_of cluster.old) else state_of cluster.old) }
 {
     if answered.entered.is_some() {
         cluster.moment = moment;
+        cluster.size += size;
     }
     Decided {
         reply: answered.reply,
@@ -54,19 +58,22 @@ fn work(
     moment: u64,
     user: &Name,
     request: &Request,
+    room: bool,
 ) -> Result<Answered, Memory>
     requires sound { IsSound (state_of cluster.old) }
     requires raised { cluster.old.moment ≤ moment }
     requires in_time { moment ≤ last_moment }
+    requires room { room ≡ has_room (state_of cluster.old) request.now }
     ensures ok { IfOk result (Answers (state_of cluster.old) (state_of cluster.new)
         (worked (state_of cluster.old) moment user.now request.now)) }
     ensures err { OnErr result (state_of cluster.new ≡ state_of cluster.old) }
 {
     match request {
-        Request::Submit(desc) => submit(alloc, cluster, moment, user, desc),
-        Request::Report(told) => report(alloc, cluster, moment, user, told),
-        Request::Pass => pass(alloc, cluster, moment, user, &mut start()),
-        Request::Show(query) => show(alloc, cluster, moment, query),
+        Request::Submit(desc) => submit(alloc, cluster, moment, user, desc, room),
+        Request::Cancel(targets) => Ok(cancel_jobs(cluster, moment, user, targets, room)),
+        Request::Report(told) => report(alloc, cluster, moment, user, told, room),
+        Request::Pass => pass(alloc, cluster, moment, user, room, &mut start()),
+        Request::Show(query) => show(alloc, cluster, moment, user, query),
     }
 }
 
@@ -86,6 +93,17 @@ fn unbuilt() -> Answered
 {
     Answered {
         reply: Reply::NotBuilt,
+        entered: None,
+    }
+}
+
+/// The answer to a request that would change nothing, which makes no entry.
+pub(crate) fn idle() -> Answered
+    ensures reply { result.reply ≡ Reply.Idle }
+    ensures entered { result.entered ≡ None }
+{
+    Answered {
+        reply: Reply::Idle,
         entered: None,
     }
 }
@@ -119,13 +137,14 @@ fn answer(
 {
     let moment = cluster.moment.max(now);
     if is_unbuilt(cluster, request) {
-        return Ok(stamp(cluster, moment, unbuilt()));
+        return Ok(stamp(cluster, moment, 0, unbuilt()));
     }
     if now > LAST_MOMENT {
-        return Ok(stamp(cluster, moment, refused(Refusal::MomentTooLarge)));
+        return Ok(stamp(cluster, moment, 0, refused(Refusal::MomentTooLarge)));
     }
-    let answered = work(alloc, cluster, moment, user, request)?;
-    Ok(stamp(cluster, moment, answered))
+    let size = room_for(cluster, request);
+    let answered = work(alloc, cluster, moment, user, request, size.is_some())?;
+    Ok(stamp(cluster, moment, size.unwrap_or(0), answered))
 }
 
 // Answers a pass, and counts its steps.
@@ -148,10 +167,11 @@ fn answer_pass<L>(
 {
     let moment = cluster.moment.max(now);
     if now > LAST_MOMENT {
-        return Ok(stamp(cluster, moment, refused(Refusal::MomentTooLarge)));
+        return Ok(stamp(cluster, moment, 0, refused(Refusal::MomentTooLarge)));
     }
-    let answered = pass(alloc, cluster, moment, user, steps)?;
-    Ok(stamp(cluster, moment, answered))
+    let size = room_for(cluster, &Request::Pass);
+    let answered = pass(alloc, cluster, moment, user, size.is_some(), steps)?;
+    Ok(stamp(cluster, moment, size.unwrap_or(0), answered))
 }
 
 /// Answers a request, and keeps all sound.

@@ -12,6 +12,7 @@ use crate::reply::Decided;
 use backfill_planner::Planned;
 use ctl_state::cluster::Cluster;
 use ctl_state::record::AssocRecord;
+use job_table::jobs::Jobs;
 use node_state::nodes::Nodes;
 use node_state::record::NodeRecord;
 use partitions::partitions::Partitions;
@@ -61,18 +62,23 @@ impl Ctl {
             partitions,
             nodes,
             assocs: assoc_records(alloc, assocs.assocs.into_vec())?,
-            jobs: Vec::new(alloc),
+            jobs: Jobs::new(alloc),
+            arrays: Vec::new(alloc),
             plan: Vec::new(alloc),
+            size: 0,
             moment: 0,
         };
         Ok(Ctl { alloc, cluster })
     }
 
     /// Decides one request, and changes the state where it is accepted. A submission is linear in associations,
-    /// partitions and nodes, sorts the nodes of its partition, and costs for each of these what it names of nodes and
-    /// features; a report is linear in the jobs, and for each job of the node in what it tells; a pass costs what its
-    /// plan costs. A query of jobs is linear in these, their parts and the plan; one of partitions in the nodes, the
-    /// jobs' parts and the nodes of the partitions that it shows.
+    /// partitions and nodes, sorts the nodes of its partition, costs for each of these what it names of nodes and
+    /// features, and is linear in its tasks. Cancelling is for each target logarithmic in the jobs and linear in the
+    /// tasks of its array, of a user's jobs linear in all, and then linear in the plan; it takes no memory. A report is
+    /// linear in the jobs, and for each job of the node in what it tells. A pass costs what its plan costs. A query of
+    /// jobs is linear in these, the parts of those that are shown and the plan, and for each job in the targets and
+    /// states that it names; one of partitions in the nodes, the jobs' parts and the nodes of the partitions that it
+    /// shows.
     pub fn ask(&mut self, now: u64, user: &Name, request: &Request) -> Result<Decided, Memory>
         ensures reply { IfOk result (λ decided. decided.reply ≡ reply_of self.old.state now user.now request.now) }
         ensures entered { IfOk result (λ decided.

@@ -2,6 +2,7 @@
 #![tactic(auto)]
 
 mod answering;
+mod cancelling;
 pub mod controller;
 pub mod laws;
 mod passing;
@@ -9,5 +10,5 @@ mod ranges;
 pub mod reply;
 mod reporting;
 mod showing;
-mod standing;
+mod sizes;
 mod submitting;

@@ -7,8 +7,9 @@ ghost use Rattle.ctl_state.specs.Soundness.{IsSound};
 ghost use Rattle.ctl_state.specs.Refusals.{first_refusal, unless_refused, is_privileged};
 ghost use Rattle.ctl_pass.specs.Passing.{pass_refusals, pass_made, jobs_planned};
 ghost use Rattle.ctl_core.specs.Answering.{Answers};
+ghost use Rattle.ctl_core.specs.Step.{unless_full};
 
-use crate::answering::refused;
+use crate::answering::{idle, refused};
 use crate::reply::Answered;
 use ctl_pass::laws::few_start_or_stay;
 use ctl_pass::{act, decide, is_idle, refusal_of};
@@ -16,18 +17,9 @@ use ctl_state::cluster::Cluster;
 use resource_profile::Steps;
 use slurm_text::memory_error::Memory;
 use slurm_text::name::Name;
+use slurm_text::plain::refusal::Refusal;
 use slurm_text::plain::reply::Reply;
 use std::alloc::Global;
-
-fn idle() -> Answered
-    ensures reply { result.reply ≡ Reply.Idle }
-    ensures entered { result.entered ≡ None }
-{
-    Answered {
-        reply: Reply::Idle,
-        entered: None,
-    }
-}
 
 fn passed(ended: u32, started: u32, planned: u32) -> Answered
     ensures reply { result.reply ≡ Reply.Passed ended started planned }
@@ -47,12 +39,13 @@ fn passed(ended: u32, started: u32, planned: u32) -> Answered
     }
 }
 
-/// A pass at its raised moment.
+/// A pass at its raised moment, where the history has room for it or not; it counts its steps in each case.
 pub(crate) fn pass<L>(
     alloc: Global,
     cluster: &mut Cluster,
     moment: u64,
     user: &Name,
+    room: bool,
     steps: &mut Steps<L>,
 ) -> Result<Answered, Memory>
     requires sound { IsSound (state_of cluster.old) }
@@ -60,7 +53,7 @@ pub(crate) fn pass<L>(
     requires in_time { moment ≤ last_moment }
     ensures ok { IfOk result (Answers (state_of cluster.old) (state_of cluster.new)
         (unless_refused (first_refusal (pass_refusals (state_of cluster.old) user.now))
-        (pass_made (state_of cluster.old) moment))) }
+        (unless_full room (pass_made (state_of cluster.old) moment)))) }
     ensures err { OnErr result (state_of cluster.new ≡ state_of cluster.old) }
     ensures steps { OnOk result (steps.new ≡ ticked steps.old
         (if is_privileged (state_of cluster.old) user.now then jobs_planned (state_of cluster.old) moment else 0)) }
@@ -76,9 +69,12 @@ pub(crate) fn pass<L>(
     if is_idle(cluster, moment, &decided) {
         return Ok(idle());
     }
+    if !room {
+        return Ok(refused(Refusal::HistoryFull));
+    }
     let started = decided.starts.len() as u32;
     let planned = decided.stays.len() as u32;
     let answered = passed(decided.ended, started, planned);
-    act(alloc, cluster, moment, decided);
+    act(cluster, moment, decided);
     Ok(answered)
 }

@@ -6,6 +6,7 @@ ghost use Rattle.ctl_state.specs.Soundness.{IsSound};
 ghost use Rattle.ctl_state.specs.Refusals.{first_refusal, unless_refused};
 ghost use Rattle.ctl_report.specs.Answering.{report_refusals, report_made};
 ghost use Rattle.ctl_core.specs.Answering.{Answers};
+ghost use Rattle.ctl_core.specs.Step.{unless_full};
 
 use crate::answering::refused;
 use crate::reply::Answered;
@@ -18,18 +19,19 @@ use slurm_text::plain::reply::Reply;
 use slurm_text::plain::report::Report;
 use std::alloc::Global;
 
-/// A report at its raised moment.
+/// A report at its raised moment, where the history has room for it or not.
 pub(crate) fn report(
     alloc: Global,
     cluster: &mut Cluster,
     moment: u64,
     user: &Name,
     report: &Report,
+    room: bool,
 ) -> Result<Answered, Memory>
     requires { IsSound (state_of cluster.old) }
     ensures ok { IfOk result (Answers (state_of cluster.old) (state_of cluster.new)
         (unless_refused (first_refusal (report_refusals (state_of cluster.old) user.now report.now))
-        (report_made (state_of cluster.old) moment report.now))) }
+        (unless_full room (report_made (state_of cluster.old) moment report.now)))) }
     ensures err { OnErr result (state_of cluster.new ≡ state_of cluster.old) }
 {
     if let Some(refusal) = refusal_of(cluster, user, report) {
@@ -38,9 +40,12 @@ pub(crate) fn report(
     let Some(node) = node_of(cluster, report) else {
         return Ok(refused(Refusal::UnknownNode));
     };
+    if !room {
+        return Ok(refused(Refusal::HistoryFull));
+    }
     let orders = orders(alloc, cluster, node, report)?;
     let entered = orders.copy()?;
-    accept(alloc, cluster, moment, node, report);
+    accept(cluster, moment, node, report);
     Ok(Answered {
         reply: Reply::Orders(orders),
         entered: Some(Reply::Orders(entered)),

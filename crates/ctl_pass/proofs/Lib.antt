@@ -1,5 +1,11 @@
 pub mod Lists
+pub mod Readied
+pub mod Tasks
+pub mod Held
+pub mod FirstReason
 pub mod Ranks
+pub mod Splits
 pub mod Starting
+pub mod Planned
 pub mod Passes
 pub mod Few

@@ -1,25 +1,26 @@
 -- What a pass ranks: the candidates in their order, and what they need.
-use Rattle.std.proofs.Common.{◌≡◌, ◌≢◌, ℕ, ◌+◌, ◌≤◌, ◌<◌, Bool, cond, ltb, List, [], ◌∷◌, ◌++◌, length, map, filter, take, get_or, All, AllPairs, Contains, Option, Some, None, arith, refl, ap, sym, ◌∙◌, inl, inr}
+use Rattle.std.proofs.Common.{◌≡◌, ◌≢◌, ℕ, ◌+◌, ◌≤◌, ◌<◌, Bool, cond, ltb, List, [], ◌∷◌, ◌++◌, length, map, filter, take, get_or, All, AllPairs, Any, Contains, true, Option, Some, None, arith, refl, ap, sym, ◌∙◌, inl, inr}
 use Rattle.std.specs.Prelude.{IfSome, is_none, slice_get, filter_map, option_map}
 use Rattle.std.specs.List.{cons_option}
 use Rattle.std.proofs.lemmas.Bool.{cases_Bool}
 use Rattle.std.proofs.lemmas.Bool.Decides.{nat_tests}
 use Rattle.std.proofs.lemmas.Option.{slice_get-map, get_or_from_slice_get}
-use Rattle.std.proofs.lemmas.List.{get_or-map, length-map, append-nil}
-use Rattle.std.proofs.lemmas.List.Elements.{All-cons, All-filter, All-head, All-nil, All-tail, filter_more}
+use Rattle.std.proofs.lemmas.List.{get_or-map, get_or_default, length-map, append-nil}
+use Rattle.std.proofs.lemmas.List.Elements.{All-cons, All-filter, All-head, All-nil, All-tail, filter_more, filter_passes}
 use Rattle.std.proofs.lemmas.List.Kept.{AllPairs-cons, AllPairs-filter}
 use Rattle.std.proofs.lemmas.List.Sorted.{All-permutation}
 use Rattle.backfill_planner.specs.declared.job.PlanJob.{PlanJob}
 use Rattle.partitions.specs.declared.record.PartRecord.{PartRecord}
 use Rattle.partitions.specs.Partitions.{bounds_of}
 use Rattle.slurm_text.specs.Options.{◌>>=◌}
-use Rattle.ctl_state.specs.declared.record.JobRecord.{JobRecord}
-use Rattle.ctl_state.specs.JobStates.{is_pending}
+use Rattle.job_table.specs.declared.record.JobRecord.{JobRecord}
+use Rattle.job_table.specs.JobStates.{is_pending}
 use Rattle.ctl_state.specs.Ordered.{put, ordered_by}
 use Rattle.ctl_state.specs.Laws.{OrderMoves, OrderKeepsApart}
 use Rattle.ctl_state.specs.Planning.{node_order, plan_job}
 use Rattle.node_state.specs.declared.record.NodeRecord.{NodeRecord}
-use Rattle.ctl_state.specs.Soundness.{HaveRisingIds, pending_ids}
+use Rattle.ctl_state.specs.Soundness.{pending_ids}
+use Rattle.job_table.specs.Table.{HaveRisingIds}
 use Rattle.ctl_state.specs.State.{State, partition_of}
 use Rattle.ctl_pass.specs.Readiness.{is_candidate, is_higher, tier_of, candidates, needs_of, ranked}
 use Rattle.ctl_pass.specs.Reasons.{hindrance}
@@ -75,7 +76,8 @@ pub filter_map-all : {X Y : Type 0} (P : Y → Type 0) (h : X → Option Y) (xs 
     → All (λ x. IfSome (h x) P) xs → All P (filter_map h xs)
 filter_map-all {Y = Y} P h [] each = All-nil P
 filter_map-all {Y = Y} P h (x ∷ xs) each =
-    by (h x) (filter_map h xs) (All-head (λ y. IfSome (h y) P) x xs each) (filter_map-all P h xs (All-tail (λ y. IfSome (h y) P) x xs each))
+    by (h x) (filter_map h xs) (All-head (λ y. IfSome (h y) P) x xs each)
+    (filter_map-all P h xs (All-tail (λ y. IfSome (h y) P) x xs each))
   where
     by : (some : Option Y) (later : List Y) → IfSome some P → All P later → All P (cons_option some later)
     by None later is rest = rest
@@ -97,7 +99,8 @@ pub filter_map-less : {X Y : Type 0} (h : X → Option Y) (xs : List X) → leng
 filter_map-less h [] = omega arith
 filter_map-less {Y = Y} h (x ∷ xs) = by (h x) (filter_map-less h xs)
   where
-    by : (some : Option Y) → length (filter_map h xs) ≤ length xs → length (cons_option some (filter_map h xs)) ≤ length (x ∷ xs)
+    by : (some : Option Y) → length (filter_map h xs) ≤ length xs
+        → length (cons_option some (filter_map h xs)) ≤ length (x ∷ xs)
     by None less = omega (arith, less)
     by (Some y) less = omega (arith, less)
 
@@ -110,11 +113,13 @@ unfolding highest_of ordered_by
 highest-none s = refl
 
 pub highest-more : (s : State) (i : ℕ) (job : JobRecord) → i < length s.jobs → job ≡ get_or s.jobs i job
-    → highest_of s (take (i + 1) s.jobs) ≡ cond (is_candidate s job) (higher (tier_of s) job (highest_of s (take i s.jobs))) (highest_of s (take i s.jobs))
+    → highest_of s (take (i + 1) s.jobs) ≡ cond (is_candidate s job)
+    (higher (tier_of s) job (highest_of s (take i s.jobs))) (highest_of s (take i s.jobs))
 unfolding highest_of
 highest-more s i job within is =
     let before = filter (is_candidate s) (take i s.jobs) in
-    let more : filter (is_candidate s) (take (i + 1) s.jobs) ≡ before ++ cond (is_candidate s job) (job ∷ []) [] = rw (filter_more (is_candidate s) s.jobs i job within, ← is) refl in
+    let more : filter (is_candidate s) (take (i + 1) s.jobs) ≡ before ++ cond (is_candidate s job) (job ∷ []) [] =
+    rw (filter_more (is_candidate s) s.jobs i job within, ← is) refl in
     elim (cases_Bool (is_candidate s job)) [
       | inl can ↦ rw (more, can) (first-more (tier_of s) job before)
       | inr other ↦ rw (more, other, append-nil before) refl
@@ -128,13 +133,15 @@ highest-is s now = refl
 abbrev pub waiting : List JobRecord → List JobRecord
 waiting jobs = filter (λ (job : JobRecord). is_pending job.state) jobs
 
-pub candidates-wait : (s : State) (jobs : List JobRecord) → filter (is_candidate s) jobs ≡ filter (λ job. is_none (hindrance s job)) (waiting jobs)
+pub candidates-wait : (s : State) (jobs : List JobRecord)
+    → filter (is_candidate s) jobs ≡ filter (λ job. is_none (hindrance s job)) (waiting jobs)
 candidates-wait s [] = refl
 candidates-wait s (job ∷ jobs) = grind (arith, nat_tests, candidates-wait s jobs)
 
 -- what holds of what a job needs in its partition
 needs-all : (P : PlanJob → Type 0) (s : State) (job : JobRecord)
-    → ((partition : PartRecord) (bounds : ℕ × ℕ) → slice_get s.partitions job.partition ≡ Some partition → P (plan_job s.nodes partition bounds job))
+    → ((partition : PartRecord) (bounds : ℕ × ℕ) → slice_get s.partitions job.partition ≡ Some partition
+    → P (plan_job s.nodes partition bounds job))
     → IfSome (needs_of s job) P
 unfolding needs_of
 needs-all P s job each = by (partition_of s job) refl
@@ -145,43 +152,94 @@ needs-all P s job each = by (partition_of s job) refl
     by_bounds partition (Some bounds) is = each partition bounds is
 
     by : (some : Option PartRecord) → slice_get s.partitions job.partition ≡ some
-        → IfSome (some >>= λ partition. bounds_of partition job.desc >>= λ bounds. Some (plan_job s.nodes partition bounds job)) P
+        → IfSome (some >>= λ partition. bounds_of partition job.desc >>= λ bounds.
+        Some (plan_job s.nodes partition bounds job)) P
     by None is = tt
     by (Some partition) is = by_bounds partition (bounds_of partition job.desc) is
 
+-- what holds of what each candidate may need
+ranked-of : OrderMoves JobRecord → (P : PlanJob → Type 0) (s : State) (now : ℕ)
+    → All (λ (job : JobRecord). IfSome (needs_of s job) P) (filter (is_candidate s) s.jobs) → All P (ranked s now)
+unfolding ranked candidates
+ranked-of moves P s now each =
+    let chosen = filter (is_candidate s) s.jobs in
+    let sorted = ordered_by (is_higher s) chosen in
+    filter_map-all P (needs_of s) sorted (All-permutation (λ (job : JobRecord). IfSome (needs_of s job) P) chosen sorted
+    (moves (is_higher s) chosen) each)
+
 -- what holds of what each waiting job may need
 pub ranked-all : OrderMoves JobRecord → (P : PlanJob → Type 0) (s : State) (now : ℕ)
-    → All (λ (job : JobRecord). (partition : PartRecord) (bounds : ℕ × ℕ) → slice_get s.partitions job.partition ≡ Some partition → P (plan_job s.nodes partition bounds job)) (waiting s.jobs)
+    → All (λ (job : JobRecord). (partition : PartRecord) (bounds : ℕ × ℕ)
+    → slice_get s.partitions job.partition ≡ Some partition
+    → P (plan_job s.nodes partition bounds job)) (waiting s.jobs)
     → All P (ranked s now)
-unfolding ranked candidates
 ranked-all moves P s now each =
-    let chosen = filter (is_candidate s) s.jobs in
     let needs : JobRecord → Type 0 = λ job. IfSome (needs_of s job) P in
-    let all : All needs chosen = rw (candidates-wait s s.jobs)
-    (All-filter (λ job. is_none (hindrance s job)) needs (waiting s.jobs) (λ k d below. needs-all P s (get_or (waiting s.jobs) k d) (each k d below))) in
-    filter_map-all P (needs_of s) (ordered_by (is_higher s) chosen) (All-permutation needs chosen (ordered_by (is_higher s) chosen) (moves (is_higher s) chosen) all)
+    ranked-of moves P s now (rw (candidates-wait s s.jobs)
+    (All-filter (λ job. is_none (hindrance s job)) needs (waiting s.jobs)
+    (λ k d below. needs-all P s (get_or (waiting s.jobs) k d) (each k d below))))
+
+-- the job with this number is a candidate
+abbrev pub IsOfCandidate : State → ℕ → Type 0
+IsOfCandidate s id = Any (λ (job : JobRecord). (job.id ≡ id) × (is_candidate s job ≡ true)) s.jobs
+
+-- they are of candidates
+pub ranked-candidates : OrderMoves JobRecord → (s : State) (now : ℕ)
+    → All (λ (need : PlanJob). IsOfCandidate s need.id) (ranked s now)
+unfolding plan_job
+ranked-candidates moves s now =
+    let chosen = filter (is_candidate s) s.jobs in
+    let each : All (λ (job : JobRecord). is_candidate s job ≡ true → IsOfCandidate s job.id) s.jobs =
+    λ k d below passes. (
+      k,
+      get_or s.jobs k d,
+      below,
+      get_or_default s.jobs k (get_or s.jobs k d) d below,
+      (refl, passes),
+    ) in
+    ranked-of moves (λ (need : PlanJob). IsOfCandidate s need.id) s now
+    (λ k d below. needs-all (λ (need : PlanJob). IsOfCandidate s need.id) s (get_or chosen k d)
+    (λ partition bounds is. All-filter (is_candidate s) (λ (job : JobRecord). is_candidate s job ≡ true
+    → IsOfCandidate s job.id) s.jobs each k d below (filter_passes (is_candidate s) s.jobs k d below)))
 
 -- they are of jobs that wait
-pub ranked-waits : OrderMoves JobRecord → (s : State) (now : ℕ) → All (λ (job : PlanJob). Contains (pending_ids s.jobs) job.id) (ranked s now)
+pub ranked-waits : OrderMoves JobRecord → (s : State) (now : ℕ)
+    → All (λ (job : PlanJob). Contains (pending_ids s.jobs) job.id) (ranked s now)
 unfolding plan_job
 ranked-waits moves s now =
     ranked-all moves (λ (job : PlanJob). Contains (pending_ids s.jobs) job.id) s now
-    (λ k d below partition bounds is. (k, omega (arith, below, length-map (waiting s.jobs) (λ (job : JobRecord). job.id)), get_or-map (λ (job : JobRecord). job.id) (waiting s.jobs) k d _ below))
+    (λ k d below partition bounds is. (
+      k,
+      omega (
+        arith,
+        below,
+        length-map (waiting s.jobs) (λ (job : JobRecord). job.id),
+      ),
+      get_or-map (λ (job : JobRecord). job.id) (waiting s.jobs) k d _ below,
+    ))
 
 -- of different ones
-pub ranked-apart : OrderKeepsApart JobRecord → (s : State) (now : ℕ) → HaveRisingIds s.jobs → AllPairs (λ (one other : PlanJob). one.id ≢ other.id) (ranked s now)
+pub ranked-apart : OrderKeepsApart JobRecord → (s : State) (now : ℕ) → HaveRisingIds s.jobs
+    → AllPairs (λ (one other : PlanJob). one.id ≢ other.id) (ranked s now)
 unfolding ranked candidates plan_job
 ranked-apart keeps s now rising =
-    let apart : AllPairs (λ (one other : JobRecord). one.id ≢ other.id) s.jobs = λ i j d before within same. omega (arith, rising i j d before within, same) in
-    let sorted = keeps (is_higher s) (λ (job : JobRecord). job.id) (filter (is_candidate s) s.jobs) (AllPairs-filter (λ (one other : JobRecord). one.id ≢ other.id) (is_candidate s) s.jobs apart) in
-    filter_map-pairs (λ (one other : PlanJob). one.id ≢ other.id) (needs_of s) (ordered_by (is_higher s) (filter (is_candidate s) s.jobs))
+    let apart : AllPairs (λ (one other : JobRecord). one.id ≢ other.id) s.jobs =
+    λ i j d before within same. omega (arith, rising i j d before within, same) in
+    let sorted = keeps (is_higher s) (λ (job : JobRecord). job.id) (filter (is_candidate s) s.jobs)
+    (AllPairs-filter (λ (one other : JobRecord). one.id ≢ other.id) (is_candidate s) s.jobs apart) in
+    filter_map-pairs (λ (one other : PlanJob). one.id ≢ other.id) (needs_of s)
+    (ordered_by (is_higher s) (filter (is_candidate s) s.jobs))
     (λ i j d before below. let one = get_or (ordered_by (is_higher s) (filter (is_candidate s) s.jobs)) i d in
     let other = get_or (ordered_by (is_higher s) (filter (is_candidate s) s.jobs)) j d in
     needs-all (λ (need : PlanJob). IfSome (needs_of s other) (λ (later : PlanJob). need.id ≢ later.id)) s one
-    (λ partition bounds is. needs-all (λ (later : PlanJob). one.id ≢ later.id) s other (λ part most same. sorted i j d before below)))
+    (λ partition bounds is. needs-all (λ (later : PlanJob). one.id ≢ later.id) s other
+    (λ part most same. sorted i j d before below)))
 
 -- the order of the nodes of a partition, among those of all
-pub order-at : (nodes : List NodeRecord) (partitions : List PartRecord) (orders : List (List ℕ)) (place : ℕ) (partition : PartRecord) (order : List ℕ)
-    → orders ≡ map (node_order nodes) partitions → slice_get partitions place ≡ Some partition → order ≡ get_or orders place order → order ≡ node_order nodes partition
+pub order-at : (nodes : List NodeRecord) (partitions : List PartRecord) (orders : List (List ℕ)) (place : ℕ)
+    (partition : PartRecord) (order : List ℕ)
+    → orders ≡ map (node_order nodes) partitions → slice_get partitions place ≡ Some partition
+    → order ≡ get_or orders place order → order ≡ node_order nodes partition
 order-at nodes partitions orders place partition order are at is =
-    is ∙ get_or_from_slice_get orders place (node_order nodes partition) order (rw are (slice_get-map (node_order nodes) partitions place ∙ ap (option_map (node_order nodes)) at))
+    is ∙ get_or_from_slice_get orders place (node_order nodes partition) order
+    (rw are (slice_get-map (node_order nodes) partitions place ∙ ap (option_map (node_order nodes)) at))

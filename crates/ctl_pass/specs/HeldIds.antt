@@ -3,7 +3,7 @@ use Rattle.std.specs.Prelude.{◌≡◌, ℕ, ◌+◌, ◌*◌, ◌<◌, Bool, f
 use Rattle.std.specs.List.{list_any, range_with_len}
 use Rattle.resource_profile.specs.declared.NodeRoom.{NodeRoom}
 use Rattle.backfill_planner.specs.declared.Share.{Share}
-use Rattle.ctl_state.specs.declared.record.Part.{Part}
+use Rattle.job_table.specs.declared.record.Part.{Part}
 use Rattle.ctl_state.specs.Holding.{cpus_of, has_cpu}
 
 -- the bit of a processor of a node

@@ -6,3 +6,4 @@ pub mod SamePlans
 pub mod Passing
 pub mod HeldIds
 pub mod Awaiting
+pub mod Live

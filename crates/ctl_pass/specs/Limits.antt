@@ -1,14 +1,14 @@
 -- When jobs reach their limits, and when their records go.
-use Rattle.std.specs.Prelude.{ℕ, ◌+◌, ◌*◌, Bool, ◌&&◌, not, nat_eq, nat_lt, nat_le, if◌then◌else◌, unwrap_or, List, map, length, None}
+use Rattle.std.specs.Prelude.{ℕ, ◌+◌, ◌*◌, Bool, ◌&&◌, nat_lt, nat_le, if◌then◌else◌, unwrap_or, List, map, length, None}
 use Rattle.slurm_text.specs.declared.plain.limit.Limit.{Limit}
 use Rattle.slurm_text.specs.declared.plain.limit.Limit.TheVariants.{Minutes, Unlimited}
 use Rattle.slurm_text.specs.declared.plain.state.Final.TheVariants.{Timeout}
 use Rattle.resource_profile.specs.declared.Hold.{Hold}
-use Rattle.ctl_state.specs.declared.record.Part.{Part}
-use Rattle.ctl_state.specs.declared.record.JobRecord.{JobRecord}
-use Rattle.ctl_state.specs.declared.change.Change.TheVariants.{Leave}
-use Rattle.ctl_state.specs.Changes.{changed}
-use Rattle.ctl_state.specs.JobStates.{is_running, is_ended}
+use Rattle.job_table.specs.declared.record.Part.{Part}
+use Rattle.job_table.specs.declared.record.JobRecord.{JobRecord}
+use Rattle.job_table.specs.declared.change.Change.TheVariants.{Leave}
+use Rattle.job_table.specs.Changes.{changed}
+use Rattle.job_table.specs.JobStates.{is_running}
 
 -- when a start at this second reaches the limit; without a limit after all moments
 abbrev pub limit_end : Limit → ℕ → ℕ
@@ -27,10 +27,6 @@ is_over now job = is_running job.state && nat_le (deadline job) now
 abbrev pub timed_out : ℕ → JobRecord → JobRecord
 timed_out now job = if is_over now job then changed (Leave Timeout now None) job else job
 
--- the job ended so long ago that its record goes
-abbrev pub is_old : ℕ → ℕ → JobRecord → Bool
-is_old age now job = is_ended job.state && (not (nat_eq age 0) && nat_le (unwrap_or job.ended 0 + age) now)
-
 -- until when a job holds its parts: to its limit while it runs, and half a minute more once that is over or it is
 -- completing
 abbrev pub hold_end : ℕ → JobRecord → ℕ
@@ -41,5 +37,12 @@ abbrev pub holds_of_job : ℕ → JobRecord → List Hold
 holds_of_job now job =
     let from = unwrap_or job.started 0 in
     let until = hold_end now job in
-    map (λ (part : Part). record { node = part.node; from = from; until = until; cpus = length part.cpus; mem = part.mem })
+    map
+    (λ (part : Part). record {
+      node = part.node;
+      from = from;
+      until = until;
+      cpus = length part.cpus;
+      mem = part.mem;
+    })
     job.parts

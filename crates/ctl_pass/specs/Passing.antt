@@ -1,33 +1,38 @@
 -- A pass: it ends what is over its limit, drops old records, plans the pending jobs, and starts those planned at once.
-use Rattle.std.specs.Prelude.{◌≡◌, ℕ, Bool, ◌&&◌, not, nat_eq, if◌then◌else◌, List, [], ◌∷◌, map, length, count_by, Option}
+use Rattle.std.specs.Prelude.{◌≡◌, ℕ, Bool, ◌&&◌, not, nat_eq, if◌then◌else◌, List, [], ◌∷◌, length, count_by, Option}
 use Rattle.slurm_text.specs.declared.plain.reply.Reply.TheVariants.{Passed}
 use Rattle.slurm_text.specs.declared.plain.refusal.Refusal.{Refusal}
 use Rattle.slurm_text.specs.declared.plain.refusal.Refusal.TheVariants.{AccessDenied}
-use Rattle.ctl_state.specs.Planning.{room_of}
 use Rattle.ctl_state.specs.State.{State}
 use Rattle.ctl_state.specs.Verdicts.{Verdict, Stays, Makes}
 use Rattle.ctl_state.specs.Refusals.{refused_if, is_privileged}
+use Rattle.std.specs.List.{list_any}
+use Rattle.job_table.specs.declared.record.JobRecord.{JobRecord}
+use Rattle.job_table.specs.Targets.{is_task_of}
+use Rattle.ctl_pass.specs.declared.live_arrays.LiveArrays.{LiveArrays}
 use Rattle.ctl_pass.specs.declared.pass.Decided.{Decided}
+use Rattle.ctl_pass.specs.Live.{has_array}
 use Rattle.ctl_pass.specs.Limits.{is_over}
-use Rattle.ctl_pass.specs.Readiness.{ready, ranked, placements}
+use Rattle.ctl_pass.specs.Readiness.{arrays_left, jobs_left, ready, ranked, placements}
 use Rattle.ctl_pass.specs.Starting.{Started, started}
 use Rattle.ctl_pass.specs.SamePlans.{same_plans}
 
 -- what comes of the plan
 abbrev pub outcome : State → ℕ → Started
-outcome s now = started (map room_of s.nodes) now (ready s now).jobs (placements s now)
+outcome s now = started s now (jobs_left s now) (placements s now)
 
 -- the state after a pass
 abbrev pub pass_after : State → ℕ → State
-pass_after s now = record s { jobs = (outcome s now).jobs; plan = (outcome s now).stays }
+pass_after s now = record (ready s now) { jobs = (outcome s now).jobs; plan = (outcome s now).stays }
 
 -- nothing ends, is dropped or starts, and the plan is the last one
 unfoldable pub is_idle : State → ℕ → Bool
 is_idle s now =
     nat_eq (count_by (is_over now) s.jobs) 0
-    && (nat_eq (length (ready s now).jobs) (length s.jobs)
+    && (nat_eq (length (jobs_left s now)) (length s.jobs)
+    && (nat_eq (length (arrays_left (jobs_left s now) s.arrays)) (length s.arrays)
     && (nat_eq (length (outcome s now).starts) 0
-    && same_plans (outcome s now).stays s.plan))
+    && same_plans (outcome s now).stays s.plan)))
 
 -- why a pass may be refused
 abbrev pub pass_refusals : State → List ℕ → List (Option Refusal)
@@ -45,8 +50,13 @@ pass_made s now =
 abbrev pub jobs_planned : State → ℕ → ℕ
 jobs_planned s now = length (ranked (ready s now) now)
 
+-- these are the numbers of the arrays of which there are tasks among the jobs
+pub record HasArrays (jobs : List JobRecord) (arrays : LiveArrays) : Type 0 where
+  pub each : (array : ℕ) → has_array arrays array ≡ list_any (is_task_of array) jobs
+
 -- what was decided is what the pass makes
 pub record IsDecided (s : State) (now : ℕ) (decided : Decided) : Type 0 where
   pub ended : decided.ended ≡ count_by (is_over now) s.jobs
   pub starts : decided.starts.items ≡ (outcome s now).starts
   pub stays : decided.stays.items ≡ (outcome s now).stays
+  pub arrays : HasArrays (jobs_left s now) decided.arrays

@@ -7,18 +7,30 @@ use Rattle.backfill_planner.specs.Bases.{BaseView}
 use Rattle.backfill_planner.specs.Plans.{plan_of}
 use Rattle.partitions.specs.declared.record.PartRecord.{PartRecord}
 use Rattle.partitions.specs.Partitions.{bounds_of}
-use Rattle.ctl_state.specs.declared.record.JobRecord.{JobRecord}
-use Rattle.ctl_state.specs.JobStates.{is_pending}
+use Rattle.job_table.specs.declared.record.JobRecord.{JobRecord}
+use Rattle.job_table.specs.JobStates.{is_pending}
 use Rattle.ctl_state.specs.Events.{those_left}
 use Rattle.ctl_state.specs.Planning.{room_of, plan_job}
 use Rattle.ctl_state.specs.Ordered.{ordered_by}
+use Rattle.job_table.specs.Targets.{is_task_of}
+use Rattle.ctl_state.specs.declared.record.ArrayRecord.{ArrayRecord}
 use Rattle.ctl_state.specs.State.{State, partition_of}
+use Rattle.std.specs.List.{list_any}
 use Rattle.ctl_pass.specs.Reasons.{hindrance}
-use Rattle.ctl_pass.specs.Limits.{timed_out, is_old, holds_of_job}
+use Rattle.ctl_pass.specs.Limits.{timed_out, holds_of_job}
+use Rattle.job_table.specs.Table.{is_old}
 
--- the state that a pass plans: the jobs past their limits are completing, and old ones are gone
+-- the jobs that a pass plans: those past their limits are completing, and old ones are gone
+abbrev pub jobs_left : State → ℕ → List JobRecord
+jobs_left s now = those_left (timed_out now) (is_old s.settings.min_job_age now) s.jobs
+
+-- the arrays of which there are tasks among the jobs
+unfoldable pub arrays_left : List JobRecord → List ArrayRecord → List ArrayRecord
+arrays_left jobs arrays = filter (λ (array : ArrayRecord). list_any (is_task_of array.id) jobs) arrays
+
+-- the state that a pass plans
 abbrev pub ready : State → ℕ → State
-ready s now = record s { jobs = those_left (timed_out now) (is_old s.settings.min_job_age now) s.jobs }
+ready s now = record s { jobs = jobs_left s now; arrays = arrays_left (jobs_left s now) s.arrays }
 
 -- what a plan at this moment begins with
 unfoldable pub base_of : State → ℕ → BaseView

@@ -1,14 +1,22 @@
 -- Why a pending job can't be planned.
-use Rattle.std.specs.Prelude.{Bool, true, false, nat_lt, is_none, if◌then◌else◌, List, [], ◌∷◌, Option, Some, None, option_and_then}
+use Rattle.std.specs.Prelude.{ℕ, Bool, true, false, not, nat_lt, nat_le, is_none, if◌then◌else◌, unwrap_or, List, [], ◌∷◌, ◌++◌, Option, Some, None, option_map, option_and_then}
+use Rattle.std.specs.List.{list_any}
+use Rattle.slurm_text.specs.declared.plain.array.ArraySpec.{ArraySpec}
 use Rattle.slurm_text.specs.declared.plain.conf.PartState.{PartState}
 use Rattle.slurm_text.specs.declared.plain.conf.PartState.TheVariants.{Up, Down, Drain, Inactive}
 use Rattle.slurm_text.specs.declared.plain.limit.Limit.{Limit}
 use Rattle.slurm_text.specs.declared.plain.limit.Limit.TheVariants.{Minutes, Unlimited}
 use Rattle.slurm_text.specs.declared.plain.state.Reason.{Reason}
-use Rattle.slurm_text.specs.declared.plain.state.Reason.TheVariants.{PartitionInactive, PartitionDown, PartitionTimeLimit, PartitionNodeLimit}
+use Rattle.slurm_text.specs.declared.plain.state.Reason.TheVariants.{JobHeldAdmin, JobHeldUser, PartitionInactive, PartitionDown, PartitionTimeLimit, PartitionNodeLimit, JobArrayTaskLimit, ReqNodeNotAvail}
+use Rattle.slurm_text.specs.declared.plain.state.HeldBy.{HeldBy}
+use Rattle.slurm_text.specs.declared.plain.state.HeldBy.TheVariants as held
 use Rattle.partitions.specs.declared.record.PartRecord.{PartRecord}
 use Rattle.partitions.specs.Partitions.{bounds_of}
-use Rattle.ctl_state.specs.declared.record.JobRecord.{JobRecord}
+use Rattle.job_table.specs.declared.record.JobRecord.{JobRecord}
+use Rattle.node_state.specs.declared.record.NodeRecord.{NodeRecord}
+use Rattle.node_state.specs.Nodes.{is_available, place_named}
+use Rattle.ctl_state.specs.Events.{tasks_holding}
+use Rattle.ctl_state.specs.Planning.{is_at}
 use Rattle.ctl_state.specs.State.{State, partition_of}
 
 -- a reason that stands where this is so
@@ -39,15 +47,52 @@ exceeds (Minutes minutes) (Minutes longest) = nat_lt longest minutes
 exceeds Unlimited (Minutes longest) = true
 exceeds limit Unlimited = false
 
+-- who holds a job back
+abbrev pub held_reason : HeldBy → Option Reason
+held_reason held.Nobody = None
+held_reason held.User = Some JobHeldUser
+held_reason held.Admin = Some JobHeldAdmin
+
 -- what may hinder a job in its partition, in its order
-abbrev pub hindrances : PartRecord → JobRecord → List (Option Reason)
-hindrances partition job =
+abbrev pub hindrances_in : Option PartRecord → JobRecord → List (Option Reason)
+hindrances_in None job = []
+hindrances_in (Some partition) job =
     reason_if (is_inactive partition.state) PartitionInactive
     ∷ reason_if (is_down partition.state) PartitionDown
     ∷ reason_if (exceeds job.limit partition.conf.max_time) PartitionTimeLimit
     ∷ reason_if (is_none (bounds_of partition job.desc)) PartitionNodeLimit
     ∷ []
 
+-- how many tasks of the job's array may hold processors at once
+abbrev pub most_tasks : JobRecord → Option ℕ
+most_tasks job = option_and_then (λ (array : ArraySpec). array.most) job.desc.array
+
+-- as many tasks of the array hold processors as may at once
+abbrev pub is_full : List JobRecord → Option ℕ → Option ℕ → Bool
+is_full jobs (Some array) (Some most) = nat_le most (tasks_holding jobs array)
+is_full jobs array most = false
+
+-- the limits that the job reaches beside what these jobs hold, in their order
+abbrev pub limits_reached : List JobRecord → JobRecord → List (Option Reason)
+limits_reached jobs job = reason_if (is_full jobs job.array (most_tasks job)) JobArrayTaskLimit ∷ []
+
+-- the node with this name is there, and not available
+abbrev pub is_unavailable : List NodeRecord → List ℕ → Bool
+is_unavailable nodes name =
+    unwrap_or (option_map (is_at (λ node. not (is_available node)) nodes) (place_named name nodes)) false
+
+-- a node that the job must have isn't available
+abbrev pub lacks_node : State → JobRecord → Bool
+lacks_node s job = list_any (is_unavailable s.nodes) job.desc.required
+
+-- what may hinder a job, in its order
+abbrev pub hindrances : State → JobRecord → List (Option Reason)
+hindrances s job =
+    held_reason job.held_by
+    ∷ (hindrances_in (partition_of s job) job
+    ++ (limits_reached s.jobs job
+    ++ reason_if (lacks_node s job) ReqNodeNotAvail ∷ []))
+
 -- what hinders the job, or nothing
 unfoldable pub hindrance : State → JobRecord → Option Reason
-hindrance s job = option_and_then (λ partition. first_reason (hindrances partition job)) (partition_of s job)
+hindrance s job = first_reason (hindrances s job)

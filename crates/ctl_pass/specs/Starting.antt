@@ -1,13 +1,18 @@
 -- What comes of a plan: the jobs that are planned at once start, the other placements stay.
-use Rattle.std.specs.Prelude.{◌≡◌, ℕ, nat_eq, if◌then◌else◌, List, [], ◌∷◌, map, take, length, Some}
+use Rattle.std.specs.Prelude.{◌≡◌, ℕ, Bool, false, ◌&&◌, nat_eq, is_none, if◌then◌else◌, List, [], ◌∷◌, map, take, length, Option, Some, None}
 use Rattle.std.specs.List.{AllZip}
 use Rattle.slurm_text.specs.declared.plain.state.JobState.TheVariants.{Running}
 use Rattle.resource_profile.specs.declared.NodeRoom.{NodeRoom}
 use Rattle.backfill_planner.specs.declared.Share.{Share}
 use Rattle.backfill_planner.specs.declared.Placed.{Placed}
-use Rattle.ctl_state.specs.declared.record.Part.{Part}
-use Rattle.ctl_state.specs.declared.record.JobRecord.{JobRecord}
+use Rattle.job_table.specs.declared.record.Part.{Part}
+use Rattle.job_table.specs.declared.record.JobRecord.{JobRecord}
+use Rattle.node_state.specs.declared.record.NodeRecord.{NodeRecord}
+use Rattle.job_table.specs.Table.{job_with}
 use Rattle.ctl_state.specs.Events.{started_as}
+use Rattle.ctl_state.specs.Planning.{names_of, room_of}
+use Rattle.ctl_state.specs.State.{State}
+use Rattle.ctl_pass.specs.Reasons.{first_reason, limits_reached}
 use Rattle.ctl_state.specs.Holding.{free_ids, parts_of}
 use Rattle.ctl_pass.specs.declared.starts.JobStart.{JobStart}
 
@@ -20,12 +25,23 @@ part_of rooms jobs share = record {
 }
 
 -- the start of a placement beside what these jobs hold
-abbrev pub start_of : List NodeRoom → List JobRecord → Placed → JobStart
-start_of rooms jobs placed = record { id = placed.id; parts = map (part_of rooms jobs) placed.parts }
+abbrev pub start_of : List NodeRecord → List JobRecord → Placed → JobStart
+start_of nodes jobs placed =
+    let parts = map (part_of (map room_of nodes) jobs) placed.parts in
+    record { id = placed.id; parts = parts; nodes = names_of nodes parts }
 
 -- the jobs once this one has started
 abbrev pub begun : ℕ → List JobRecord → JobStart → List JobRecord
-begun now jobs start = map (started_as now start.id start.parts) jobs
+begun now jobs start = map (started_as now start.id start.parts start.nodes) jobs
+
+-- the job reaches no limit beside what these jobs hold
+abbrev pub is_free : List JobRecord → Option JobRecord → Bool
+is_free jobs None = false
+is_free jobs (Some job) = is_none (first_reason (limits_reached jobs job))
+
+-- the job with this number, one of these, may start
+unfoldable pub may_start : List JobRecord → ℕ → Bool
+may_start jobs id = is_free jobs (job_with id jobs)
 
 -- the jobs once those have started, these starts, and the placements that stay
 pub record Started : Type 0 where
@@ -33,18 +49,18 @@ pub record Started : Type 0 where
   pub starts : List JobStart
   pub stays : List Placed
 
--- each placement in order: it starts where it is planned at once, beside what the jobs hold with those started before
--- it
-unfoldable pub started : List NodeRoom → ℕ → List JobRecord → List Placed → Started
-started rooms now jobs [] = record { jobs = jobs; starts = []; stays = [] }
-started rooms now jobs (placed ∷ later) =
-    if nat_eq placed.start now
+-- each placement in order: it starts where it is planned at once and its job reaches no limit, beside what the jobs
+-- hold with those started before it
+unfoldable pub started : State → ℕ → List JobRecord → List Placed → Started
+started s now jobs [] = record { jobs = jobs; starts = []; stays = [] }
+started s now jobs (placed ∷ later) =
+    if nat_eq placed.start now && may_start jobs placed.id
     then (
-    let start = start_of rooms jobs placed in
-    let rest = started rooms now (begun now jobs start) later in
+    let start = start_of s.nodes jobs placed in
+    let rest = started s now (begun now jobs start) later in
     record rest { starts = start ∷ rest.starts }
     )
-    else (let rest = started rooms now jobs later in record rest { stays = placed ∷ rest.stays })
+    else (let rest = started s now jobs later in record rest { stays = placed ∷ rest.stays })
 
 -- the part has all that the share was planned
 pub record IsAsPlanned (share : Share) (part : Part) : Type 0 where

@@ -1,7 +1,8 @@
 //! What a plan begins with.
 
 ghost use Rattle.std.specs.Prelude.{◌≡◌, ◌≤◌, ◌++◌, All, IfOk, OnOk, length, flat_map, unwrap_or};
-ghost use Rattle.ctl_state.specs.declared.record.JobRecord.{JobRecord};
+ghost use Rattle.job_table.specs.Table.{is_old};
+ghost use Rattle.job_table.specs.declared.record.JobRecord.{JobRecord};
 ghost use Rattle.ctl_state.specs.Events.{those_left};
 ghost use Rattle.ctl_state.specs.Soundness.{IsSound};
 ghost use Rattle.ctl_state.specs.State.{state_of, last_moment};
@@ -13,7 +14,7 @@ use crate::limits::{hold_end, is_old};
 use backfill_planner::Base;
 use ctl_state::cluster::Cluster;
 use ctl_state::planning::rooms_of;
-use ctl_state::record::JobRecord;
+use job_table::record::JobRecord;
 use resource_profile::Hold;
 use slurm_text::items::Items;
 use slurm_text::memory_error::Memory;
@@ -52,7 +53,7 @@ fn holds_of(alloc: Global, age: u64, now: u64, jobs: &[JobRecord]) -> Result<Vec
     requires started { All (λ (job : JobRecord). unwrap_or job.started 0 ≤ last_moment) jobs.now }
     requires in_time { now ≤ last_moment }
     ensures { IfOk result (λ holds. holds.items
-        ≡ flat_map (Limits.holds_of_job now) (those_left (Limits.timed_out now) (Limits.is_old age now) jobs.now)) }
+        ≡ flat_map (Limits.holds_of_job now) (those_left (Limits.timed_out now) (is_old age now) jobs.now)) }
 {
     let mut holds = Vec::new(alloc);
     for job in jobs {
@@ -75,7 +76,7 @@ pub(crate) fn base_of(alloc: Global, cluster: &Cluster, now: u64) -> Result<Base
     what_a_pass_plans_is_sound();
     let age = cluster.settings.min_job_age.get();
     let rooms = rooms_of(alloc, cluster.nodes.records())?;
-    let holds = holds_of(alloc, age, now, &cluster.jobs)?;
+    let holds = holds_of(alloc, age, now, cluster.jobs.records())?;
     Ok(Base {
         rooms: Items::from_vec(rooms),
         holds: Items::from_vec(holds),

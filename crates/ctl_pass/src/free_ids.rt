@@ -4,14 +4,14 @@ ghost use Rattle.std.specs.Prelude.{◌≡◌, ◌+◌, ◌*◌, ◌≤◌, ◌<
 ghost use Rattle.std.specs.List.{range_with_len};
 ghost use Rattle.backfill_planner.specs.declared.Share.{Share};
 ghost use Rattle.backfill_planner.specs.Placements.{AreParts};
-ghost use Rattle.ctl_state.specs.declared.record.Part.{Part};
+ghost use Rattle.job_table.specs.declared.record.Part.{Part};
 ghost use Rattle.ctl_state.specs.Holding.{parts_of};
 ghost use Rattle.ctl_state.specs.Planning.{room_of};
 ghost use Rattle.ctl_state.specs.Soundness.{IsNode};
 ghost use Rattle.ctl_pass.specs.HeldIds.{ShowsParts, AddsParts, is_held, part_by};
 
 use backfill_planner::Share;
-use ctl_state::record::{JobRecord, Part};
+use job_table::record::{JobRecord, Part};
 use node_state::record::NodeRecord;
 use slurm_text::memory_error::Memory;
 use slurm_text::plain::orders::CpuIds;

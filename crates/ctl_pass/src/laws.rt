@@ -1,15 +1,16 @@
 //! What holds of every pass. A law is the contract of a function that does nothing but call the laws
 //! that it rests on.
 
-ghost use Rattle.std.specs.Prelude.{◌≡◌, ◌⊎◌, ℕ, ◌≤◌, [], All, Any, Contains, true, ◌+◌, length};
+ghost use Rattle.std.specs.Prelude.{◌≡◌, ◌⊎◌, ℕ, ◌≤◌, ◌<◌, [], All, Any, Contains, true, ◌+◌, fold, length, slice_index_or, take};
 ghost use Rattle.backfill_planner.specs.declared.Placed.{Placed};
-ghost use Rattle.ctl_state.specs.declared.record.JobRecord.{JobRecord};
+ghost use Rattle.job_table.specs.declared.record.JobRecord.{JobRecord};
 ghost use Rattle.ctl_state.specs.State.{State, last_job_id, last_moment};
-ghost use Rattle.ctl_state.specs.JobStates.{is_running};
+ghost use Rattle.job_table.specs.JobStates.{is_running};
 ghost use Rattle.ctl_state.specs.Soundness.{IsSound};
 ghost use Rattle.ctl_state.specs.Verdicts.{stamped};
-ghost use Rattle.ctl_pass.specs.Readiness.{ready, placements};
-ghost use Rattle.ctl_pass.specs.Starting.{HasStarted};
+ghost use Rattle.ctl_pass.specs.declared.starts.JobStart.{JobStart};
+ghost use Rattle.ctl_pass.specs.Readiness.{is_candidate, jobs_left, ready, placements};
+ghost use Rattle.ctl_pass.specs.Starting.{HasStarted, begun, may_start};
 ghost use Rattle.ctl_pass.specs.Passing.{outcome, pass_after, is_idle};
 
 use backfill_planner::laws::{parts_are_apart, placements_are_of_ranked_jobs, starts_fit};
@@ -18,7 +19,7 @@ use ctl_state::laws::{
     jobs_get_nodes_that_are_there, letting_go_keeps_all_sound, others_wait_on,
     plans_keep_all_sound, taking_keeps_all_sound, what_is_taken_is_counted,
 };
-use ctl_state::record::JobRecord;
+use job_table::record::JobRecord;
 
 /// A pass keeps all sound.
 pub fn a_pass_keeps_all_sound()
@@ -48,10 +49,12 @@ pub fn an_idle_pass_changes_nothing()
     placements_are_of_ranked_jobs();
 }
 
-/// Each placement that begins now is of a job that runs after the pass, since now, with all that was planned for it.
+/// Each placement that begins now is of a job that runs after the pass, since now, with all that was planned for it, or
+/// it stays in the plan.
 pub fn starts_get_all_they_planned()
     ensures { (s : State) (now : ℕ) → IsSound s → s.moment ≤ now → now ≤ last_moment
-        → All (λ (placed : Placed). placed.start ≡ now → Any (HasStarted now placed) (pass_after s now).jobs)
+        → All (λ (placed : Placed). placed.start ≡ now
+        → Any (HasStarted now placed) (pass_after s now).jobs ⊎ Contains (pass_after s now).plan placed)
         (placements s now) }
 {
     every_change_but_a_start_lets_go();
@@ -66,6 +69,24 @@ pub fn starts_get_all_they_planned()
     what_is_taken_is_counted();
     others_wait_on();
     plans_keep_all_sound();
+}
+
+/// No start exceeds a limit: just before each, its job reached none beside what the jobs held then, those started
+/// before it in the pass among them.
+pub fn no_start_exceeds_a_limit()
+    ensures { (s : State) (now k : ℕ) (d : JobStart) → k < length (outcome s now).starts
+        → may_start (fold (begun now) (jobs_left s now) (take k (outcome s now).starts))
+        (slice_index_or (outcome s now).starts k d).id ≡ true }
+{}
+
+/// What is planned is of candidates: pending jobs that nothing hinders.
+pub fn planned_jobs_are_candidates()
+    ensures { (s : State) (now : ℕ) → All (λ (placed : Placed).
+        Any (λ (job : JobRecord). (job.id ≡ placed.id) × (is_candidate (ready s now) job ≡ true)) (ready s now).jobs)
+        (placements s now) }
+{
+    a_stable_sort_makes_the_order::<JobRecord>();
+    placements_are_of_ranked_jobs();
 }
 
 /// A job that runs after a pass ran before it just so, or a placement that begins now is of it.

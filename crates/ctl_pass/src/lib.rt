@@ -5,12 +5,15 @@ mod base;
 mod free_ids;
 pub mod laws;
 mod limits;
+mod live_arrays;
 mod pass;
 mod ranking;
 mod reasons;
 mod same_plans;
+mod split;
 mod starts;
 
+pub use live_arrays::LiveArrays;
 pub use pass::{Decided, act, decide, is_idle, refusal_of};
 pub use ranking::highest;
 pub use reasons::hindrance;

@@ -1,15 +1,18 @@
 //! When jobs reach their limits, and when their records go.
 
-ghost use Rattle.std.specs.Prelude.{◌≡◌, ◌≤◌, filter, map, not, count_by, unwrap_or};
+ghost use Rattle.std.specs.Prelude.{◌≡◌, ◌≤◌, ◌<◌, length, map, count_by, unwrap_or};
 ghost use Rattle.std.specs.List.{list_any};
-ghost use Rattle.ctl_pass.specs.Limits;
+ghost use Rattle.job_table.specs.Table as table;
+ghost use Rattle.job_table.specs.Walks.{map_at};
 ghost use Rattle.ctl_state.specs.State.{last_moment};
+ghost use Rattle.ctl_pass.specs.Limits;
 
-use ctl_state::change::{Change, apply};
-use ctl_state::record::JobRecord;
+use job_table::change::Change;
+use job_table::jobs::Jobs;
+use job_table::laws::{a_change_is_of_its_place, a_walk_changes_all};
+use job_table::record::JobRecord;
 use slurm_text::plain::limit::Limit;
 use slurm_text::plain::state::{Final, JobState};
-use std::alloc::Global;
 
 // After all moments.
 const FOREVER: u64 = 1_000_000_000_000;
@@ -56,7 +59,7 @@ pub(crate) fn is_over(now: u64, job: &JobRecord) -> bool
 
 /// Whether the job ended so long ago that its record goes.
 pub(crate) fn is_old(age: u64, now: u64, job: &JobRecord) -> bool
-    ensures { result ≡ Limits.is_old age now job.now }
+    ensures { result ≡ table.is_old age now job.now }
 {
     let end = job.ended.unwrap_or(0);
     matches!(job.state, JobState::Ended(_)) && age != 0 && now.saturating_sub(end) >= age
@@ -71,37 +74,33 @@ pub(crate) fn count_over(now: u64, jobs: &[JobRecord]) -> usize
 
 /// Whether a record is old.
 pub(crate) fn any_old(age: u64, now: u64, jobs: &[JobRecord]) -> bool
-    ensures { result ≡ list_any (Limits.is_old age now) jobs.now }
+    ensures { result ≡ list_any (table.is_old age now) jobs.now }
 {
     jobs.iter().any(|job| is_old(age, now, job))
 }
 
-// Sees to the limit of one job.
-fn time_one_out(alloc: Global, now: u64, job: &mut JobRecord)
-    ensures { job.new ≡ Limits.timed_out now job.old }
+// Sees to the limit of the job at a place.
+fn time_one_out(now: u64, jobs: &mut Jobs, place: usize)
+    requires { place < length jobs.old.records }
+    ensures { jobs.new.records ≡ map_at place (Limits.timed_out now) jobs.old.records }
 {
-    if is_over(now, job) {
+    a_change_is_of_its_place::<JobRecord>();
+    if is_over(now, &jobs.records()[place]) {
         let change = Change::Leave {
             to: Final::Timeout,
             moment: now,
             exit: None,
         };
-        apply(alloc, job, change);
+        jobs.change_at(place, change);
     }
 }
 
-/// Sees to the limits: the jobs that have reached them complete.
-pub(crate) fn time_out(alloc: Global, now: u64, jobs: &mut [JobRecord])
-    ensures { jobs.new ≡ map (Limits.timed_out now) jobs.old }
+/// Sees to the limits: the jobs that have reached them complete. Linear in the jobs; it takes no memory.
+pub(crate) fn time_out(now: u64, jobs: &mut Jobs)
+    ensures { jobs.new.records ≡ map (Limits.timed_out now) jobs.old.records }
 {
-    for job in jobs.iter_mut() {
-        time_one_out(alloc, now, job);
+    a_walk_changes_all::<JobRecord>();
+    for place in 0..jobs.records().len() {
+        time_one_out(now, jobs, place);
     }
-}
-
-/// Drops the old records.
-pub(crate) fn drop_old(age: u64, now: u64, jobs: &mut Vec<JobRecord>)
-    ensures { jobs.new.items ≡ filter (λ job. not (Limits.is_old age now job)) jobs.old.items }
-{
-    jobs.retain(|job| !is_old(age, now, job));
 }

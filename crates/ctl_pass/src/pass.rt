@@ -1,25 +1,32 @@
 //! A pass: what it decides, and what it does.
 
-ghost use Rattle.std.specs.Prelude.{◌≡◌, ◌≤◌, ◌&&◌, not, nat_eq, IfOk, OnOk, OnErr, fold, length};
-ghost use Rattle.std.specs.List.{list_any};
+ghost use Rattle.std.specs.Prelude.{◌≡◌, ◌≤◌, ◌&&◌, not, nat_eq, IfOk, OnOk, OnErr, fold, filter, length};
+ghost use Rattle.std.specs.List.{list_all, list_any};
 ghost use Rattle.resource_profile.specs.Counts.{ticked, IsTickedUpTo};
 ghost use Rattle.ctl_state.specs.State.{state_of, last_moment};
 ghost use Rattle.ctl_state.specs.Events.{those_left};
-ghost use Rattle.ctl_state.specs.Soundness.{IsSound, HaveRisingIds};
+ghost use Rattle.ctl_state.specs.Soundness.{IsSound};
 ghost use Rattle.ctl_state.specs.Refusals.{first_refusal};
-ghost use Rattle.ctl_pass.specs.Limits.{is_old, timed_out};
+ghost use Rattle.ctl_state.specs.declared.record.ArrayRecord.{ArrayRecord};
+ghost use Rattle.ctl_pass.specs.Live.{has_array};
+ghost use Rattle.ctl_pass.specs.Limits.{timed_out};
+ghost use Rattle.job_table.specs.Table.{is_old};
 ghost use Rattle.ctl_pass.specs.Starting.{begun};
 ghost use Rattle.ctl_pass.specs.SamePlans.{same_plans};
 ghost use Rattle.ctl_pass.specs.Passing;
 
 use crate::base::base_of;
-use crate::limits::{any_old, count_over, drop_old, time_out};
+use crate::limits::{any_old, count_over, time_out};
+use crate::live_arrays::{LiveArrays, live_arrays};
 use crate::ranking::rank;
 use crate::same_plans::are_same;
-use crate::starts::{JobStart, begin, split};
+use crate::split::split;
+use crate::starts::{JobStart, begin};
 use backfill_planner::{Placed, plan};
+use ctl_state::array_counts::count_arrays;
 use ctl_state::cluster::Cluster;
-use ctl_state::record::JobRecord;
+use ctl_state::record::ArrayRecord;
+use job_table::jobs::Jobs;
 use resource_profile::Steps;
 use slurm_text::memory_error::Memory;
 use slurm_text::name::Name;
@@ -33,8 +40,10 @@ pub struct Decided {
     pub ended: u32,
     /// The jobs that it starts.
     pub starts: Vec<JobStart>,
-    /// The placements that begin later.
+    /// The placements that begin later, or whose jobs reach a limit.
     pub stays: Vec<Placed>,
+    /// The arrays of which there are tasks afterwards.
+    pub arrays: LiveArrays,
 }
 
 /// Why a pass is refused, if it is.
@@ -48,8 +57,9 @@ pub fn refusal_of(cluster: &Cluster, user: &Name) -> Option<Refusal>
     }
 }
 
-/// What a pass at its raised moment does. Linear in jobs, parts, the nodes' processors and for each candidate its nodes,
-/// beside what its plan costs; the nodes of each partition are sorted, and where tiers rise the candidates.
+/// What a pass at its raised moment does. Linear in jobs, parts, the nodes' processors and for each candidate its
+/// nodes, beside what its plan costs; the nodes of each partition are sorted, and where tiers rise the candidates. The
+/// tasks of arrays are counted once, in one walk over the jobs.
 /// It counts a step for each job that it plans, and after want of memory at most that many.
 pub fn decide<L>(
     alloc: Global,
@@ -66,27 +76,40 @@ pub fn decide<L>(
         (Passing.jobs_planned (state_of cluster.now) now) steps.old steps.new) }
 {
     let base = base_of(alloc, cluster, now)?;
-    let ranked = rank(alloc, cluster, now)?;
+    let counts = count_arrays(alloc, cluster.jobs.records())?;
+    let ranked = rank(alloc, cluster, &counts, now)?;
     let Ok(planned) = plan(alloc, base, ranked, now, steps) else {
         return Err(Memory);
     };
-    let (starts, stays) = split(alloc, cluster, now, planned.into_placements())?;
+    let (starts, stays) = split(alloc, cluster, now, counts, planned.into_placements())?;
+    let age = cluster.settings.min_job_age.get();
     Ok(Decided {
-        ended: count_over(now, &cluster.jobs) as u32,
+        ended: count_over(now, cluster.jobs.records()) as u32,
         starts,
         stays,
+        arrays: live_arrays(alloc, age, now, cluster.jobs.records())?,
     })
+}
+
+// Whether there are tasks of all these arrays.
+fn all_live(live: &LiveArrays, arrays: &[ArrayRecord]) -> bool
+    ensures { result ≡ list_all (λ (array : ArrayRecord). has_array live.now array.id) arrays.now }
+{
+    arrays.iter().all(|array| live.has(array.id))
 }
 
 // Whether nothing ends, is dropped or starts, and the plan is the last one.
 fn is_same(cluster: &Cluster, now: u64, decided: &Decided) -> bool
     ensures { result ≡ (nat_eq decided.now.ended 0
-        && (not (list_any (is_old cluster.now.settings.min_job_age now) cluster.now.jobs.items)
+        && (not (list_any (is_old cluster.now.settings.min_job_age now) cluster.now.jobs.records)
+        && (list_all (λ (array : ArrayRecord). has_array decided.now.arrays array.id) cluster.now.arrays.items
         && (nat_eq (length decided.now.starts.items) 0
-        && same_plans decided.now.stays.items cluster.now.plan.items))) }
+        && same_plans decided.now.stays.items cluster.now.plan.items)))) }
 {
+    let age = cluster.settings.min_job_age.get();
     decided.ended == 0
-        && !any_old(cluster.settings.min_job_age.get(), now, &cluster.jobs)
+        && !any_old(age, now, cluster.jobs.records())
+        && all_live(&decided.arrays, &cluster.arrays)
         && decided.starts.as_slice().is_empty()
         && are_same(&decided.stays, &cluster.plan)
 }
@@ -100,23 +123,29 @@ pub fn is_idle(cluster: &Cluster, now: u64, decided: &Decided) -> bool
 }
 
 // Sees to the limits, drops the old records, and starts jobs.
-fn advance(alloc: Global, age: u64, now: u64, jobs: &mut Vec<JobRecord>, starts: Vec<JobStart>)
-    requires { HaveRisingIds jobs.old.items }
-    ensures { jobs.new.items
-        ≡ fold (begun now) (those_left (timed_out now) (is_old age now) jobs.old.items) starts.items }
+fn advance(age: u64, now: u64, jobs: &mut Jobs, starts: Vec<JobStart>)
+    ensures { jobs.new.records
+        ≡ fold (begun now) (those_left (timed_out now) (is_old age now) jobs.old.records) starts.items }
 {
-    time_out(alloc, now, jobs);
-    drop_old(age, now, jobs);
-    begin(alloc, now, jobs, starts);
+    time_out(now, jobs);
+    jobs.purge(now, age);
+    begin(now, jobs, starts);
 }
 
-/// Does what was decided. It takes no memory.
-pub fn act(alloc: Global, cluster: &mut Cluster, now: u64, decided: Decided)
-    requires sound { IsSound (state_of cluster.old) }
-    requires decided { Passing.IsDecided (state_of cluster.old) now decided }
+// Drops the arrays of which there are no tasks.
+fn drop_dead(live: &LiveArrays, arrays: &mut Vec<ArrayRecord>)
+    ensures { arrays.new.items ≡ filter (λ (array : ArrayRecord). has_array live.now array.id) arrays.old.items }
+{
+    arrays.retain(|array| live.has(array.id));
+}
+
+/// Does what was decided. Linear in the jobs, the arrays and the starts' parts; it takes no memory.
+pub fn act(cluster: &mut Cluster, now: u64, decided: Decided)
+    requires { Passing.IsDecided (state_of cluster.old) now decided }
     ensures { state_of cluster.new ≡ Passing.pass_after (state_of cluster.old) now }
 {
     let age = cluster.settings.min_job_age.get();
-    advance(alloc, age, now, &mut cluster.jobs, decided.starts);
+    advance(age, now, &mut cluster.jobs, decided.starts);
+    drop_dead(&decided.arrays, &mut cluster.arrays);
     cluster.plan = decided.stays;
 }

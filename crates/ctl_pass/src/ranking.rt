@@ -2,7 +2,8 @@
 
 ghost use Rattle.std.specs.Prelude.{◌≡◌, ◌≤◌, ◌<◌, All, IfOk, IfSome, OnOk, length, map, filter, filter_map, option_map, slice_get, List, ℕ};
 ghost use Rattle.backfill_planner.specs.declared.job.PlanJob.{PlanJob};
-ghost use Rattle.ctl_state.specs.declared.record.JobRecord.{JobRecord};
+ghost use Rattle.job_table.specs.declared.record.JobRecord.{JobRecord};
+ghost use Rattle.ctl_state.specs.ArrayCounts.{CountsTasks};
 ghost use Rattle.ctl_state.specs.Planning;
 ghost use Rattle.ctl_state.specs.Soundness.{IsSound};
 ghost use Rattle.ctl_state.specs.State.{state_of};
@@ -11,11 +12,12 @@ ghost use Rattle.ctl_pass.specs.Readiness;
 
 use crate::reasons::hindrance;
 use backfill_planner::PlanJob;
+use ctl_state::array_counts::ArrayCounts;
 use ctl_state::cluster::Cluster;
 use ctl_state::jobs::is_pending;
 use ctl_state::laws::a_stable_sort_makes_the_order;
 use ctl_state::planning::{node_order, plan_job};
-use ctl_state::record::JobRecord;
+use job_table::record::JobRecord;
 use node_state::record::NodeRecord;
 use partitions::bounds::bounds_of;
 use partitions::record::PartRecord;
@@ -33,32 +35,44 @@ fn tier_of(cluster: &Cluster, job: &JobRecord) -> u64
 }
 
 // Whether the job waits, and nothing hinders it.
-fn is_candidate(cluster: &Cluster, job: &JobRecord) -> bool
+fn is_candidate(cluster: &Cluster, counts: &ArrayCounts, job: &JobRecord) -> bool
+    requires { CountsTasks cluster.now.jobs.records counts.now }
     ensures { result ≡ Readiness.is_candidate (state_of cluster.now) job.now }
 {
-    is_pending(job) && hindrance(cluster, job).is_none()
+    is_pending(job) && hindrance(cluster, counts, job).is_none()
 }
 
 // The candidates in the order of their numbers.
-fn candidates_of(alloc: Global, cluster: &Cluster) -> Result<Vec<&JobRecord>, Memory>
+fn candidates_of<'a>(
+    alloc: Global,
+    cluster: &'a Cluster,
+    counts: &ArrayCounts,
+) -> Result<Vec<&'a JobRecord>, Memory>
+    requires { CountsTasks cluster.now.jobs.records counts.now }
     ensures { IfOk result (λ jobs. map (λ job. job.now) jobs.items
-        ≡ filter (Readiness.is_candidate (state_of cluster.now)) cluster.now.jobs.items) }
+        ≡ filter (Readiness.is_candidate (state_of cluster.now)) cluster.now.jobs.records) }
 {
     Ok(
         cluster
             .jobs
+            .records()
             .iter()
-            .filter(|job| is_candidate(cluster, job))
+            .filter(|job| is_candidate(cluster, counts, job))
             .collect(alloc)?,
     )
 }
 
 // The candidates, highest in rank first: a stable sort, linear where no tier rises.
-fn by_rank(alloc: Global, cluster: &Cluster) -> Result<Vec<&JobRecord>, Memory>
+fn by_rank<'a>(
+    alloc: Global,
+    cluster: &'a Cluster,
+    counts: &ArrayCounts,
+) -> Result<Vec<&'a JobRecord>, Memory>
+    requires { CountsTasks cluster.now.jobs.records counts.now }
     ensures { IfOk result (λ jobs. (now : ℕ) → map (λ job. job.now) jobs.items
         ≡ Readiness.candidates (state_of cluster.now) now) }
 {
-    let mut jobs = candidates_of(alloc, cluster)?;
+    let mut jobs = candidates_of(alloc, cluster, counts)?;
     a_stable_sort_makes_the_order::<&JobRecord>();
     jobs.sort_by(|one, other| tier_of(cluster, other).cmp(&tier_of(cluster, one)))?;
     Ok(jobs)
@@ -133,15 +147,21 @@ fn needs_of(
 /// What the jobs need that the pass plans, highest in rank first. Linear in the jobs, and for each candidate in the
 /// nodes of its partition; where tiers rise among the candidates, these are sorted. Each partition's nodes are sorted
 /// once.
-pub(crate) fn rank(alloc: Global, cluster: &Cluster, now: u64) -> Result<Vec<PlanJob>, Memory>
-    requires { IsSound (state_of cluster.now) }
+pub(crate) fn rank(
+    alloc: Global,
+    cluster: &Cluster,
+    counts: &ArrayCounts,
+    now: u64,
+) -> Result<Vec<PlanJob>, Memory>
+    requires sound { IsSound (state_of cluster.now) }
+    requires counted { CountsTasks cluster.now.jobs.records counts.now }
     ensures ranked { IfOk result (λ ranked.
         ranked.items ≡ Readiness.ranked (Readiness.ready (state_of cluster.now) now) now) }
     ensures nodes { IfOk result (λ ranked.
         All (λ (job : PlanJob). All (λ node. node < length cluster.now.nodes.records) job.nodes) ranked.items) }
     ensures tasks { IfOk result (λ ranked. All (λ (job : PlanJob). 1 ≤ job.need.tasks) ranked.items) }
 {
-    let jobs = by_rank(alloc, cluster)?;
+    let jobs = by_rank(alloc, cluster, counts)?;
     let orders = node_orders(alloc, cluster.nodes.records(), cluster.partitions.records())?;
     needs_of(alloc, cluster, orders.as_slice(), jobs.as_slice())
 }
@@ -153,17 +173,18 @@ fn is_higher(cluster: &Cluster, one: &JobRecord, other: &JobRecord) -> bool
 }
 
 /// The number of the candidate that is highest in rank, None where there is no candidate. Linear in the jobs.
-pub fn highest(cluster: &Cluster) -> Option<u32>
+pub fn highest(cluster: &Cluster, counts: &ArrayCounts) -> Option<u32>
+    requires { CountsTasks cluster.now.jobs.records counts.now }
     ensures { (now : ℕ) → result
         ≡ option_map (λ (job : JobRecord). job.id) (slice_get (Readiness.candidates (state_of cluster.now) now) 0) }
 {
     let mut highest: Option<&JobRecord> = None;
-    for job in &cluster.jobs {
+    for job in cluster.jobs.records() {
         let comes_first = match highest {
             Some(first) => is_higher(cluster, job, first),
             None => true,
         };
-        if comes_first && is_candidate(cluster, job) {
+        if comes_first && is_candidate(cluster, counts, job) {
             highest = Some(job);
         }
     }

@@ -23,7 +23,8 @@ by_job one other = ordering_then (nat_cmp one.id other.id) (nat_cmp one.number o
 
 -- the order is total, and only a start ties with itself
 total : IsTotalOrder by_job
-total = then_total (on_total (λ (start : Start). start.id) nat_cmp_total) (on_total (λ (start : Start). start.number) nat_cmp_total)
+total = then_total (on_total (λ (start : Start). start.id) nat_cmp_total)
+    (on_total (λ (start : Start). start.number) nat_cmp_total)
 
 ties : (one other : Start) → is_same one other ≡ eq_by_cmp by_job one other
 ties one other = grind (arith, nat_tests)
@@ -35,25 +36,30 @@ less : (one other : Start) → is_before one other ≡ true → by_job one other
 less one other e = grind (arith, nat_tests)
 
 -- one more start at its place
-all-further : (one other : Start) (starts : List Start) → by_job one other ≡ Less → AllByRecursion (λ third. by_job other third ≡ Less) starts
+all-further : (one other : Start) (starts : List Start) → by_job one other ≡ Less
+    → AllByRecursion (λ third. by_job other third ≡ Less) starts
     → AllByRecursion (λ third. by_job one third ≡ Less) starts
 all-further one other [] h all = tt
 all-further one other (third ∷ later) h all = (grind (arith, nat_tests), all-further one other later h all.1)
 
-all-with : (one start : Start) (starts : List Start) → by_job one start ≡ Less → AllByRecursion (λ other. by_job one other ≡ Less) starts
+all-with : (one start : Start) (starts : List Start) → by_job one start ≡ Less
+    → AllByRecursion (λ other. by_job one other ≡ Less) starts
     → AllByRecursion (λ other. by_job one other ≡ Less) (with_start start starts)
 all-with one start [] h all = (h, tt)
 all-with one start (other ∷ later) h all =
     let Above = AllByRecursion (λ other. by_job one other ≡ Less) in
     cond_both (is_before start other) (start ∷ other ∷ later) _ Above (λ first. (h, all))
-    (λ behind. cond_both (is_before other start) (other ∷ with_start start later) (other ∷ later) Above (λ more. (all.0, all-with one start later h all.1)) (λ there. all))
+    (λ behind. cond_both (is_before other start) (other ∷ with_start start later) (other ∷ later) Above
+    (λ more. (all.0, all-with one start later h all.1)) (λ there. all))
 
-sorted-with : (start : Start) (starts : List Start) → IsStrictlySortedBy by_job starts → IsStrictlySortedBy by_job (with_start start starts)
+sorted-with : (start : Start) (starts : List Start) → IsStrictlySortedBy by_job starts
+    → IsStrictlySortedBy by_job (with_start start starts)
 unfolding IsStrictlySortedBy
 sorted-with start [] h = (tt, tt)
 sorted-with start (one ∷ later) h =
     let Rising = IsStrictlySortedBy by_job in
-    cond_both (is_before start one) (start ∷ one ∷ later) _ Rising (λ first. ((less start one first, all-further start one later (less start one first) h.0), h))
+    cond_both (is_before start one) (start ∷ one ∷ later) _ Rising
+    (λ first. ((less start one first, all-further start one later (less start one first) h.0), h))
     (λ behind. cond_both (is_before one start) (one ∷ with_start start later) (one ∷ later) Rising
     (λ more. (all-with one start later (less one start more) h.0, sorted-with start later h.1)) (λ there. h))
 
@@ -65,9 +71,11 @@ rise (start ∷ starts) = sorted-with start (in_order starts) (rise starts)
 abbrev paired : List Start → List (Start × Unit {0})
 paired starts = map (λ start. (start, tt)) starts
 
-above : (start : Start) (starts : List Start) → AllByRecursion (λ other. by_job start other ≡ Less) starts → is_sorted by_job (paired starts) ≡ true → is_sorted by_job (paired (start ∷ starts)) ≡ true
+above : (start : Start) (starts : List Start) → AllByRecursion (λ other. by_job start other ≡ Less) starts
+    → is_sorted by_job (paired starts) ≡ true → is_sorted by_job (paired (start ∷ starts)) ≡ true
 above start [] all h = refl
-above start (one ∷ later) all h = and_from _ _ (and_from _ _ (ap is_lt all.0) (and_parts _ _ (above start later all.1 (and_parts _ _ h).1)).0) h
+above start (one ∷ later) all h = and_from _ _ (and_from _ _ (ap is_lt all.0)
+    (and_parts _ _ (above start later all.1 (and_parts _ _ h).1)).0) h
 
 ordered : (starts : List Start) → IsStrictlySortedBy by_job starts → is_sorted by_job (paired starts) ≡ true
 unfolding IsStrictlySortedBy
@@ -75,7 +83,8 @@ ordered [] h = refl
 ordered (start ∷ starts) h = above start starts h.0 (ordered starts h.1)
 
 pub in_order_rises : (starts : List Start) → InOrder (in_order starts)
-in_order_rises starts i j d earlier within = let below = Less-from_sorted by_job (in_order starts) i j d (rise starts) earlier within in grind (arith, nat_tests)
+in_order_rises starts i j d earlier within = let below =
+    Less-from_sorted by_job (in_order starts) i j d (rise starts) earlier within in grind (arith, nat_tests)
 
 -- they are those that were given
 unpaired : (starts : List Start) → map (λ e. e.0) (paired starts) ≡ starts
@@ -94,14 +103,16 @@ finds one starts = list_any-from_Contains (eq_by_cmp_equiv total) one starts
 find-paired : (one : Start) (starts : List Start) → is_some (find by_job one (paired starts)) ≡ has one starts
 find-paired one starts = is_some-find by_job one (paired starts) ∙ ap (has one) (unpaired starts)
 
-has-with : (one start : Start) (starts : List Start) → has one (with_start start starts) ≡ (eq_by_cmp by_job one start || has one starts)
+has-with : (one start : Start) (starts : List Start) → has one (with_start start starts) ≡
+    (eq_by_cmp by_job one start || has one starts)
 has-with one start [] = refl
 has-with one start (other ∷ later) = grind (arith, nat_tests, has-with one start later)
 
 has-in_order : (one : Start) (starts : List Start) → has one (in_order starts) ≡ has one starts
 unfolding in_order
 has-in_order one [] = refl
-has-in_order one (start ∷ starts) = has-with one start (in_order starts) ∙ ap (λ rest. eq_by_cmp by_job one start || rest) (has-in_order one starts)
+has-in_order one (start ∷ starts) = has-with one start (in_order starts)
+    ∙ ap (λ rest. eq_by_cmp by_job one start || rest) (has-in_order one starts)
 
 pub in_order_given : (starts : List Start) (one : Start) → Contains (in_order starts) one → Contains starts one
 in_order_given starts one h = found one starts (sym (has-in_order one starts) ∙ finds one (in_order starts) h)
@@ -112,21 +123,30 @@ in_order_has starts one h = found one (in_order starts) (has-in_order one starts
 pub ruleset orders = (in_order_rises, in_order_given, in_order_has)
 
 -- starts that are sorted and without repeats are in order
-alike : (x y : Option (Unit {0})) → (is_some x ≡ true → is_some y ≡ true) → (is_some y ≡ true → is_some x ≡ true) → x ≡ y
+alike : (x y : Option (Unit {0})) → (is_some x ≡ true → is_some y ≡ true) → (is_some y ≡ true → is_some x ≡ true)
+    → x ≡ y
 alike x y h k = grind (arith, nat_tests)
 
-pub in_order-deduped : (starts sorted : List Start) → IsPermutation starts sorted → IsSorted by_job sorted → dedup is_same sorted ≡ in_order starts
+pub in_order-deduped : (starts sorted : List Start) → IsPermutation starts sorted → IsSorted by_job sorted
+    → dedup is_same sorted ≡ in_order starts
 in_order-deduped starts sorted moved up =
     let once = dedup is_same sorted in
-    let equal = and_equiv (on_equiv (λ (start : Start). start.id) nat_eq_equiv) (on_equiv (λ (start : Start). start.number) nat_eq_equiv) in
-    let moves : (one : Start) → has one starts ≡ has one sorted = λ one. list_any-IsPermutation (eq_by_cmp by_job one) starts sorted moved in
-    let given : (one : Start) → has one once ≡ true → has one starts ≡ true = λ one h. moves one ∙ finds one sorted (Contains-from_dedup is_same sorted one (found one once h)) in
-    let kept : (one : Start) → has one starts ≡ true → has one once ≡ true = λ one h. finds one once (Contains-dedup equal same sorted one (found one sorted (sym (moves one) ∙ h))) in
+    let equal = and_equiv (on_equiv (λ (start : Start). start.id) nat_eq_equiv)
+    (on_equiv (λ (start : Start). start.number) nat_eq_equiv) in
+    let moves : (one : Start) → has one starts ≡ has one sorted =
+    λ one. list_any-IsPermutation (eq_by_cmp by_job one) starts sorted moved in
+    let given : (one : Start) → has one once ≡ true → has one starts ≡ true = λ one h. moves one
+    ∙ finds one sorted (Contains-from_dedup is_same sorted one (found one once h)) in
+    let kept : (one : Start) → has one starts ≡ true → has one once ≡ true =
+    λ one h. finds one once (Contains-dedup equal same sorted one (found one sorted (sym (moves one) ∙ h))) in
     let alike_at : (one : Start) → find by_job one (paired once) ≡ find by_job one (paired (in_order starts)) = λ one.
-    alike _ _ (λ h. find-paired one (in_order starts) ∙ has-in_order one starts ∙ given one (sym (find-paired one once) ∙ h))
-    (λ h. find-paired one once ∙ kept one (sym (has-in_order one starts) ∙ sym (find-paired one (in_order starts)) ∙ h)) in
+    alike _ _ (λ h. find-paired one (in_order starts) ∙ has-in_order one starts
+    ∙ given one (sym (find-paired one once) ∙ h))
+    (λ h. find-paired one once ∙ kept one (sym (has-in_order one starts) ∙ sym (find-paired one (in_order starts))
+    ∙ h)) in
     let rises = subst T (sym (ordered once (IsStrictlySortedBy-dedup total ties sorted up))) tt in
     let rises_too = subst T (sym (ordered (in_order starts) (rise starts))) tt in
     sym (unpaired once)
-    ∙ ap (map (λ e. e.0)) (same_entries by_job total (λ x y e. same x y (ties x y ∙ ap is_eq e)) (paired once) (paired (in_order starts)) rises rises_too alike_at)
+    ∙ ap (map (λ e. e.0)) (same_entries by_job total (λ x y e. same x y (ties x y ∙ ap is_eq e)) (paired once)
+    (paired (in_order starts)) rises rises_too alike_at)
     ∙ unpaired (in_order starts)

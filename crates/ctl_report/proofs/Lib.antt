@@ -1,3 +1,5 @@
+pub mod Heard
 pub mod InOrder
+pub mod Places
 pub mod Reported
 pub mod Launching

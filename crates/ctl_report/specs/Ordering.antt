@@ -7,10 +7,10 @@ use Rattle.slurm_text.specs.declared.plain.report.Done.{Done}
 use Rattle.slurm_text.specs.declared.plain.report.Report.{Report}
 use Rattle.slurm_text.specs.declared.plain.orders.Launch.{Launch}
 use Rattle.slurm_text.specs.declared.plain.orders.Orders.{Orders}
-use Rattle.ctl_state.specs.declared.record.Part.{Part}
-use Rattle.ctl_state.specs.declared.record.JobRecord.{JobRecord}
-use Rattle.ctl_state.specs.JobStates.{is_running}
-use Rattle.ctl_state.specs.Holding.{is_on}
+use Rattle.job_table.specs.declared.record.Part.{Part}
+use Rattle.job_table.specs.declared.record.JobRecord.{JobRecord}
+use Rattle.job_table.specs.JobStates.{is_running}
+use Rattle.job_table.specs.Changes.{is_on}
 use Rattle.ctl_state.specs.State.{State}
 use Rattle.ctl_report.specs.Reporting.{is_last_start, is_listed, done_of, is_at, is_batch_host, reported}
 

@@ -7,14 +7,14 @@ use Rattle.slurm_text.specs.declared.plain.report.Report.{Report}
 use Rattle.slurm_text.specs.declared.plain.state.Final.{Final}
 use Rattle.slurm_text.specs.declared.plain.state.Final.TheVariants.{Completed, Failed}
 use Rattle.node_state.specs.declared.record.Heard.{Heard}
-use Rattle.ctl_state.specs.declared.record.Part.{Part}
+use Rattle.job_table.specs.declared.record.Part.{Part}
 use Rattle.node_state.specs.declared.record.NodeRecord.{NodeRecord}
 use Rattle.node_state.specs.declared.record.NodeChange.TheVariants.{Heard as HeardFrom}
 use Rattle.node_state.specs.Nodes.{change_at}
-use Rattle.ctl_state.specs.declared.record.JobRecord.{JobRecord}
-use Rattle.ctl_state.specs.declared.change.Change.TheVariants.{Leave, DropPart}
-use Rattle.ctl_state.specs.Changes.{changed}
-use Rattle.ctl_state.specs.Holding.{is_on}
+use Rattle.job_table.specs.declared.record.JobRecord.{JobRecord}
+use Rattle.job_table.specs.declared.change.Change.TheVariants.{Leave, DropPart}
+use Rattle.job_table.specs.Changes.{changed}
+use Rattle.job_table.specs.Changes.{is_on}
 use Rattle.ctl_state.specs.State.{State}
 
 -- the last accepted report of the node at a place

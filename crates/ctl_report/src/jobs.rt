@@ -1,15 +1,17 @@
 //! What a report does to the jobs.
 
-ghost use Rattle.std.specs.Prelude.{◌≡◌, map, Some};
-ghost use Rattle.ctl_state.specs.Changes.{changed};
+ghost use Rattle.std.specs.Prelude.{◌≡◌, ◌<◌, map, length, Some};
+ghost use Rattle.job_table.specs.Changes.{changed};
+ghost use Rattle.job_table.specs.Walks.{map_at};
 ghost use Rattle.std.specs.List.{list_any};
 ghost use Rattle.ctl_report.specs.Reporting.{is_last_start, is_listed, done_of, is_at, is_batch_host, final_of, script_over, told_over, reported};
 
-use ctl_state::change::{Change, apply};
-use ctl_state::record::{JobRecord, Part};
+use job_table::change::Change;
+use job_table::jobs::Jobs;
+use job_table::laws::{a_change_is_of_its_place, a_walk_changes_all};
+use job_table::record::{JobRecord, Part};
 use slurm_text::plain::report::{Done, Report, Start};
 use slurm_text::plain::state::Final;
-use std::alloc::Global;
 
 /// Whether the start is the job's last one.
 pub(crate) fn is_last_start(job: &JobRecord, start: &Start) -> bool
@@ -59,64 +61,70 @@ pub(crate) fn is_batch_host(node: u32, parts: &[Part]) -> bool
 }
 
 /// Changes each job as the report wants it. Linear in the jobs, and for each that holds something of the node in what
-/// the report tells.
-pub(crate) fn report_jobs(
-    alloc: Global,
-    jobs: &mut [JobRecord],
-    now: u64,
-    node: u32,
-    report: &Report,
-)
-    ensures { jobs.new ≡ map (reported now node report.now) jobs.old }
+/// the report tells. It takes no memory.
+pub(crate) fn report_jobs(jobs: &mut Jobs, now: u64, node: u32, report: &Report)
+    ensures { jobs.new.records ≡ map (reported now node report.now) jobs.old.records }
 {
-    for job in jobs.iter_mut() {
-        report_job(alloc, job, now, node, report);
+    a_walk_changes_all::<JobRecord>();
+    for place in 0..jobs.records().len() {
+        report_job(jobs, place, now, node, report);
     }
 }
 
-fn report_job(alloc: Global, job: &mut JobRecord, now: u64, node: u32, report: &Report)
-    ensures { job.new ≡ reported now node report.now job.old }
+// Changes the job at a place as the report wants it.
+fn report_job(jobs: &mut Jobs, place: usize, now: u64, node: u32, report: &Report)
+    requires { place < length jobs.old.records }
+    ensures { jobs.new.records ≡ map_at place (reported now node report.now) jobs.old.records }
 {
+    a_change_is_of_its_place::<JobRecord>();
+    let job = &jobs.records()[place];
     if !is_at(node, job) {
         return;
     }
     match done_of(report, job) {
-        Some(done) => finish(alloc, job, now, node, done),
+        Some(done) => finish(jobs, place, now, node, done),
         None => {
             if !is_listed(report, job) {
-                apply(alloc, job, Change::DropPart { node, moment: now });
+                jobs.change_at(place, Change::DropPart { node, moment: now });
             }
         }
     }
 }
 
-// The job's start is told to be over on the node.
-fn finish(alloc: Global, job: &mut JobRecord, now: u64, node: u32, done: Done)
-    ensures { job.new ≡ told_over now node done job.old }
+// The start of the job at a place is told to be over on the node.
+#[tactic(auto, using(crate::proofs::Places::length_map_at))]
+fn finish(jobs: &mut Jobs, place: usize, now: u64, node: u32, done: Done)
+    requires { place < length jobs.old.records }
+    ensures { jobs.new.records ≡ map_at place (told_over now node done) jobs.old.records }
 {
-    end_script(alloc, job, now, node, done);
-    apply(alloc, job, Change::DropPart { node, moment: now });
+    a_change_is_of_its_place::<JobRecord>();
+    end_script(jobs, place, now, node, done);
+    jobs.change_at(place, Change::DropPart { node, moment: now });
 }
 
-// The job's script is over, if it ran on the node.
-fn end_script(alloc: Global, job: &mut JobRecord, now: u64, node: u32, done: Done)
-    ensures { job.new ≡ script_over now node done job.old }
+// The script of the job at a place is over, if it ran on the node.
+fn end_script(jobs: &mut Jobs, place: usize, now: u64, node: u32, done: Done)
+    requires { place < length jobs.old.records }
+    ensures { jobs.new.records ≡ map_at place (script_over now node done) jobs.old.records }
 {
-    if is_batch_host(node, job.parts.as_slice()) {
-        leave(alloc, job, now, done);
+    a_change_is_of_its_place::<JobRecord>();
+    if is_batch_host(node, jobs.records()[place].parts.as_slice()) {
+        leave(jobs, place, now, done);
     }
 }
 
-// The job leaves Running, as its script ended.
-fn leave(alloc: Global, job: &mut JobRecord, now: u64, done: Done)
-    ensures { job.new ≡ changed (Change.Leave (final_of done.exit) now (Some done.exit)) job.old }
+// The job at a place leaves Running, as its script ended.
+fn leave(jobs: &mut Jobs, place: usize, now: u64, done: Done)
+    requires { place < length jobs.old.records }
+    ensures { jobs.new.records ≡ map_at place
+        (changed (Change.Leave (final_of done.exit) now (Some done.exit))) jobs.old.records }
 {
     let change = Change::Leave {
         to: final_of(done.exit),
         moment: now,
         exit: Some(done.exit),
     };
-    apply(alloc, job, change);
+    jobs.change_at(place, change);
 }
 
 fn final_of(exit: u32) -> Final

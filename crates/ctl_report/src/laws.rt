@@ -11,7 +11,7 @@ ghost use Rattle.slurm_text.specs.Starts.{InOrder};
 ghost use Rattle.ctl_report.specs.Ordering.{in_order};
 
 use ctl_state::laws::{
-    every_change_but_a_start_lets_go, jobs_are_kept, letting_go_keeps_all_sound,
+    changing_keeps_all_sound, every_change_but_a_start_lets_go, jobs_are_kept,
     nodes_that_stay_keep_all_sound,
 };
 use node_state::laws::{a_change_leaves_the_confs, a_report_sets_no_node_down};
@@ -21,7 +21,7 @@ pub fn a_report_keeps_all_sound()
     ensures { (s : State) (now node : ℕ) (report : Report) → IsSound s → s.moment ≤ now → now ≤ last_moment
         → IsSound (stamped now (report_after s now node report)) }
 {
-    letting_go_keeps_all_sound();
+    changing_keeps_all_sound();
     every_change_but_a_start_lets_go();
     jobs_are_kept();
     nodes_that_stay_keep_all_sound();

@@ -1,6 +1,6 @@
 //! What the nodes reported last.
 
-ghost use Rattle.std.specs.Prelude.{◌≡◌, ◌<◌, length};
+ghost use Rattle.std.specs.Prelude.{◌≡◌};
 ghost use Rattle.ctl_report.specs.Reporting.{heard_of, is_after, heard_nodes};
 
 use node_state::nodes::Nodes;
@@ -21,11 +21,14 @@ pub(crate) fn is_after(heard: &Heard, report: &Report) -> bool
     heard.boot < report.boot || heard.boot == report.boot && heard.number < report.number
 }
 
-/// Notes the report at its node, in constant time.
+/// Notes the report at its node, if there is one at the place, in constant time.
+#[tactic(auto, using(crate::proofs::Heard::heard_past))]
 pub(crate) fn hear(nodes: &mut Nodes, now: u64, place: u32, report: &Report)
-    requires { place < length nodes.old.records }
     ensures { nodes.new.records ≡ heard_nodes now place report.now nodes.old.records }
 {
+    if place >= nodes.len() {
+        return;
+    }
     let heard = Heard {
         boot: report.boot,
         number: report.number,

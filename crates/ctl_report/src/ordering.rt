@@ -2,14 +2,14 @@
 
 ghost use Rattle.std.specs.Prelude.{◌≡◌, ◌||◌, not, is_some, IfOk, map, filter, filter_map, ℕ, find, option_copied};
 ghost use Rattle.std.specs.List.{list_any};
-ghost use Rattle.ctl_state.specs.Holding.{is_on};
-ghost use Rattle.ctl_state.specs.Soundness.{HaveRisingIds};
+ghost use Rattle.job_table.specs.Changes.{is_on};
+ghost use Rattle.job_table.specs.Table.{HaveRisingIds};
 ghost use Rattle.ctl_report.specs.Reporting.{is_listed, done_of};
 ghost use Rattle.ctl_report.specs.Ordering.{in_order, is_same, killed, launch_of, launch_part, start_of, stays};
 
 use crate::jobs::{done_of, is_at, is_batch_host, is_listed};
 use crate::starts::in_order;
-use ctl_state::record::{JobRecord, Part};
+use job_table::record::{JobRecord, Part};
 use slurm_text::memory_error::Memory;
 use slurm_text::plain::orders::{Launch, Launches, Starts};
 use slurm_text::plain::report::{Done, Report, Start};

@@ -86,17 +86,16 @@ pub fn orders(
         node: report.node.copy()?,
         boot: report.boot,
         number: report.number,
-        kills: kills(alloc, &cluster.jobs, node, report)?,
+        kills: kills(alloc, cluster.jobs.records(), node, report)?,
         forgets: forgets(alloc, report.done.as_slice())?,
-        launches: launches(alloc, &cluster.jobs, node, report)?,
+        launches: launches(alloc, cluster.jobs.records(), node, report)?,
     })
 }
 
 /// Does what the report of the node at a place makes of the cluster. It takes no memory.
-pub fn accept(alloc: Global, cluster: &mut Cluster, moment: u64, node: u32, report: &Report)
-    requires { node < length cluster.old.nodes.records }
+pub fn accept(cluster: &mut Cluster, moment: u64, node: u32, report: &Report)
     ensures { state_of cluster.new ≡ report_after (state_of cluster.old) moment node report.now }
 {
     hear(&mut cluster.nodes, moment, node, report);
-    report_jobs(alloc, &mut cluster.jobs, moment, node, report);
+    report_jobs(&mut cluster.jobs, moment, node, report);
 }

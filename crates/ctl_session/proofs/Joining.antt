@@ -10,15 +10,18 @@ use Rattle.ctl_desk.specs.Desk.{Sight, later, seen, state_at}
 use Rattle.ctl_desk.specs.History.{after_all, of_session}
 use Rattle.ctl_session.specs.Answers.{Answered, IsAnswerIn, Answers, Rise, behind, entries}
 
-slice_get-append_left : {X : Type 0} (xs ys : List X) (n : ℕ) (x : X) → slice_get xs n ≡ Some x → slice_get (xs ++ ys) n ≡ Some x
+slice_get-append_left : {X : Type 0} (xs ys : List X) (n : ℕ) (x : X) → slice_get xs n ≡ Some x
+    → slice_get (xs ++ ys) n ≡ Some x
 slice_get-append_left [] ys n x h = cc
 slice_get-append_left (a ∷ xs) ys zero x h = h
 slice_get-append_left (a ∷ xs) ys (suc n) x h = slice_get-append_left xs ys n x h
 
 -- the state at a place stays, whatever is entered behind it, and so does the answer there
-answer_stays : (opening : State) (number : ℕ) (history more : List Entry) (a : Answered) → IsAnswerIn opening number history a → IsAnswerIn opening number (history ++ more) a
+answer_stays : (opening : State) (number : ℕ) (history more : List Entry) (a : Answered)
+    → IsAnswerIn opening number history a → IsAnswerIn opening number (history ++ more) a
 answer_stays opening number history more a answer =
-    let same : state_at opening (history ++ more) a.place ≡ state_at opening history a.place = ap (after_all opening) (take-append-le a.place history more answer.within) in
+    let same : state_at opening (history ++ more) a.place ≡ state_at opening history a.place =
+    ap (after_all opening) (take-append-le a.place history more answer.within) in
     record {
       within = omega (arith, answer.within, length-append history more);
       reply = rw same answer.reply;
@@ -27,11 +30,13 @@ answer_stays opening number history more a answer =
     }
 
 -- places that rise from one on rise from each lower one on, and further
-rise_from : (low mid : ℕ) (answers : List Answered) (high : ℕ) → low ≤ mid → Rise mid answers high → Rise low answers high
+rise_from : (low mid : ℕ) (answers : List Answered) (high : ℕ) → low ≤ mid → Rise mid answers high
+    → Rise low answers high
 rise_from low mid [] high below rise = omega (arith, rise)
 rise_from low mid (a ∷ answers) high below rise = (omega (arith, rise.0), rise.1)
 
-pub rise_on : (low : ℕ) (xs : List Answered) (mid : ℕ) (ys : List Answered) (high : ℕ) → Rise low xs mid → Rise mid ys high → Rise low (xs ++ ys) high
+pub rise_on : (low : ℕ) (xs : List Answered) (mid : ℕ) (ys : List Answered) (high : ℕ) → Rise low xs mid
+    → Rise mid ys high → Rise low (xs ++ ys) high
 rise_on low [] mid ys high first next = rise_from low mid ys high first next
 rise_on low (a ∷ xs) mid ys high first next = (first.0, rise_on (behind a) xs mid ys high first.1 next)
 
@@ -39,7 +44,8 @@ rise_on low (a ∷ xs) mid ys high first next = (first.0, rise_on (behind a) xs 
 later_twice : (desk : Sight) (xs ys : List Entry) → later (later desk xs) ys ≡ later desk (xs ++ ys)
 later_twice desk xs ys =
     let since : (desk.since ++ xs) ++ ys ≡ desk.since ++ (xs ++ ys) = append_assoc desk.since xs ys in
-    let mine : (desk.mine ++ of_session desk.number xs) ++ of_session desk.number ys ≡ desk.mine ++ of_session desk.number (xs ++ ys) =
+    let mine : (desk.mine ++ of_session desk.number xs) ++ of_session desk.number ys
+    ≡ desk.mine ++ of_session desk.number (xs ++ ys) =
     append_assoc desk.mine (of_session desk.number xs) (of_session desk.number ys)
     ∙ ap (λ l. desk.mine ++ l) (sym (filter-append (λ e. e.session == desk.number) xs ys)) in
     rw (since, mine) refl
@@ -48,7 +54,8 @@ later_twice desk xs ys =
 seen_later : (desk desk' : Sight) (since : List Entry) → desk' ≡ later desk since → seen desk' ≡ seen desk ++ since
 seen_later desk desk' since goes_on = ap seen goes_on ∙ sym (append_assoc desk.before desk.since since)
 
-pub joined : (desk mid desk' : Sight) (xs ys : List Answered) → Answers desk mid xs → Answers mid desk' ys → Answers desk desk' (xs ++ ys)
+pub joined : (desk mid desk' : Sight) (xs ys : List Answered) → Answers desk mid xs → Answers mid desk' ys
+    → Answers desk desk' (xs ++ ys)
 joined desk mid desk' xs ys first next =
     let next' : Answers (later desk first.since) desk' ys = subst (λ d. Answers d desk' ys) first.goes_on next in
     let grown : seen desk' ≡ seen mid ++ next.since = seen_later mid desk' next.since next.goes_on in
@@ -60,7 +67,8 @@ joined desk mid desk' xs ys first next =
           ∙ ap (λ l. of_session desk.number first.since ++ l) next'.own
           ∙ sym (filter-append (λ e. e.session == desk.number) first.since next'.since);
       each = All-append (IsAnswerIn desk.opening desk.number (seen desk')) xs ys
-          (rw grown (λ k d within. answer_stays desk.opening desk.number (seen mid) next.since (get_or xs k d) (first.each k d within)))
+          (rw grown (λ k d within. answer_stays desk.opening desk.number (seen mid) next.since (get_or xs k d)
+          (first.each k d within)))
           next'.each;
       rise = rise_on (length (seen desk)) xs (length (seen mid)) ys (length (seen desk')) first.rise next.rise;
     }

@@ -30,13 +30,17 @@ most_blocks_is = refl
 pub record Laws : Type 0 where
   pub short : (form : Form) (block : Block) → IsBlock form block → length (spelled form block) ≤ longest_block
   pub empty : (form : Form) → IsPartial form []
-  pub joins : (form : Form) (blocks others : List Block) → spelled_all form (blocks ++ others) ≡ spelled_all form blocks ++ spelled_all form others
+  pub joins : (form : Form) (blocks others : List Block) → spelled_all form (blocks ++ others)
+      ≡ spelled_all form blocks ++ spelled_all form others
 
-spelled_one_more : Laws → (form : Form) (blocks : List Block) (block : Block) → spelled_all form (blocks ++ block ∷ []) ≡ spelled_all form blocks ++ spelled form block
-spelled_one_more laws form blocks block = laws.joins form blocks (block ∷ []) ∙ ap (λ l. spelled_all form blocks ++ l) (append-nil (spelled form block))
+spelled_one_more : Laws → (form : Form) (blocks : List Block) (block : Block)
+    → spelled_all form (blocks ++ block ∷ []) ≡ spelled_all form blocks ++ spelled form block
+spelled_one_more laws form blocks block = laws.joins form blocks (block ∷ [])
+    ∙ ap (λ l. spelled_all form blocks ++ l) (append-nil (spelled form block))
 
 -- The session so far: the blocks that were answered, their answers, and what was written and is pending.
-pub record IsUnderWay (form : Form) (old now : Wire) (desk desk' : Sight) (blocks : BlocksState) (count : ℕ) : Type 0 where
+pub record IsUnderWay (form : Form) (old now : Wire) (desk desk' : Sight) (blocks : BlocksState)
+    (count : ℕ) : Type 0 where
   pub served : List Block
   pub answers : List Answered
   pub consumed : Consumes old.left now.left (spelled_all form served ++ blocks.pending)
@@ -51,7 +55,8 @@ pub record IsUnderWay (form : Form) (old now : Wire) (desk desk' : Sight) (block
   pub reads : now.reads ≡ old.reads
   pub writes : now.writes ≡ old.writes
 
-pub under_way_at_start : (form : Form) (wire : Wire) (desk : Sight) → IsUnderWay form wire wire desk desk (record { form = form; place = 0; pending = [] }) 0
+pub under_way_at_start : (form : Form) (wire : Wire) (desk : Sight)
+    → IsUnderWay form wire wire desk desk (record { form = form; place = 0; pending = [] }) 0
 under_way_at_start form wire desk = record {
   served = [];
   answers = [];
@@ -75,18 +80,21 @@ record IsTaken (form : Form) (old new : Wire) (pending pending' : List ℕ) (blo
   is_block : IsBlock form block
   cut : pending ++ read ≡ spelled form block ++ pending'
 
-taken_in : (form : Form) (old new : Wire) (blocks blocks' : BlocksState) (block : Block) → blocks.form ≡ form → TakesBlock old new blocks blocks' block
+taken_in : (form : Form) (old new : Wire) (blocks blocks' : BlocksState) (block : Block) → blocks.form ≡ form
+    → TakesBlock old new blocks blocks' block
     → IsTaken form old new blocks.pending blocks'.pending block
 taken_in form old new blocks blocks' block is takes =
     subst (λ f. IsTaken f old new blocks.pending blocks'.pending block) is
     (record { read = takes.read; consumed = takes.consumed; is_block = takes.is_block; cut = takes.cut })
 
 -- what was read up to a block and behind it
-consumed_with : Laws → (form : Form) (old mid new : Wire) (served : List Block) (pending pending' : List ℕ) (block : Block)
+consumed_with : Laws → (form : Form) (old mid new : Wire) (served : List Block) (pending pending' : List ℕ)
+    (block : Block)
     → Consumes old.left mid.left (spelled_all form served ++ pending) → IsTaken form mid new pending pending' block
     → Consumes old.left new.left (spelled_all form (served ++ block ∷ []) ++ pending')
 consumed_with laws form old mid new served pending pending' block before takes =
-    let read : Consumes old.left new.left ((spelled_all form served ++ pending) ++ takes.read) = Consumes-trans old.left mid.left new.left _ takes.read before takes.consumed in
+    let read : Consumes old.left new.left ((spelled_all form served ++ pending) ++ takes.read) =
+    Consumes-trans old.left mid.left new.left _ takes.read before takes.consumed in
     let cut : (spelled_all form served ++ pending) ++ takes.read ≡ spelled_all form (served ++ block ∷ []) ++ pending' =
     append_assoc (spelled_all form served) pending takes.read
     ∙ ap (λ l. spelled_all form served ++ l) takes.cut
@@ -95,7 +103,8 @@ consumed_with laws form old mid new served pending pending' block before takes =
     subst (Consumes old.left new.left) cut read
 
 -- one meaning more
-asked_with : (answers : List Answered) (served : List Block) (answer : Answered) (block : Block) → meanings answers ≡ map meaning_of served → answer.meaning ≡ meaning_of block
+asked_with : (answers : List Answered) (served : List Block) (answer : Answered) (block : Block)
+    → meanings answers ≡ map meaning_of served → answer.meaning ≡ meaning_of block
     → meanings (answers ++ answer ∷ []) ≡ map meaning_of (served ++ block ∷ [])
 asked_with answers served answer block all one =
     map-append (λ (a : Answered). a.meaning) answers (answer ∷ [])
@@ -104,12 +113,15 @@ asked_with answers served answer block all one =
     ∙ sym (map-append meaning_of served (block ∷ []))
 
 -- one reply more
-replies_with : (answers : List Answered) (answer : Answered) → replies (answers ++ answer ∷ []) ≡ replies answers ++ answer.reply
+replies_with : (answers : List Answered) (answer : Answered) → replies (answers ++ answer ∷ [])
+    ≡ replies answers ++ answer.reply
 replies_with answers answer =
-    flat_map-append (λ (a : Answered). a.reply) answers (answer ∷ []) ∙ ap (λ l. replies answers ++ l) (append-nil answer.reply)
+    flat_map-append (λ (a : Answered). a.reply) answers (answer ∷ [])
+    ∙ ap (λ l. replies answers ++ l) (append-nil answer.reply)
 
 -- a turn that answers a block
-pub under_way_after : Laws → (form : Form) (old mid new : Wire) (desk between after : Sight) (blocks blocks' : BlocksState) (count : ℕ)
+pub under_way_after : Laws → (form : Form) (old mid new : Wire) (desk between after : Sight)
+    (blocks blocks' : BlocksState) (count : ℕ)
     → count < most_blocks
     → IsUnderWay form old mid desk between blocks count
     → IsTurn mid new between after blocks blocks' None
@@ -118,8 +130,10 @@ under_way_after laws form old mid new desk between after blocks blocks' count fe
     let block = works.block in
     let answer = works.one.answer in
     let takes = taken_in form mid new blocks blocks' block way.form_is works.takes in
-    let long : length (spelled_all form (way.served ++ block ∷ [])) ≡ length (spelled_all form way.served) + length (spelled form block) =
-    ap length (spelled_one_more laws form way.served block) ∙ length-append (spelled_all form way.served) (spelled form block) in
+    let long : length (spelled_all form (way.served ++ block ∷ [])) ≡ length (spelled_all form way.served)
+    + length (spelled form block) =
+    ap length (spelled_one_more laws form way.served block) ∙ length-append (spelled_all form way.served)
+    (spelled form block) in
     let fits = laws.short form block takes.is_block in
     let short = way.short in
     let put = rw way.form_is at works.takes.place in
@@ -135,7 +149,8 @@ under_way_after laws form old mid new desk between after blocks blocks' count fe
       short = omega arith;
       asked = asked_with way.answers way.served answer block way.asked works.one.means;
       answered = joined desk between after way.answers (answer ∷ []) way.answered works.one.answers;
-      sent = rw replies_with (Appends-trans old.taken mid.taken new.taken (replies way.answers) answer.reply way.sent sent);
+      sent = rw replies_with (Appends-trans old.taken mid.taken new.taken
+          (replies way.answers) answer.reply way.sent sent);
       reads = reads ∙ way.reads;
       writes = writes ∙ way.writes;
     }
@@ -143,13 +158,21 @@ under_way_after laws form old mid new desk between after blocks blocks' count fe
 -- ---- how a session ends
 
 -- The end of a session that answered no block after these: what was read behind them is the rest.
-pub quiet_end : (form : Form) (old mid new : Wire) (desk between after : Sight) (blocks : BlocksState) (rest : List ℕ) (count : ℕ) (how : How)
+pub quiet_end : (form : Form) (old mid new : Wire) (desk between after : Sight) (blocks : BlocksState)
+    (rest : List ℕ) (count : ℕ) (how : How)
     (way : IsUnderWay form old mid desk between blocks count)
     → count ≤ most_blocks
     → IsHistory (history_of after)
     → Answers between after []
     → Consumes old.left new.left (spelled_all form way.served ++ rest)
-    → IsCause form old new (record { blocks = way.served; rest = rest; worked = []; answers = way.answers; last = [] }) how
+    → IsCause form old new (record {
+      blocks = way.served;
+      rest = rest;
+      worked = [];
+      answers = way.answers;
+      last =
+          [];
+    }) how
     → (e : Ending) × IsServed form old new desk after (record { how = how; answered = count }) e
 quiet_end form old mid new desk between after blocks rest count how way few history none consumed cause = (
   record { blocks = way.served; rest = rest; worked = []; answers = way.answers; last = [] },
@@ -183,16 +206,32 @@ rest_consumed : (form : Form) (old mid new : Wire) (desk between : Sight) (block
     (way : IsUnderWay form old mid desk between blocks count) → TakesNone mid new blocks blocks'
     → Consumes old.left new.left (spelled_all form way.served ++ blocks'.pending)
 rest_consumed form old mid new desk between blocks blocks' count way takes =
-    rw (takes.pending, ← append_assoc) (Consumes-trans old.left mid.left new.left _ takes.read way.consumed takes.consumed)
+    rw (takes.pending, ← append_assoc)
+    (Consumes-trans old.left mid.left new.left _ takes.read way.consumed takes.consumed)
 
 -- The end of a session whose last turn answered nothing: what is pending is the rest.
-ends_quietly : (form : Form) (old mid new : Wire) (desk between after : Sight) (blocks blocks' : BlocksState) (count : ℕ) (how : How)
+ends_quietly : (form : Form) (old mid new : Wire) (desk between after : Sight) (blocks blocks' : BlocksState)
+    (count : ℕ) (how : How)
     (way : IsUnderWay form old mid desk between blocks count)
     → count ≤ most_blocks
     → IsHistory (history_of after)
     → IsQuiet mid new between after blocks blocks'
-    → (IsWhole old new (record { blocks = way.served; rest = blocks'.pending; worked = []; answers = way.answers; last = [] })
-    → IsCause form old new (record { blocks = way.served; rest = blocks'.pending; worked = []; answers = way.answers; last = [] }) how)
+    → (IsWhole old new (record {
+      blocks = way.served;
+      rest = blocks'.pending;
+      worked = [];
+      answers =
+          way.answers;
+      last = [];
+    })
+    → IsCause form old new (record {
+      blocks = way.served;
+      rest = blocks'.pending;
+      worked = [];
+      answers =
+          way.answers;
+      last = [];
+    }) how)
     → (e : Ending) × IsServed form old new desk after (record { how = how; answered = count }) e
 ends_quietly form old mid new desk between after blocks blocks' count how way few history quiet cause =
     quiet_end form old mid new desk between after blocks blocks'.pending count how way few history
@@ -201,20 +240,39 @@ ends_quietly form old mid new desk between after blocks blocks' count how way fe
     (cause (whole form old mid new desk between blocks blocks'.pending count way quiet.writes))
 
 -- a block that was worked, and not answered whole
-worked_end : Laws → (form : Form) (old mid new : Wire) (desk between after : Sight) (blocks blocks' : BlocksState) (count : ℕ) (how : How)
+worked_end : Laws → (form : Form) (old mid new : Wire) (desk between after : Sight) (blocks blocks' : BlocksState)
+    (count : ℕ) (how : How)
     (way : IsUnderWay form old mid desk between blocks count) (works : WorksBlock mid new between after blocks blocks')
     → count < most_blocks
     → IsHistory (history_of after)
-    → IsCause form old new (record { blocks = way.served; rest = spelled form works.block ++ blocks'.pending; worked = works.block ∷ []; answers = way.answers; last = works.one.answer ∷ [] }) how
+    → IsCause form old new (record {
+      blocks = way.served;
+      rest =
+          spelled form works.block ++ blocks'.pending;
+      worked = works.block ∷ [];
+      answers = way.answers;
+      last =
+          works.one.answer ∷ [];
+    }) how
     → (e : Ending) × IsServed form old new desk after (record { how = how; answered = count }) e
 worked_end laws form old mid new desk between after blocks blocks' count how way works few history cause =
     let block = works.block in
     let takes = taken_in form mid new blocks blocks' block way.form_is works.takes in
-    let cut : spelled_all form (way.served ++ block ∷ []) ++ blocks'.pending ≡ spelled_all form way.served ++ (spelled form block ++ blocks'.pending) =
-    ap (λ l. l ++ blocks'.pending) (spelled_one_more laws form way.served block) ∙ append_assoc (spelled_all form way.served) (spelled form block) blocks'.pending in (
-      record { blocks = way.served; rest = spelled form block ++ blocks'.pending; worked = block ∷ []; answers = way.answers; last = works.one.answer ∷ [] },
+    let cut : spelled_all form (way.served ++ block ∷ []) ++ blocks'.pending
+    ≡ spelled_all form way.served ++ (spelled form block ++ blocks'.pending) =
+    ap (λ l. l ++ blocks'.pending) (spelled_one_more laws form way.served block)
+    ∙ append_assoc (spelled_all form way.served) (spelled form block) blocks'.pending in (
       record {
-        consumed = subst (Consumes old.left new.left) cut (consumed_with laws form old mid new way.served blocks.pending blocks'.pending block way.consumed takes);
+        blocks = way.served;
+        rest = spelled form block ++ blocks'.pending;
+        worked = block ∷ [];
+        answers =
+            way.answers;
+        last = works.one.answer ∷ [];
+      },
+      record {
+        consumed = subst (Consumes old.left new.left) cut
+            (consumed_with laws form old mid new way.served blocks.pending blocks'.pending block way.consumed takes);
         blocks = way.each;
         one_more = inr (block, blocks'.pending, refl, takes.is_block, refl);
         bounded = omega (arith, way.count_is, length-append way.served (block ∷ []));
@@ -228,17 +286,21 @@ worked_end laws form old mid new desk between after blocks blocks' count how way
     )
 
 -- a turn that is the last one
-pub served_after_turn : Laws → (form : Form) (old mid new : Wire) (desk between after : Sight) (blocks blocks' : BlocksState) (count : ℕ) (how : How)
+pub served_after_turn : Laws → (form : Form) (old mid new : Wire) (desk between after : Sight)
+    (blocks blocks' : BlocksState) (count : ℕ) (how : How)
     → count < most_blocks
     → IsUnderWay form old mid desk between blocks count
     → IsHistory (history_of after)
     → IsTurn mid new between after blocks blocks' (Some how)
     → (e : Ending) × IsServed form old new desk after (record { how = how; answered = count }) e
-served_after_turn laws form old mid new desk between after blocks blocks' count how.Closed few way history (quiet, reads, at_end, none) =
+served_after_turn laws form old mid new desk between after blocks blocks' count how.Closed few way history
+    (quiet, reads, at_end, none) =
     ends_quietly form old mid new desk between after blocks blocks' count how.Closed way (omega arith) history quiet
     (λ all. (all, reads ∙ way.reads, at_end, none))
-served_after_turn laws form old mid new desk between after blocks blocks' count (how.Truncated place) few way history (quiet, reads, at_end, partial, some, at) =
-    ends_quietly form old mid new desk between after blocks blocks' count (how.Truncated place) way (omega arith) history quiet
+served_after_turn laws form old mid new desk between after blocks blocks' count (how.Truncated place) few way history
+    (quiet, reads, at_end, partial, some, at) =
+    ends_quietly form old mid new desk between after blocks blocks' count (how.Truncated place) way
+    (omega arith) history quiet
     (λ all. (
       all,
       reads ∙ way.reads,
@@ -248,25 +310,44 @@ served_after_turn laws form old mid new desk between after blocks blocks' count 
       at ∙ quiet.takes.place ∙ way.place,
       omega (arith, way.count_is),
     ))
-served_after_turn laws form old mid new desk between after blocks blocks' count (how.Bad place) few way history (quiet, reads, bad, at) =
-    ends_quietly form old mid new desk between after blocks blocks' count (how.Bad place) way (omega arith) history quiet
-    (λ all. (all, reads ∙ way.reads, rw (quiet.takes.form ∙ way.form_is) at bad, at ∙ quiet.takes.place ∙ way.place, omega (arith, way.count_is)))
-served_after_turn laws form old mid new desk between after blocks blocks' count how.Spent few way history turn = absurd turn
-served_after_turn laws form old mid new desk between after blocks blocks' count how.ReadFault few way history (quiet, counted, partial) =
+served_after_turn laws form old mid new desk between after blocks blocks' count (how.Bad place) few way history
+    (quiet, reads, bad, at) =
+    ends_quietly form old mid new desk between after blocks blocks' count (how.Bad place) way
+    (omega arith) history quiet
+    (λ all. (
+      all,
+      reads ∙ way.reads,
+      rw (quiet.takes.form ∙ way.form_is) at bad,
+      at ∙ quiet.takes.place
+          ∙ way.place,
+      omega (arith, way.count_is),
+    ))
+served_after_turn laws form old mid new desk between after blocks blocks' count how.Spent few way history turn =
+    absurd turn
+served_after_turn laws form old mid new desk between after blocks blocks' count how.ReadFault few way history
+    (quiet, counted, partial) =
     ends_quietly form old mid new desk between after blocks blocks' count how.ReadFault way (omega arith) history quiet
     (λ all. (all, subst (λ n. CountsOne n new.reads) way.reads counted, rw (quiet.takes.form ∙ way.form_is) at partial))
-served_after_turn laws form old mid new desk between after blocks blocks' count how.WriteFault few way history (works, front, reads, counted) =
+served_after_turn laws form old mid new desk between after blocks blocks' count how.WriteFault few way history
+    (works, front, reads, counted) =
     let reply = works.one.answer.reply in
     let whole_reply : replies (works.one.answer ∷ []) ≡ reply = append-nil reply in
     worked_end laws form old mid new desk between after blocks blocks' count how.WriteFault way works few history (
       reads ∙ way.reads,
       subst (λ n. CountsOne n new.writes) way.writes counted,
-      (front.0, rw whole_reply front.1, rw whole_reply (Appends-trans old.taken mid.taken new.taken (replies way.answers) (take front.0 reply) way.sent front.2)),
+      (
+        front.0,
+        rw whole_reply front.1,
+        rw whole_reply (Appends-trans old.taken mid.taken new.taken
+            (replies way.answers) (take front.0 reply) way.sent front.2),
+      ),
     )
-served_after_turn laws form old mid new desk between after blocks blocks' count how.Memory few way history (stays, reads, made) =
+served_after_turn laws form old mid new desk between after blocks blocks' count how.Memory few way history
+    (stays, reads, made) =
     elim made [
       | inl none ↦
-          quiet_end form old mid new desk between after blocks (blocks.pending ++ none.0) count how.Memory way (omega arith) history none.2
+          quiet_end form old mid new desk between after blocks (blocks.pending ++ none.0) count how.Memory way
+          (omega arith) history none.2
           (rw (← append_assoc) (Consumes-trans old.left mid.left new.left _ none.0 way.consumed none.1))
           (reads ∙ way.reads, stays.1 ∙ way.writes, rw stays.0 way.sent)
       | inr works ↦
@@ -281,23 +362,35 @@ served_after_most : Laws → (form : Form) (old mid new : Wire) (desk between : 
     → IsLastLook mid new blocks.pending how
     → (e : Ending) × IsServed form old new desk between (record { how = how; answered = most_blocks }) e
 served_after_most laws form old mid new desk between blocks how.Spent way history (read, consumed, more, stays, reads) =
-    quiet_end form old mid new desk between between blocks (blocks.pending ++ read) most_blocks how.Spent way (omega arith) history (none_asked between)
-    (rw (← append_assoc) (Consumes-trans old.left mid.left new.left _ read way.consumed consumed))
-    (whole form old mid new desk between blocks (blocks.pending ++ read) most_blocks way stays, reads ∙ way.reads, way.count_is, more)
+    quiet_end form old mid new desk between between blocks (blocks.pending ++ read) most_blocks how.Spent way
+    (omega arith) history (none_asked between)
+    (rw (← append_assoc) (Consumes-trans old.left mid.left new.left _ read way.consumed consumed)) (
+      whole form old mid new desk between blocks (blocks.pending ++ read) most_blocks way stays,
+      reads
+          ∙ way.reads,
+      way.count_is,
+      more,
+    )
 served_after_most laws form old mid new desk between blocks how.Closed way history (kept, at_end, none, stays, reads) =
-    quiet_end form old mid new desk between between blocks [] most_blocks how.Closed way (omega arith) history (none_asked between)
+    quiet_end form old mid new desk between between blocks [] most_blocks how.Closed way (omega arith) history
+    (none_asked between)
     (Consumes-kept old.left mid.left new.left _ (rw none at way.consumed) kept)
     (whole form old mid new desk between blocks [] most_blocks way stays, reads ∙ way.reads, at_end, refl)
 served_after_most laws form old mid new desk between blocks how.ReadFault way history (kept, none, stays, counted) =
-    quiet_end form old mid new desk between between blocks [] most_blocks how.ReadFault way (omega arith) history (none_asked between)
-    (Consumes-kept old.left mid.left new.left _ (rw none at way.consumed) kept)
-    (whole form old mid new desk between blocks [] most_blocks way stays, subst (λ n. CountsOne n new.reads) way.reads counted, laws.empty form)
+    quiet_end form old mid new desk between between blocks [] most_blocks how.ReadFault way (omega arith) history
+    (none_asked between)
+    (Consumes-kept old.left mid.left new.left _ (rw none at way.consumed) kept) (
+      whole form old mid new desk between blocks [] most_blocks way stays,
+      subst (λ n. CountsOne n new.reads) way.reads counted,
+      laws.empty form,
+    )
 served_after_most laws form old mid new desk between blocks (how.Truncated place) way history look = absurd look
 served_after_most laws form old mid new desk between blocks (how.Bad place) way history look = absurd look
 served_after_most laws form old mid new desk between blocks how.WriteFault way history look = absurd look
 served_after_most laws form old mid new desk between blocks how.Memory way history look = absurd look
 
-pub served_after_look : Laws → (form : Form) (old mid new : Wire) (desk between : Sight) (blocks : BlocksState) (count : ℕ) (how : How)
+pub served_after_look : Laws → (form : Form) (old mid new : Wire) (desk between : Sight) (blocks : BlocksState)
+    (count : ℕ) (how : How)
     → count ≡ most_blocks
     → IsUnderWay form old mid desk between blocks count
     → IsHistory (history_of between)
@@ -305,12 +398,18 @@ pub served_after_look : Laws → (form : Form) (old mid new : Wire) (desk betwee
     → (e : Ending) × IsServed form old new desk between (record { how = how; answered = 1048576 }) e
 served_after_look laws form old mid new desk between blocks count how all way history look =
     subst (λ n. (e : Ending) × IsServed form old new desk between (record { how = how; answered = n }) e) most_blocks_is
-    (served_after_most laws form old mid new desk between blocks how (subst (IsUnderWay form old mid desk between blocks) all way) history look)
+    (served_after_most laws form old mid new desk between blocks how
+    (subst (IsUnderWay form old mid desk between blocks) all way) history look)
 
 -- a session that had no memory to begin with
 pub served_nothing : (form : Form) (wire : Wire) (desk : Sight) → IsHistory (history_of desk)
     → (e : Ending) × IsServed form wire wire desk desk (record { how = how.Memory; answered = 0 }) e
 served_nothing form wire desk history =
     let way = under_way_at_start form wire desk in
-    quiet_end form wire wire wire desk desk desk (record { form = form; place = 0; pending = [] }) [] 0 how.Memory way (omega arith) history (none_asked desk) way.consumed
+    quiet_end form wire wire wire desk desk desk (record {
+      form = form;
+      place = 0;
+      pending =
+          [];
+    }) [] 0 how.Memory way (omega arith) history (none_asked desk) way.consumed
     (refl, refl, way.sent)

@@ -15,7 +15,8 @@ use Rattle.ctl_session.specs.Reading.{IsFound, TakesBlock, WritesStay}
 use Rattle.ctl_session.specs.Turn.{AnswersBlock, AnswersOne, IsTurn, WorksBlock}
 
 -- a block that was read, where writing leaves what is left
-takes : (old mid new : Wire) (blocks blocks' : BlocksState) (block : Block) → TakesBlock old mid blocks blocks' block → new.left ≡ mid.left → TakesBlock old new blocks blocks' block
+takes : (old mid new : Wire) (blocks blocks' : BlocksState) (block : Block) → TakesBlock old mid blocks blocks' block
+    → new.left ≡ mid.left → TakesBlock old new blocks blocks' block
 takes old mid new blocks blocks' block own left = record {
   read = own.read;
   consumed = subst (λ l. Consumes old.left l own.read) (sym left) own.consumed;
@@ -26,7 +27,8 @@ takes old mid new blocks blocks' block own left = record {
 }
 
 abbrev works : (old mid new : Wire) (desk desk' : Sight) (blocks blocks' : BlocksState) (block : Block)
-    → IsFound old mid blocks blocks' (found.Whole block) → new.left ≡ mid.left → AnswersOne (meaning_of block) desk desk'
+    → IsFound old mid blocks blocks' (found.Whole block) → new.left ≡ mid.left
+    → AnswersOne (meaning_of block) desk desk'
     → WorksBlock old new desk desk' blocks blocks'
 works old mid new desk desk' blocks blocks' block found left one =
     record { block = block; takes = takes old mid new blocks blocks' block found.0 left; one = one }

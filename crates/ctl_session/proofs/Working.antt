@@ -21,7 +21,8 @@ slice_get_seam [] x = refl
 slice_get_seam (y ∷ xs) x = slice_get_seam xs x
 
 -- the last member, by its place
-slice_get_last : {X : Type 0} (xs front : List X) (x : X) (n : ℕ) → xs ≡ front ++ x ∷ [] → length front ≡ n → slice_get xs n ≡ Some x
+slice_get_last : {X : Type 0} (xs front : List X) (x : X) (n : ℕ) → xs ≡ front ++ x ∷ [] → length front ≡ n
+    → slice_get xs n ≡ Some x
 slice_get_last xs front x n whole long = rw (whole, ← long) (slice_get_seam front x)
 
 -- what grew by two lists at once grew by one list
@@ -34,11 +35,13 @@ some_is x y e = cc
 none_is_some : {X : Type 0} (x : X) → None ≡ Some x → ⊥
 none_is_some x e = cc
 
-entered_made : (s : State) (number : ℕ) (asked : Asked) → is_entered (reply_of s asked.moment asked.user asked.request) ≡ true
+entered_made : (s : State) (number : ℕ) (asked : Asked) → is_entered
+    (reply_of s asked.moment asked.user asked.request) ≡ true
     → entry_made s number (Asks asked) ≡ Some (entry_of s number asked.moment asked.user asked.request)
 entered_made s number asked accepts = rw accepts refl
 
-none_made : (s : State) (number : ℕ) (asked : Asked) → is_entered (reply_of s asked.moment asked.user asked.request) ≡ false
+none_made : (s : State) (number : ℕ) (asked : Asked) → is_entered (reply_of s asked.moment asked.user asked.request)
+    ≡ false
     → entry_made s number (Asks asked) ≡ None
 none_made s number asked refuses = rw refuses refl
 
@@ -51,16 +54,25 @@ all_one : (P : Answered → Type 0) (a : Answered) → P a → All P (a ∷ [])
 all_one P a p = All-cons P a [] p (All-nil P)
 
 -- the answer to a request that was accepted
-entered_one : (desk desk' : Sight) (asked : Asked) (answer : Answer) → GoesOn desk desk' → IsAnswered desk desk' asked.moment asked.user asked.request answer
+entered_one : (desk desk' : Sight) (asked : Asked) (answer : Answer) → GoesOn desk desk'
+    → IsAnswered desk desk' asked.moment asked.user asked.request answer
     → is_entered answer.reply ≡ true
     → (one : AnswersOne (Asks asked) desk desk') × (text_of asked.request answer.reply ≡ one.answer.reply)
 entered_one desk desk' asked answer goes answered accepts =
     let s = state_at desk.opening (seen desk') answer.place in
     let entry = entry_of s desk.number asked.moment asked.user asked.request in
     let both = answered.accepted accepts in
-    let front : length (take answer.place (seen desk')) ≡ answer.place = length-take-le answer.place (seen desk') answered.within in
-    let long : length (seen desk') ≡ answer.place + 1 = ap length both.0 ∙ length-append (take answer.place (seen desk')) (entry ∷ []) ∙ ap (λ n. n + 1) front in
-    let a : Answered = record { meaning = Asks asked; place = answer.place; reply = text_of asked.request answer.reply; entry = Some entry } in
+    let front : length (take answer.place (seen desk')) ≡ answer.place =
+    length-take-le answer.place (seen desk') answered.within in
+    let long : length (seen desk') ≡ answer.place + 1 = ap length both.0
+    ∙ length-append (take answer.place (seen desk')) (entry ∷ []) ∙ ap (λ n. n + 1) front in
+    let a : Answered = record {
+      meaning = Asks asked;
+      place = answer.place;
+      reply =
+          text_of asked.request answer.reply;
+      entry = Some entry;
+    } in
     let mine : desk'.mine ≡ desk.mine ++ of_session desk.number goes.0 = ap (λ (d : Sight). d.mine) goes.1 in (
       record {
         answer = a;
@@ -73,7 +85,8 @@ entered_one desk desk' asked answer goes answered accepts =
             within = answered.within;
             reply = ap (text_of asked.request) answered.reply;
             entry = sym (entered_made s desk.number asked (sym (ap is_entered answered.reply) ∙ accepts));
-            stands = λ e is. slice_get_last (seen desk') (take answer.place (seen desk')) entry answer.place both.0 front ∙ is;
+            stands = λ e is. slice_get_last (seen desk') (take answer.place
+                (seen desk')) entry answer.place both.0 front ∙ is;
           });
           rise = (answered.from, omega (arith, long));
         };
@@ -82,13 +95,20 @@ entered_one desk desk' asked answer goes answered accepts =
     )
 
 -- and to any other
-idle_one : (desk desk' : Sight) (asked : Asked) (answer : Answer) → GoesOn desk desk' → IsAnswered desk desk' asked.moment asked.user asked.request answer
+idle_one : (desk desk' : Sight) (asked : Asked) (answer : Answer) → GoesOn desk desk'
+    → IsAnswered desk desk' asked.moment asked.user asked.request answer
     → is_entered answer.reply ≡ false
     → (one : AnswersOne (Asks asked) desk desk') × (text_of asked.request answer.reply ≡ one.answer.reply)
 idle_one desk desk' asked answer goes answered refuses =
     let s = state_at desk.opening (seen desk') answer.place in
     let both = answered.other refuses in
-    let a : Answered = record { meaning = Asks asked; place = answer.place; reply = text_of asked.request answer.reply; entry = None } in
+    let a : Answered = record {
+      meaning = Asks asked;
+      place = answer.place;
+      reply =
+          text_of asked.request answer.reply;
+      entry = None;
+    } in
     let mine : desk'.mine ≡ desk.mine ++ of_session desk.number goes.0 = ap (λ (d : Sight). d.mine) goes.1 in (
       record {
         answer = a;
@@ -96,7 +116,8 @@ idle_one desk desk' asked answer goes answered refuses =
         answers = record {
           since = goes.0;
           goes_on = goes.1;
-          own = same_growth desk.mine desk'.mine [] (of_session desk.number goes.0) (both.1 ∙ sym (append-nil desk.mine)) mine;
+          own = same_growth desk.mine desk'.mine [] (of_session desk.number goes.0)
+              (both.1 ∙ sym (append-nil desk.mine)) mine;
           each = all_one (IsAnswerIn desk.opening desk.number (seen desk')) a (record {
             within = answered.within;
             reply = ap (text_of asked.request) answered.reply;
@@ -110,7 +131,8 @@ idle_one desk desk' asked answer goes answered refuses =
     )
 
 -- what a desk answered what was asked
-pub answered_one : (desk desk' : Sight) (asked : Asked) (answer : Answer) → GoesOn desk desk' → IsAnswered desk desk' asked.moment asked.user asked.request answer
+pub answered_one : (desk desk' : Sight) (asked : Asked) (answer : Answer) → GoesOn desk desk'
+    → IsAnswered desk desk' asked.moment asked.user asked.request answer
     → (one : AnswersOne (Asks asked) desk desk') × (text_of asked.request answer.reply ≡ one.answer.reply)
 answered_one desk desk' asked answer goes answered =
     elim (cases_Bool (is_entered answer.reply)) [
@@ -119,7 +141,8 @@ answered_one desk desk' asked answer goes answered =
     ]
 
 -- a block that asks nothing of a desk is told the same in every state
-unasked_one : (desk : Sight) (meaning : Meaning) (text : List ℕ) → ((s : State) → text ≡ told s meaning) → ((s : State) (number : ℕ) → entry_made s number meaning ≡ None)
+unasked_one : (desk : Sight) (meaning : Meaning) (text : List ℕ) → ((s : State) → text ≡ told s meaning)
+    → ((s : State) (number : ℕ) → entry_made s number meaning ≡ None)
     → (one : AnswersOne meaning desk desk) × (text ≡ one.answer.reply)
 unasked_one desk meaning text tells makes =
     let s = state_at desk.opening (seen desk) (length (seen desk)) in
@@ -144,9 +167,11 @@ unasked_one desk meaning text tells makes =
     )
 
 -- what a call tells such a block
-pub unasked : {X E : Type 0} (result : Result X E) (items : X → List ℕ) (desk : Sight) (meaning meant : Meaning) (text : List ℕ) → meaning ≡ meant
+pub unasked : {X E : Type 0} (result : Result X E) (items : X → List ℕ) (desk : Sight) (meaning meant : Meaning)
+    (text : List ℕ) → meaning ≡ meant
     → ((s : State) → text ≡ told s meaning) → ((s : State) (number : ℕ) → entry_made s number meaning ≡ None)
-    → IfOk result (λ x. items x ≡ text) → IfOk result (λ x. (one : AnswersOne meant desk desk) × (items x ≡ one.answer.reply))
+    → IfOk result (λ x. items x ≡ text) → IfOk result (λ x. (one : AnswersOne meant desk desk) ×
+    (items x ≡ one.answer.reply))
 unasked (Ok x) items desk meaning meant text means tells makes is =
     let one = unasked_one desk meaning text tells makes in
     let Told : Meaning → Type 0 = λ m. (one : AnswersOne m desk desk) × (items x ≡ one.answer.reply) in
@@ -161,7 +186,8 @@ nothing_made desk desk' goes mine =
     record {
       since = goes.0;
       goes_on = goes.1;
-      own = same_growth desk.mine desk'.mine [] (of_session desk.number goes.0) (mine ∙ sym (append-nil desk.mine)) same;
+      own = same_growth desk.mine desk'.mine [] (of_session desk.number goes.0)
+          (mine ∙ sym (append-nil desk.mine)) same;
       each = All-nil (IsAnswerIn desk.opening desk.number (seen desk'));
       rise = omega (arith, ap length long ∙ length-append (seen desk) goes.0);
     }

@@ -1,20 +1,25 @@
 -- Nodes that stay as they are configured, and jobs that are added keep all sound.
-use Rattle.std.proofs.Common.{◌≡◌, ℕ, zero, suc, ◌+◌, ◌<◌, ◌≤◌, Bool, true, List, [], ◌∷◌, ◌++◌, length, map, filter, get_or, All, Contains, refl, ap, sym, ◌∙◌, arith, rules}
+use Rattle.std.proofs.Common.{◌≡◌, ℕ, zero, suc, ◌+◌, ◌<◌, ◌≤◌, Bool, true, List, [], ◌∷◌, ◌++◌, length, map, filter, get_or, All, Contains, Some, refl, ap, sym, ◌∙◌, arith, rules}
+use Rattle.std.specs.Prelude.{IfSome}
+use Rattle.std.proofs.lemmas.Option.{IfSome_then}
 use Rattle.std.proofs.lemmas.List.{get_or-map, length-map, map-append, append-nil}
 use Rattle.std.proofs.lemmas.List.Concat.{flat_map-append}
 use Rattle.std.proofs.lemmas.List.Elements.{All-append, All-weaker, Contains-append_left, filter-append}
 use Rattle.slurm_text.specs.declared.plain.conf.NodeConf.{NodeConf}
 use Rattle.resource_profile.specs.declared.NodeRoom.{NodeRoom}
 use Rattle.backfill_planner.specs.declared.Placed.{Placed}
-use Rattle.ctl_state.specs.declared.record.Part.{Part}
+use Rattle.job_table.specs.declared.record.Part.{Part}
 use Rattle.node_state.specs.declared.record.NodeRecord.{NodeRecord}
-use Rattle.ctl_state.specs.declared.record.JobRecord.{JobRecord}
+use Rattle.job_table.specs.declared.record.JobRecord.{JobRecord}
+use Rattle.job_table.specs.Table.{HaveRisingIds}
+use Rattle.job_table.specs.Targets.{AreTogether}
+use Rattle.ctl_state.specs.declared.record.ArrayRecord.{ArrayRecord}
 use Rattle.ctl_state.specs.State.{State, last_job_id, last_moment}
-use Rattle.ctl_state.specs.JobStates.{is_pending}
+use Rattle.job_table.specs.JobStates.{is_pending}
 use Rattle.ctl_state.specs.Holding.{IsHeldOnce, IsPartOf, cpus_of, mem_of, parts_of}
 use Rattle.ctl_state.specs.Planning.{room_of}
 use Rattle.partitions.specs.Partitions.{IsOnNodes}
-use Rattle.ctl_state.specs.Soundness.{AreNodes, AreOfPartitions, AreUp, HaveRisingIds, IsKept, IsSound, PlansPending, is_up_at, pending_ids}
+use Rattle.ctl_state.specs.Soundness.{AreNodes, AreOfPartitions, AreUp, IsKept, IsSound, PlansPending, is_up_at, pending_ids}
 use Rattle.ctl_state.proofs.Kept.{kept-later, pending-nothing}
 use Rattle.ctl_state.proofs.Lists.{flat_map-nothing, pairs-append}
 
@@ -94,16 +99,34 @@ planned-added jobs more plan planned =
     rw both (Contains-append_left (pending_ids jobs) (pending_ids more) (get_or plan k d).id (planned.pending k d below)) in
     record { pending = pending; once = planned.once; last = planned.last }
 
-pub sound-added : (s : State) (now next : ℕ) (more : List JobRecord) → IsSound s → s.moment ≤ now → now ≤ last_moment
+-- no job that is there is a task of an array that comes
+together-added : (jobs more : List JobRecord) (next : ℕ) → AreTogether jobs → AreTogether more
+    → All (λ (job : JobRecord). job.id < next) jobs
+    → All (λ (job : JobRecord). IfSome job.array (λ array. next ≤ array)) more → AreTogether (jobs ++ more)
+together-added jobs more next are come below later =
+    let follows : JobRecord → JobRecord → Type 0 =
+    λ one other. IfSome other.array (λ array. array ≤ one.id → one.array ≡ Some array) in
+    record {
+      after =
+          All-append (λ (job : JobRecord). IfSome job.array (λ array. array ≤ job.id)) jobs more are.after come.after;
+      together = pairs-append follows jobs more are.together come.together
+          (λ k d old j e new. IfSome_then (get_or more j e).array (later j e new)
+          (λ array above reaches. absurd (omega (arith, above, reaches, below k d old))));
+    }
+
+pub sound-added : (s : State) (now next : ℕ) (more : List JobRecord) (arrays : List ArrayRecord) → IsSound s
+    → s.moment ≤ now → now ≤ last_moment
     → AreOfPartitions s.partitions more → All (IsKept now) more → All (λ (job : JobRecord). is_pending job.state ≡ true) more
     → HaveRisingIds more → All (λ (job : JobRecord). s.next_id ≤ job.id) more
     → All (λ (job : JobRecord). job.id + 1 ≤ next) more → s.next_id ≤ next → next ≤ last_job_id + 1
-    → IsSound (record s { jobs = s.jobs ++ more; next_id = next; moment = now })
-sound-added s now next more sound later in_time of kept pending rising above below on room =
+    → AreTogether more → All (λ (job : JobRecord). IfSome job.array (λ array. s.next_id ≤ array)) more
+    → IsSound (record s { jobs = s.jobs ++ more; arrays = arrays; next_id = next; moment = now })
+sound-added s now next more arrays sound later in_time of kept pending rising above below on room tied new =
     let both = s.jobs ++ more in
     let same = parts-added now s.jobs more kept pending in
     let rise : HaveRisingIds both = pairs-append (λ (one other : JobRecord). one.id < other.id) s.jobs more sound.rising rising
     (λ k d old j e new. omega (arith, sound.below_next k d old, above j e new)) in
+    let together : AreTogether both = together-added s.jobs more s.next_id sound.together tied sound.below_next new in
     let low : All (λ (job : JobRecord). job.id < next) both = All-append (λ (job : JobRecord). job.id < next) s.jobs more
     (λ k d old. omega (arith, sound.below_next k d old, on)) (λ k d new. omega (arith, below k d new)) in
     let partitions : AreOfPartitions s.partitions both = All-append (λ (job : JobRecord). job.partition < length s.partitions) s.jobs more sound.of_partitions of in

@@ -70,3 +70,17 @@ sum-grown {X} f p change amount number extra (x ∷ xs) rising has each =
 pub sum_by-flat_map : {X Y : Type 0} (f : Y → ℕ) (h : X → List Y) (xs : List X) → sum_by f (flat_map h xs) ≡ sum_by (λ x. sum_by f (h x)) xs
 sum_by-flat_map f h [] = refl
 sum_by-flat_map f h (x ∷ xs) = omega (arith, sum_by-append f (h x) (flat_map h xs), sum_by-cons (λ y. sum_by f (h y)) x xs, sum_by-flat_map f h xs)
+
+-- a sum over elements that change grows by what each of them gets
+pub sum-each : {X : Type 0} (f extra : X → ℕ) (change : X → X) (xs : List X)
+    → All (λ x. f (change x) ≡ f x + extra x) xs
+    → sum_by f (map change xs) ≡ sum_by f xs + sum_by extra xs
+sum-each f extra change [] each = refl
+sum-each f extra change (x ∷ xs) each = omega (
+  arith,
+  sum_by-cons f (change x) (map change xs),
+  sum_by-cons f x xs,
+  sum_by-cons extra x xs,
+  All-head (λ y. f (change y) ≡ f y + extra y) x xs each,
+  sum-each f extra change xs (All-tail (λ y. f (change y) ≡ f y + extra y) x xs each),
+)

@@ -2,7 +2,7 @@
 use Rattle.std.proofs.Common.{◌≡◌, ℕ, ◌≤◌, true, cond, eqb, List, AllPairs, Any, get_or, refl, sym}
 use Rattle.std.proofs.lemmas.Bool.{both_ways, eq-eqb}
 use Rattle.std.proofs.lemmas.List.Folds.{list_any_at}
-use Rattle.ctl_state.specs.declared.record.Part.{Part}
+use Rattle.job_table.specs.declared.record.Part.{Part}
 use Rattle.ctl_state.specs.State.{State}
 use Rattle.ctl_state.specs.Holding.{AreApart, has_cpu, parts_of, times_held}
 use Rattle.ctl_state.specs.Soundness.{IsSound}

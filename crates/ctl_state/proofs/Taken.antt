@@ -1,62 +1,127 @@
 -- A waiting job that takes free parts keeps all sound, and adds just these to what is held.
-use Rattle.std.proofs.Common.{◌≡◌, ◌≢◌, ℕ, ◌+◌, ◌<◌, ◌≤◌, true, false, eqb, List, length, map, sum_by, All, AllPairs, Any, Contains, get_or, refl, ◌∙◌, sym, arith, rules, inl, inr}
+use Rattle.std.proofs.Common.{◌≡◌, ◌≢◌, ℕ, ◌+◌, ◌<◌, ◌≤◌, Bool, true, false, cond, ◌&&◌, eqb, List, length, map, sum_by, All, AllPairs, Any, Contains, get_or, refl, ◌∙◌, sym, arith, rules, inl, inr}
+use Rattle.std.specs.Prelude.{count_by}
 use Rattle.std.specs.List.{list_any}
-use Rattle.std.proofs.lemmas.Bool.{cases_eq, cond_both, and_parts, eqb-true, ne_eqb}
+use Rattle.std.proofs.lemmas.Bool.{cases_Bool, cases_eq, cond_both, and_parts, eqb-true, ne_eqb}
 use Rattle.std.proofs.lemmas.List.Elements.{All-map, All-weaker}
 use Rattle.std.proofs.lemmas.List.Folds.{Any-from_list_any}
+use Rattle.slurm_text.specs.declared.plain.state.JobState.{JobState}
+use Rattle.slurm_text.specs.declared.plain.state.JobState.TheVariants.{Pending, Running, Completing, Ended}
 use Rattle.backfill_planner.specs.declared.Placed.{Placed}
-use Rattle.ctl_state.specs.declared.record.Part.{Part}
-use Rattle.ctl_state.specs.declared.record.JobRecord.{JobRecord}
-use Rattle.ctl_state.specs.declared.change.Change.TheVariants.{Start}
+use Rattle.job_table.specs.declared.record.Part.{Part}
+use Rattle.job_table.specs.declared.record.JobRecord.{JobRecord}
+use Rattle.job_table.specs.declared.change.Change.TheVariants.{Start}
+use Rattle.job_table.specs.JobStates.{is_holding, is_pending}
+use Rattle.job_table.specs.Changes.{changed}
+use Rattle.job_table.specs.Table.{HaveRisingIds, has_id}
+use Rattle.job_table.specs.Targets.{AreTogether, is_task_of}
 use Rattle.ctl_state.specs.State.{State}
-use Rattle.ctl_state.specs.JobStates.{is_pending}
-use Rattle.ctl_state.specs.Changes.{changed}
 use Rattle.ctl_state.specs.Holding.{IsHeldOnce, IsPartOf, OnNodesApart, has_cpu, mem_held, mem_in, parts_of, times_held}
 use Rattle.ctl_state.specs.Planning.{room_of}
-use Rattle.ctl_state.specs.Events.{MayTake, started_as}
-use Rattle.ctl_state.specs.Soundness.{AreOfPartitions, AreUp, HaveRisingIds, IsKept, IsSound, PlansPending, is_up_at, pending_ids}
-use Rattle.ctl_state.proofs.Counts.{count-once, sum-grown, sum_by-flat_map}
+use Rattle.ctl_state.specs.Events.{MayTake, started_as, tasks_holding}
+use Rattle.ctl_state.specs.Soundness.{AreOfPartitions, AreUp, IsKept, IsSound, PlansPending, is_up_at, pending_ids}
+use Rattle.ctl_state.proofs.Counts.{count-once, sum-each, sum-grown, sum_by-flat_map}
 use Rattle.ctl_state.proofs.Held.{cpu_in, was-held}
 use Rattle.ctl_state.proofs.Kept.{kept-started, pending-nothing}
-use Rattle.ctl_state.proofs.Lists.{All-flat_map, All-from_flat_map, contains-still, rising-kept}
+use Rattle.ctl_state.proofs.LetGo.{together-kept}
+use Rattle.ctl_state.proofs.Lists.{All-flat_map, All-from_flat_map, contains-still, passes-with, rising-kept}
 
 -- a job with another number stays as it is
-other-same : (now id : ℕ) (parts : List Part) (job : JobRecord) → job.id ≢ id → started_as now id parts job ≡ job
-other-same now id parts job other = rw (ne_eqb job.id id other) refl
+other-same : (now id : ℕ) (parts : List Part) (names : List (List ℕ)) (job : JobRecord) → job.id ≢ id
+    → started_as now id parts names job ≡ job
+other-same now id parts names job other = rw (ne_eqb job.id id other) refl
 
-same-partition : (now id : ℕ) (parts : List Part) (job : JobRecord) → (started_as now id parts job).partition ≡ job.partition
-same-partition now id parts job =
-    cond_both (eqb job.id id) (changed (Start now parts) job) job (λ (after : JobRecord). after.partition ≡ job.partition) (λ here. refl) (λ other. refl)
+same-partition : (now id : ℕ) (parts : List Part) (names : List (List ℕ)) (job : JobRecord)
+    → (started_as now id parts names job).partition ≡ job.partition
+same-partition now id parts names job =
+    cond_both (eqb job.id id) (changed (Start now parts names) job) job
+    (λ (after : JobRecord). after.partition ≡ job.partition) (λ here. refl) (λ other. refl)
 
-same-id : (now id : ℕ) (parts : List Part) (job : JobRecord) → (started_as now id parts job).id ≡ job.id
-same-id now id parts job = cond_both (eqb job.id id) (changed (Start now parts) job) job (λ (after : JobRecord). after.id ≡ job.id) (λ here. refl) (λ other. refl)
+same-id : (now id : ℕ) (parts : List Part) (names : List (List ℕ)) (job : JobRecord)
+    → (started_as now id parts names job).id ≡ job.id
+same-id now id parts names job = cond_both (eqb job.id id) (changed (Start now parts names) job) job
+    (λ (after : JobRecord). after.id ≡ job.id) (λ here. refl) (λ other. refl)
 
-pub others-wait : (jobs : List JobRecord) (now id other : ℕ) (parts : List Part) → Contains (pending_ids jobs) other → other ≢ id
-    → Contains (pending_ids (map (started_as now id parts) jobs)) other
-others-wait jobs now id other parts waits differ =
-    contains-still (λ (job : JobRecord). job.id) (λ (job : JobRecord). is_pending job.state) (started_as now id parts) other jobs
-    (λ (job : JobRecord) is. other-same now id parts job (λ same. differ (sym is ∙ same))) waits
+same-array : (now id : ℕ) (parts : List Part) (names : List (List ℕ)) (job : JobRecord)
+    → (started_as now id parts names job).array ≡ job.array
+same-array now id parts names job =
+    cond_both (eqb job.id id) (changed (Start now parts names) job) job
+    (λ (after : JobRecord). after.array ≡ job.array) (λ here. refl) (λ other. refl)
+
+pub others-wait : (jobs : List JobRecord) (now id other : ℕ) (parts : List Part) (names : List (List ℕ))
+    → Contains (pending_ids jobs) other → other ≢ id
+    → Contains (pending_ids (map (started_as now id parts names) jobs)) other
+others-wait jobs now id other parts names waits differ =
+    contains-still (λ (job : JobRecord). job.id) (λ (job : JobRecord). is_pending job.state)
+    (started_as now id parts names) other jobs
+    (λ (job : JobRecord) is. other-same now id parts names job (λ same. differ (sym is ∙ same))) waits
+
+-- whether a job is a task of the array that holds processors, as a number
+abbrev holds : ℕ → JobRecord → ℕ
+holds array job = cond (is_task_of array job && is_holding job.state) 1 0
 
 -- what is held grows by just the parts
-sum-taken : (amount : Part → ℕ) (moment now id : ℕ) (parts : List Part) (jobs : List JobRecord) → HaveRisingIds jobs → All (IsKept moment) jobs → Contains (pending_ids jobs) id
-    → sum_by amount (parts_of (map (started_as now id parts) jobs)) ≡ sum_by amount (parts_of jobs) + sum_by amount parts
-sum-taken amount moment now id parts jobs rising kept waits =
+sum-taken : (amount : Part → ℕ) (moment now id : ℕ) (parts : List Part) (names : List (List ℕ))
+    (jobs : List JobRecord) → HaveRisingIds jobs → All (IsKept moment) jobs → Contains (pending_ids jobs) id
+    → sum_by amount (parts_of (map (started_as now id parts names) jobs))
+    ≡ sum_by amount (parts_of jobs) + sum_by amount parts
+sum-taken amount moment now id parts names jobs rising kept waits =
     let held : JobRecord → List Part = λ job. job.parts in
     let over : JobRecord → ℕ = λ job. sum_by amount job.parts in
     let nothing : (job : JobRecord) → IsKept moment job → is_pending job.state ≡ true → over job ≡ 0 = λ job is pending. rw (pending-nothing moment job is pending) refl in
-    let grown = sum-grown (λ (job : JobRecord). job.id) (λ (job : JobRecord). is_pending job.state) (changed (Start now parts)) over id (sum_by amount parts) jobs rising waits
+    let grown = sum-grown (λ (job : JobRecord). job.id) (λ (job : JobRecord). is_pending job.state)
+    (changed (Start now parts names)) over id (sum_by amount parts) jobs rising waits
     (λ k d below pending. omega (arith, nothing (get_or jobs k d) (kept k d below) pending)) in
-    omega (arith, grown, sum_by-flat_map amount held jobs, sum_by-flat_map amount held (map (started_as now id parts) jobs))
+    let started = map (started_as now id parts names) jobs in
+    omega (arith, grown, sum_by-flat_map amount held jobs, sum_by-flat_map amount held started)
 
-pub times-taken : (s : State) (now id node cpu : ℕ) (parts : List Part) → IsSound s → Contains (pending_ids s.jobs) id
-    → times_held (parts_of (map (started_as now id parts) s.jobs)) node cpu ≡ times_held (parts_of s.jobs) node cpu + times_held parts node cpu
+pub times-taken : (s : State) (now id node cpu : ℕ) (parts : List Part) (names : List (List ℕ)) → IsSound s
+    → Contains (pending_ids s.jobs) id
+    → times_held (parts_of (map (started_as now id parts names) s.jobs)) node cpu
+    ≡ times_held (parts_of s.jobs) node cpu + times_held parts node cpu
 unfolding times_held
-times-taken s now id node cpu parts sound waits = sum-taken (cpu_in node cpu) s.moment now id parts s.jobs sound.rising sound.jobs waits
+times-taken s now id node cpu parts names sound waits =
+    sum-taken (cpu_in node cpu) s.moment now id parts names s.jobs sound.rising sound.jobs waits
 
-pub mem-taken : (s : State) (now id node : ℕ) (parts : List Part) → IsSound s → Contains (pending_ids s.jobs) id
-    → mem_held (parts_of (map (started_as now id parts) s.jobs)) node ≡ mem_held (parts_of s.jobs) node + mem_held parts node
+pub mem-taken : (s : State) (now id node : ℕ) (parts : List Part) (names : List (List ℕ)) → IsSound s
+    → Contains (pending_ids s.jobs) id
+    → mem_held (parts_of (map (started_as now id parts names) s.jobs)) node
+    ≡ mem_held (parts_of s.jobs) node + mem_held parts node
 unfolding mem_held
-mem-taken s now id node parts sound waits = sum-taken (mem_in node) s.moment now id parts s.jobs sound.rising sound.jobs waits
+mem-taken s now id node parts names sound waits =
+    sum-taken (mem_in node) s.moment now id parts names s.jobs sound.rising sound.jobs waits
+
+-- the tasks of an array that hold processors are more by the one that starts, if it is one of them
+one-taken : (now id array : ℕ) (parts : List Part) (names : List (List ℕ)) (job : JobRecord)
+    → (job.id ≡ id → is_pending job.state ≡ true)
+    → holds array (started_as now id parts names job)
+    ≡ holds array job + cond (has_id id job && is_task_of array job) 1 0
+one-taken now id array parts names job waits = elim (cases_Bool (eqb job.id id)) [
+  | inl here ↦ rw (here, pending-idle job.state (waits (eqb-true job.id id here))) (starts (is_task_of array job))
+  | inr other ↦ rw other (omega arith)
+]
+  where
+    pending-idle : (state : JobState) → is_pending state ≡ true → is_holding state ≡ false
+    pending-idle Pending is = refl
+    pending-idle Running is = absurd (let never = is in cc)
+    pending-idle (Completing final) is = absurd (let never = is in cc)
+    pending-idle (Ended final) is = refl
+
+    starts : (task : Bool) → cond (task && true) 1 0 ≡ cond (task && false) 1 0 + cond task 1 0
+    starts true = omega arith
+    starts false = omega arith
+
+pub tasks-taken : (s : State) (now id array : ℕ) (parts : List Part) (names : List (List ℕ)) → IsSound s
+    → Contains (pending_ids s.jobs) id
+    → tasks_holding (map (started_as now id parts names) s.jobs) array
+    ≡ tasks_holding s.jobs array + count_by (λ job. has_id id job && is_task_of array job) s.jobs
+unfolding tasks_holding
+tasks-taken s now id array parts names sound waits =
+    sum-each (holds array) (λ job. cond (has_id id job && is_task_of array job) 1 0)
+    (started_as now id parts names) s.jobs
+    (λ k d below. one-taken now id array parts names (get_or s.jobs k d)
+    (passes-with (λ (job : JobRecord). job.id) (λ (job : JobRecord). is_pending job.state) id s.jobs
+    sound.rising waits k d below))
 
 -- parts on nodes that differ have a processor once at most
 parts-once : (node cpu : ℕ) (parts : List Part) → OnNodesApart parts → times_held parts node cpu ≤ 1
@@ -81,22 +146,25 @@ was-free times node cpu parts unheld (k, part, below, is, has) =
     found none (place, id, inside, at, same) = rw (← eqb-true id cpu same) (rw at at (none place id inside))
 
 -- what holds of all parts that are held and of those that are taken holds of all that are held then
-all-taken : (P : Part → Type 0) (now id : ℕ) (parts : List Part) (jobs : List JobRecord) → All P parts → All P (parts_of jobs)
-    → All P (parts_of (map (started_as now id parts) jobs))
-all-taken P now id parts jobs new old =
+all-taken : (P : Part → Type 0) (now id : ℕ) (parts : List Part) (names : List (List ℕ)) (jobs : List JobRecord)
+    → All P parts → All P (parts_of jobs)
+    → All P (parts_of (map (started_as now id parts names) jobs))
+all-taken P now id parts names jobs new old =
     let held : JobRecord → List Part = λ job. job.parts in
     let has : JobRecord → Type 0 = λ job. All P job.parts in
-    let start = started_as now id parts in
+    let start = started_as now id parts names in
     All-flat_map P held (map start jobs) (All-map has start jobs (All-weaker has (λ job. has (start job))
-    (λ job had. cond_both (eqb job.id id) (changed (Start now parts) job) job has (λ here. new) (λ other. had)) jobs (All-from_flat_map P held jobs old)))
+    (λ job had. cond_both (eqb job.id id) (changed (Start now parts names) job) job has (λ here. new) (λ other. had))
+    jobs (All-from_flat_map P held jobs old)))
 
-held-taken : (s : State) (id : ℕ) (parts : List Part) → IsSound s → MayTake s.nodes s.jobs id parts
-    → IsHeldOnce (map room_of s.nodes) (parts_of (map (started_as s.moment id parts) s.jobs))
-held-taken s id parts sound may =
+held-taken : (s : State) (id : ℕ) (parts : List Part) (names : List (List ℕ)) → IsSound s
+    → MayTake s.nodes s.jobs id parts
+    → IsHeldOnce (map room_of s.nodes) (parts_of (map (started_as s.moment id parts names) s.jobs))
+held-taken s id parts names sound may =
     record {
-      each = all-taken (IsPartOf (map room_of s.nodes)) s.moment id parts s.jobs may.each sound.held.each;
+      each = all-taken (IsPartOf (map room_of s.nodes)) s.moment id parts names s.jobs may.each sound.held.each;
       once = λ node cpu.
-          let sum = times-taken s s.moment id node cpu parts sound may.waits in
+          let sum = times-taken s s.moment id node cpu parts names sound may.waits in
           elim (cases_eq (times_held parts node cpu) 0) [
             | inl none ↦ omega (arith, sum, none, sound.held.once node cpu)
             | inr some ↦ omega (
@@ -106,24 +174,33 @@ held-taken s id parts sound may =
               was-free (times_held (parts_of s.jobs)) node cpu parts may.unheld (was-held node cpu parts (omega (arith, some))),
             )
           ];
-      mem = λ node. omega (arith, mem-taken s s.moment id node parts sound may.waits, may.mem node);
+      mem = λ node. omega (arith, mem-taken s s.moment id node parts names sound may.waits, may.mem node);
     }
 
-pub sound-taken : (s : State) (id : ℕ) (parts : List Part) (plan : List Placed) → IsSound s → MayTake s.nodes s.jobs id parts
-    → PlansPending (map (started_as s.moment id parts) s.jobs) plan → IsSound (record s { jobs = map (started_as s.moment id parts) s.jobs; plan = plan })
-sound-taken s id parts plan sound may planned =
-    let start = started_as s.moment id parts in
+pub sound-taken : (s : State) (id : ℕ) (parts : List Part) (names : List (List ℕ)) (plan : List Placed) → IsSound s
+    → MayTake s.nodes s.jobs id parts
+    → PlansPending (map (started_as s.moment id parts names) s.jobs) plan
+    → IsSound (record s { jobs = map (started_as s.moment id parts names) s.jobs; plan = plan })
+sound-taken s id parts names plan sound may planned =
+    let start = started_as s.moment id parts names in
     let low : JobRecord → Type 0 = λ job. job.id < s.next_id in
     let of : JobRecord → Type 0 = λ job. job.partition < length s.partitions in
+    let same : All (λ (job : JobRecord). (start job).id ≡ job.id) s.jobs =
+    λ k d below. same-id s.moment id parts names (get_or s.jobs k d) in
     let rise : HaveRisingIds (map start s.jobs) =
-    rising-kept (λ (job : JobRecord). job.id) start s.jobs (λ k d below. same-id s.moment id parts (get_or s.jobs k d)) sound.rising in
-    let next : All low (map start s.jobs) = All-map low start s.jobs (λ k d below. rw (same-id s.moment id parts (get_or s.jobs k d)) (sound.below_next k d below)) in
+    rising-kept (λ (job : JobRecord). job.id) start s.jobs same sound.rising in
+    let together : AreTogether (map start s.jobs) =
+    together-kept start s.jobs same
+    (λ k d below. same-array s.moment id parts names (get_or s.jobs k d)) sound.together in
+    let next : All low (map start s.jobs) = All-map low start s.jobs
+    (λ k d below. rw (same-id s.moment id parts names (get_or s.jobs k d)) (sound.below_next k d below)) in
     let partitions : AreOfPartitions s.partitions (map start s.jobs) =
-    All-map of start s.jobs (λ k d below. rw (same-partition s.moment id parts (get_or s.jobs k d)) (sound.of_partitions k d below)) in
+    All-map of start s.jobs (λ k d below. rw (same-partition s.moment id parts names (get_or s.jobs k d))
+    (sound.of_partitions k d below)) in
     let kept : All (IsKept s.moment) (map start s.jobs) = All-map (IsKept s.moment) start s.jobs (All-weaker (IsKept s.moment) (λ job. IsKept s.moment (start job))
-    (λ job kept. cond_both (eqb job.id id) (changed (Start s.moment parts) job) job (IsKept s.moment)
-    (λ here. kept-started s.moment parts job may.some may.apart kept) (λ other. kept)) s.jobs sound.jobs) in
+    (λ job kept. cond_both (eqb job.id id) (changed (Start s.moment parts names) job) job (IsKept s.moment)
+    (λ here. kept-started s.moment parts names job may.some may.apart kept) (λ other. kept)) s.jobs sound.jobs) in
     let up : AreUp s.nodes (parts_of (map start s.jobs)) =
-    all-taken (λ (part : Part). is_up_at s.nodes part.node ≡ true) s.moment id parts s.jobs may.up sound.up in
-    let held = held-taken s id parts sound may in
+    all-taken (λ (part : Part). is_up_at s.nodes part.node ≡ true) s.moment id parts names s.jobs may.up sound.up in
+    let held = held-taken s id parts names sound may in
     search rules

@@ -1,18 +1,23 @@
 -- What an event may make of the jobs: it lets go of parts, or a job that waits takes parts that are free.
-use Rattle.std.specs.Prelude.{◌≡◌, ℕ, ◌+◌, ◌≤◌, Bool, true, not, nat_eq, if◌then◌else◌, List, map, filter, All, Contains}
+use Rattle.std.specs.Prelude.{◌≡◌, ℕ, ◌+◌, ◌≤◌, Bool, true, false, ◌&&◌, not, List, map, filter, count_by, All, Contains, Option, Some, None}
 use Rattle.node_state.specs.declared.record.NodeRecord.{NodeRecord}
-use Rattle.ctl_state.specs.declared.record.Part.{Part}
-use Rattle.ctl_state.specs.declared.record.JobRecord.{JobRecord}
-use Rattle.ctl_state.specs.declared.change.Change.TheVariants.{Start}
-use Rattle.ctl_state.specs.Changes.{changed}
-use Rattle.ctl_state.specs.JobStates.{is_holding}
+use Rattle.job_table.specs.declared.record.Part.{Part}
+use Rattle.job_table.specs.declared.record.JobRecord.{JobRecord}
+use Rattle.backfill_planner.specs.declared.Placed.{Placed}
+use Rattle.job_table.specs.declared.change.Change.{Change}
+use Rattle.job_table.specs.declared.change.Change.TheVariants.{Start, Leave, CancelPending, CancelRequeue, DropPart, SetHold, SetLimit, SetNice}
+use Rattle.job_table.specs.JobStates.{is_holding, is_pending}
+use Rattle.job_table.specs.Table.{changed_if, job_with}
+use Rattle.job_table.specs.Targets.{is_task_of}
 use Rattle.ctl_state.specs.Holding.{IsPartOf, OnNodesApart, has_members, times_held, mem_held, mem_of, parts_of}
 use Rattle.ctl_state.specs.Planning.{room_of}
 use Rattle.ctl_state.specs.Soundness.{AreUp, IsAsked, IsLimit, IsWellRun, pending_ids}
 
--- What an event that starts nothing may make of a job: it keeps its number, its partition and some of its parts.
+-- What an event that starts nothing may make of a job: it keeps its number, its array, its partition and some of its
+-- parts.
 pub record LetsGo (now : ℕ) (job after : JobRecord) : Type 0 where
   pub id : after.id ≡ job.id
+  pub array : after.array ≡ job.array
   pub partition : after.partition ≡ job.partition
   pub keep : Part → Bool
   pub parts : after.parts ≡ filter keep job.parts
@@ -21,13 +26,37 @@ pub record LetsGo (now : ℕ) (job after : JobRecord) : Type 0 where
   pub limit : IsLimit after.limit
   pub run : IsWellRun now after
 
+-- a change that an event of this moment may make, and that starts nothing: what it sets is in its range
+abbrev pub FitsChange : ℕ → Change → Type 0
+FitsChange now (Start moment parts nodes) = ⊥
+FitsChange now (Leave final moment exit) = moment ≡ now
+FitsChange now (CancelPending moment) = moment ≡ now
+FitsChange now CancelRequeue = Unit {0}
+FitsChange now (DropPart node moment) = moment ≡ now
+FitsChange now (SetHold by) = Unit {0}
+FitsChange now (SetLimit limit) = IsLimit limit
+FitsChange now (SetNice nice) = Unit {0}
+
 -- the jobs once each has changed, and those that go are gone
 abbrev pub those_left : (JobRecord → JobRecord) → (JobRecord → Bool) → List JobRecord → List JobRecord
 those_left change goes jobs = filter (λ job. not (goes job)) (map change jobs)
 
--- the job with this number starts with these parts
-abbrev pub started_as : ℕ → ℕ → List Part → JobRecord → JobRecord
-started_as now id parts job = if nat_eq job.id id then changed (Start now parts) job else job
+-- the job with this number starts with these parts, on nodes of these names
+abbrev pub started_as : ℕ → ℕ → List Part → List (List ℕ) → JobRecord → JobRecord
+started_as now id parts nodes job = changed_if id (Start now parts nodes) job
+
+-- the job is there, and waits
+abbrev pub waits : Option JobRecord → Bool
+waits None = false
+waits (Some job) = is_pending job.state
+
+-- the placements of those that still wait
+abbrev pub plan_left : List JobRecord → List Placed → List Placed
+plan_left jobs plan = filter (λ (placed : Placed). waits (job_with placed.id jobs)) plan
+
+-- how many tasks of the array hold processors
+unfoldable pub tasks_holding : List JobRecord → ℕ → ℕ
+tasks_holding jobs array = count_by (λ (job : JobRecord). is_task_of array job && is_holding job.state) jobs
 
 -- parts that a waiting job may take: on nodes that differ and are up, of processors that stand in no part, with memory
 -- for all

@@ -1,10 +1,11 @@
 -- What parts hold of the nodes.
-use Rattle.std.specs.Prelude.{◌≡◌, ◌≢◌, ℕ, ◌<◌, ◌≤◌, Bool, true, false, ◌&&◌, not, nat_eq, if◌then◌else◌, List, [], ◌∷◌, length, sum_by, count_by, filter, flat_map, All, AllPairs, Contains}
+use Rattle.std.specs.Prelude.{◌≡◌, ◌≢◌, ℕ, ◌<◌, ◌≤◌, Bool, true, false, ◌&&◌, nat_eq, if◌then◌else◌, List, [], ◌∷◌, length, sum_by, count_by, filter, flat_map, All, AllPairs, Contains}
 use Rattle.std.specs.List.{list_any, range_with_len}
 use Rattle.resource_profile.specs.declared.NodeRoom.{NodeRoom}
 use Rattle.resource_profile.specs.Free.{room_at}
-use Rattle.ctl_state.specs.declared.record.Part.{Part}
-use Rattle.ctl_state.specs.declared.record.JobRecord.{JobRecord}
+use Rattle.job_table.specs.declared.record.Part.{Part}
+use Rattle.job_table.specs.declared.record.JobRecord.{JobRecord}
+use Rattle.job_table.specs.Changes.{is_on}
 
 -- the processors, and the megabytes, of the node at a place; none where there is no node
 abbrev pub cpus_of : List NodeRoom → ℕ → ℕ
@@ -12,10 +13,6 @@ cpus_of rooms node = (room_at rooms node).cpus
 
 abbrev pub mem_of : List NodeRoom → ℕ → ℕ
 mem_of rooms node = (room_at rooms node).mem
-
--- the part is on the node
-abbrev pub is_on : ℕ → Part → Bool
-is_on node part = nat_eq part.node node
 
 -- the part is on the node and has the processor
 abbrev pub has_cpu : ℕ → ℕ → Part → Bool
@@ -40,10 +37,6 @@ free_ids rooms parts node = filter (λ cpu. nat_eq (times_held parts node cpu) 0
 -- the parts of all jobs
 abbrev pub parts_of : List JobRecord → List Part
 parts_of jobs = flat_map (λ (job : JobRecord). job.parts) jobs
-
--- the parts that aren't on the node
-abbrev pub parts_off : ℕ → List Part → List Part
-parts_off node parts = filter (λ part. not (is_on node part)) parts
 
 abbrev pub has_members : {X : Type 0} → List X → Bool
 has_members [] = false

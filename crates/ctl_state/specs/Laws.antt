@@ -1,56 +1,75 @@
 -- What stays true of every state, whatever happens. Each is proved as the contract of a law.
-use Rattle.std.specs.Prelude.{◌≡◌, ◌≢◌, ℕ, ◌+◌, ◌<◌, ◌≤◌, Bool, true, false, List, length, map, ◌++◌, All, AllPairs, Contains}
+use Rattle.std.specs.Prelude.{◌≡◌, ◌≢◌, ℕ, ◌+◌, ◌<◌, ◌≤◌, Bool, true, ◌&&◌, IfSome, List, length, map, count_by, ◌++◌, All, AllPairs, Contains}
 use Rattle.std.specs.Cmp.{IsStrictWeakOrder}
 use Rattle.std.specs.List.Sorted.{IsPermutation, IsSortedBy, IsStableBy}
 use Rattle.backfill_planner.specs.declared.Placed.{Placed}
-use Rattle.ctl_state.specs.declared.record.Part.{Part}
+use Rattle.job_table.specs.declared.record.Part.{Part}
 use Rattle.node_state.specs.declared.record.NodeRecord.{NodeRecord}
 use Rattle.partitions.specs.declared.record.PartRecord.{PartRecord}
 use Rattle.partitions.specs.Partitions.{IsOnNodes}
-use Rattle.ctl_state.specs.declared.record.JobRecord.{JobRecord}
-use Rattle.ctl_state.specs.declared.change.Change.{Change}
-use Rattle.ctl_state.specs.State.{State, last_moment, last_job_id}
-use Rattle.ctl_state.specs.JobStates.{is_pending}
-use Rattle.ctl_state.specs.Changes.{changed, is_start, moment_of}
+use Rattle.job_table.specs.declared.record.JobRecord.{JobRecord}
+use Rattle.job_table.specs.declared.change.Change.{Change}
+use Rattle.ctl_state.specs.declared.record.ArrayRecord.{ArrayRecord}
+use Rattle.ctl_state.specs.State.{State, last_moment, last_job_id, last_size}
+use Rattle.job_table.specs.JobStates.{is_pending}
+use Rattle.job_table.specs.Changes.{changed}
+use Rattle.job_table.specs.Targets.{AreTogether, is_task_of}
 use Rattle.ctl_state.specs.Holding.{parts_of, times_held, mem_held}
 use Rattle.ctl_state.specs.Ordered.{ordered_by}
 use Rattle.ctl_state.specs.Planning.{plan_job}
-use Rattle.ctl_state.specs.Events.{LetsGo, MayTake, started_as, those_left}
-use Rattle.ctl_state.specs.Soundness.{AreOfPartitions, IsSound, IsKept, HaveRisingIds, PlansPending, is_up_at, pending_ids}
+use Rattle.ctl_state.specs.Events.{FitsChange, LetsGo, MayTake, plan_left, started_as, tasks_holding, those_left}
+use Rattle.ctl_state.specs.Soundness.{AreOfPartitions, IsSound, IsKept, PlansPending, is_up_at, pending_ids}
+use Rattle.job_table.specs.Table.{HaveRisingIds, has_id}
 
 -- An event that starts nothing keeps all sound: each job that stays keeps some of its parts.
 abbrev pub LettingGo : Type 0
-LettingGo = (s : State) (now : ℕ) (change : JobRecord → JobRecord) (goes : JobRecord → Bool) (plan : List Placed)
+LettingGo = (s : State) (now : ℕ) (change : JobRecord → JobRecord) (goes : JobRecord → Bool) (arrays : List ArrayRecord)
+    (plan : List Placed)
     → IsSound s → now ≤ last_moment
     → All (λ job. LetsGo now job (change job)) s.jobs
     → PlansPending (those_left change goes s.jobs) plan
-    → IsSound (record s { jobs = those_left change goes s.jobs; plan = plan; moment = now })
+    → IsSound (record s { jobs = those_left change goes s.jobs; arrays = arrays; plan = plan; moment = now })
+
+-- The same where every job stays.
+abbrev pub Changing : Type 0
+Changing = (s : State) (now : ℕ) (change : JobRecord → JobRecord) (plan : List Placed)
+    → IsSound s → now ≤ last_moment
+    → All (λ job. LetsGo now job (change job)) s.jobs
+    → PlansPending (map change s.jobs) plan
+    → IsSound (record s { jobs = map change s.jobs; plan = plan; moment = now })
 
 -- A waiting job that takes free parts keeps all sound.
 abbrev pub Taking : Type 0
-Taking = (s : State) (id : ℕ) (parts : List Part) (plan : List Placed)
+Taking = (s : State) (id : ℕ) (parts : List Part) (names : List (List ℕ)) (plan : List Placed)
     → IsSound s → MayTake s.nodes s.jobs id parts
-    → PlansPending (map (started_as s.moment id parts) s.jobs) plan
-    → IsSound (record s { jobs = map (started_as s.moment id parts) s.jobs; plan = plan })
+    → PlansPending (map (started_as s.moment id parts names) s.jobs) plan
+    → IsSound (record s { jobs = map (started_as s.moment id parts names) s.jobs; plan = plan })
 
 -- What is held grows by just what a waiting job takes.
 abbrev pub TakenTimes : Type 0
-TakenTimes = (s : State) (now id node cpu : ℕ) (parts : List Part)
+TakenTimes = (s : State) (now id node cpu : ℕ) (parts : List Part) (names : List (List ℕ))
     → IsSound s → Contains (pending_ids s.jobs) id
-    → times_held (parts_of (map (started_as now id parts) s.jobs)) node cpu
+    → times_held (parts_of (map (started_as now id parts names) s.jobs)) node cpu
     ≡ times_held (parts_of s.jobs) node cpu + times_held parts node cpu
 
 abbrev pub TakenMem : Type 0
-TakenMem = (s : State) (now id node : ℕ) (parts : List Part)
+TakenMem = (s : State) (now id node : ℕ) (parts : List Part) (names : List (List ℕ))
     → IsSound s → Contains (pending_ids s.jobs) id
-    → mem_held (parts_of (map (started_as now id parts) s.jobs)) node
+    → mem_held (parts_of (map (started_as now id parts names) s.jobs)) node
     ≡ mem_held (parts_of s.jobs) node + mem_held parts node
+
+-- The tasks of an array that hold processors are more by the one that starts, if it is a task of that array.
+abbrev pub TakenTasks : Type 0
+TakenTasks = (s : State) (now id array : ℕ) (parts : List Part) (names : List (List ℕ))
+    → IsSound s → Contains (pending_ids s.jobs) id
+    → tasks_holding (map (started_as now id parts names) s.jobs) array
+    ≡ tasks_holding s.jobs array + count_by (λ job. has_id id job && is_task_of array job) s.jobs
 
 -- Whoever waited before a start of another waits after it.
 abbrev pub OthersWait : Type 0
-OthersWait = (jobs : List JobRecord) (now id other : ℕ) (parts : List Part)
+OthersWait = (jobs : List JobRecord) (now id other : ℕ) (parts : List Part) (names : List (List ℕ))
     → Contains (pending_ids jobs) other → other ≢ id
-    → Contains (pending_ids (map (started_as now id parts) jobs)) other
+    → Contains (pending_ids (map (started_as now id parts names) jobs)) other
 
 -- Nodes that stay as they are configured, of which none goes down, keep all sound.
 abbrev pub NodesStay : Type 0
@@ -61,22 +80,33 @@ NodesStay = (s : State) (nodes : List NodeRecord)
 
 -- Pending jobs that are added with the next numbers keep all sound.
 abbrev pub Adding : Type 0
-Adding = (s : State) (now next : ℕ) (more : List JobRecord)
+Adding = (s : State) (now next : ℕ) (more : List JobRecord) (arrays : List ArrayRecord)
     → IsSound s → s.moment ≤ now → now ≤ last_moment
     → AreOfPartitions s.partitions more → All (IsKept now) more
     → All (λ (job : JobRecord). is_pending job.state ≡ true) more
     → HaveRisingIds more → All (λ (job : JobRecord). s.next_id ≤ job.id) more
     → All (λ (job : JobRecord). job.id + 1 ≤ next) more → s.next_id ≤ next → next ≤ last_job_id + 1
-    → IsSound (record s { jobs = s.jobs ++ more; next_id = next; moment = now })
+    → AreTogether more → All (λ (job : JobRecord). IfSome job.array (λ array. s.next_id ≤ array)) more
+    → IsSound (record s { jobs = s.jobs ++ more; arrays = arrays; next_id = next; moment = now })
 
 -- Another plan of pending jobs keeps all sound.
 abbrev pub Planning : Type 0
 Planning = (s : State) (plan : List Placed) → IsSound s → PlansPending s.jobs plan → IsSound (record s { plan = plan })
 
+-- A sum of sizes within its bound keeps all sound.
+abbrev pub Sizing : Type 0
+Sizing = (s : State) (size : ℕ) → IsSound s → size ≤ last_size → IsSound (record s { size = size })
+
+-- The plan without those that no longer wait is a plan of pending jobs.
+abbrev pub PlansLeft : Type 0
+PlansLeft = (s : State) (now : ℕ) (change : JobRecord → JobRecord)
+    → IsSound s → All (λ job. LetsGo now job (change job)) s.jobs
+    → PlansPending (map change s.jobs) (plan_left (map change s.jobs) s.plan)
+
 -- Whatever change but a start lets go.
 abbrev pub ChangesLetGo : Type 0
 ChangesLetGo = (now : ℕ) (change : Change) (job : JobRecord)
-    → is_start change ≡ false → moment_of change ≡ now → IsKept now job → LetsGo now job (changed change job)
+    → FitsChange now change → IsKept now job → LetsGo now job (changed change job)
 
 -- Time that passes takes nothing from what is kept of a job; what lets go keeps it, nothing lets go, and so do two one
 -- after another.

@@ -1,6 +1,4 @@
 pub mod State
-pub mod JobStates
-pub mod Changes
 pub mod Holding
 pub mod Soundness
 pub mod Events
@@ -9,3 +7,4 @@ pub mod Planning
 pub mod Verdicts
 pub mod Refusals
 pub mod Laws
+pub mod ArrayCounts

@@ -1,8 +1,9 @@
 -- What the planner is told of nodes and jobs.
-use Rattle.std.specs.Prelude.{ℕ, ◌*◌, Bool, true, false, ◌&&◌, ◌||◌, not, nat_eq, nat_lt, if◌then◌else◌, unwrap_or, List, [], ◌++◌, length, filter, slice_get, bytes_eq, Option, Some, None, option_map}
+use Rattle.std.specs.Prelude.{ℕ, ◌*◌, Bool, true, false, ◌&&◌, ◌||◌, not, nat_eq, nat_lt, if◌then◌else◌, unwrap_or, List, [], ◌++◌, length, filter, filter_map, slice_get, bytes_eq, Option, Some, None, option_map}
 use Rattle.std.specs.List.{list_all, list_any}
 use Rattle.slurm_text.specs.declared.plain.limit.Limit.{Limit}
 use Rattle.slurm_text.specs.declared.plain.limit.Limit.TheVariants.{Minutes, Unlimited}
+use Rattle.slurm_text.specs.declared.plain.mem_ask.MemAsk.TheVariants.{All}
 use Rattle.slurm_text.specs.declared.plain.features.FeatureExpr.{FeatureExpr}
 use Rattle.slurm_text.specs.declared.plain.job.JobDesc.{JobDesc}
 use Rattle.resource_profile.specs.declared.NodeRoom.{NodeRoom}
@@ -10,7 +11,8 @@ use Rattle.backfill_planner.specs.declared.job.PlanJob.{PlanJob}
 use Rattle.node_state.specs.declared.record.NodeRecord.{NodeRecord}
 use Rattle.node_state.specs.Nodes.{is_available, is_named, has_features}
 use Rattle.partitions.specs.declared.record.PartRecord.{PartRecord}
-use Rattle.ctl_state.specs.declared.record.JobRecord.{JobRecord}
+use Rattle.job_table.specs.declared.record.JobRecord.{JobRecord}
+use Rattle.job_table.specs.declared.record.Part.{Part}
 use Rattle.ctl_state.specs.Ordered.{ordered_by}
 
 -- what a node has in all, which a plan may use where the node is available
@@ -85,8 +87,15 @@ plan_job nodes partition bounds job = record {
   need = record { tasks = job.desc.tasks; least = bounds.0; most = bounds.1; required = length job.desc.required };
   cpus_per_task = job.desc.cpus_per_task;
   per_node = unwrap_or job.desc.tasks_per_node job.desc.tasks;
-  mem_ask = job.mem_ask;
+  mem_ask = unwrap_or job.desc.mem_ask All;
   exclusive = job.desc.exclusive || partition.conf.exclusive;
   nodes = nodes_among nodes job.desc (node_order nodes partition);
   seconds = seconds_of job.limit;
 }
+
+-- the names of the nodes of these parts
+unfoldable pub names_of : List NodeRecord → List Part → List (List ℕ)
+names_of nodes parts =
+    filter_map
+    (λ (part : Part). option_map (λ (node : NodeRecord). node.conf.name) (slice_get nodes part.node))
+    parts

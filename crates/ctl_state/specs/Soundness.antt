@@ -11,10 +11,12 @@ use Rattle.node_state.specs.declared.record.NodeRecord.{NodeRecord}
 use Rattle.node_state.specs.Nodes.{AreNamedOnce, is_up}
 use Rattle.partitions.specs.declared.record.PartRecord.{PartRecord}
 use Rattle.partitions.specs.Partitions.{IsOnNodes}
-use Rattle.ctl_state.specs.declared.record.Part.{Part}
-use Rattle.ctl_state.specs.declared.record.JobRecord.{JobRecord}
-use Rattle.ctl_state.specs.State.{State, last_job_id, last_moment}
-use Rattle.ctl_state.specs.JobStates.{is_pending, is_completing, is_ended, is_holding}
+use Rattle.job_table.specs.declared.record.Part.{Part}
+use Rattle.job_table.specs.declared.record.JobRecord.{JobRecord}
+use Rattle.ctl_state.specs.State.{State, last_job_id, last_moment, last_size}
+use Rattle.job_table.specs.Table.{HaveRisingIds}
+use Rattle.job_table.specs.Targets.{AreTogether}
+use Rattle.job_table.specs.JobStates.{is_pending, is_completing, is_ended, is_holding}
 use Rattle.ctl_state.specs.Holding.{IsHeldOnce, OnNodesApart, has_members, parts_of}
 use Rattle.ctl_state.specs.Planning.{is_at, room_of}
 
@@ -63,10 +65,6 @@ pub record IsKept (moment : ℕ) (job : JobRecord) : Type 0 where
   pub run : IsWellRun moment job
   pub parts : HasItsParts job
 
--- the numbers rise
-abbrev pub HaveRisingIds : List JobRecord → Type 0
-HaveRisingIds jobs = AllPairs (λ (one other : JobRecord). one.id < other.id) jobs
-
 -- the numbers of the pending jobs
 abbrev pub pending_ids : List JobRecord → List ℕ
 pending_ids jobs = map (λ (job : JobRecord). job.id) (filter (λ (job : JobRecord). is_pending job.state) jobs)
@@ -108,7 +106,9 @@ pub record IsSound (s : State) : Type 0 where
   -- the numbers of the jobs rise, and are below the next one
   pub rising : HaveRisingIds s.jobs
   pub below_next : All (λ (job : JobRecord). job.id < s.next_id) s.jobs
+  pub together : AreTogether s.jobs
   pub next : (1 ≤ s.next_id) × (s.next_id ≤ last_job_id + 1)
+  pub size : s.size ≤ last_size
   pub moment : s.moment ≤ last_moment
   pub jobs : All (IsKept s.moment) s.jobs
   pub held : IsHeldOnce (map room_of s.nodes) (parts_of s.jobs)

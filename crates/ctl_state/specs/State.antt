@@ -8,8 +8,9 @@ use Rattle.node_state.specs.declared.record.NodeRecord.{NodeRecord}
 use Rattle.node_state.specs.Nodes.{opened}
 use Rattle.partitions.specs.declared.record.PartRecord.{PartRecord}
 use Rattle.partitions.specs.Partitions
+use Rattle.ctl_state.specs.declared.record.ArrayRecord.{ArrayRecord}
 use Rattle.ctl_state.specs.declared.record.AssocRecord.{AssocRecord}
-use Rattle.ctl_state.specs.declared.record.JobRecord.{JobRecord}
+use Rattle.job_table.specs.declared.record.JobRecord.{JobRecord}
 use Rattle.ctl_state.specs.declared.cluster.Cluster.{Cluster}
 
 pub record State : Type 0 where
@@ -22,10 +23,14 @@ pub record State : Type 0 where
   pub assocs : List AssocRecord
   -- in the order of their numbers
   pub jobs : List JobRecord
+  -- the arrays of which there are tasks, in the order of their numbers
+  pub arrays : List ArrayRecord
   -- the placements of the last pass that didn't start
   pub plan : List Placed
   -- the number that the next job gets
   pub next_id : ℕ
+  -- the sizes of the requests accepted so far, in sum
+  pub size : ℕ
   -- the moment of the last request that was accepted
   pub moment : ℕ
 
@@ -37,6 +42,10 @@ last_moment = 250000000000
 abbrev pub last_job_id : ℕ
 last_job_id = 67043328
 
+-- the greatest sum of the sizes of accepted requests
+abbrev pub last_size : ℕ
+last_size = 1073741824
+
 -- the state before any request: what the two files say, no job and no plan
 abbrev pub opening : ConfView → AssocFile → State
 opening conf file = record {
@@ -45,8 +54,10 @@ opening conf file = record {
   nodes = map opened conf.nodes;
   assocs = map (λ assoc. record { conf = assoc }) file.assocs;
   jobs = [];
+  arrays = [];
   plan = [];
   next_id = conf.settings.first_job_id;
+  size = 0;
   moment = 0;
 }
 
@@ -57,9 +68,11 @@ state_of c = record {
   partitions = c.partitions;
   nodes = c.nodes.records;
   assocs = c.assocs.items;
-  jobs = c.jobs.items;
+  jobs = c.jobs.records;
+  arrays = c.arrays.items;
   plan = c.plan.items;
   next_id = c.next_id;
+  size = c.size;
   moment = c.moment;
 }
 

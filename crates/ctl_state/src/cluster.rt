@@ -4,8 +4,9 @@ ghost use Rattle.std.specs.Prelude.{◌≡◌};
 ghost use Rattle.ctl_state.specs.Refusals;
 ghost use Rattle.ctl_state.specs.State.{state_of};
 
-use crate::record::{AssocRecord, JobRecord};
+use crate::record::{ArrayRecord, AssocRecord};
 use backfill_planner::Placed;
+use job_table::jobs::Jobs;
 use node_state::nodes::Nodes;
 use partitions::partitions::Partitions;
 use slurm_text::name::Name;
@@ -22,11 +23,15 @@ pub struct Cluster {
     /// In the order of the association file.
     pub assocs: Vec<AssocRecord>,
     /// In the order of their numbers.
-    pub jobs: Vec<JobRecord>,
+    pub jobs: Jobs,
+    /// The arrays of which there are tasks, in the order of their numbers.
+    pub arrays: Vec<ArrayRecord>,
     /// The placements of the last pass that didn't start.
     pub plan: Vec<Placed>,
     /// The number that the next job gets.
     pub next_id: u32,
+    /// The sizes of the requests accepted so far, in sum (own).
+    pub size: u64,
     /// The moment of the last accepted request.
     pub moment: u64,
 }

@@ -1,30 +1,39 @@
-//! Look-ups in the list of jobs.
+//! Jobs and the plan.
 
-ghost use Rattle.std.specs.Prelude.{◌≡◌, ◌≢◌, ◌<◌, All, IfSome, IfNone, length};
-ghost use Rattle.std.specs.List.{HoldsAt};
-ghost use Rattle.ctl_state.specs.declared.record.JobRecord.{JobRecord};
-ghost use Rattle.ctl_state.specs.JobStates;
-ghost use Rattle.ctl_state.specs.Soundness.{HaveRisingIds};
+ghost use Rattle.std.specs.Prelude.{◌≡◌};
+ghost use Rattle.job_table.specs.JobStates;
+ghost use Rattle.job_table.specs.Table.{job_with};
+ghost use Rattle.ctl_state.specs.Events;
 
-use crate::record::JobRecord;
+use backfill_planner::Placed;
+use job_table::jobs::Jobs;
+use job_table::record::JobRecord;
 use slurm_text::plain::state::JobState;
-
-/// The place of the job with this number, None where there is none. Logarithmic.
-pub fn place_of_job(jobs: &[JobRecord], id: u32) -> Option<usize>
-    requires { HaveRisingIds jobs.now }
-    ensures within { IfSome result (λ place. place < length jobs.now) }
-    ensures found { IfSome result (HoldsAt (λ (job : JobRecord). job.id ≡ id) jobs.now) }
-    ensures none { IfNone result (All (λ (job : JobRecord). job.id ≢ id) jobs.now) }
-{
-    match jobs.binary_search_by_key(&id, |job| job.id) {
-        Ok(place) => Some(place),
-        Err(_) => None,
-    }
-}
 
 /// Whether the job waits for a start.
 pub fn is_pending(job: &JobRecord) -> bool
     ensures { result ≡ JobStates.is_pending job.now.state }
 {
     matches!(job.state, JobState::Pending)
+}
+
+/// Whether the job holds processors.
+pub fn is_holding(job: &JobRecord) -> bool
+    ensures { result ≡ JobStates.is_holding job.now.state }
+{
+    matches!(job.state, JobState::Running | JobState::Completing(_))
+}
+
+// Whether there is a job with this number that waits.
+fn waits(jobs: &Jobs, id: u32) -> bool
+    ensures { result ≡ Events.waits (job_with id jobs.now.records) }
+{
+    jobs.get(id).is_some_and(|job| is_pending(job))
+}
+
+/// Drops the placements of jobs that no longer wait. Linear in the plan; it takes no memory.
+pub fn drop_placements(jobs: &Jobs, plan: &mut Vec<Placed>)
+    ensures { plan.new.items ≡ Events.plan_left jobs.now.records plan.old.items }
+{
+    plan.retain(|placed| waits(jobs, placed.id));
 }

@@ -20,6 +20,7 @@ pub fn taking_keeps_all_sound()
 pub fn what_is_taken_is_counted()
     ensures times { Laws.TakenTimes }
     ensures mem { Laws.TakenMem }
+    ensures tasks { Laws.TakenTasks }
 {}
 
 /// Whoever waited before a start of another waits after it.
@@ -32,9 +33,20 @@ pub fn nodes_that_stay_keep_all_sound()
     ensures { Laws.NodesStay }
 {}
 
+/// The same where every job stays, and what is left of the plan then.
+pub fn changing_keeps_all_sound()
+    ensures sound { Laws.Changing }
+    ensures plan { Laws.PlansLeft }
+{}
+
 /// Pending jobs that are added with the next numbers keep all sound.
 pub fn added_jobs_keep_all_sound()
     ensures { Laws.Adding }
+{}
+
+/// A sum of sizes within its bound keeps all sound.
+pub fn sizes_keep_all_sound()
+    ensures { Laws.Sizing }
 {}
 
 /// Another plan of pending jobs keeps all sound.

@@ -2,7 +2,7 @@
 //! happens.
 #![tactic(auto)]
 
-pub mod change;
+pub mod array_counts;
 pub mod cluster;
 mod job_nodes;
 pub mod jobs;

@@ -5,16 +5,18 @@ ghost use Rattle.partitions.specs.Partitions.{IsOnNodes};
 ghost use Rattle.ctl_state.specs.Planning;
 
 use crate::job_nodes::nodes_among;
-use crate::record::JobRecord;
 use backfill_planner::{NodeList, PlanJob};
+use job_table::record::{JobRecord, Part};
 use node_pick::Need;
 use node_state::record::NodeRecord;
 use node_state::standing::is_available;
 use partitions::record::PartRecord;
 use resource_profile::NodeRoom;
 use slurm_text::memory_error::Memory;
+use slurm_text::name::Name;
 use slurm_text::plain::job::JobDesc;
 use slurm_text::plain::limit::Limit;
+use slurm_text::plain::mem_ask::MemAsk;
 use slurm_text::ranged::Ranged;
 use std::alloc::Global;
 
@@ -120,9 +122,22 @@ pub fn plan_job(
         per_node: desc
             .tasks_per_node
             .map_or(desc.tasks.get() as u32, |count| count.get() as u32),
-        mem_ask: job.mem_ask,
+        mem_ask: desc.mem_ask.unwrap_or(MemAsk::All),
         exclusive: desc.exclusive || partition.conf.exclusive,
         nodes: NodeList::from_vec(nodes_among(alloc, nodes, desc, order)?),
         seconds: seconds_of(job.limit),
     })
+}
+
+/// The names of the nodes of these parts. Linear in the parts.
+pub fn names_of(alloc: Global, nodes: &[NodeRecord], parts: &[Part]) -> Result<Vec<Name>, Memory>
+    ensures { IfOk result (λ names. names.items ≡ Planning.names_of nodes.now parts.now) }
+{
+    let mut names = Vec::with_capacity(alloc, parts.len())?;
+    for part in parts {
+        if let Some(node) = nodes.get(part.node as usize) {
+            names.push(node.conf.name.copy()?)?;
+        }
+    }
+    Ok(names)
 }

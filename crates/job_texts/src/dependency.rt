@@ -158,8 +158,8 @@ fn name_few_jobs(items: &[DepItem]) -> bool
     true
 }
 
-/// Items such as `afterok:17:18_3` and `singleton`, joined by commas where all of them are needed, or by `?` where one is
-/// enough; they name 64 jobs at most. `--dependency` in sbatch(1).
+/// Items such as `afterok:17:18_3` and `singleton`, joined by commas where all of them are needed, or by `?` where one
+/// is enough; they name 64 jobs at most. `--dependency` in sbatch(1).
 #[tactic(auto, unfolding(crate::specs::Dependency::dependency_in))]
 pub fn read_dependency(alloc: Global, text: &[u8]) -> Result<DepSpec, DepRefusal>
     ensures value { IfOk result (λ dependency. dependency_in text.now ≡ Some dependency) }

@@ -259,8 +259,8 @@ fn take_option<'a, F: Copy, V: Copy>(
 }
 
 /// The next argument of a command, by a table of its options: of each the long name, the letter, if it has one, and
-/// what it takes. `--` ends the options, and behind it each word is plain. It takes no memory, and costs a few steps for
-/// each byte of a word and each row of the table.
+/// what it takes. `--` ends the options, and behind it each word is plain. It takes no memory, and costs a few steps
+/// for each byte of a word and each row of the table.
 #[tactic(auto, unfolding(crate::specs::Arguments::parts_left))]
 pub fn next_argument<'a, F: Copy, V: Copy>(
     table: &[(&[u8], Option<u8>, Takes<F, V>)],

@@ -19,7 +19,8 @@ pub record IsOfNodes (names : List (List ℕ)) (partition : PartConf) : Type 0 w
   pub known : All (λ name. Contains names name) partition.nodes
   pub once : AllPairs (λ one other. one ≢ other) partition.nodes
 
--- There are at most 1,024 nodes, and 1 to 64 partitions of these, each named once; one partition at most is the default.
+-- There are at most 1,024 nodes, and 1 to 64 partitions of these, each named once; one partition at most is the
+-- default.
 pub record IsConf (nodes : List NodeConf) (partitions : List PartConf) : Type 0 where
   pub few_nodes : length nodes ≤ 1024
   pub nodes_once : AllPairs (λ (one other : NodeConf). one.name ≢ other.name) nodes

@@ -4,6 +4,7 @@ ghost use Rattle.std.specs.Prelude.{◌≡◌, ◌≤◌, ◌<◌, length, All, 
 ghost use Rattle.std.specs.Cmp.{partial_equiv_from_equiv};
 ghost use Rattle.std.specs.Cmp.Lexicographic.{nat_list_eq_equiv};
 
+use crate::Plain;
 use crate::ranged::Ranged;
 use small_texts::memory_error::Memory;
 use std::marker::Model;
@@ -95,5 +96,11 @@ impl ArraySpec {
             indices: self.indices.copy()?,
             most: self.most,
         })
+    }
+}
+
+impl Plain for ArraySpec {
+    fn copy(&self) -> Result<ArraySpec, Memory> {
+        self.copy()
     }
 }

@@ -74,3 +74,9 @@ impl DepSpec {
         })
     }
 }
+
+impl Plain for DepSpec {
+    fn copy(&self) -> Result<DepSpec, Memory> {
+        self.copy()
+    }
+}

@@ -2,6 +2,7 @@
 
 ghost use Rattle.std.specs.Prelude.{◌≡◌, IfOk};
 
+use crate::Plain;
 use crate::items::Items;
 use small_texts::memory_error::Memory;
 use small_texts::name::Name;
@@ -21,5 +22,11 @@ impl FeatureExpr {
         Ok(FeatureExpr {
             alternatives: self.alternatives.copy()?,
         })
+    }
+}
+
+impl Plain for FeatureExpr {
+    fn copy(&self) -> Result<FeatureExpr, Memory> {
+        self.copy()
     }
 }

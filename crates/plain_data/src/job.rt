@@ -2,6 +2,7 @@
 
 ghost use Rattle.std.specs.Prelude.{◌≡◌, IfOk};
 
+use crate::Plain;
 use crate::array::ArraySpec;
 use crate::dependency::DepSpec;
 use crate::features::FeatureExpr;
@@ -57,42 +58,6 @@ pub struct JobDesc {
     pub parsable: bool,
 }
 
-fn copy_name(name: &Option<Name>) -> Result<Option<Name>, Memory>
-    ensures { IfOk result (λ copied. copied ≡ name.now) }
-{
-    match name {
-        Some(name) => Ok(Some(name.copy()?)),
-        None => Ok(None),
-    }
-}
-
-fn copy_features(features: &Option<FeatureExpr>) -> Result<Option<FeatureExpr>, Memory>
-    ensures { IfOk result (λ copied. copied ≡ features.now) }
-{
-    match features {
-        Some(features) => Ok(Some(features.copy()?)),
-        None => Ok(None),
-    }
-}
-
-fn copy_array(array: &Option<ArraySpec>) -> Result<Option<ArraySpec>, Memory>
-    ensures { IfOk result (λ copied. copied ≡ array.now) }
-{
-    match array {
-        Some(array) => Ok(Some(array.copy()?)),
-        None => Ok(None),
-    }
-}
-
-fn copy_dependency(dependency: &Option<DepSpec>) -> Result<Option<DepSpec>, Memory>
-    ensures { IfOk result (λ copied. copied ≡ dependency.now) }
-{
-    match dependency {
-        Some(dependency) => Ok(Some(dependency.copy()?)),
-        None => Ok(None),
-    }
-}
-
 impl JobDesc {
     /// An equal description.
     pub fn copy(&self) -> Result<JobDesc, Memory>
@@ -100,10 +65,10 @@ impl JobDesc {
     {
         Ok(JobDesc {
             name: self.name.copy()?,
-            account: copy_name(&self.account)?,
-            partition: copy_name(&self.partition)?,
-            qos: copy_name(&self.qos)?,
-            reservation: copy_name(&self.reservation)?,
+            account: self.account.copy()?,
+            partition: self.partition.copy()?,
+            qos: self.qos.copy()?,
+            reservation: self.reservation.copy()?,
             tasks: self.tasks,
             cpus_per_task: self.cpus_per_task,
             tasks_per_node: self.tasks_per_node,
@@ -116,11 +81,11 @@ impl JobDesc {
             nice: self.nice,
             held: self.held,
             requeue: self.requeue,
-            features: copy_features(&self.features)?,
+            features: self.features.copy()?,
             required: self.required.copy()?,
             excluded: self.excluded.copy()?,
-            array: copy_array(&self.array)?,
-            dependency: copy_dependency(&self.dependency)?,
+            array: self.array.copy()?,
+            dependency: self.dependency.copy()?,
             run: self.run,
             exit: self.exit,
             parsable: self.parsable,

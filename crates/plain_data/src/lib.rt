@@ -29,3 +29,12 @@ impl Plain for Name {
         self.copy()
     }
 }
+
+impl<T: Plain> Plain for Option<T> {
+    fn copy(&self) -> Result<Option<T>, Memory> {
+        match self {
+            Some(value) => Ok(Some(value.copy()?)),
+            None => Ok(None),
+        }
+    }
+}

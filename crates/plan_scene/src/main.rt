@@ -1,8 +1,8 @@
-//! Makes a scene of a cluster by chance and plans it: so many nodes, running jobs and pending jobs. It tells how many of
-//! these were placed, the steps counted, and a sum over the plan, by which two planners can be compared.
+//! Makes a scene of a cluster by chance and plans it: so many nodes, running jobs and pending jobs. It tells how many
+//! of these were placed, the steps counted, and a sum over the plan, by which two planners can be compared.
 //!
-//! The words, all numbers: nodes, processors of each, running jobs, pending jobs, the window in minutes, the most tasks and
-//! the most minutes of a job, `K` so that every `K`-th pending job has no limit (0: none), and the seed.
+//! The words, all numbers: nodes, processors of each, running jobs, pending jobs, the window in minutes, the most
+//! tasks and the most minutes of a job, `K` so that every `K`-th pending job has no limit (0: none), and the seed.
 #![tactic(auto)]
 
 use crate::scene::{Scene, Size, make};

@@ -134,7 +134,8 @@ fn pending_jobs(alloc: Global, size: &Size, chance: &mut Chance) -> Result<Vec<P
 
 /// A scene of this size.
 pub(crate) fn make(alloc: Global, size: &Size) -> Result<Scene>
-    ensures { IfOk result (λ scene. All (λ (job : PlanJob). All (λ node. node < length scene.base.rooms) job.nodes) scene.ranked.items) }
+    ensures { IfOk result (λ scene.
+        All (λ (job : PlanJob). All (λ node. node < length scene.base.rooms) job.nodes) scene.ranked.items) }
 {
     let mut chance = Chance::new(size.seed);
     let rooms = rooms_of(alloc, size)?;

@@ -12,6 +12,7 @@ pub mod reply;
 pub mod report;
 pub mod request;
 pub mod state;
+pub mod target;
 pub mod view;
 
 impl Plain for Start {

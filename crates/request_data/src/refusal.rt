@@ -17,12 +17,22 @@ pub enum Refusal {
     NodesNotAvailable,
     /// 6: the partition doesn't take jobs of this account.
     NotAllowedHere,
-    /// 11: only privileged users may ask for this.
+    /// 8: the jobs that are kept and the new ones are more than MaxJobCount.
+    JobTableFull,
+    /// 9: an index of the array is MaxArraySize or more.
+    ArrayTooLarge,
+    /// 10: there is no such job or task.
+    InvalidJobId,
+    /// 11: the job is of another user, or only privileged users may ask for this.
     AccessDenied,
+    /// 12: the job has ended, or completes.
+    AlreadyDone,
     /// 16: a name is no node.
     UnknownNode,
     /// 17: the node's last accepted report, which is given, isn't before this one.
     StaleReport { boot: u64, number: u64 },
+    /// 18: the history can't take another entry.
+    HistoryFull,
     /// 19: the last job id was handed out.
     JobIdsSpent,
     /// 20: the request's moment is past the last one that the controller counts.
@@ -40,12 +50,17 @@ impl Refusal {
             Refusal::InvalidPartition => Ok(Refusal::InvalidPartition),
             Refusal::NodesNotAvailable => Ok(Refusal::NodesNotAvailable),
             Refusal::NotAllowedHere => Ok(Refusal::NotAllowedHere),
+            Refusal::JobTableFull => Ok(Refusal::JobTableFull),
+            Refusal::ArrayTooLarge => Ok(Refusal::ArrayTooLarge),
+            Refusal::InvalidJobId => Ok(Refusal::InvalidJobId),
             Refusal::AccessDenied => Ok(Refusal::AccessDenied),
+            Refusal::AlreadyDone => Ok(Refusal::AlreadyDone),
             Refusal::UnknownNode => Ok(Refusal::UnknownNode),
             Refusal::StaleReport { boot, number } => Ok(Refusal::StaleReport {
                 boot: *boot,
                 number: *number,
             }),
+            Refusal::HistoryFull => Ok(Refusal::HistoryFull),
             Refusal::JobIdsSpent => Ok(Refusal::JobIdsSpent),
             Refusal::MomentTooLarge => Ok(Refusal::MomentTooLarge),
         }

@@ -14,6 +14,8 @@ pub enum Reply {
     Submitted {
         id: u32,
     },
+    /// It was done (own).
+    Done,
     /// A pass was made.
     Passed {
         /// How many jobs it took out of Running.
@@ -42,6 +44,7 @@ impl Reply {
     {
         match self {
             Reply::Submitted { id } => Ok(Reply::Submitted { id: *id }),
+            Reply::Done => Ok(Reply::Done),
             Reply::Passed {
                 ended,
                 started,

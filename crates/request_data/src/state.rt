@@ -27,9 +27,23 @@ pub enum JobState {
     Ended(Final),
 }
 
+/// Who holds a pending job back. "hold" in scontrol(1).
+#[derive(Clone, Copy, PartialEq, Eq, Debug)]
+pub enum HeldBy {
+    Nobody,
+    /// Its owner, or who handed it in.
+    User,
+    /// A privileged user.
+    Admin,
+}
+
 /// Why a job is pending. "JOB REASON CODES" in squeue(1).
 #[derive(Clone, Copy, PartialEq, Eq, Debug)]
 pub enum Reason {
+    /// A privileged user holds it back.
+    JobHeldAdmin,
+    /// Its owner holds it back.
+    JobHeldUser,
     /// Its partition neither takes nor starts jobs.
     PartitionInactive,
     /// Its partition starts no jobs.
@@ -38,6 +52,10 @@ pub enum Reason {
     PartitionTimeLimit,
     /// It can't have as many nodes as its partition asks for, or as few as it allows.
     PartitionNodeLimit,
+    /// As many tasks of its array hold processors as may at once.
+    JobArrayTaskLimit,
+    /// A node that it must have is down or drained.
+    ReqNodeNotAvail,
     /// It is the next in rank.
     Resources,
     /// Others stand before it.

@@ -15,9 +15,15 @@ use small_texts::name::{JobName, Name};
 #[derive(PartialEq, Debug, Drop)]
 pub struct JobRow {
     pub id: u32,
+    /// The number of its array, where it is a task of one.
+    pub array: Option<u32>,
+    /// Its index in that array.
+    pub index: Option<u32>,
     pub name: JobName,
     pub user: Name,
+    pub account: Name,
     pub partition: Name,
+    pub qos: Name,
     pub state: JobState,
     /// The seconds since its start, or those between its start and its end.
     pub elapsed: Ranged<0, 1000000000000>,
@@ -28,6 +34,11 @@ pub struct JobRow {
     pub reason: Option<Reason>,
     /// The second of its start, or the one planned for it.
     pub start: Option<Ranged<0, 253402300799>>,
+    pub priority: u32,
+    /// How long it may run.
+    pub limit: Limit,
+    /// How many processors it holds, or asks for while it is pending.
+    pub cpus: u64,
 }
 
 impl JobRow {
@@ -37,15 +48,22 @@ impl JobRow {
     {
         Ok(JobRow {
             id: self.id,
+            array: self.array,
+            index: self.index,
             name: self.name.copy()?,
             user: self.user.copy()?,
+            account: self.account.copy()?,
             partition: self.partition.copy()?,
+            qos: self.qos.copy()?,
             state: self.state,
             elapsed: self.elapsed,
             nodes: self.nodes,
             node_names: self.node_names.copy()?,
             reason: self.reason,
             start: self.start,
+            priority: self.priority,
+            limit: self.limit,
+            cpus: self.cpus,
         })
     }
 }

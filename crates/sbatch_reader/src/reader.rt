@@ -84,9 +84,9 @@ fn judge(
 
 /// The job that the words of sbatch(1), the first of them the command's name, and its script ask for, read at the
 /// moment `now`: the options of the script's first lines come before those of the words, and of each kind the last
-/// counts. An error names the first bad place; words and lines behind it are read too, since the nodes that they require
-/// may make an earlier `--nodes` bad. It goes over the words twice and over the lines of options once, and copies what it
-/// keeps and the words of one line at a time. A text of 4 GiB or more counts as want of memory (own).
+/// counts. An error names the first bad place; words and lines behind it are read too, since the nodes that they
+/// require may make an earlier `--nodes` bad. It goes over the words twice and over the lines of options once, and
+/// copies what it keeps and the words of one line at a time. A text of 4 GiB or more counts as want of memory (own).
 pub fn read_job(
     alloc: Global,
     words: &Words,

@@ -15,7 +15,8 @@ hours_text seconds =
 -- `d-hh:mm:ss`
 abbrev pub days_text : ℕ → List ℕ
 days_text seconds =
-    decimal (seconds / 86_400) ++ codes "-" ++ two_digits (seconds / 3600 % 24) ++ codes ":" ++ two_digits (seconds / 60 % 60) ++ codes ":" ++ two_digits (seconds % 60)
+    decimal (seconds / 86_400) ++ codes "-" ++ two_digits (seconds / 3600 % 24) ++ codes ":"
+    ++ two_digits (seconds / 60 % 60) ++ codes ":" ++ two_digits (seconds % 60)
 
 -- minutes and seconds below an hour, hours before them below a day, else days too
 unfoldable pub elapsed_text : ℕ → List ℕ

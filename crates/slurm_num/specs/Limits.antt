@@ -68,5 +68,6 @@ limit_of_minutes minutes =
 -- the limit that a text means: seconds round up to whole minutes
 unfoldable pub limit_of : List ℕ → Option Limit
 limit_of text =
-    if str_eq_ignore_ascii_case text (codes "UNLIMITED") || str_eq_ignore_ascii_case text (codes "INFINITE") then Some Unlimited
+    if str_eq_ignore_ascii_case text (codes "UNLIMITED") || str_eq_ignore_ascii_case text (codes "INFINITE")
+    then Some Unlimited
     else (seconds_of text >>= λ seconds. limit_of_minutes ((seconds + 59) / 60))

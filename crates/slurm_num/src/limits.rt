@@ -31,8 +31,8 @@ impl Error for BadTime {}
 
 const GREATEST: u64 = 52_560_000;
 
-/// The limit of a text such as `90`, `1:30:00` or `2-12`, in whole minutes, at most 52,560,000: seconds round up. A text of no
-/// minutes, `UNLIMITED` and `INFINITE` are no limit.
+/// The limit of a text such as `90`, `1:30:00` or `2-12`, in whole minutes, at most 52,560,000: seconds round up. A
+/// text of no minutes, `UNLIMITED` and `INFINITE` are no limit.
 #[tactic(auto, unfolding(crate::specs::Limits::limit_of, crate::specs::Limits::limit_of_minutes))]
 pub fn parse_limit(text: &[u8]) -> Result<Limit, BadTime>
     ensures { result_ok result ≡ limit_of text.now }

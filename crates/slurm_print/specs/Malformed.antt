@@ -2,7 +2,7 @@
 use Rattle.std.specs.Prelude.{ℕ, List, ◌++◌, codes, decimal}
 use Rattle.option_words.specs.Refusal.{kind_text}
 use Rattle.option_words.specs.declared.refusal.WordKind.{WordKind}
-use Rattle.option_words.specs.declared.refusal.WordKind.TheVariants.{UnknownCommand, UnknownOption, MissingValue, MissingWord, BadValue, StrayWord, TooLong, NoHashBang}
+use Rattle.option_words.specs.declared.refusal.WordKind.TheVariants.{UnknownCommand}
 use Rattle.command_words.specs.Command.{name_of}
 use Rattle.command_words.specs.declared.command.Command.{Command}
 use Rattle.command_words.specs.declared.fault.WordFault.{WordFault}

@@ -15,7 +15,8 @@ number_or_dash (Some number) = decimal number
 
 abbrev pub head_line : Orders → List ℕ
 head_line orders =
-    codes "orders " ++ orders.node ++ codes " " ++ decimal orders.boot ++ codes " " ++ decimal orders.number ++ codes "\n"
+    codes "orders " ++ orders.node ++ codes " " ++ decimal orders.boot ++ codes " " ++ decimal orders.number
+    ++ codes "\n"
 
 abbrev pub start_line : List ℕ → Start → List ℕ
 start_line word start = word ++ start_text start ++ codes "\n"

@@ -1,17 +1,22 @@
 -- The text of a refusal.
 use Rattle.std.specs.Prelude.{ℕ, List, [], ◌++◌, codes, decimal}
 use Rattle.slurm_text.specs.declared.plain.refusal.Refusal.{Refusal}
-use Rattle.slurm_text.specs.declared.plain.refusal.Refusal.TheVariants.{PartitionClosed, InvalidAccount, InvalidPartition, NotAllowedHere, NodesNotAvailable, AccessDenied, UnknownNode, StaleReport, JobIdsSpent, MomentTooLarge}
+use Rattle.slurm_text.specs.declared.plain.refusal.Refusal.TheVariants.{PartitionClosed, InvalidAccount, InvalidPartition, NodesNotAvailable, NotAllowedHere, JobTableFull, ArrayTooLarge, InvalidJobId, AccessDenied, AlreadyDone, UnknownNode, StaleReport, HistoryFull, JobIdsSpent, MomentTooLarge}
 
 abbrev pub refusal_name : Refusal → List ℕ
 refusal_name PartitionClosed = codes "PartitionClosed"
 refusal_name InvalidAccount = codes "InvalidAccount"
 refusal_name InvalidPartition = codes "InvalidPartition"
-refusal_name NotAllowedHere = codes "NotAllowedHere"
 refusal_name NodesNotAvailable = codes "NodesNotAvailable"
+refusal_name NotAllowedHere = codes "NotAllowedHere"
+refusal_name JobTableFull = codes "JobTableFull"
+refusal_name ArrayTooLarge = codes "ArrayTooLarge"
+refusal_name InvalidJobId = codes "InvalidJobId"
 refusal_name AccessDenied = codes "AccessDenied"
+refusal_name AlreadyDone = codes "AlreadyDone"
 refusal_name UnknownNode = codes "UnknownNode"
 refusal_name (StaleReport boot number) = codes "StaleReport"
+refusal_name HistoryFull = codes "HistoryFull"
 refusal_name JobIdsSpent = codes "JobIdsSpent"
 refusal_name MomentTooLarge = codes "MomentTooLarge"
 
@@ -19,11 +24,16 @@ abbrev pub refusal_number : Refusal → ℕ
 refusal_number PartitionClosed = 1
 refusal_number InvalidAccount = 2
 refusal_number InvalidPartition = 3
-refusal_number NotAllowedHere = 6
 refusal_number NodesNotAvailable = 5
+refusal_number NotAllowedHere = 6
+refusal_number JobTableFull = 8
+refusal_number ArrayTooLarge = 9
+refusal_number InvalidJobId = 10
 refusal_number AccessDenied = 11
+refusal_number AlreadyDone = 12
 refusal_number UnknownNode = 16
 refusal_number (StaleReport boot number) = 17
+refusal_number HistoryFull = 18
 refusal_number JobIdsSpent = 19
 refusal_number MomentTooLarge = 20
 

@@ -43,7 +43,8 @@ sinfo_line partition avail limit nodes state names =
 
 abbrev pub sinfo_titles : List ℕ
 sinfo_titles =
-    sinfo_line (codes "PARTITION") (codes "AVAIL") (codes "TIMELIMIT") (codes "NODES") (codes "STATE") (codes "NODELIST")
+    sinfo_line (codes "PARTITION") (codes "AVAIL") (codes "TIMELIMIT") (codes "NODES") (codes "STATE")
+    (codes "NODELIST")
 
 abbrev pub state_line : StateRow → List ℕ
 state_line row =

@@ -1,19 +1,28 @@
 -- The lines of squeue.
-use Rattle.std.specs.Prelude.{ℕ, Bool, if◌then◌else◌, List, [], ◌∷◌, ◌++◌, flat_map, Option, Some, None, codes, decimal}
+use Rattle.std.specs.Prelude.{ℕ, ◌*◌, Bool, if◌then◌else◌, List, [], ◌∷◌, ◌++◌, flat_map, Option, Some, None, codes, decimal}
 use Rattle.slurm_num.specs.Elapsed.{elapsed_text}
 use Rattle.slurm_text.specs.Folding.{folded}
 use Rattle.slurm_text.specs.Moment.{moment_text}
+use Rattle.slurm_text.specs.declared.plain.limit.Limit.{Limit}
+use Rattle.slurm_text.specs.declared.plain.limit.Limit.TheVariants.{Minutes, Unlimited}
+use Rattle.slurm_text.specs.declared.plain.query.JobColumn.{JobColumn}
+use Rattle.slurm_text.specs.declared.plain.query.JobColumn.TheVariants as column
+use Rattle.slurm_text.specs.declared.plain.query.JobQuery.{JobQuery}
+use Rattle.slurm_text.specs.declared.plain.query.Piece.{Piece}
+use Rattle.slurm_text.specs.declared.plain.query.Piece.TheVariants.{Plain, Column}
 use Rattle.slurm_text.specs.declared.plain.state.JobState.{JobState}
 use Rattle.slurm_text.specs.declared.plain.state.JobState.TheVariants.{Pending, Running, Completing, Ended}
 use Rattle.slurm_text.specs.declared.plain.state.Final.TheVariants.{Completed, Cancelled, Failed, Timeout, NodeFail, Requeue}
 use Rattle.slurm_text.specs.declared.plain.state.Reason.{Reason}
-use Rattle.slurm_text.specs.declared.plain.state.Reason.TheVariants.{PartitionInactive, PartitionDown, PartitionTimeLimit, PartitionNodeLimit, Resources, Priority}
+use Rattle.slurm_text.specs.declared.plain.state.Reason.TheVariants.{JobHeldAdmin, JobHeldUser, PartitionInactive, PartitionDown, PartitionTimeLimit, PartitionNodeLimit, JobArrayTaskLimit, ReqNodeNotAvail, Resources, Priority}
 use Rattle.slurm_text.specs.declared.plain.view.JobRow.{JobRow}
 use Rattle.slurm_text.specs.declared.plain.view.Row.{Row}
 use Rattle.slurm_text.specs.declared.plain.view.Row.TheVariants.{Job, States}
 use Rattle.slurm_text.specs.declared.plain.view.View.{View}
-use Rattle.slurm_print.specs.Field.{cell}
+use Rattle.squeue_format.specs.Format.{usual}
+use Rattle.slurm_print.specs.Field.{field}
 
+-- "JOB STATE CODES" in squeue(1)
 abbrev pub state_code : JobState → List ℕ
 state_code Pending = codes "PD"
 state_code Running = codes "R"
@@ -25,64 +34,108 @@ state_code (Ended Timeout) = codes "TO"
 state_code (Ended NodeFail) = codes "NF"
 state_code (Ended Requeue) = codes "RQ"
 
+abbrev pub state_word : JobState → List ℕ
+state_word Pending = codes "PENDING"
+state_word Running = codes "RUNNING"
+state_word (Completing end) = codes "COMPLETING"
+state_word (Ended Completed) = codes "COMPLETED"
+state_word (Ended Cancelled) = codes "CANCELLED"
+state_word (Ended Failed) = codes "FAILED"
+state_word (Ended Timeout) = codes "TIMEOUT"
+state_word (Ended NodeFail) = codes "NODE_FAIL"
+state_word (Ended Requeue) = codes "REQUEUED"
+
 abbrev pub reason_name : Reason → List ℕ
+reason_name JobHeldAdmin = codes "JobHeldAdmin"
+reason_name JobHeldUser = codes "JobHeldUser"
 reason_name PartitionInactive = codes "PartitionInactive"
 reason_name PartitionDown = codes "PartitionDown"
 reason_name PartitionTimeLimit = codes "PartitionTimeLimit"
 reason_name PartitionNodeLimit = codes "PartitionNodeLimit"
+reason_name JobArrayTaskLimit = codes "JobArrayTaskLimit"
+reason_name ReqNodeNotAvail = codes "ReqNodeNotAvail"
 reason_name Resources = codes "Resources"
 reason_name Priority = codes "Priority"
 
 -- the reason in parentheses, or the nodes
-abbrev pub place : Option Reason → List (List ℕ) → List ℕ
-place None names = folded names
-place (Some reason) names = codes "(" ++ reason_name reason ++ codes ")"
+abbrev pub place_of : Option Reason → List (List ℕ) → List ℕ
+place_of None names = folded names
+place_of (Some reason) names = codes "(" ++ reason_name reason ++ codes ")"
 
-abbrev pub place_text : JobRow → List ℕ
-place_text row = place row.reason row.node_names
+-- `ARRAY_INDEX` of a task, else the job's number
+abbrev pub id_of : ℕ → Option ℕ → Option ℕ → List ℕ
+id_of id (Some array) (Some index) = decimal array ++ codes "_" ++ decimal index
+id_of id array index = decimal id
 
-abbrev pub expected : Option ℕ → List ℕ
-expected None = codes "N/A"
-expected (Some start) = moment_text start
+abbrev pub start_of : Option ℕ → List ℕ
+start_of None = codes "N/A"
+start_of (Some start) = moment_text start
 
--- a column: its width, its title, and what it tells of a job
-pub record Column : Type 0 where
-  pub width : ℕ
-  pub title : List ℕ
-  pub text : JobRow → List ℕ
+abbrev pub limit_of : Limit → List ℕ
+limit_of (Minutes minutes) = elapsed_text (minutes * 60)
+limit_of Unlimited = codes "UNLIMITED"
 
--- the elapsed time (`%.10M`), or the expected start (`%.19S`)
-abbrev pub time_column : Bool → Column
-time_column starts =
-    if starts then record { width = 19; title = codes "START_TIME"; text = λ row. expected row.start }
-    else record { width = 10; title = codes "TIME"; text = λ row. elapsed_text row.elapsed }
+-- what a column tells of a job
+unfoldable pub told : JobRow → JobColumn → List ℕ
+told row column.Id = id_of row.id row.array row.index
+told row column.Partition = row.partition
+told row column.JobName = row.name
+told row column.User = row.user
+told row column.Account = row.account
+told row column.Qos = row.qos
+told row column.Code = state_code row.state
+told row column.State = state_word row.state
+told row column.Time = elapsed_text row.elapsed
+told row column.Nodes = decimal row.nodes
+told row column.Place = place_of row.reason row.node_names
+told row column.Start = start_of row.start
+told row column.Priority = decimal row.priority
+told row column.Limit = limit_of row.limit
+told row column.Cpus = decimal row.cpus
 
--- `%.18i %.9P %.8j %.8u %.2t`, the time, and `%.6D`
-abbrev pub columns : Bool → List Column
-columns starts =
-    record { width = 18; title = codes "JOBID"; text = λ row. decimal row.id }
-    ∷ record { width = 9; title = codes "PARTITION"; text = λ row. row.partition }
-    ∷ record { width = 8; title = codes "NAME"; text = λ row. row.name }
-    ∷ record { width = 8; title = codes "USER"; text = λ row. row.user }
-    ∷ record { width = 2; title = codes "ST"; text = λ row. state_code row.state }
-    ∷ time_column starts
-    ∷ record { width = 6; title = codes "NODES"; text = λ row. decimal row.nodes }
-    ∷ []
+-- what stands above it
+unfoldable pub title : JobColumn → List ℕ
+title column.Id = codes "JOBID"
+title column.Partition = codes "PARTITION"
+title column.JobName = codes "NAME"
+title column.User = codes "USER"
+title column.Account = codes "ACCOUNT"
+title column.Qos = codes "QOS"
+title column.Code = codes "ST"
+title column.State = codes "STATE"
+title column.Time = codes "TIME"
+title column.Nodes = codes "NODES"
+title column.Place = codes "NODELIST(REASON)"
+title column.Start = codes "START_TIME"
+title column.Priority = codes "PRIORITY"
+title column.Limit = codes "TIME_LIMIT"
+title column.Cpus = codes "CPUS"
 
--- what is told in each column, and last in the one without a width
-abbrev pub line : (Column → List ℕ) → List Column → List ℕ → List ℕ
-line told columns last = flat_map (λ column. cell column.width (told column)) columns ++ last ++ codes "\n"
+-- with a width a text is cut and padded
+abbrev pub sized : Option ℕ → Bool → List ℕ → List ℕ
+sized None dot text = text
+sized (Some width) dot text = field width dot text
 
-abbrev pub title_line : Bool → List ℕ
-title_line starts = line (λ column. column.title) (columns starts) (codes "NODELIST(REASON)")
+-- a piece of a line, where the columns tell this
+abbrev pub piece_text : (JobColumn → List ℕ) → Piece → List ℕ
+piece_text tells (Plain byte) = byte ∷ []
+piece_text tells (Column column width dot) = sized width dot (tells column)
 
-abbrev pub job_line : Bool → JobRow → List ℕ
-job_line starts row = line (λ column. column.text row) (columns starts) (place_text row)
+unfoldable pub line : (JobColumn → List ℕ) → List Piece → List ℕ
+line tells pieces = flat_map (piece_text tells) pieces ++ codes "\n"
 
-abbrev pub row_line : Bool → Row → List ℕ
-row_line starts (Job row) = job_line starts row
-row_line starts (States row) = []
+abbrev pub row_line : List Piece → Row → List ℕ
+row_line pieces (Job row) = line (told row) pieces
+row_line pieces (States row) = []
+
+-- the format of a query
+abbrev pub format_of : Bool → Option (List Piece) → List Piece
+format_of starts None = usual starts
+format_of starts (Some pieces) = pieces
 
 -- the lines, below their titles where these are wanted
-abbrev pub squeue_text : Bool → Bool → View → List ℕ
-squeue_text titles starts view = (if titles then title_line starts else []) ++ flat_map (row_line starts) view.rows
+abbrev pub lines_of : Bool → List Piece → View → List ℕ
+lines_of titles pieces view = (if titles then line title pieces else []) ++ flat_map (row_line pieces) view.rows
+
+abbrev pub squeue_text : JobQuery → View → List ℕ
+squeue_text query view = lines_of query.titles (format_of query.starts query.format) view

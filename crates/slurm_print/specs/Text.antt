@@ -2,9 +2,9 @@
 use Rattle.std.specs.Prelude.{ℕ, List, [], ◌++◌, codes, decimal, Bool, false, if◌then◌else◌}
 use Rattle.slurm_text.specs.declared.plain.query.Query.TheVariants.{Squeue, Sinfo}
 use Rattle.slurm_text.specs.declared.plain.reply.Reply.{Reply}
-use Rattle.slurm_text.specs.declared.plain.reply.Reply.TheVariants.{Submitted, Passed, Orders, Idle, Shown, Refused, NotBuilt}
+use Rattle.slurm_text.specs.declared.plain.reply.Reply.TheVariants.{Submitted, Done, Passed, Orders, Idle, Shown, Refused, NotBuilt}
 use Rattle.slurm_text.specs.declared.plain.request.Request.{Request}
-use Rattle.slurm_text.specs.declared.plain.request.Request.TheVariants.{Submit, Report, Pass, Show}
+use Rattle.slurm_text.specs.declared.plain.request.Request.TheVariants.{Submit, Cancel, Report, Pass, Show}
 use Rattle.slurm_text.specs.declared.plain.view.View.{View}
 use Rattle.slurm_print.specs.Malformed.{not_built_text}
 use Rattle.slurm_print.specs.Orders.{orders_text}
@@ -15,9 +15,10 @@ use Rattle.slurm_print.specs.Squeue.{squeue_text}
 -- the command that makes the request
 abbrev pub command_of : Request → List ℕ
 command_of (Submit desc) = codes "sbatch"
+command_of (Cancel targets) = codes "scancel"
 command_of (Report report) = codes "report"
 command_of Pass = codes "pass"
-command_of (Show (Squeue titles starts)) = codes "squeue"
+command_of (Show (Squeue query)) = codes "squeue"
 command_of (Show (Sinfo partition titles)) = codes "sinfo"
 
 abbrev pub submitted_line : ℕ → List ℕ
@@ -26,6 +27,7 @@ submitted_line id = codes "Submitted batch job " ++ decimal id ++ codes "\n"
 -- the answer is the number alone where the submission asks for that
 abbrev pub is_parsable : Request → Bool
 is_parsable (Submit desc) = desc.parsable
+is_parsable (Cancel targets) = false
 is_parsable (Report report) = false
 is_parsable Pass = false
 is_parsable (Show query) = false
@@ -35,7 +37,8 @@ submitted_text parsable id = if parsable then decimal id ++ codes "\n" else subm
 
 abbrev pub passed_line : ℕ → ℕ → ℕ → List ℕ
 passed_line ended started planned =
-    codes "pass: ended " ++ decimal ended ++ codes " started " ++ decimal started ++ codes " planned " ++ decimal planned ++ codes "\n"
+    codes "pass: ended " ++ decimal ended ++ codes " started " ++ decimal started
+    ++ codes " planned " ++ decimal planned ++ codes "\n"
 
 -- only a pass says that it was idle
 abbrev pub idle_text : Request → List ℕ
@@ -44,12 +47,13 @@ idle_text request = []
 
 -- only a query shows anything
 abbrev pub shown_text : Request → View → List ℕ
-shown_text (Show (Squeue titles starts)) view = squeue_text titles starts view
+shown_text (Show (Squeue query)) view = squeue_text query view
 shown_text (Show (Sinfo partition titles)) view = sinfo_text titles view
 shown_text request view = []
 
 abbrev pub text_of : Request → Reply → List ℕ
 text_of request (Submitted id) = submitted_text (is_parsable request) id
+text_of request Done = []
 text_of request (Passed ended started planned) = passed_line ended started planned
 text_of request (Orders orders) = orders_text orders
 text_of request Idle = idle_text request

@@ -1,34 +1,64 @@
 //! Fields of a fixed width.
 
-ghost use Rattle.std.specs.Prelude.{◌≡◌, ◌≤◌, ◌++◌, OnOk, replicate};
+ghost use Rattle.std.specs.Prelude.{◌≡◌, ◌≤◌, ◌+◌, ◌-◌, ◌++◌, OnOk, IfOk, length, take, drop, replicate};
 ghost use Rattle.slurm_print.specs.Field.{field, cell, left_cell};
+ghost use Rattle.slurm_print.specs.Squeue.{sized};
 
 use crate::line::push_text;
 use slurm_text::memory_error::Memory;
-use std::cmp::min;
+use slurm_text::ranged::Ranged;
 
-/// Writes the first `width` bytes of the text, padded with blanks, on the left where `dot` says so. "--format" of squeue(1).
+// Cuts what stands behind the first `start` bytes to `width` bytes and pads it with blanks, on the left where `dot`
+// says so.
 #[tactic(auto, unfolding(crate::specs::Field::field))]
-pub(crate) fn push_field(
-    out: &mut Vec<u8>,
-    width: usize,
-    dot: bool,
-    text: &[u8],
-) -> Result<(), Memory>
-    requires { width ≤ 1024 }
-    ensures { OnOk result (out.new.items ≡ out.old.items ++ field width dot text.now) }
+fn fit(out: &mut Vec<u8>, start: usize, width: usize, dot: bool) -> Result<(), Memory>
+    requires within { start ≤ length out.old.items }
+    requires narrow { width ≤ 1024 }
+    ensures { OnOk result (out.new.items ≡ take start out.old.items ++ field width dot (drop start out.old.items)) }
 {
-    let cut = &text[..min(width, text.len())];
+    let blanks = set_end(out, start + width)?;
     if dot {
-        push_blanks(out, width - cut.len())?;
-        push_text(out, cut)
-    } else {
-        push_text(out, cut)?;
-        push_blanks(out, width - cut.len())
+        put_last_first(out, start, blanks);
+    }
+    Ok(())
+}
+
+// Cuts the bytes to so many, or pads them with blanks up to there. Answers how many blanks that took.
+fn set_end(out: &mut Vec<u8>, end: usize) -> Result<usize, Memory>
+    ensures items { OnOk result (out.new.items ≡ take end out.old.items ++ replicate (end - length out.old.items) 32) }
+    ensures blanks { IfOk result (λ blanks. blanks ≡ end - length out.old.items) }
+{
+    let blanks = end.saturating_sub(out.len());
+    out.resize(end, b' ')?;
+    Ok(blanks)
+}
+
+// Moves the last `count` bytes before the others that stand behind the first `start`.
+fn put_last_first(bytes: &mut [u8], start: usize, count: usize)
+    requires { start + count ≤ length bytes.old }
+    ensures { bytes.new ≡ take start bytes.old ++ drop (length bytes.old - count) bytes.old
+        ++ take (length bytes.old - start - count) (drop start bytes.old) }
+{
+    bytes[start..].rotate_right(count);
+}
+
+/// Makes what stands behind the first `start` bytes a field of the width, where there is one. "--format" of squeue(1).
+pub(crate) fn fit_if_sized(
+    out: &mut Vec<u8>,
+    start: usize,
+    width: Option<Ranged<1, 1024>>,
+    dot: bool,
+) -> Result<(), Memory>
+    requires { start ≤ length out.old.items }
+    ensures { OnOk result (out.new.items ≡ take start out.old.items ++ sized width dot (drop start out.old.items)) }
+{
+    match width {
+        None => Ok(()),
+        Some(width) => fit(out, start, width.get() as usize, dot),
     }
 }
 
-/// The same with the padding on the left, and a blank behind it.
+/// Writes the text with the padding on the left, and a blank behind it.
 #[tactic(auto, unfolding(crate::specs::Field::cell))]
 pub(crate) fn push_cell(out: &mut Vec<u8>, width: usize, text: &[u8]) -> Result<(), Memory>
     requires { width ≤ 1024 }
@@ -38,7 +68,7 @@ pub(crate) fn push_cell(out: &mut Vec<u8>, width: usize, text: &[u8]) -> Result<
     push_text(out, b" ")
 }
 
-/// The same with the padding on the right, and a blank behind it.
+/// Writes the text with the padding on the right, and a blank behind it.
 #[tactic(auto, unfolding(crate::specs::Field::left_cell))]
 pub(crate) fn push_left_cell(out: &mut Vec<u8>, width: usize, text: &[u8]) -> Result<(), Memory>
     requires { width ≤ 1024 }
@@ -48,11 +78,11 @@ pub(crate) fn push_left_cell(out: &mut Vec<u8>, width: usize, text: &[u8]) -> Re
     push_text(out, b" ")
 }
 
-fn push_blanks(out: &mut Vec<u8>, count: usize) -> Result<(), Memory>
-    requires { count ≤ 1024 }
-    ensures { OnOk result (out.new.items ≡ out.old.items ++ replicate count 32) }
+fn push_field(out: &mut Vec<u8>, width: usize, dot: bool, text: &[u8]) -> Result<(), Memory>
+    requires { width ≤ 1024 }
+    ensures { OnOk result (out.new.items ≡ out.old.items ++ field width dot text.now) }
 {
-    let len = out.len() + count;
-    out.resize(len, b' ')?;
-    Ok(())
+    let start = out.len();
+    push_text(out, text)?;
+    fit(out, start, width, dot)
 }

@@ -1,6 +1,7 @@
 //! The texts that answer what is asked of the controller.
 #![tactic(auto)]
 
+mod columns;
 mod field;
 mod line;
 pub mod malformed;

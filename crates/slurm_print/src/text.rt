@@ -23,6 +23,7 @@ pub fn text(alloc: Global, request: &Request, reply: &Reply) -> Result<Vec<u8>, 
     let mut out = Vec::new(alloc);
     match reply {
         Reply::Submitted { id } => push_submitted(&mut out, is_parsable(request), *id)?,
+        Reply::Done => {}
         Reply::Passed {
             ended,
             started,
@@ -87,9 +88,7 @@ fn push_shown(
     ensures { OnOk result (out.new.items ≡ out.old.items ++ shown_text request.now view.now) }
 {
     match request {
-        Request::Show(Query::Squeue { titles, starts }) => push_view(
-            alloc, out, *titles, *starts, view,
-        ),
+        Request::Show(Query::Squeue(query)) => push_view(alloc, out, query, view),
         Request::Show(Query::Sinfo { titles, .. }) => push_sinfo(alloc, out, *titles, view),
         _ => Ok(()),
     }
@@ -100,9 +99,10 @@ fn command(request: &Request) -> &'static [u8]
 {
     match request {
         Request::Submit(_) => b"sbatch",
+        Request::Cancel(_) => b"scancel",
         Request::Report(_) => b"report",
         Request::Pass => b"pass",
-        Request::Show(Query::Squeue { .. }) => b"squeue",
+        Request::Show(Query::Squeue(_)) => b"squeue",
         Request::Show(Query::Sinfo { .. }) => b"sinfo",
     }
 }

@@ -16,22 +16,27 @@ use Rattle.slurm_top.specs.Script.{IsScript}
 
 -- the laws of blocks that completeness rests on
 pub record Laws : Type 0 where
-  pub cut : (text : List ℕ) → (text ≡ spelled_all Plain (blocks_of Plain text) ++ rest_of Plain text) × All (IsBlock Plain) (blocks_of Plain text) × (IsPartial Plain (rest_of Plain text) ⊎ IsBad Plain (rest_of Plain text))
+  pub cut : (text : List ℕ) → (text ≡ spelled_all Plain (blocks_of Plain text) ++ rest_of Plain text) × All
+      (IsBlock Plain) (blocks_of Plain text) × (IsPartial Plain (rest_of Plain text) ⊎ IsBad Plain (rest_of Plain text))
   pub first : (blocks : List Block) (text : List ℕ) → All (IsBlock Plain) blocks
       → (blocks_of Plain (spelled_all Plain blocks ++ text) ≡ blocks ++ blocks_of Plain text)
       × (rest_of Plain (spelled_all Plain blocks ++ text) ≡ rest_of Plain text)
-  pub once : (blocks : List Block) (rest : List ℕ) → All (IsBlock Plain) blocks → IsPartial Plain rest ⊎ IsBad Plain rest
-      → (blocks_of Plain (spelled_all Plain blocks ++ rest) ≡ blocks) × (rest_of Plain (spelled_all Plain blocks ++ rest) ≡ rest)
+  pub once : (blocks : List Block) (rest : List ℕ) → All (IsBlock Plain) blocks
+      → IsPartial Plain rest ⊎ IsBad Plain rest
+      → (blocks_of Plain (spelled_all Plain blocks ++ rest) ≡ blocks) ×
+      (rest_of Plain (spelled_all Plain blocks ++ rest) ≡ rest)
   pub apart : (text : List ℕ) → IsBad Plain text → (¬ BeginsWithBlock Plain text) × (¬ IsPartial Plain text)
   pub stays : (text more : List ℕ) → IsBad Plain text → IsBad Plain (text ++ more)
   pub empty : IsPartial Plain []
 
 -- what was read, and what is left
-whole_input : (bytes : List ℕ) (left' : Option (List ℕ)) (read : List ℕ) → Consumes (Some bytes) left' read → (more : List ℕ) × (bytes ≡ read ++ more)
+whole_input : (bytes : List ℕ) (left' : Option (List ℕ)) (read : List ℕ) → Consumes (Some bytes) left' read
+    → (more : List ℕ) × (bytes ≡ read ++ more)
 whole_input bytes None read consumed = absurd consumed
 whole_input bytes (Some more) read consumed = (more, consumed)
 
-read_at_end : (bytes : List ℕ) (left' : Option (List ℕ)) (read : List ℕ) → Consumes (Some bytes) left' read → IsAtEnd left' → bytes ≡ read
+read_at_end : (bytes : List ℕ) (left' : Option (List ℕ)) (read : List ℕ) → Consumes (Some bytes) left' read
+    → IsAtEnd left' → bytes ≡ read
 read_at_end bytes None read consumed at_end = absurd consumed
 read_at_end bytes (Some more) read consumed at_end = consumed ∙ ap (λ l. read ++ l) at_end ∙ append-nil read
 
@@ -50,21 +55,34 @@ bad_goes_on laws read more bad none =
     let later : IsBad Plain (rest_of Plain read ++ more) = laws.stays (rest_of Plain read) more bad in
     let regrouped : read ++ more ≡ spelled_all Plain (blocks_of Plain read) ++ (rest_of Plain read ++ more) =
     ap (λ l. l ++ more) cut.0 ∙ append_assoc (spelled_all Plain (blocks_of Plain read)) (rest_of Plain read) more in
-    let rest : rest_of Plain (read ++ more) ≡ rest_of Plain read ++ more = ap (rest_of Plain) regrouped ∙ (laws.once (blocks_of Plain read) (rest_of Plain read ++ more) cut.1 (inr later)).1 in
+    let rest : rest_of Plain (read ++ more) ≡ rest_of Plain read ++ more = ap (rest_of Plain) regrouped
+    ∙ (laws.once (blocks_of Plain read) (rest_of Plain read ++ more) cut.1 (inr later)).1 in
     (laws.apart [] (subst (IsBad Plain) (sym rest ∙ none) later)).1 laws.empty
 
 -- bytes behind the most blocks make more blocks, or a rest
-no_more_blocks : Laws → (n : ℕ) (read more rest : List ℕ) → rest ≢ [] → read ≡ spelled_all Plain (take n (blocks_of Plain read)) ++ rest → n ≤ length (blocks_of Plain read)
+no_more_blocks : Laws → (n : ℕ) (read more rest : List ℕ) → rest ≢ []
+    → read ≡ spelled_all Plain (take n (blocks_of Plain read)) ++ rest → n ≤ length (blocks_of Plain read)
     → rest_of Plain (read ++ more) ≡ [] → length (blocks_of Plain (read ++ more)) ≤ n → ⊥
 no_more_blocks laws n read more rest some cut many none few =
-    let each : All (IsBlock Plain) (take n (blocks_of Plain read)) = All-take (IsBlock Plain) n (blocks_of Plain read) (laws.cut read).1 in
+    let each : All (IsBlock Plain) (take n (blocks_of Plain read)) =
+    All-take (IsBlock Plain) n (blocks_of Plain read) (laws.cut read).1 in
     let regrouped : read ++ more ≡ spelled_all Plain (take n (blocks_of Plain read)) ++ (rest ++ more) =
     ap (λ l. l ++ more) cut ∙ append_assoc (spelled_all Plain (take n (blocks_of Plain read))) rest more in
     let first = laws.first (take n (blocks_of Plain read)) (rest ++ more) each in
-    let blocks : blocks_of Plain (read ++ more) ≡ take n (blocks_of Plain read) ++ blocks_of Plain (rest ++ more) = ap (blocks_of Plain) regrouped ∙ first.0 in
+    let blocks : blocks_of Plain (read ++ more) ≡ take n (blocks_of Plain read) ++ blocks_of Plain (rest ++ more) =
+    ap (blocks_of Plain) regrouped ∙ first.0 in
     let after : rest_of Plain (rest ++ more) ≡ [] = sym (ap (rest_of Plain) regrouped ∙ first.1) ∙ none in
-    let nothing : blocks_of Plain (rest ++ more) ≡ [] = empty_if_short (blocks_of Plain (rest ++ more)) (omega (arith, few, ap length blocks, length-append (take n (blocks_of Plain read)) (blocks_of Plain (rest ++ more)), length-take-le n (blocks_of Plain read) many)) in
-    let gone : rest ++ more ≡ [] = (laws.cut (rest ++ more)).0 ∙ ap (λ bs. spelled_all Plain bs ++ rest_of Plain (rest ++ more)) nothing ∙ after in
+    let nothing : blocks_of Plain (rest ++ more) ≡ [] = empty_if_short (blocks_of Plain (rest ++ more))
+    (omega (
+      arith,
+      few,
+      ap length blocks,
+      length-append (take n (blocks_of Plain read))
+          (blocks_of Plain (rest ++ more)),
+      length-take-le n (blocks_of Plain read) many,
+    )) in
+    let gone : rest ++ more ≡ [] = (laws.cut (rest ++ more)).0
+    ∙ ap (λ bs. spelled_all Plain bs ++ rest_of Plain (rest ++ more)) nothing ∙ after in
     some (empty_front rest more gone)
 
 -- Why it can't have ended otherwise.

@@ -28,11 +28,19 @@ record On (old new : Outside) (end : End) (said : Option (Result ConfView ConfRe
   found : option_map conf_in (bytes_named files name) ≡ said
   ended : IsEndOn name old new end
 
-on_files : (told : Option (List ShelfFile)) (name : List ℕ) (old new : Outside) (end : End) (said : Option (Result ConfView ConfRefusal))
+on_files : (told : Option (List ShelfFile)) (name : List ℕ) (old new : Outside) (end : End)
+    (said : Option (Result ConfView ConfRefusal))
     → old.files ≡ told → IsEndOn name old new end
     → IsSomeAnd told (λ files. option_map conf_in (bytes_named files name) ≡ said) → On old new end said
 on_files None name old new end said e ended found = absurd found
-on_files (Some files) name old new end said e ended found = record { name = name; files = files; told = e; found = found; ended = ended }
+on_files (Some files) name old new end said e ended found = record {
+  name = name;
+  files = files;
+  told = e;
+  found =
+      found;
+  ended = ended;
+}
 
 on_named : (named : Option (List ℕ)) (old new : Outside) (end : End) (said : Option (Result ConfView ConfRefusal))
     → IfSome named (λ name. IsEndOn name old new end)
@@ -58,11 +66,13 @@ refused_on old new (Script how) line kind on none =
     let refused : conf_in on.ended.text ≡ Err (At line kind) = cc (says, on.found) in
     absurd (cc (opening_in-err on.ended.text (At line kind) refused, on.ended.opens))
 
-pub refused : (words : List (List ℕ)) (old new : Outside) (end : End) (line : ℕ) (kind : ConfKind) → IsEnd words old new end
+pub refused : (words : List (List ℕ)) (old new : Outside) (end : End) (line : ℕ) (kind : ConfKind)
+    → IsEnd words old new end
     → Finds words old.files (Some (Err (At line kind))) → CountsNone old.faults new.faults
     → (status_of end ≡ 3) ⊎ (status_of end ≡ 8)
 refused words old new end line kind ended finds none =
-    refused_on old new end line kind (on_named (conf_named words) old new end (Some (Err (At line kind))) ended.on finds) none
+    refused_on old new end line kind (on_named (conf_named words) old new end
+    (Some (Err (At line kind))) ended.on finds) none
 
 -- scripts of whole blocks are answered to their end
 abbrev pub WholeAnswered : Type 0
@@ -71,7 +81,8 @@ WholeAnswered = (s : State) (old new : Wire) (end : How) (bytes : List ℕ)
     → CountsNone old.reads new.reads → CountsNone old.writes new.writes
     → IsScript s old new end → (end ≡ how.Closed) ⊎ (end ≡ how.Memory)
 
-whole_input : WholeAnswered → (left : Option (List ℕ)) (s : State) (old new : Wire) (end : How) → old.left ≡ left → IsWholeScript left
+whole_input : WholeAnswered → (left : Option (List ℕ)) (s : State) (old new : Wire) (end : How) → old.left ≡ left
+    → IsWholeScript left
     → CountsNone old.reads new.reads → CountsNone old.writes new.writes → IsScript s old new end
     → (status_of (Script end) ≡ 0) ⊎ (status_of (Script end) ≡ 8)
 whole_input answered None s old new end e whole reads writes script = absurd whole
@@ -86,7 +97,8 @@ complete_on : WholeAnswered → (old new : Outside) (end : End) (conf : ConfView
     → CountsNone old.wire.reads new.wire.reads → CountsNone old.wire.writes new.wire.writes
     → (status_of end ≡ 0) ⊎ (status_of end ≡ 8)
 complete_on answered old new Usage conf on whole none reads writes = absurd on.ended
-complete_on answered old new NoConf conf on whole none reads writes = absurd (omega (arith, on.ended.0.0, none.0, none.1))
+complete_on answered old new NoConf conf on whole none reads writes =
+    absurd (omega (arith, on.ended.0.0, none.0, none.1))
 complete_on answered old new (BadConf line kind) conf on whole none reads writes =
     let says = says_found old on.name on.files on.ended.0.text on.told on.ended.0.is_text in
     absurd (cc (says, on.found, on.ended.0.is_said))
@@ -94,9 +106,11 @@ complete_on answered old new Memory conf on whole none reads writes = inr refl
 complete_on answered old new (Script how) conf on whole none reads writes =
     whole_input answered old.wire.left on.ended.opening old.wire new.wire how refl whole reads writes on.ended.script
 
-pub complete : WholeAnswered → (words : List (List ℕ)) (old new : Outside) (end : End) (conf : ConfView) → IsEnd words old new end
+pub complete : WholeAnswered → (words : List (List ℕ)) (old new : Outside) (end : End) (conf : ConfView)
+    → IsEnd words old new end
     → Finds words old.files (Some (Ok conf)) → IsWholeScript old.wire.left → CountsNone old.faults new.faults
     → CountsNone old.wire.reads new.wire.reads → CountsNone old.wire.writes new.wire.writes
     → (status_of end ≡ 0) ⊎ (status_of end ≡ 8)
 complete answered words old new end conf ended finds whole none reads writes =
-    complete_on answered old new end conf (on_named (conf_named words) old new end (Some (Ok conf)) ended.on finds) whole none reads writes
+    complete_on answered old new end conf (on_named (conf_named words) old new end
+    (Some (Ok conf)) ended.on finds) whole none reads writes

@@ -40,6 +40,7 @@ unfolding opening_in
 opening_in-same file other same = rw same refl
 
 -- a file that is refused gives no opening
-pub opening_in-err : (file : List ℕ) (refusal : ConfRefusal) → conf_in file ≡ Err refusal → opening_in file ≡ Err refusal
+pub opening_in-err : (file : List ℕ) (refusal : ConfRefusal) → conf_in file ≡ Err refusal
+    → opening_in file ≡ Err refusal
 unfolding opening_in
 opening_in-err file refusal refused = rw refused refl

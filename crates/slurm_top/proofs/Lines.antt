@@ -8,8 +8,10 @@ use Rattle.slurm_io.specs.Faults.{CountsFault}
 use Rattle.slurm_top.specs.Lines.{Tells}
 
 -- one call that writes all of a line
-pub tells_line : {T E : Type 0} (result : Result T E) (taken taken' : Option (List ℕ)) (faults faults' : ℕ) (line : List ℕ)
-    → OnOk result (Appends taken taken' line) → OnErr result (AppendsFront taken taken' line) → CountsFault faults faults' result
+pub tells_line : {T E : Type 0} (result : Result T E) (taken taken' : Option (List ℕ)) (faults faults' : ℕ)
+    (line : List ℕ)
+    → OnOk result (Appends taken taken' line) → OnErr result (AppendsFront taken taken' line)
+    → CountsFault faults faults' result
     → Tells taken taken' faults faults' line
 tells_line (Ok x) taken taken' faults faults' line written cut counted = record {
   begun = (length line, subst (Appends taken taken') (sym (take_all (length line) line (omega arith))) written);

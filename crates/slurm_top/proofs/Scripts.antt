@@ -33,7 +33,8 @@ record IsTold (opening : State) (e : Ending) : Type 0 where
   sound : (n : ℕ) → IsSound (state_behind_all opening (take n (map meaning_of (e.blocks ++ e.worked))))
 
 -- the answers at a desk that nobody else asks
-alone_at : (opening : State) (seat : Seat) (answers : List Answered) → Answers (sight_of (fresh opening)) (sight_of seat) answers
+alone_at : (opening : State) (seat : Seat) (answers : List Answered)
+    → Answers (sight_of (fresh opening)) (sight_of seat) answers
     → seat.before ≡ [] → Alone opening 0 seat.since 0 answers
 alone_at opening seat answers made none =
     let since : seat.since ≡ made.since = ap (λ (d : Sight). d.since) made.goes_on in
@@ -65,7 +66,8 @@ told_of old new opening seat ended e alike served =
       all = sym (flat_map-append (λ (a : Answered). a.reply) e.answers e.last)
           ∙ told_first opening 0 seat.since 0 (e.answers ++ e.last) [] alike sound alone_all
           ∙ ap (told_all opening) asked;
-      sound = λ n. subst (λ ms. IsSound (state_behind_all opening (take n ms))) asked (leads_soundly opening 0 seat.since 0 (e.answers ++ e.last) n alike sound alone);
+      sound = λ n. subst (λ ms. IsSound (state_behind_all opening (take n ms))) asked
+          (leads_soundly opening 0 seat.since 0 (e.answers ++ e.last) n alike sound alone);
     }
 
 map_take : {X Y : Type 0} (f : X → Y) (n : ℕ) (xs : List X) → take n (map f xs) ≡ map f (take n xs)
@@ -92,12 +94,15 @@ take_with_front (suc n) (x ∷ xs) ys fits =
     (more.0, ap (λ l. x ∷ l) more.1)
 
 -- of two texts, the first of them and a front of the second
-take_past : {X : Type 0} (xs ys zs : List X) (n : ℕ) → n ≤ length ys → take (length xs + n) ((xs ++ ys) ++ zs) ≡ xs ++ take n ys
+take_past : {X : Type 0} (xs ys zs : List X) (n : ℕ) → n ≤ length ys
+    → take (length xs + n) ((xs ++ ys) ++ zs) ≡ xs ++ take n ys
 take_past [] ys zs n fits = let e : 0 + n ≡ n = omega arith in rw e (take-append-le n ys zs fits)
-take_past (x ∷ xs) ys zs n fits = let e : suc (length xs) + n ≡ suc (length xs + n) = omega arith in rw e (ap (λ l. x ∷ l) (take_past xs ys zs n fits))
+take_past (x ∷ xs) ys zs n fits = let e : suc (length xs) + n
+    ≡ suc (length xs + n) = omega arith in rw e (ap (λ l. x ∷ l) (take_past xs ys zs n fits))
 
 -- what the blocks that were worked are told is the beginning of what the script is answered
-script_begins : (opening : State) (e : Ending) (others : List Block) → blocks_of Plain (read_by e) ≡ (e.blocks ++ e.worked) ++ others
+script_begins : (opening : State) (e : Ending) (others : List Block)
+    → blocks_of Plain (read_by e) ≡ (e.blocks ++ e.worked) ++ others
     → length (e.blocks ++ e.worked) ≤ most_blocks → IsTold opening e
     → (tail : List ℕ) × (script_of opening (read_by e) ≡ (replies e.answers ++ replies e.last) ++ tail)
 unfolding script_of
@@ -118,7 +123,8 @@ record IsAllRead (opening : State) (e : Ending) : Type 0 where
   rest_is : rest_of Plain (read_by e) ≡ e.rest
   script_is : script_of opening (read_by e) ≡ replies e.answers
 
-all_read : (opening : State) (e : Ending) → Laws → All (IsBlock Plain) e.blocks → IsPartial Plain e.rest ⊎ IsBad Plain e.rest → length (e.blocks ++ e.worked) ≤ most_blocks
+all_read : (opening : State) (e : Ending) → Laws → All (IsBlock Plain) e.blocks
+    → IsPartial Plain e.rest ⊎ IsBad Plain e.rest → length (e.blocks ++ e.worked) ≤ most_blocks
     → IsTold opening e → IsAllRead opening e
 unfolding script_of
 all_read opening e laws each kind few told =
@@ -133,35 +139,58 @@ all_read opening e laws each kind few told =
           ∙ sym told.whole;
     }
 
-written : (opening : State) (old new : Wire) (e : Ending) → IsWhole old new e → script_of opening (read_by e) ≡ replies e.answers → IsWritten opening old new (read_by e)
+written : (opening : State) (old new : Wire) (e : Ending) → IsWhole old new e
+    → script_of opening (read_by e) ≡ replies e.answers → IsWritten opening old new (read_by e)
 written opening old new e whole script_is = record { written = rw script_is whole.sent; writes = whole.writes }
 
 -- as many blocks as one session answers are the first of the blocks of what was read
-spent : (opening : State) (e : Ending) → Laws → All (IsBlock Plain) e.blocks → length e.blocks ≡ most_blocks → IsTold opening e
+spent : (opening : State) (e : Ending) → Laws → All (IsBlock Plain) e.blocks → length e.blocks ≡ most_blocks
+    → IsTold opening e
     → (take most_blocks (blocks_of Plain (read_by e)) ≡ e.blocks) × (script_of opening (read_by e) ≡ replies e.answers)
     × (length e.blocks ≤ length (blocks_of Plain (read_by e)))
 unfolding script_of
 spent opening e laws each many told =
     let cut = (laws.first e.blocks e.rest each).0 in
     let kept : take most_blocks (blocks_of Plain (read_by e)) ≡ e.blocks =
-    ap (take most_blocks) cut ∙ take-append-le most_blocks e.blocks (blocks_of Plain e.rest) (omega (arith, many)) ∙ take_all most_blocks e.blocks (omega (arith, many)) in (
+    ap (take most_blocks) cut ∙ take-append-le most_blocks e.blocks (blocks_of Plain e.rest) (omega (arith, many))
+    ∙ take_all most_blocks e.blocks (omega (arith, many)) in (
       kept,
       ap (λ bs. told_all opening (map meaning_of bs)) kept ∙ sym told.whole,
       omega (arith, ap length cut, length-append e.blocks (blocks_of Plain e.rest)),
     )
 
 -- How a session that no other one interrupts ended, as the end of a script.
-script_end : (opening : State) (old new : Wire) (e : Ending) (how : How) → Laws → All (IsBlock Plain) e.blocks → OneMore e → length (e.blocks ++ e.worked) ≤ most_blocks
+script_end : (opening : State) (old new : Wire) (e : Ending) (how : How) → Laws → All (IsBlock Plain) e.blocks
+    → OneMore e → length (e.blocks ++ e.worked) ≤ most_blocks
     → IsTold opening e → IsCause Plain old new e how → IsEndOf opening old new (read_by e) how
 script_end opening old new e how.Closed laws each more few told (whole, reads, at_end, none) =
-    let read = all_read opening e laws each (inl (rw none laws.empty)) few told in
-    (written opening old new e whole read.script_is, reads, at_end, read.rest_is ∙ none, rw read.blocks_are (omega (arith, few, length-append e.blocks e.worked)))
-script_end opening old new e (how.Truncated place) laws each more few told (whole, reads, at_end, partial, some, at, fewer) =
-    let read = all_read opening e laws each (inl partial) few told in
-    (written opening old new e whole read.script_is, reads, at_end, rw read.rest_is partial, rw read.rest_is some, rw read.blocks_are at, rw read.blocks_are fewer)
+    let read = all_read opening e laws each (inl (rw none laws.empty)) few told in (
+      written opening old new e whole read.script_is,
+      reads,
+      at_end,
+      read.rest_is
+          ∙ none,
+      rw read.blocks_are (omega (arith, few, length-append e.blocks e.worked)),
+    )
+script_end opening old new e (how.Truncated place) laws each more few told
+    (whole, reads, at_end, partial, some, at, fewer) =
+    let read = all_read opening e laws each (inl partial) few told in (
+      written opening old new e whole read.script_is,
+      reads,
+      at_end,
+      rw read.rest_is partial,
+      rw read.rest_is some,
+      rw read.blocks_are at,
+      rw read.blocks_are fewer,
+    )
 script_end opening old new e (how.Bad place) laws each more few told (whole, reads, bad, at, fewer) =
-    let read = all_read opening e laws each (inr bad) few told in
-    (written opening old new e whole read.script_is, reads, rw read.rest_is bad, rw read.blocks_are at, rw read.blocks_are fewer)
+    let read = all_read opening e laws each (inr bad) few told in (
+      written opening old new e whole read.script_is,
+      reads,
+      rw read.rest_is bad,
+      rw read.blocks_are at,
+      rw read.blocks_are fewer,
+    )
 script_end opening old new e how.ReadFault laws each more few told (whole, counted, partial) =
     let read = all_read opening e laws each (inl partial) few told in
     (written opening old new e whole read.script_is, counted)
@@ -179,13 +208,19 @@ script_end opening old new e how.WriteFault laws each more few told (reads, coun
       counted,
       (
         length (replies e.answers) + sent,
-        omega (arith, ap length start.1, length-append (replies e.answers ++ replies e.last) start.0, length-append (replies e.answers) (replies e.last)),
+        omega (
+          arith,
+          ap length start.1,
+          length-append (replies e.answers ++ replies e.last) start.0,
+          length-append (replies e.answers) (replies e.last),
+        ),
         rw (start.1, take_past (replies e.answers) (replies e.last) start.0 sent (omega arith)) sent_is,
       ),
     )
 script_end opening old new e how.Memory laws each more few told (reads, writes, sent) =
     let begun = worked_first laws e each more in
-    let cut : blocks_of Plain (read_by e) ≡ e.blocks ++ (e.worked ++ begun.0) = begun.1 ∙ append_assoc e.blocks e.worked begun.0 in
+    let cut : blocks_of Plain (read_by e) ≡ e.blocks ++ (e.worked ++ begun.0) = begun.1
+    ∙ append_assoc e.blocks e.worked begun.0 in
     let first = asked_all (read_by e) e.blocks (e.worked ++ begun.0) cut in (
       reads,
       writes,
@@ -194,7 +229,8 @@ script_end opening old new e how.Memory laws each more few told (reads, writes, 
 
 -- what was written, as a beginning of the answers to the blocks that were worked
 sent_of : (old new : Wire) (e : Ending) (how : How) → IsCause Plain old new e how
-    → (n : ℕ) × (n ≤ length (replies e.last)) × Appends old.taken new.taken (replies e.answers ++ take n (replies e.last))
+    → (n : ℕ) × (n ≤ length (replies e.last)) × Appends old.taken new.taken
+    (replies e.answers ++ take n (replies e.last))
 sent_of old new e how.Closed cause = (0, omega arith, rw append-nil cause.0.sent)
 sent_of old new e (how.Truncated place) cause = (0, omega arith, rw append-nil cause.0.sent)
 sent_of old new e (how.Bad place) cause = (0, omega arith, rw append-nil cause.0.sent)
@@ -218,12 +254,16 @@ script_of_session opening old new seat ended e alike laws served =
       end = script_end opening old new e ended.how laws served.blocks served.one_more served.bounded told served.cause;
       written = (
         length (replies e.answers) + sent.0,
-        let front : take (length (replies e.answers) + sent.0) (replies e.answers ++ replies e.last) ≡ replies e.answers ++ take sent.0 (replies e.last) =
+        let front : take (length (replies e.answers) + sent.0) (replies e.answers ++ replies e.last)
+            ≡ replies e.answers ++ take sent.0 (replies e.last) =
             ap (take (length (replies e.answers) + sent.0)) (sym (append-nil (replies e.answers ++ replies e.last)))
             ∙ take_past (replies e.answers) (replies e.last) [] sent.0 sent.1 in
             rw (asked, ← told.all, front) sent.2,
       );
-      sound = λ n below. rw (asked_up_to (n + 1) (read_by e) worked begun.0 begun.1 (omega (arith, below)), ← map_take meaning_of (n + 1) worked) (told.sound (n + 1));
+      sound = λ n below. rw (
+        asked_up_to (n + 1) (read_by e) worked begun.0 begun.1 (omega (arith, below)),
+        ← map_take meaning_of (n + 1) worked,
+      ) (told.sound (n + 1));
     }
 
 -- A session at a desk of its own, which no one asked before, is a script.

@@ -31,8 +31,8 @@ abbrev pub conf_named : List (List ℕ) → Option (List ℕ)
 conf_named (command ∷ mode ∷ option ∷ name ∷ []) = if is_script_call command mode option then Some name else None
 conf_named words = None
 
--- The outside of a run, but for errors: the files of its shelf, where it tells them, how many reads of these failed, and
--- its link.
+-- The outside of a run, but for errors: the files of its shelf, where it tells them, how many reads of these failed,
+-- and its link.
 pub record Outside : Type 0 where
   pub files : Option (List ShelfFile)
   pub faults : ℕ

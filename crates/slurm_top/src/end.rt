@@ -97,7 +97,8 @@ fn line_of(end: End) -> ArrayString<LINE_LEN>
     }
 }
 
-/// Writes the line of a run that ended so, in one piece, and passes over a fault: the status says what went wrong before.
+/// Writes the line of a run that ended so, in one piece, and passes over a fault: the status says what went wrong
+/// before.
 pub fn tell<E: Sink>(errors: &mut E, end: End)
     ensures { Tells (E.taken errors.old) (E.taken errors.new) (E.write_faults errors.old) (E.write_faults errors.new)
         (line_of end) }

@@ -97,8 +97,8 @@ pub enum WordsFault {
 /// or of want of memory.
 pub fn run_without_words<E: Sink>(errors: &mut E, fault: WordsFault) -> u8
     ensures status { result ≡ status_of (end_without_words fault) }
-    ensures errors { Tells (E.taken errors.old) (E.taken errors.new) (E.write_faults errors.old) (E.write_faults errors.new)
-        (line_of (end_without_words fault)) }
+    ensures errors { Tells (E.taken errors.old) (E.taken errors.new)
+        (E.write_faults errors.old) (E.write_faults errors.new) (line_of (end_without_words fault)) }
 {
     let end = match fault {
         WordsFault::NotText => End::Usage,
@@ -130,8 +130,8 @@ pub fn run<Q: Shelf, L: Link, E: Sink>(
     // The words are off exactly where the status says so.
     ensures usage { (result ≡ 2) ↔ (conf_named (map string_bytes words.now) ≡ None) }
 
-    // Where the shelf tells its files: a missing file is told by 5, a bad one by 3 unless its reading fails, but for want
-    // of memory.
+    // Where the shelf tells its files: a missing file is told by 5, a bad one by 3 unless its reading fails, but for
+    // want of memory.
     ensures missing { Finds (map string_bytes words.now) (Q.files shelf.old) None → (result ≡ 5) ⊎ (result ≡ 8) }
     ensures refused { (line : ℕ) → (kind : ConfKind)
         → Finds (map string_bytes words.now) (Q.files shelf.old) (Some (Err (ConfRefusal.At line kind)))

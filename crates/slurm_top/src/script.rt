@@ -16,8 +16,8 @@ use resource_profile::start;
 use slurm_io::Link;
 use std::alloc::Global;
 
-/// Answers the blocks of a link, by a controller of the cluster of a file slurm.conf(5) that no one else asks. Where the
-/// file is refused, or memory is wanting before, nothing is read or written.
+/// Answers the blocks of a link, by a controller of the cluster of a file slurm.conf(5) that no one else asks. Where
+/// the file is refused, or memory is wanting before, nothing is read or written.
 pub fn run_script<L: Link>(alloc: Global, file: &[u8], link: &mut L) -> Result<How, ConfRefusal>
     ensures ran { IfOk result (λ how. (s : State) × (opening_in file.now ≡ Ok s)
         × IsScript s (L.wire link.old) (L.wire link.new) how) }

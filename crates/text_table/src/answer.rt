@@ -16,6 +16,9 @@ pub enum Unanswered {
     Memory,
 }
 
+/// What the functions of a module answer: nothing where the call is none of theirs.
+pub type Called = Option<Result<Vec<u8>, Unanswered>>;
+
 impl From<AllocError> for Unanswered {
     fn from(_error: AllocError) -> Unanswered {
         Unanswered::Memory

@@ -1,6 +1,6 @@
 // Host expressions.
 
-use crate::answer::{LONGEST, Unanswered, refused, taken};
+use crate::answer::{Called, LONGEST, Unanswered, number, refused, taken};
 use slurm_text::folding::fold_hosts;
 use slurm_text::hosts::{HostRefusal, expand_hosts};
 use slurm_text::name::Name;
@@ -23,7 +23,7 @@ fn listed(alloc: Global, names: &[Name]) -> Result<Vec<u8>, Unanswered> {
     Ok(out)
 }
 
-pub fn expand(alloc: Global, text: &[u8]) -> Result<Vec<u8>, Unanswered> {
+fn expand(alloc: Global, text: &[u8]) -> Result<Vec<u8>, Unanswered> {
     if text.len() > LONGEST {
         return Err(Unanswered::Arguments);
     }
@@ -33,8 +33,8 @@ pub fn expand(alloc: Global, text: &[u8]) -> Result<Vec<u8>, Unanswered> {
     }
 }
 
-/// How many names there are, of no more than so many.
-pub fn count(alloc: Global, text: &[u8], most: u64) -> Result<Vec<u8>, Unanswered> {
+// How many names there are, of no more than so many.
+fn count(alloc: Global, text: &[u8], most: u64) -> Result<Vec<u8>, Unanswered> {
     if text.len() > LONGEST {
         return Err(Unanswered::Arguments);
     }
@@ -44,13 +44,28 @@ pub fn count(alloc: Global, text: &[u8], most: u64) -> Result<Vec<u8>, Unanswere
     }
 }
 
-/// The names of the text, folded.
-pub fn fold(alloc: Global, text: &[u8]) -> Result<Vec<u8>, Unanswered> {
+fn count_within(alloc: Global, text: &[u8], most: &[u8]) -> Result<Vec<u8>, Unanswered> {
+    count(alloc, text, number(most)?)
+}
+
+// The names of the text, folded.
+fn fold(alloc: Global, text: &[u8]) -> Result<Vec<u8>, Unanswered> {
     if text.len() > LONGEST {
         return Err(Unanswered::Arguments);
     }
     match expand_hosts(alloc, text, usize::MAX) {
         Ok(names) => Ok(fold_hosts(alloc, names.as_slice())?),
         Err(refusal) => refused_hosts(alloc, refusal),
+    }
+}
+
+/// `expand`, `count` and `fold`.
+pub fn call(alloc: Global, function: &str, arguments: &[&[u8]]) -> Called {
+    match (function, arguments) {
+        ("expand", [text]) => Some(expand(alloc, text)),
+        ("count", [text]) => Some(count(alloc, text, u64::MAX)),
+        ("count", [text, most]) => Some(count_within(alloc, text, most)),
+        ("fold", [text]) => Some(fold(alloc, text)),
+        _ => None,
     }
 }

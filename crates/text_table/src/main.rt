@@ -5,6 +5,7 @@ mod answer;
 mod blocks;
 mod fields;
 mod hosts;
+mod lines;
 mod picks;
 mod plans;
 mod profiles;

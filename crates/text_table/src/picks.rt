@@ -1,6 +1,6 @@
 // The choice of nodes for a job's tasks.
 
-use crate::answer::{Unanswered, push, taken};
+use crate::answer::{Called, Unanswered, push, taken};
 use crate::fields::{narrow_number, narrow_numbers};
 use node_pick::{Dealt, Need, pick as pick_places};
 use std::alloc::Global;
@@ -15,8 +15,8 @@ fn dealt_text(alloc: Global, dealt: &[Dealt]) -> Result<Vec<u8>, Unanswered> {
     Ok(out)
 }
 
-/// How many tasks each place can take, and the need: the tasks, and the least, the most and the required places.
-pub fn pick(
+// How many tasks each place can take, and the need: the tasks, and the least, the most and the required places.
+fn pick(
     alloc: Global,
     capacities: &[u8],
     tasks: &[u8],
@@ -36,5 +36,15 @@ pub fn pick(
         Ok(true) => dealt_text(alloc, dealt.as_slice()),
         Ok(false) => taken(alloc, &"none"),
         Err(_) => Err(Unanswered::Memory),
+    }
+}
+
+/// `pick`.
+pub fn call(alloc: Global, function: &str, arguments: &[&[u8]]) -> Called {
+    match (function, arguments) {
+        ("pick", [places, tasks, least, most, required]) => Some(pick(
+            alloc, places, tasks, least, most, required,
+        )),
+        _ => None,
     }
 }

@@ -2,7 +2,7 @@
 ghost use Rattle.std.specs.Prelude.{◌<◌, All, IfOk};
 ghost use Rattle.backfill_planner.specs.declared.job.PlanJob.{PlanJob};
 
-use crate::answer::{Unanswered, number, push};
+use crate::answer::{Called, Unanswered, number, push};
 use crate::fields::{narrow_number, narrow_numbers, parts};
 use backfill_planner::{Base, MemAsk, NodeList, PlanJob, Planned, plan as plan_jobs};
 use node_pick::Need;
@@ -155,8 +155,8 @@ fn planned_text(alloc: Global, planned: &Planned) -> Result<Vec<u8>, Unanswered>
     Ok(out)
 }
 
-/// The plan of the jobs, in order of rank, from the second `now` to the horizon, and how many steps it took.
-pub fn plan(
+// The plan of the jobs, in order of rank, from the second `now` to the horizon, and how many steps it took.
+fn plan(
     alloc: Global,
     rooms_text: &[u8],
     horizon: &[u8],
@@ -182,4 +182,12 @@ pub fn plan(
     let count = steps.count();
     push(alloc, &mut out, &format_args!("in {count}"))?;
     Ok(out)
+}
+
+/// `plan`.
+pub fn call(alloc: Global, function: &str, arguments: &[&[u8]]) -> Called {
+    match (function, arguments) {
+        ("plan", [rooms, horizon, now, jobs]) => Some(plan(alloc, rooms, horizon, now, jobs)),
+        _ => None,
+    }
 }

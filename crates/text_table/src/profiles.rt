@@ -1,7 +1,7 @@
 // Holds on the rooms of nodes.
 ghost use Rattle.std.specs.Prelude.{◌≡◌};
 
-use crate::answer::{Unanswered, number, push, taken};
+use crate::answer::{Called, Unanswered, number, push, taken};
 use crate::fields::{narrow_number, parts};
 use crate::plans::rooms;
 use resource_profile::{Hold, NodeRoom, Profile};
@@ -57,7 +57,7 @@ fn held(alloc: Global, rooms_text: &[u8], holds: &[u8]) -> Result<Profile, Unans
 }
 
 /// The least that is free of a node over a window, as `CPUS/MEM`.
-pub fn free(
+fn free(
     alloc: Global,
     rooms: &[u8],
     holds: &[u8],
@@ -77,15 +77,21 @@ pub fn free(
 }
 
 /// The next end of a hold that is later than a second.
-pub fn rise(
-    alloc: Global,
-    rooms: &[u8],
-    holds: &[u8],
-    after: &[u8],
-) -> Result<Vec<u8>, Unanswered> {
+fn rise(alloc: Global, rooms: &[u8], holds: &[u8], after: &[u8]) -> Result<Vec<u8>, Unanswered> {
     let profile = held(alloc, rooms, holds)?;
     match profile.next_rise(number(after)?) {
         Some(end) => taken(alloc, &end),
         None => taken(alloc, &"none"),
+    }
+}
+
+/// `free` and `rise`.
+pub fn call(alloc: Global, function: &str, arguments: &[&[u8]]) -> Called {
+    match (function, arguments) {
+        ("free", [rooms, holds, node, from, until]) => Some(free(
+            alloc, rooms, holds, node, from, until,
+        )),
+        ("rise", [rooms, holds, after]) => Some(rise(alloc, rooms, holds, after)),
+        _ => None,
     }
 }

@@ -1,7 +1,7 @@
 // The lines of a table, one after another.
 
-use crate::answer::{Unanswered, number};
-use crate::{blocks, hosts, picks, plans, profiles, rows, texts, times, words};
+use crate::answer::{Called, Unanswered};
+use crate::{blocks, hosts, lines, picks, plans, profiles, texts, times, words};
 use percent_encoding::{AsciiSet, CONTROLS, percent_decode, percent_encode};
 use std::alloc::{AllocError, Global};
 
@@ -21,42 +21,26 @@ fn arguments(alloc: Global, text: &str) -> Result<Vec<Vec<u8>>, AllocError> {
 }
 
 // The functions of small texts.
-fn text_answer(alloc: Global, function: &str, arguments: &[&[u8]]) -> Result<Vec<u8>, Unanswered> {
-    match (function, arguments) {
-        ("name", [text]) => texts::name(alloc, text),
-        ("job_name", [text]) => texts::job_name(alloc, text),
-        ("number", [text, most, greatest]) => texts::number(alloc, text, most, greatest),
-        ("memory", [text]) => texts::memory(alloc, text),
-        ("moment", [text, now]) => texts::moment(alloc, text, now),
-        ("print_moment", [moment]) => texts::print_moment(alloc, moment),
-        ("expand", [text]) => hosts::expand(alloc, text),
-        ("count", [text]) => hosts::count(alloc, text, u64::MAX),
-        ("count", [text, most]) => hosts::count(alloc, text, number(most)?),
-        ("fold", [text]) => hosts::fold(alloc, text),
-        ("split", [line]) => words::split(alloc, line),
-        ("quote", [list]) => words::quote(alloc, list),
-        ("limit", [text]) => times::limit(alloc, text),
-        ("elapsed", [seconds]) => times::elapsed(alloc, seconds),
-        ("compare", [a, b, c, d]) => times::compare(alloc, a, b, c, d),
-        ("scaled", [weight, num, den]) => times::scaled(alloc, weight, num, den),
-        _ => Err(Unanswered::Arguments),
-    }
+fn call_of_texts(alloc: Global, function: &str, arguments: &[&[u8]]) -> Called {
+    texts::call(alloc, function, arguments)
+        .or_else(|| hosts::call(alloc, function, arguments))
+        .or_else(|| words::call(alloc, function, arguments))
+        .or_else(|| times::call(alloc, function, arguments))
+}
+
+// Those of jobs and their nodes.
+fn call_of_jobs(alloc: Global, function: &str, arguments: &[&[u8]]) -> Called {
+    lines::call(alloc, function, arguments)
+        .or_else(|| picks::call(alloc, function, arguments))
+        .or_else(|| plans::call(alloc, function, arguments))
+        .or_else(|| profiles::call(alloc, function, arguments))
 }
 
 fn answer(alloc: Global, function: &str, arguments: &[&[u8]]) -> Result<Vec<u8>, Unanswered> {
-    match (function, arguments) {
-        ("cut", [piece, text]) => blocks::cut(alloc, piece, text),
-        ("row", [columns, job]) => rows::row(alloc, columns, job),
-        ("pick", [places, tasks, least, most, required]) => {
-            picks::pick(alloc, places, tasks, least, most, required)
-        }
-        ("plan", [rooms, horizon, now, jobs]) => plans::plan(alloc, rooms, horizon, now, jobs),
-        ("free", [rooms, holds, node, from, until]) => {
-            profiles::free(alloc, rooms, holds, node, from, until)
-        }
-        ("rise", [rooms, holds, after]) => profiles::rise(alloc, rooms, holds, after),
-        _ => text_answer(alloc, function, arguments),
-    }
+    call_of_texts(alloc, function, arguments)
+        .or_else(|| blocks::call(alloc, function, arguments))
+        .or_else(|| call_of_jobs(alloc, function, arguments))
+        .unwrap_or(Err(Unanswered::Arguments))
 }
 
 fn push_answer(alloc: Global, out: &mut String, line: &str) -> Result<(), AllocError> {

@@ -1,6 +1,6 @@
 // Names, numbers, amounts of memory and moments.
 
-use crate::answer::{Unanswered, number as argument, refused, taken};
+use crate::answer::{Called, Unanswered, number as argument, refused, taken};
 use slurm_text::digits::parse_number;
 use slurm_text::memory::parse_mem;
 use slurm_text::moment;
@@ -23,21 +23,21 @@ fn refused_name(alloc: Global, refusal: NameRefusal) -> Result<Vec<u8>, Unanswer
     }
 }
 
-pub fn name(alloc: Global, text: &[u8]) -> Result<Vec<u8>, Unanswered> {
+fn name(alloc: Global, text: &[u8]) -> Result<Vec<u8>, Unanswered> {
     match Name::read(alloc, text) {
         Ok(name) => quoted(alloc, name.as_bytes()),
         Err(refusal) => refused_name(alloc, refusal),
     }
 }
 
-pub fn job_name(alloc: Global, text: &[u8]) -> Result<Vec<u8>, Unanswered> {
+fn job_name(alloc: Global, text: &[u8]) -> Result<Vec<u8>, Unanswered> {
     match JobName::read(alloc, text) {
         Ok(name) => quoted(alloc, name.as_bytes()),
         Err(refusal) => refused_name(alloc, refusal),
     }
 }
 
-pub fn number(
+fn number(
     alloc: Global,
     text: &[u8],
     most_digits: &[u8],
@@ -50,21 +50,21 @@ pub fn number(
     }
 }
 
-pub fn memory(alloc: Global, text: &[u8]) -> Result<Vec<u8>, Unanswered> {
+fn memory(alloc: Global, text: &[u8]) -> Result<Vec<u8>, Unanswered> {
     match parse_mem(text) {
         Ok(megabytes) => taken(alloc, &megabytes),
         Err(refusal) => refused(alloc, &refusal),
     }
 }
 
-pub fn moment(alloc: Global, text: &[u8], now: &[u8]) -> Result<Vec<u8>, Unanswered> {
+fn moment(alloc: Global, text: &[u8], now: &[u8]) -> Result<Vec<u8>, Unanswered> {
     match parse_moment(text, argument(now)?) {
         Ok(moment) => taken(alloc, &moment),
         Err(refusal) => refused(alloc, &refusal),
     }
 }
 
-pub fn print_moment(alloc: Global, moment: &[u8]) -> Result<Vec<u8>, Unanswered> {
+fn print_moment(alloc: Global, moment: &[u8]) -> Result<Vec<u8>, Unanswered> {
     let moment = argument(moment)?;
     if moment > 253_402_300_799 {
         return Err(Unanswered::Arguments);
@@ -72,4 +72,17 @@ pub fn print_moment(alloc: Global, moment: &[u8]) -> Result<Vec<u8>, Unanswered>
     let mut out = [0; 19];
     moment::print_moment(moment, &mut out);
     Ok(Vec::from_slice(alloc, &out)?)
+}
+
+/// `name`, `job_name`, `number`, `memory`, `moment` and `print_moment`.
+pub fn call(alloc: Global, function: &str, arguments: &[&[u8]]) -> Called {
+    match (function, arguments) {
+        ("name", [text]) => Some(name(alloc, text)),
+        ("job_name", [text]) => Some(job_name(alloc, text)),
+        ("number", [text, most, greatest]) => Some(number(alloc, text, most, greatest)),
+        ("memory", [text]) => Some(memory(alloc, text)),
+        ("moment", [text, now]) => Some(moment(alloc, text, now)),
+        ("print_moment", [moment]) => Some(print_moment(alloc, moment)),
+        _ => None,
+    }
 }

@@ -1,14 +1,14 @@
 // Time limits, lengths of time, fractions and shares.
 ghost use Rattle.std.specs.Prelude.{◌<◌, ◌^◌, IfOk};
 
-use crate::answer::{Unanswered, number, refused, taken};
+use crate::answer::{Called, Unanswered, number, refused, taken};
 use slurm_num::plain::Limit;
 use slurm_num::{Ratio, parse_limit, print_elapsed};
 use std::alloc::Global;
 use std::cmp::Ordering;
 
-/// A limit in minutes.
-pub fn limit(alloc: Global, text: &[u8]) -> Result<Vec<u8>, Unanswered> {
+// A limit in minutes.
+fn limit(alloc: Global, text: &[u8]) -> Result<Vec<u8>, Unanswered> {
     match &parse_limit(text) {
         Ok(Limit::Unlimited) => taken(alloc, &"unlimited"),
         Ok(Limit::Minutes(minutes)) => taken(alloc, &minutes.get()),
@@ -16,7 +16,7 @@ pub fn limit(alloc: Global, text: &[u8]) -> Result<Vec<u8>, Unanswered> {
     }
 }
 
-pub fn elapsed(alloc: Global, seconds: &[u8]) -> Result<Vec<u8>, Unanswered> {
+fn elapsed(alloc: Global, seconds: &[u8]) -> Result<Vec<u8>, Unanswered> {
     let seconds = number(seconds)?;
     if seconds > 1_000_000_000_000 {
         return Err(Unanswered::Arguments);
@@ -39,8 +39,8 @@ fn ratio(num: u64, den: u64) -> Result<Ratio, Unanswered>
     })
 }
 
-/// The order of two fractions.
-pub fn compare(
+// The order of two fractions.
+fn compare(
     alloc: Global,
     num: &[u8],
     den: &[u8],
@@ -56,7 +56,7 @@ pub fn compare(
     }
 }
 
-pub fn scaled(alloc: Global, weight: &[u8], num: &[u8], den: &[u8]) -> Result<Vec<u8>, Unanswered> {
+fn scaled(alloc: Global, weight: &[u8], num: &[u8], den: &[u8]) -> Result<Vec<u8>, Unanswered> {
     let (num, den) = (number(num)?, number(den)?);
     let Ok(weight) = u32::try_from(number(weight)?) else {
         return Err(Unanswered::Arguments);
@@ -65,4 +65,15 @@ pub fn scaled(alloc: Global, weight: &[u8], num: &[u8], den: &[u8]) -> Result<Ve
         return Err(Unanswered::Arguments);
     }
     taken(alloc, &slurm_num::scaled(weight, num, den))
+}
+
+/// `limit`, `elapsed`, `compare` and `scaled`.
+pub fn call(alloc: Global, function: &str, arguments: &[&[u8]]) -> Called {
+    match (function, arguments) {
+        ("limit", [text]) => Some(limit(alloc, text)),
+        ("elapsed", [seconds]) => Some(elapsed(alloc, seconds)),
+        ("compare", [a, b, c, d]) => Some(compare(alloc, a, b, c, d)),
+        ("scaled", [weight, num, den]) => Some(scaled(alloc, weight, num, den)),
+        _ => None,
+    }
 }

@@ -1,6 +1,6 @@
 // Words of a line, as a shell reads and writes them.
 
-use crate::answer::{LONGEST, Unanswered, refused};
+use crate::answer::{Called, LONGEST, Unanswered, refused};
 use crate::fields::parts;
 use slurm_text::words::{Words, WordsRefusal, quote_words, split_words, words_of};
 use std::alloc::Global;
@@ -23,7 +23,7 @@ fn bracketed(alloc: Global, words: &Words) -> Result<Vec<u8>, Unanswered> {
     Ok(out)
 }
 
-pub fn split(alloc: Global, line: &[u8]) -> Result<Vec<u8>, Unanswered> {
+fn split(alloc: Global, line: &[u8]) -> Result<Vec<u8>, Unanswered> {
     if line.len() > LONGEST {
         return Err(Unanswered::Arguments);
     }
@@ -49,8 +49,8 @@ fn list_of(alloc: Global, list: &[u8]) -> Result<Vec<String>, Unanswered> {
     Ok(texts)
 }
 
-/// The line that the words, each ended by `;`, are quoted as.
-pub fn quote(alloc: Global, list: &[u8]) -> Result<Vec<u8>, Unanswered> {
+// The line that the words, each ended by `;`, are quoted as.
+fn quote(alloc: Global, list: &[u8]) -> Result<Vec<u8>, Unanswered> {
     let list = list_of(alloc, list)?;
     if list.len() > LONGEST {
         return Err(Unanswered::Arguments);
@@ -58,5 +58,14 @@ pub fn quote(alloc: Global, list: &[u8]) -> Result<Vec<u8>, Unanswered> {
     match words_of(alloc, list.as_slice()) {
         Ok(words) => Ok(quote_words(alloc, &words)?),
         Err(refusal) => refused_words(alloc, refusal),
+    }
+}
+
+/// `split` and `quote`.
+pub fn call(alloc: Global, function: &str, arguments: &[&[u8]]) -> Called {
+    match (function, arguments) {
+        ("split", [line]) => Some(split(alloc, line)),
+        ("quote", [list]) => Some(quote(alloc, list)),
+        _ => None,
     }
 }

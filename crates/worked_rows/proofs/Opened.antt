@@ -40,6 +40,9 @@ use Rattle.sbatch_reader.specs.Drafts.{nothing_said as no_option_said, after, dr
 use Rattle.sbatch_reader.specs.Job.{all_said, job_in}
 use Rattle.sbatch_reader.specs.Lines.{split_text, one_line_says, script_says}
 use Rattle.command_words.specs.Report.{start_of, done_of, listed_of, listed_by, report_by}
+use Rattle.command_words.specs.Targets.{target_of, targets_by, state_by, states_by}
+use Rattle.command_words.specs.Cancel.{cancel_words, scancel_options, scancel_by}
+use Rattle.squeue_format.specs.Format.{column_of, width_of, column_by, part_in, format_in, usual}
 use Rattle.command_words.specs.Queries.{query_words, squeue_options, sinfo_options, squeue_by, sinfo_by}
 use Rattle.node_pick.specs.Choosing.{numbers_from, filled_sets, sets, fits, chosen}
 use Rattle.resource_profile.specs.Free.{least_after}
@@ -47,17 +50,20 @@ use Rattle.backfill_planner.specs.Giving.{capacities}
 use Rattle.backfill_planner.specs.Plans.{placement_at, first_second, placed_of, plan_beside, plan_of}
 use Rattle.partitions.specs.Partitions.{bounds_of}
 use Rattle.ctl_state.specs.Ordered.{ordered_by}
-use Rattle.ctl_state.specs.Planning.{node_order, plan_job}
+use Rattle.ctl_state.specs.Events.{tasks_holding}
+use Rattle.ctl_state.specs.Planning.{names_of, node_order, plan_job}
 use Rattle.ctl_state.specs.Holding.{times_held, free_ids}
 use Rattle.ctl_pass.specs.Reasons.{hindrance}
-use Rattle.ctl_pass.specs.Readiness.{base_of, candidates, needs_of, ranked, planned}
-use Rattle.ctl_pass.specs.Starting.{started}
+use Rattle.ctl_pass.specs.Readiness.{arrays_left, base_of, candidates, needs_of, ranked, planned}
+use Rattle.ctl_pass.specs.Starting.{may_start, started}
 use Rattle.ctl_pass.specs.Passing.{is_idle}
-use Rattle.ctl_core.specs.Submission.{is_placeable}
+use Rattle.ctl_submit.specs.Submission.{is_placeable, new_jobs, terms_of}
+use Rattle.ctl_cancel.specs.Cancelling.{job_refusal, target_refusal}
 use Rattle.ctl_report.specs.Ordering.{in_order, orders_of}
 use Rattle.slurm_print.specs.Ranges.{run_text}
-use Rattle.ctl_core.specs.Showing.{highest, names_of, row_of, view_of}
-use Rattle.ctl_core.specs.Standing.{cpus_held, names_standing, rows_of_partition, state_rows}
+use Rattle.ctl_show.specs.Showing.{highest, is_shown, row_of, view_of}
+use Rattle.ctl_show.specs.Standing.{cpus_held, names_standing, rows_of_partition, state_rows}
+use Rattle.slurm_print.specs.Squeue.{told as told_of, title, line}
 use Rattle.slurm_print.specs.Field.{field, cell, left_cell}
 use Rattle.slurm_text.specs.Folding.{in_byte_order, digits_len, grouped, run_text as folded_run, group_text, folded}
 
@@ -92,13 +98,16 @@ headers = tt
 -- what reports and queries say
 unfoldable pub told : Unit {0}
 unfolding start_of done_of listed_of listed_by report_by query_words squeue_options sinfo_options squeue_by sinfo_by
+    target_of targets_by state_by states_by cancel_words scancel_options scancel_by column_of width_of column_by
+    part_in format_in usual
 told = tt
 
 -- plans, and what starts by them
 unfoldable pub plans : Unit {0}
 unfolding numbers_from filled_sets sets fits chosen least_after capacities placement_at first_second placed_of
     plan_beside plan_of bounds_of ordered_by node_order plan_job times_held free_ids hindrance base_of candidates
-    needs_of ranked planned started is_idle is_placeable
+    needs_of ranked planned arrays_left tasks_holding names_of may_start started is_idle is_placeable new_jobs
+    terms_of job_refusal target_refusal
 plans = tt
 
 -- what nodes are ordered
@@ -108,6 +117,6 @@ orders = tt
 
 -- what is shown
 unfoldable pub rows : Unit {0}
-unfolding highest names_of row_of view_of cpus_held names_standing rows_of_partition state_rows elapsed_text field
+unfolding highest is_shown row_of view_of told_of title line cpus_held names_standing rows_of_partition state_rows elapsed_text field
     cell left_cell in_byte_order digits_len grouped folded_run group_text folded
 rows = tt

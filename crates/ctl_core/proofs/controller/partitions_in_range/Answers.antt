@@ -6,7 +6,10 @@ use Rattle.ctl_core.proofs.controller.partitions_in_range.Goals as goal
 pub loop-partition-preserved : goal.loop-partition-preserved
 loop-partition-preserved c =
     All-more HasLimits c.args.partitions.now c.loop-partition.partition-index c.partition-item.result
-    c.loop-partition-test.true c.loop-partition.invariant (rw (← c.partition-item.is) c.has_limits.ensures)
+    c.loop-partition-test.true c.loop-partition.invariant
+    (rw (← c.partition-item.is) c.has_limits.ensures)
 
 pub returns : goal.returns
-returns c = rw (take_all c.loop-partition.partition-index c.args.partitions.now c.loop-partition-test.false) at c.loop-partition.invariant
+returns c =
+    rw (take_all c.loop-partition.partition-index c.args.partitions.now c.loop-partition-test.false)
+    at c.loop-partition.invariant

@@ -4,8 +4,18 @@ use Rattle.ctl_core.proofs.passing.pass.Goals as goal
 
 pub overflow_cast-started : goal.overflow_cast-started
 overflow_cast-started g c =
-    omega (arith, c.len-started.ensures, ap length c.in_ok-decided.ensures.decided.starts, c.few_start_or_stay.ensures (state_of c.args.cluster.now) c.args.moment c.requires.sound)
+    omega (
+      arith,
+      c.len-started.ensures,
+      ap length c.in_ok-decided.ensures.decided.starts,
+      c.few_start_or_stay.ensures (state_of c.args.cluster.now) c.args.moment c.requires.sound,
+    )
 
 pub overflow_cast-planned : goal.overflow_cast-planned
 overflow_cast-planned g c =
-    omega (arith, c.len-planned.ensures, ap length c.in_ok-decided.ensures.decided.stays, c.few_start_or_stay.ensures (state_of c.args.cluster.now) c.args.moment c.requires.sound)
+    omega (
+      arith,
+      c.len-planned.ensures,
+      ap length c.in_ok-decided.ensures.decided.stays,
+      c.few_start_or_stay.ensures (state_of c.args.cluster.now) c.args.moment c.requires.sound,
+    )

@@ -1,13 +1,23 @@
 use Rattle.std.proofs.Common.{arith}
 use Rattle.ctl_state.specs.State.{state_of}
-use Rattle.ctl_pass.proofs.Passes.{readied, base-within}
+use Rattle.ctl_pass.proofs.Planned.{base-within}
+use Rattle.ctl_pass.proofs.Readied.{readied}
 use Rattle.ctl_pass.proofs.base.base_of.Goals as goal
 
 pub invariant_of-result : goal.invariant_of-result
 invariant_of-result c =
     let s = state_of c.args.cluster.now in
-    let sound = c.what_a_pass_plans_is_sound.ensures s c.args.now c.requires.sound c.requires.raised c.requires.in_time in (
-      rw (c.from_vec.ensures, c.from_vec-2.ensures, c.in_ok-rooms.ensures, c.in_ok-holds.ensures, c.records.ensures.value, c.deref.ensures.value, c.get-age.ensures.value)
+    let sound = c.what_a_pass_plans_is_sound.ensures s c.args.now c.requires.sound c.requires.raised
+    c.requires.in_time in (
+      rw (
+        c.from_vec.ensures,
+        c.from_vec-2.ensures,
+        c.in_ok-rooms.ensures,
+        c.in_ok-holds.ensures,
+        c.records.ensures.value,
+        c.records-2.ensures.value,
+        c.get-age.ensures.value,
+      )
           (base-within (readied s c.args.now) sound),
       omega (arith, c.get.ensures.value, c.requires.sound.settings.window.1, c.requires.in_time),
     )

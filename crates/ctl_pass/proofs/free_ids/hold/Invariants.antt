@@ -1,5 +1,5 @@
 use Rattle.std.proofs.Common.{length, take, [], ◌∷◌}
-use Rattle.ctl_state.specs.declared.record.Part.{Part}
+use Rattle.job_table.specs.declared.record.Part.{Part}
 use Rattle.ctl_pass.specs.HeldIds.{AddsParts}
 use Rattle.ctl_pass.proofs.free_ids.hold.Given as goal
 

@@ -6,26 +6,40 @@ use Rattle.ctl_state.specs.Planning.{room_of}
 use Rattle.ctl_state.specs.State.{state_of}
 use Rattle.ctl_pass.specs.Limits.{is_over}
 use Rattle.ctl_pass.specs.Readiness.{ready}
-use Rattle.ctl_pass.proofs.Passes.{base-rooms, plan-is, few-jobs}
+use Rattle.ctl_pass.proofs.Planned.{base-rooms, plan-is, few-jobs}
 use Rattle.ctl_pass.proofs.pass.decide.Goals as goal
 
 pub plan-requires : goal.plan-requires
 plan-requires g c =
     let s = state_of c.args.cluster.now in
-    let rooms : length c.in_ok-base.base.rooms ≡ length s.nodes = ap length (base-rooms (ready s c.args.now) c.args.now c.in_ok-base.base c.in_ok-base.ensures) ∙ length-map s.nodes room_of in
-    record { nodes = λ k d below place node inside. omega (arith, rooms, c.in_ok-ranked.ensures.nodes k d below place node inside) }
+    let rooms : length c.in_ok-base.base.rooms ≡ length s.nodes =
+    ap length (base-rooms (ready s c.args.now) c.args.now c.in_ok-base.base c.in_ok-base.ensures)
+    ∙ length-map s.nodes room_of in
+    record {
+      nodes = λ k d below place node inside.
+          omega (arith, rooms, c.in_ok-ranked.ensures.nodes k d below place node inside);
+    }
 
 pub split-requires-clause-plan : goal.split-requires-clause-plan
 split-requires-clause-plan g c =
     c.into_placements.ensures
-    ∙ plan-is (state_of c.args.cluster.now) c.args.now c.in-Ok.planned c.in_ok-base.base c.in_ok-ranked.ranked.items c.in-Ok.ensures.parts c.in_ok-base.ensures c.in_ok-ranked.ensures.ranked
+    ∙ plan-is (state_of c.args.cluster.now) c.args.now c.in-Ok.planned c.in_ok-base.base c.in_ok-ranked.ranked.items
+    c.in-Ok.ensures.parts c.in_ok-base.ensures c.in_ok-ranked.ensures.ranked
 
 pub split-requires-clause-parts : goal.split-requires-clause-parts
 split-requires-clause-parts g c =
     let s = state_of c.args.cluster.now in
-    let are : c.into_placements.result.items ≡ plan_of c.in_ok-base.base c.in_ok-ranked.ranked.items c.args.now = c.into_placements.ensures
+    let are : c.into_placements.result.items ≡ plan_of c.in_ok-base.base c.in_ok-ranked.ranked.items c.args.now =
+    c.into_placements.ensures
     ∙ ap (λ (one : PlannedView). plan_of one.base one.ranked one.moment) c.in-Ok.ensures.parts in
     rw (are, ← base-rooms (ready s c.args.now) c.args.now c.in_ok-base.base c.in_ok-base.ensures) c.in-Ok.ensures.apart
 
 pub overflow_cast-result : goal.overflow_cast-result
-overflow_cast-result g c = omega (arith, c.count_over.ensures, ap length c.deref.ensures.value, count_by-le-length (is_over c.args.now) c.deref.result.now, few-jobs _ c.requires.sound)
+overflow_cast-result g c =
+    omega (
+      arith,
+      c.count_over.ensures,
+      ap length c.records-2.ensures.value,
+      count_by-le-length (is_over c.args.now) c.records-2.result.now,
+      few-jobs _ c.requires.sound,
+    )

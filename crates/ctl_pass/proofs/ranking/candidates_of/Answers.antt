@@ -9,4 +9,5 @@ use Rattle.ctl_pass.proofs.ranking.candidates_of.Goals as goal
 pub returns : goal.returns
 returns c =
     IfOk-at_ok _ c.in_ok-collect.was (map_from_collect _ c.collect.ensures.ran
-    (YieldsList-from_filter _ (is_candidate (state_of c.args.cluster.now)) (YieldsList-from_slice c.args.cluster.now.jobs.items cc) c.filter.ensures.closure (λ x b q k. search rules)))
+    (YieldsList-from_filter _ (is_candidate (state_of c.args.cluster.now))
+    (YieldsList-from_slice c.args.cluster.now.jobs.records cc) c.filter.ensures.closure (λ x b q k. search rules)))

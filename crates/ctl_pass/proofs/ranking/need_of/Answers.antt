@@ -20,9 +20,11 @@ bounds-orders-job c =
 pub plan_job-requires-clause-there : goal.plan_job-requires-clause-there
 plan_job-requires-clause-there c =
     let nodes = c.args.cluster.now.nodes.records in
-    rw c.records-nodes.ensures.value (at-place (IsOnNodes (length nodes)) c.args.cluster.now.partitions _ _ c.requires.partitions (sym c.in-Some.ensures))
+    rw c.records-nodes.ensures.value (at-place (IsOnNodes (length nodes)) c.args.cluster.now.partitions _ _
+    c.requires.partitions (sym c.in-Some.ensures))
 
 pub plan_job-requires-clause-order : goal.plan_job-requires-clause-order
 plan_job-requires-clause-order c =
     rw c.records-nodes.ensures.value
-    (c.as_slice-order.ensures ∙ order-at c.args.cluster.now.nodes.records _ _ _ _ _ c.requires.orders (sym c.in-Some.ensures) c.index-orders-job.is)
+    (c.as_slice-order.ensures ∙ order-at c.args.cluster.now.nodes.records _ _ _ _ _ c.requires.orders
+    (sym c.in-Some.ensures) c.index-orders-job.is)

@@ -1,7 +1,7 @@
 use Rattle.std.proofs.Common.{◌≤◌, ◌<◌, All, Bor, length, append-nil, refl}
 use Rattle.std.proofs.lemmas.List.Elements.{All-push}
 use Rattle.backfill_planner.specs.declared.job.PlanJob.{PlanJob}
-use Rattle.ctl_state.specs.declared.record.JobRecord.{JobRecord}
+use Rattle.job_table.specs.declared.record.JobRecord.{JobRecord}
 use Rattle.ctl_state.specs.State.{state_of}
 use Rattle.ctl_pass.specs.Readiness.{needs_of}
 use Rattle.ctl_pass.proofs.Lists.{filter_map-more}
@@ -12,14 +12,24 @@ pub loop-job-preserved : goal.loop-job-preserved
 loop-job-preserved c =
     let before = c.loop-job.invariant in
     let count = length c.args.cluster.now.nodes.records in
-    let more = filter_map-more (needs_of (state_of c.args.cluster.now)) (λ (job : Bor JobRecord). job.now) c.args.jobs.now c.loop-job.job-index c.job-item.result c.loop-job-test.true c.job-item.is in
+    let more = filter_map-more (needs_of (state_of c.args.cluster.now)) (λ (job : Bor JobRecord). job.now)
+    c.args.jobs.now c.loop-job.job-index c.job-item.result c.loop-job-test.true c.job-item.is in
     elim c.match-branch-3.branch [
       | in-Some+in_ok-push w ↦ record {
-        ranked = rw (w.ranked-is, w.in_ok-push.ensures.items, more, ← c.in_ok-need.ensures.need, w.in-Some.is, before.ranked) refl;
+        ranked = rw (
+          w.ranked-is,
+          w.in_ok-push.ensures.items,
+          more,
+          ← c.in_ok-need.ensures.need,
+          w.in-Some.is,
+          before.ranked,
+        ) refl;
         nodes = rw (w.ranked-is, w.in_ok-push.ensures.items)
-            (All-push (λ (job : PlanJob). All (λ node. node < count) job.nodes) c.loop-job.ranked.items w.in-Some.need before.nodes (rw w.in-Some.is at c.in_ok-need.ensures.nodes));
+            (All-push (λ (job : PlanJob). All (λ node. node < count) job.nodes) c.loop-job.ranked.items w.in-Some.need
+            before.nodes (rw w.in-Some.is at c.in_ok-need.ensures.nodes));
         tasks = rw (w.ranked-is, w.in_ok-push.ensures.items)
-            (All-push (λ (job : PlanJob). 1 ≤ job.need.tasks) c.loop-job.ranked.items w.in-Some.need before.tasks (rw w.in-Some.is at c.in_ok-need.ensures.tasks));
+            (All-push (λ (job : PlanJob). 1 ≤ job.need.tasks) c.loop-job.ranked.items w.in-Some.need before.tasks
+            (rw w.in-Some.is at c.in_ok-need.ensures.tasks));
       }
       | in_default w ↦ record {
         ranked = rw (w.ranked-is, more, ← c.in_ok-need.ensures.need, w.in_default.is, append-nil, before.ranked) refl;

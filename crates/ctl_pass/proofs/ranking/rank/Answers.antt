@@ -1,9 +1,14 @@
 use Rattle.ctl_state.specs.State.{state_of}
-use Rattle.ctl_pass.proofs.Passes.{ranked_is}
+use Rattle.ctl_pass.proofs.Planned.{ranked_is}
 use Rattle.ctl_pass.proofs.ranking.rank.Goals as goal
 
 pub node_orders-requires : goal.node_orders-requires
-node_orders-requires c = rw (c.records.ensures.value, c.records-2.ensures.value) c.requires.partitions
+node_orders-requires c = rw (c.records.ensures.value, c.records-2.ensures.value) c.requires.sound.partitions
 
 pub returns-clause-ranked : goal.returns-clause-ranked
-returns-clause-ranked c = rw (ranked_is (state_of c.args.cluster.now) c.args.now, ← c.in_ok-jobs.ensures c.args.now, ← c.as_slice-2.ensures.value) c.needs_of.ensures.ranked
+returns-clause-ranked c =
+    rw (
+      ranked_is (state_of c.args.cluster.now) c.args.now,
+      ← c.in_ok-jobs.ensures c.args.now,
+      ← c.as_slice-2.ensures.value,
+    ) c.needs_of.ensures.ranked

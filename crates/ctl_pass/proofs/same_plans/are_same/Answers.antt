@@ -11,6 +11,8 @@ returns-then-one-other c =
     let one = c.args.one.now in
     let other = c.args.other.now in
     let as_long : length one ≡ length other = c.if-one-other.true in
-    let chain = YieldsList-from_zip {s = c.zip.result} (YieldsList-from_slice one cc) (YieldsList-from_slice other cc) in
-    all_from_yields_List (λ (pair : Placed × Placed). same_placements pair.0 pair.1) c.all.new.self _ c.all.result c.all.ensures.ran chain (λ x b q k. search (rules, tests))
+    let chain = YieldsList-from_zip {s =
+    c.zip.result} (YieldsList-from_slice one cc) (YieldsList-from_slice other cc) in
+    all_from_yields_List (λ (pair : Placed × Placed). same_placements pair.0 pair.1) c.all.new.self _ c.all.result
+    c.all.ensures.ran chain (λ x b q k. search (rules, tests))
     ∙ pointwise-zip same_placements one other as_long

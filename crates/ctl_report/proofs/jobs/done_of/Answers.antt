@@ -8,4 +8,5 @@ use Rattle.ctl_report.proofs.jobs.done_of.Goals as goal
 pub returns : goal.returns
 returns c =
     c.copied.ensures
-    ∙ find_from_yields_List (λ (done : Done). is_last_start c.args.job.now done.start) _ _ _ c.find.ensures.ran (YieldsList-from_slice c.args.report.now.done cc) (λ x b q k. search (rules, tests))
+    ∙ find_from_yields_List (λ (done : Done). is_last_start c.args.job.now done.start) _ _ _ c.find.ensures.ran
+    (YieldsList-from_slice c.args.report.now.done cc) (λ x b q k. search (rules, tests))

@@ -1,6 +1,10 @@
-use Rattle.std.proofs.Common.{◌≡◌, ◌++◌, map, take, drop}
+use Rattle.std.proofs.Common.{◌≡◌, length}
+use Rattle.job_table.specs.Walks.{walked}
 use Rattle.ctl_report.specs.Reporting.{reported}
 use Rattle.ctl_report.proofs.jobs.report_jobs.Given as goal
 
-abbrev pub invariant-loop-job : goal.invariant-loop-job
-invariant-loop-job l = l.jobs ≡ map (reported l.now l.node l.report) (take l.job-index l.fn.jobs) ++ drop l.job-index l.fn.jobs
+abbrev pub invariant-loop-place : goal.invariant-loop-place
+invariant-loop-place l = record {
+  walk : l.jobs.records ≡ walked (reported l.now l.node l.report) l.place l.fn.jobs.records;
+  end : l.place-end ≡ length l.fn.jobs.records;
+}

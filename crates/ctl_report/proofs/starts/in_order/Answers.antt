@@ -7,10 +7,14 @@ use Rattle.ctl_report.proofs.starts.in_order.Goals as goal
 
 pub returns : goal.returns
 returns c =
-    let sorted = c.sort_unstable_by_key.ensures.sorted (λ (start : Start). (start.id, start.number)) (answers_always _ _ _ (λ f a r q k. search rules)) in
-    c.from_vec.ensures ∙ dedup_is _ _ _ c.dedup.ensures.filtered ∙ in_order-deduped _ _ c.sort_unstable_by_key.ensures.permutation sorted
+    let sorted = c.sort_unstable_by_key.ensures.sorted (λ (start : Start). (start.id, start.number))
+    (answers_always _ _ _ (λ f a r q k. search rules)) in
+    c.from_vec.ensures ∙ dedup_is _ _ _ c.dedup.ensures.filtered
+    ∙ in_order-deduped _ _ c.sort_unstable_by_key.ensures.permutation sorted
 
 pub from_vec-requires : goal.from_vec-requires
 from_vec-requires c =
-    let sorted = c.sort_unstable_by_key.ensures.sorted (λ (start : Start). (start.id, start.number)) (answers_always _ _ _ (λ f a r q k. search rules)) in
-    rw (dedup_is _ _ _ c.dedup.ensures.filtered ∙ in_order-deduped _ _ c.sort_unstable_by_key.ensures.permutation sorted) (in_order_rises c.args.starts.items)
+    let sorted = c.sort_unstable_by_key.ensures.sorted (λ (start : Start). (start.id, start.number))
+    (answers_always _ _ _ (λ f a r q k. search rules)) in
+    rw (dedup_is _ _ _ c.dedup.ensures.filtered ∙ in_order-deduped _ _ c.sort_unstable_by_key.ensures.permutation
+    sorted) (in_order_rises c.args.starts.items)

@@ -6,5 +6,8 @@ use Rattle.ctl_session.proofs.reading.next_whole.Goals as goal
 pub returns-in-Memory-clause-found : goal.returns-in-Memory-clause-found
 returns-in-Memory-clause-found g c =
     let before = c.loop-block.invariant.takes in
-    let last = c.in-Memory.ensures.brings in
-    ((before.read ++ last.0.0, Consumes-trans _ _ _ before.read last.0.0 before.consumed last.0.1), last.2 ∙ c.loop-block.invariant.reads)
+    let last = c.in-Memory.ensures.brings in (
+      (before.read ++ last.0.0, Consumes-trans _ _ _ before.read last.0.0 before.consumed last.0.1),
+      last.2
+          ∙ c.loop-block.invariant.reads,
+    )

@@ -8,7 +8,8 @@ returns-in-Ok-feed-clause-brings g c =
       record {
         read = take c.in-Ok.count c.read_some.new.into;
         consumed = c.in-Ok.ensures.bytes.0;
-        pending = ap (λ (b : BlocksState). b.pending) fed ∙ ap (λ l. c.args.blocks.now.pending ++ l) c.split_at.ensures.front;
+        pending = ap (λ (b : BlocksState). b.pending) fed ∙ ap
+            (λ l. c.args.blocks.now.pending ++ l) c.split_at.ensures.front;
         form = ap (λ (b : BlocksState). b.form) fed;
         place = ap (λ (b : BlocksState). b.place) fed;
       },

@@ -8,4 +8,5 @@ returns-clause-refused g c = λ line kind finds none.
 pub returns-clause-complete : goal.returns-clause-complete
 returns-clause-complete g c = λ conf finds whole none reads writes.
     rw c.status.ensures
-    (complete c.whole_inputs_are_answered.ensures _ _ _ c.run_words-end.result conf c.run_words-end.ensures finds whole none reads writes)
+    (complete c.whole_inputs_are_answered.ensures _ _ _ c.run_words-end.result conf c.run_words-end.ensures finds
+    whole none reads writes)

@@ -11,5 +11,8 @@ returns-clause-ran g c =
       joins = c.spellings_join.ensures Plain;
       empty = c.nothing_is_partial.ensures Plain;
     } in
-    let desk = c.in_ok-desk.ensures.fresh in
-    (desk.0, desk.1, script_at_seat _ _ _ _ _ _ c.raised_moments_decide_alike.ensures.state laws desk.2 c.serve_link-ended.ensures)
+    let desk = c.in_ok-desk.ensures.fresh in (
+      desk.0,
+      desk.1,
+      script_at_seat _ _ _ _ _ _ c.raised_moments_decide_alike.ensures.state laws desk.2 c.serve_link-ended.ensures,
+    )

@@ -7,8 +7,13 @@ invariant_of-self-2 g c =
     let decided = c.in_ok-decided.ensures in
     IsHistory-decided
     (record { opening = c.self.inside.opening.state; entries = c.self.inside.entries.items })
-    c.args.session c.args.now c.args.user.now Pass c.in_ok-decided.decided c.self.inside.ctl.state c.pass.new.self.state c.enter.new.entries.items
-    (record { reply = c.raised_moments_decide_alike.ensures.reply; state = c.raised_moments_decide_alike.ensures.state })
+    c.args.session c.args.now c.args.user.now Pass c.in_ok-decided.decided c.self.inside.ctl.state
+    c.pass.new.self.state c.enter.new.entries.items
+    (record {
+      reply = c.raised_moments_decide_alike.ensures.reply;
+      state =
+          c.raised_moments_decide_alike.ensures.state;
+    })
     c.self.invariant.0
     c.self.invariant.1
     (record { reply = decided.reply; moment = decided.moment; after = decided.after; sound = decided.sound })

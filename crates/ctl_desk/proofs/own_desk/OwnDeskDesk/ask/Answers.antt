@@ -7,9 +7,13 @@ pub returns-clause-goes_on : goal.returns-clause-goes_on
 returns-clause-goes_on c =
     let h = c.self.inside.book in
     let entry = entry_of (after_all h.opening h.entries) 0 c.args.now c.args.user.now c.args.request in
-    rw (← c.self.view_is) (own_goes_on _ c.self.inside.before entry h c.ask.new.self c.self.invariant refl c.ask.ensures.opening c.ask.ensures.entries c.ask.ensures.err)
+    rw (← c.self.view_is)
+    (own_goes_on _ c.self.inside.before entry h c.ask.new.self c.self.invariant refl c.ask.ensures.opening
+    c.ask.ensures.entries c.ask.ensures.err)
 
 pub returns-clause-answered : goal.returns-clause-answered
 returns-clause-answered c =
     let called = c.ask.ensures in
-    rw (← c.self.view_is) (own_answered _ c.args.now c.args.user.now c.args.request c.self.inside.before c.self.inside.book c.ask.new.self c.self.invariant called.opening called.reply called.place called.entries)
+    rw (← c.self.view_is)
+    (own_answered _ c.args.now c.args.user.now c.args.request c.self.inside.before c.self.inside.book c.ask.new.self
+    c.self.invariant called.opening called.reply called.place called.entries)

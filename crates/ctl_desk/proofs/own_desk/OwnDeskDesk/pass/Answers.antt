@@ -8,19 +8,26 @@ pub returns-clause-goes_on : goal.returns-clause-goes_on
 returns-clause-goes_on c =
     let h = c.self.inside.book in
     let entry = entry_of (after_all h.opening h.entries) 0 c.args.now c.args.user.now Pass in
-    rw (← c.self.view_is) (own_goes_on _ c.self.inside.before entry h c.pass.new.self c.self.invariant refl c.pass.ensures.opening c.pass.ensures.entries c.pass.ensures.err)
+    rw (← c.self.view_is)
+    (own_goes_on _ c.self.inside.before entry h c.pass.new.self c.self.invariant refl c.pass.ensures.opening
+    c.pass.ensures.entries c.pass.ensures.err)
 
 pub returns-clause-answered : goal.returns-clause-answered
 returns-clause-answered c =
     let called = c.pass.ensures in
-    rw (← c.self.view_is) (own_answered _ c.args.now c.args.user.now Pass c.self.inside.before c.self.inside.book c.pass.new.self c.self.invariant called.opening called.reply called.place called.entries)
+    rw (← c.self.view_is)
+    (own_answered _ c.args.now c.args.user.now Pass c.self.inside.before c.self.inside.book c.pass.new.self
+    c.self.invariant called.opening called.reply called.place called.entries)
 
 pub returns-clause-steps : goal.returns-clause-steps
 returns-clause-steps c =
     let called = c.pass.ensures in
-    rw (← c.self.view_is) (own_counted _ c.args.now c.args.user.now c.self.inside.before _ _ c.self.inside.book c.pass.new.self called.place called.entries called.steps)
+    rw (← c.self.view_is)
+    (own_counted _ c.args.now c.args.user.now c.self.inside.before _ _ c.self.inside.book c.pass.new.self
+    called.place called.entries called.steps)
 
 pub returns-clause-steps_err : goal.returns-clause-steps_err
 returns-clause-steps_err c =
     let called = c.pass.ensures in
-    own_counted_up_to _ c.args.now c.args.user.now c.self.inside.before _ _ c.self.inside.book c.pass.new.self called.err called.steps_err
+    own_counted_up_to _ c.args.now c.args.user.now c.self.inside.before _ _ c.self.inside.book c.pass.new.self
+    called.err called.steps_err

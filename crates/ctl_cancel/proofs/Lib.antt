@@ -1,0 +1,4 @@
+pub mod Naming
+pub mod Refusing
+pub mod Cancelled
+pub mod Keeping

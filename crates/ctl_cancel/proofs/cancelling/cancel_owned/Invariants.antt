@@ -1,0 +1,15 @@
+use Rattle.std.proofs.Common.{◌≡◌, length}
+use Rattle.slurm_text.specs.declared.plain.target.Targets.TheVariants.{User}
+use Rattle.job_table.specs.Walks.{walked}
+use Rattle.ctl_state.specs.State.{state_of}
+use Rattle.ctl_cancel.specs.Cancelling.{cancelled_if}
+use Rattle.ctl_cancel.proofs.cancelling.cancel_owned.Given as goal
+
+abbrev pub invariant-loop-place : goal.invariant-loop-place
+invariant-loop-place l = record {
+  walk : state_of l.cluster ≡ record (state_of l.fn.cluster) {
+    jobs = walked (cancelled_if (state_of l.fn.cluster) l.moment l.user (User l.owner)) l.place
+        l.fn.cluster.jobs.records;
+  };
+  end : l.place-end ≡ length l.fn.cluster.jobs.records;
+}

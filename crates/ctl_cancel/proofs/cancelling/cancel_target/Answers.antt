@@ -1,0 +1,39 @@
+use Rattle.std.proofs.Common.{◌∙◌, ◌≡◌, ap, false, drop, refl, arith}
+use Rattle.std.proofs.lemmas.List.Elements.{All-weaker}
+use Rattle.job_table.specs.declared.record.JobRecord.{JobRecord}
+use Rattle.job_table.specs.Targets.{is_named}
+use Rattle.ctl_state.specs.State.{state_of}
+use Rattle.ctl_cancel.specs.Cancelling.{cancelled_where}
+use Rattle.ctl_cancel.proofs.Cancelled.{step}
+use Rattle.ctl_cancel.proofs.cancelling.cancel_target.Goals as goal
+
+pub loop-place-preserved : goal.loop-place-preserved
+loop-place-preserved c =
+    let s = state_of c.args.cluster.now in
+    let held = c.loop-place.invariant in
+    record {
+      walk = step c.a_change_is_of_its_place.ensures.same c.a_walk_changes_all.ensures.goes_on
+          c.a_walk_changes_all.ensures.length s
+          (state_of c.loop-place.cluster) (state_of c.cancel_where.new.cluster) c.args.moment c.args.user.now
+          (is_named c.args.target.now) c.loop-place.place
+          c.is_named-named.result c.index-records-place.result held.walk (omega arith)
+          (rw c.records-in-loop-place.ensures.value at c.index-records-place.is)
+          c.is_named-named.ensures c.cancel_where.ensures;
+      end = held.end;
+    }
+
+pub returns : goal.returns
+returns c =
+    let s = state_of c.args.cluster.now in
+    let jobs = c.args.cluster.now.jobs.records in
+    let target = c.args.target.now in
+    let change : JobRecord → JobRecord = λ job. cancelled_where s c.args.moment c.args.user.now
+    (is_named target job) job in
+    let within = c.places_of-places.ensures.within in
+    let last : c.places_of-places.result.end ≡ c.loop-place.place = omega arith in
+    let behind = rw (last, c.records.ensures.value) at c.places_of-places.ensures.behind in
+    c.loop-place.invariant.walk
+    ∙ ap (λ jobs. record s { jobs = jobs })
+    (c.a_walk_changes_all.ensures.ends change c.loop-place.place jobs
+    (All-weaker (λ job. is_named target job ≡ false) (λ job. change job ≡ job) (λ job other. rw other refl)
+    (drop c.loop-place.place jobs) behind))

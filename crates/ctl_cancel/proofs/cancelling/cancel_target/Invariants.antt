@@ -1,0 +1,15 @@
+use Rattle.std.proofs.Common.{◌≡◌, ◌≤◌, length}
+use Rattle.job_table.specs.Targets.{is_named}
+use Rattle.job_table.specs.Walks.{walked}
+use Rattle.ctl_state.specs.State.{state_of}
+use Rattle.ctl_cancel.specs.Cancelling.{cancelled_where}
+use Rattle.ctl_cancel.proofs.cancelling.cancel_target.Given as goal
+
+abbrev pub invariant-loop-place : goal.invariant-loop-place
+invariant-loop-place l = record {
+  walk : state_of l.cluster ≡ record (state_of l.fn.cluster) {
+    jobs = walked (λ job. cancelled_where (state_of l.fn.cluster) l.moment l.user (is_named l.target job) job)
+        l.place l.fn.cluster.jobs.records;
+  };
+  end : l.place-end ≤ length l.fn.cluster.jobs.records;
+}

@@ -1,0 +1,37 @@
+use Rattle.std.proofs.Common.{◌∙◌, ap, map, sym}
+use Rattle.std.proofs.lemmas.List.{drop_all, map-id}
+use Rattle.slurm_text.specs.declared.plain.target.Targets.TheVariants.{List as Listed}
+use Rattle.ctl_state.specs.State.{state_of}
+use Rattle.ctl_cancel.specs.Cancelling.{cancelled_if}
+use Rattle.ctl_cancel.proofs.Cancelled.{next_target, others_stay, still_rising, still_together}
+use Rattle.ctl_cancel.proofs.cancelling.cancel_targets.Goals as goal
+
+pub loop-target-preserved : goal.loop-target-preserved
+loop-target-preserved c =
+    let s = state_of c.args.cluster.now in
+    let before = state_of c.loop-target.cluster in
+    let after = state_of c.cancel_target.new.cluster in
+    let jobs = c.loop-target.cluster.jobs.records in
+    let held = c.loop-target.invariant in
+    let now = c.args.moment in
+    let user = c.args.user.now in
+    record {
+      others = others_stay s before after now user _ jobs held.others c.cancel_target.ensures;
+      rest = next_target s before after now user c.args.targets.now c.loop-target.target-index _ jobs held.others
+          c.cancel_target.ensures c.loop-target-test.true
+          ∙ held.rest;
+      rising = still_rising s before after now user _ jobs held.others c.cancel_target.ensures held.rising;
+      together = still_together s before after now user _ jobs held.others c.cancel_target.ensures held.together;
+    }
+
+pub returns : goal.returns
+returns c =
+    let s = state_of c.args.cluster.now in
+    let jobs = c.loop-target.cluster.jobs.records in
+    let targets = c.args.targets.now in
+    c.loop-target.invariant.others
+    ∙ ap (λ jobs. record s { jobs = jobs })
+    (sym (map-id jobs)
+    ∙ ap (λ later. map (cancelled_if s c.args.moment c.args.user.now (Listed later)) jobs)
+    (sym (drop_all c.loop-target.target-index targets c.loop-target-test.false))
+    ∙ c.loop-target.invariant.rest)

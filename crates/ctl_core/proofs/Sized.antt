@@ -1,0 +1,94 @@
+-- What a request makes is as large as the state before, and there is room for what is entered.
+use Rattle.std.proofs.Common.{◌≡◌, Bool, true, false, Option, Some, None, ℕ, List, refl, if◌then◌else◌}
+use Rattle.std.specs.List.{list_any}
+use Rattle.std.proofs.lemmas.Bool.{cond_both}
+use Rattle.slurm_text.specs.declared.plain.refusal.Refusal.{Refusal}
+use Rattle.slurm_text.specs.declared.plain.request.Request.{Request}
+use Rattle.slurm_text.specs.declared.plain.request.Request.TheVariants.{Submit, Cancel, Report, Pass, Show}
+use Rattle.ctl_state.specs.State.{State}
+use Rattle.ctl_state.specs.Refusals.{first_refusal, unless_refused}
+use Rattle.ctl_state.specs.Verdicts.{Verdict, Refuses, Tells, Stays, Unbuilt, Makes, reply_by, left_by}
+use Rattle.ctl_pass.specs.Passing.{is_idle}
+use Rattle.ctl_report.specs.Answering.{made_by_report, node_of}
+use Rattle.ctl_submit.specs.Submission.{made_under, terms_of}
+use Rattle.ctl_cancel.specs.Cancelling.{goes}
+use Rattle.ctl_core.specs.declared.reply.Answered.{Answered}
+use Rattle.ctl_core.specs.Answering.{Answers}
+use Rattle.ctl_core.specs.Sizes.{has_room}
+use Rattle.ctl_core.specs.Step.{refusals_of, made, worked, unless_full, is_entered}
+
+-- what a verdict makes has the size of the state before
+abbrev pub KeepsSize : State → Verdict → Type 0
+KeepsSize s (Refuses refusal) = Unit {0}
+KeepsSize s (Tells view) = Unit {0}
+KeepsSize s Stays = Unit {0}
+KeepsSize s Unbuilt = Unit {0}
+KeepsSize s (Makes reply after) = after.size ≡ s.size
+
+made-sized : (s : State) (moment : ℕ) (user : List ℕ) (request : Request) → KeepsSize s (made s moment user request)
+made-sized s moment user (Submit desc) =
+    elim (terms_of s user desc) as (λ terms. KeepsSize s (made_under s moment user desc terms))
+    [ None ↦ tt | Some terms ↦ refl ]
+made-sized s moment user (Cancel targets) =
+    cond_both (list_any (goes s user targets) s.jobs) _ Stays (KeepsSize s) (λ some. refl) (λ none. tt)
+made-sized s moment user (Report report) =
+    elim (node_of s report) as (λ node. KeepsSize s (made_by_report s moment report node))
+    [ None ↦ tt | Some node ↦ refl ]
+made-sized s moment user Pass = cond_both (is_idle s moment) Stays _ (KeepsSize s) (λ idle. tt) (λ busy. refl)
+made-sized s moment user (Show query) = tt
+
+full-sized : (s : State) (room : Bool) (verdict : Verdict) → KeepsSize s verdict
+    → KeepsSize s (unless_full room verdict)
+full-sized s true verdict sized = sized
+full-sized s false (Refuses refusal) sized = tt
+full-sized s false (Tells view) sized = tt
+full-sized s false Stays sized = tt
+full-sized s false Unbuilt sized = tt
+full-sized s false (Makes reply after) sized = tt
+
+judged-sized : (s : State) (refusal : Option Refusal) (verdict : Verdict) → KeepsSize s verdict
+    → KeepsSize s (unless_refused refusal verdict)
+judged-sized s None verdict sized = sized
+judged-sized s (Some refusal) verdict sized = tt
+
+pub worked-sized : (s : State) (moment : ℕ) (user : List ℕ) (request : Request)
+    → KeepsSize s (worked s moment user request)
+worked-sized s moment user request =
+    judged-sized s (first_refusal (refusals_of s moment user request)) _
+    (full-sized s (has_room s request) _ (made-sized s moment user request))
+
+pub left-sized : (s : State) (verdict : Verdict) → KeepsSize s verdict → (left_by s verdict).size ≡ s.size
+left-sized s (Refuses refusal) sized = refl
+left-sized s (Tells view) sized = refl
+left-sized s Stays sized = refl
+left-sized s Unbuilt sized = refl
+left-sized s (Makes reply after) sized = sized
+
+-- what is entered has room
+full-entered : (room : Bool) (verdict : Verdict) → is_entered (reply_by (unless_full room verdict)) ≡ true → room ≡ true
+full-entered true verdict entered = refl
+full-entered false (Refuses refusal) entered = absurd (cc)
+full-entered false (Tells view) entered = absurd (cc)
+full-entered false Stays entered = absurd (cc)
+full-entered false Unbuilt entered = absurd (cc)
+full-entered false (Makes reply after) entered = absurd (cc)
+
+judged-entered : (refusal : Option Refusal) (verdict : Verdict)
+    → is_entered (reply_by (unless_refused refusal verdict)) ≡ true → is_entered (reply_by verdict) ≡ true
+judged-entered None verdict entered = entered
+judged-entered (Some refusal) verdict entered = absurd (cc)
+
+pub worked-entered : (s : State) (moment : ℕ) (user : List ℕ) (request : Request)
+    → is_entered (reply_by (worked s moment user request)) ≡ true → has_room s request ≡ true
+worked-entered s moment user request entered =
+    full-entered (has_room s request) (made s moment user request)
+    (judged-entered (first_refusal (refusals_of s moment user request)) _ entered)
+
+-- so what an answer leaves has the size of the state before
+pub same-size : (s after : State) (moment : ℕ) (user : List ℕ) (request : Request) (answered : Answered)
+    → Answers s after (worked s moment user request) answered → after.size ≡ s.size
+same-size s after moment user request answered answers =
+    let left = left-sized s (worked s moment user request) (worked-sized s moment user request) in
+    rw answers.after
+    (cond_both (is_entered answered.reply) (left_by s (worked s moment user request)) s (λ (t : State). t.size ≡ s.size)
+    (λ entered. left) (λ other. refl))

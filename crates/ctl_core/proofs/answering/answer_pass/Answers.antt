@@ -1,0 +1,23 @@
+use Rattle.std.proofs.Common.{◌≡◌, ◌∙◌, false, refl, arith, rules}
+use Rattle.std.specs.Prelude.{nat_lt}
+use Rattle.std.proofs.lemmas.Bool.{le-ltb}
+use Rattle.slurm_text.specs.declared.plain.request.Request.TheVariants.{Pass}
+use Rattle.ctl_state.specs.State.{state_of, last_moment}
+use Rattle.ctl_core.specs.Sizes.{has_room, size_of}
+use Rattle.ctl_core.specs.Step.{raised}
+use Rattle.ctl_core.proofs.Stamping.{state-worked, size-asked}
+use Rattle.ctl_core.proofs.answering.answer_pass.Goals as goal
+
+pub returns-clause-after : goal.returns-clause-after
+returns-clause-after g c =
+    let s = state_of c.args.cluster.now in
+    let early : nat_lt last_moment c.args.now ≡ false = le-ltb last_moment c.args.now (omega arith) in
+    let moment : c.max-moment.result ≡ raised s c.args.now = search rules in
+    let room : c.is_some.result ≡ has_room s Pass = c.is_some.ensures ∙ c.room_for-size.ensures.room in
+    state-worked s (state_of c.pass.new.cluster) (state_of c.stamp-2.new.cluster) c.args.now c.unwrap_or.result
+    c.args.user.now Pass c.in_ok-answered.answered refl early
+    (rw (room, moment) at c.in_ok-answered.ensures.ok)
+    (λ has. c.unwrap_or.ensures
+    ∙ size-asked c.room_for-size.result (has_room s Pass) (size_of Pass) c.room_for-size.ensures.room
+    c.room_for-size.ensures.value has)
+    (rw moment at c.stamp-2.ensures.after)

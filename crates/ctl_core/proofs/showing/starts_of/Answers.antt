@@ -1,7 +1,0 @@
-use Rattle.ctl_core.proofs.Rows.{planned-more}
-use Rattle.ctl_core.proofs.showing.starts_of.Goals as goal
-
-pub loop-placed-preserved : goal.loop-placed-preserved
-loop-placed-preserved c = λ id.
-    planned-more c.args.plan.now c.loop-placed.placed-index c.placed-item.result id _ _ c.requires.once c.loop-placed-test.true c.placed-item.is (c.loop-placed.invariant id)
-    (rw c.new.ensures at (c.in_ok-insert.ensures.updates.0 id))

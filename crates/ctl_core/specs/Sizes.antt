@@ -1,0 +1,27 @@
+-- How much a request takes of the history's room.
+use Rattle.std.specs.Prelude.{ℕ, ◌+◌, ◌*◌, Bool, nat_le, List, length}
+use Rattle.slurm_text.specs.declared.plain.request.Request.{Request}
+use Rattle.slurm_text.specs.declared.plain.request.Request.TheVariants.{Submit, Cancel, Report, Pass, Show}
+use Rattle.slurm_text.specs.declared.plain.target.Targets.{Targets}
+use Rattle.slurm_text.specs.declared.plain.target.Targets.TheVariants.{List as Listed, User}
+use Rattle.ctl_state.specs.State.{State, last_size}
+
+-- what is listed counts 32 each
+abbrev pub listing : ℕ → ℕ
+listing count = 256 + 32 * count
+
+abbrev pub targets_listed : Targets → ℕ
+targets_listed (Listed targets) = length targets
+targets_listed (User name) = 1
+
+-- the size of an entry: a submission's with 4 for each node that it names
+abbrev pub size_of : Request → ℕ
+size_of (Submit desc) = 2048 + 4 * (length desc.required + length desc.excluded)
+size_of (Cancel targets) = listing (targets_listed targets)
+size_of (Report report) = listing (1 + (length report.running + length report.done))
+size_of Pass = listing 0
+size_of (Show query) = listing 0
+
+-- the history can take it
+abbrev pub has_room : State → Request → Bool
+has_room s request = nat_le (s.size + size_of request) last_size

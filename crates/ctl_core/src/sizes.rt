@@ -1,0 +1,77 @@
+//! How much requests take of the history's room.
+
+ghost use Rattle.std.specs.Prelude.{◌≡◌, ◌+◌, ◌*◌, ◌<◌, ◌^◌, ◌≤◌, IfSome, is_some, length};
+ghost use Rattle.ctl_state.specs.State.{state_of, last_size};
+ghost use Rattle.ctl_core.specs.Sizes;
+
+use ctl_state::cluster::Cluster;
+use slurm_text::plain::job::JobDesc;
+use slurm_text::plain::report::Report;
+use slurm_text::plain::request::Request;
+use slurm_text::plain::target::Targets;
+
+// The greatest sum of the sizes of accepted requests.
+const LAST_SIZE: u128 = 1_073_741_824;
+
+// What is listed counts 32 each.
+fn listing(count: u128) -> u128
+    requires { count < 2 ^ 65 }
+    ensures { result ≡ Sizes.listing count }
+{
+    256 + 32 * count
+}
+
+fn size_of_job(desc: &JobDesc) -> u128
+    ensures value { result ≡ 2048 + 4 * (length desc.now.required + length desc.now.excluded) }
+    ensures small { result < 2 ^ 80 }
+{
+    let required = desc.required.as_slice().len() as u128;
+    let excluded = desc.excluded.as_slice().len() as u128;
+    2048 + 4 * (required + excluded)
+}
+
+fn listed(targets: &Targets) -> u128
+    ensures value { result ≡ Sizes.targets_listed targets.now }
+    ensures few { result < 2 ^ 64 }
+{
+    match targets {
+        Targets::List(targets) => targets.as_slice().len() as u128,
+        Targets::User(_) => 1,
+    }
+}
+
+fn size_of_report(report: &Report) -> u128
+    ensures value { result ≡ Sizes.listing (1 + (length report.now.running + length report.now.done)) }
+    ensures small { result < 2 ^ 80 }
+{
+    let running = report.running.as_slice().len() as u128;
+    let done = report.done.as_slice().len() as u128;
+    listing(1 + (running + done))
+}
+
+// The size of an entry of the request.
+fn size_of(request: &Request) -> u128
+    ensures value { result ≡ Sizes.size_of request.now }
+    ensures small { result < 2 ^ 80 }
+{
+    match request {
+        Request::Submit(desc) => size_of_job(desc),
+        Request::Cancel(targets) => listing(listed(targets)),
+        Request::Report(report) => size_of_report(report),
+        Request::Pass | Request::Show(_) => listing(0),
+    }
+}
+
+/// The size of an entry of the request, where the history can take it.
+pub(crate) fn room_for(cluster: &Cluster, request: &Request) -> Option<u64>
+    ensures room { is_some result ≡ Sizes.has_room (state_of cluster.now) request.now }
+    ensures value { IfSome result (λ size. size ≡ Sizes.size_of request.now) }
+    ensures within { IfSome result (λ size. cluster.now.size + size ≤ last_size) }
+{
+    let size = size_of(request);
+    if u128::from(cluster.size) + size <= LAST_SIZE {
+        Some(size as u64)
+    } else {
+        None
+    }
+}

@@ -1,0 +1,345 @@
+-- The plan of a pass: what is held is within the nodes, what is planned is of candidates and can start, and its jobs
+-- await that.
+use Rattle.std.proofs.lemmas.Bool.Decides.{nat_tests}
+use Rattle.std.proofs.Common.{◌≡◌, ◌≢◌, ℕ, ◌+◌, ◌≤◌, ◌<◌, Bool, true, ◌&&◌, cond, leb, List, [], ◌∷◌, ◌++◌, length, map, filter, flat_map, get_or, sum_by, unwrap_or, All, AllPairs, Any, Contains, Option, Some, None, IfSome, refl, ap, sym, ◌∙◌, arith, inl, inr}
+use Rattle.std.specs.Prelude.{filter_map, is_none}
+use Rattle.std.proofs.lemmas.Bool.{cases_order}
+use Rattle.std.proofs.lemmas.List.{get_or_default, length-map}
+use Rattle.std.proofs.lemmas.List.Elements.{All-contains, All-filter, All-map, filter_agree}
+use Rattle.resource_profile.specs.declared.Hold.{Hold}
+use Rattle.resource_profile.specs.Free.{covers}
+use Rattle.resource_profile.specs.Profiles.{AreWithin}
+use Rattle.slurm_text.specs.declared.plain.limit.Limit.{Limit}
+use Rattle.slurm_text.specs.declared.plain.limit.Limit.TheVariants.{Minutes, Unlimited}
+use Rattle.slurm_text.specs.declared.plain.state.Reason.{Reason}
+use Rattle.slurm_text.specs.declared.plain.state.Reason.TheVariants.{JobArrayTaskLimit, ReqNodeNotAvail}
+use Rattle.backfill_planner.specs.declared.Placed.{Placed}
+use Rattle.backfill_planner.specs.declared.job.PlanJob.{PlanJob}
+use Rattle.backfill_planner.specs.Bases.{BaseView}
+use Rattle.backfill_planner.specs.Placements.{IsPlannable, IsOnRooms, AreParts, StartsFit}
+use Rattle.backfill_planner.specs.Plans.{plan_of, PlannedView}
+use Rattle.partitions.specs.Partitions.{IsOnNodes}
+use Rattle.job_table.specs.declared.record.JobRecord.{JobRecord}
+use Rattle.job_table.specs.declared.record.Part.{Part}
+use Rattle.job_table.specs.Changes.{is_on}
+use Rattle.job_table.specs.JobStates.{is_pending}
+use Rattle.job_table.specs.Table.{is_old}
+use Rattle.ctl_state.specs.declared.array_counts.ArrayCounts.{ArrayCounts}
+use Rattle.ctl_state.specs.ArrayCounts.{CountsTasks}
+use Rattle.ctl_state.specs.Events.{those_left}
+use Rattle.ctl_state.specs.Holding.{parts_of, mem_held, IsPartOf}
+use Rattle.ctl_state.specs.Laws.{JobNodes, OrderMoves, OrderKeepsApart}
+use Rattle.ctl_state.specs.Ordered.{ordered_by}
+use Rattle.ctl_state.specs.Planning.{room_of, seconds_of, plan_job}
+use Rattle.ctl_state.specs.Soundness.{IsSound, IsKept, IsLimit, pending_ids}
+use Rattle.ctl_state.specs.State.{State, partition_of, last_moment, last_job_id}
+use Rattle.ctl_pass.specs.Awaiting.{Awaits, CanBegin}
+use Rattle.ctl_pass.specs.HeldIds.{ShowsParts}
+use Rattle.ctl_pass.specs.Limits.{timed_out, holds_of_job, hold_end}
+use Rattle.ctl_pass.specs.Readiness.{jobs_left, ready, base_of, is_candidate, is_higher, candidates, needs_of, ranked, planned, placements}
+use Rattle.ctl_pass.specs.Reasons.{first_reason, held_reason, hindrance, hindrances_in, is_full, lacks_node, most_tasks, reason_if}
+use Rattle.ctl_pass.proofs.Held.{held-counted, free-counted}
+use Rattle.ctl_pass.proofs.Lists.{sum_by-larger, sum_by-map, joined-larger, Any-kept, length-rising, at-place, All-joins, All-joined}
+use Rattle.ctl_pass.proofs.Ranks.{IsOfCandidate, waiting, candidates-wait, ranked-all, ranked-candidates, ranked-waits, ranked-apart}
+use Rattle.ctl_pass.proofs.Readied.{ReadyLaws, readied, sound-readied, no_parts, parts-left, pending-holds_not, pending-left}
+use Rattle.ctl_pass.proofs.Starting.{CanStart}
+use Rattle.ctl_pass.proofs.Tasks.{holding-left, waits-with, with-left}
+
+-- the laws of plans that a pass rests on
+abbrev pub PlanIds : Type 0
+PlanIds = (base : BaseView) (ranked : List PlanJob) (now : ℕ)
+    → All (λ (placed : Placed). Contains (map (λ (job : PlanJob). job.id) ranked) placed.id) (plan_of base ranked now)
+
+abbrev pub PlanApart : Type 0
+PlanApart = (base : BaseView) (ranked : List PlanJob) (now : ℕ)
+    → AllPairs (λ (one other : PlanJob). one.id ≢ other.id) ranked
+    → AllPairs (λ (one other : Placed). one.id ≢ other.id) (plan_of base ranked now)
+
+pub record PlanLaws : Type 0 where
+  pub moves : OrderMoves JobRecord
+  pub keeps : OrderKeepsApart JobRecord
+  pub nodes : JobNodes
+  pub ids : PlanIds
+  pub apart : PlanApart
+  pub starts : (base : BaseView) (ranked : List PlanJob) (now : ℕ)
+      → All (λ (placed : Placed). (now ≤ placed.start) × (placed.start ≤ base.horizon)) (plan_of base ranked now)
+  pub some : (base : BaseView) (ranked : List PlanJob) (now : ℕ)
+      → All (λ (job : PlanJob). 1 ≤ job.need.tasks) ranked
+      → All (λ (placed : Placed). 1 ≤ length placed.parts) (plan_of base ranked now)
+  pub parts : (base : BaseView) (ranked : List PlanJob) (now : ℕ)
+      → base.horizon ≤ 250002592000 → All (IsOnRooms base.rooms) ranked → All IsPlannable ranked
+      → All (λ (placed : Placed). AreParts base.rooms placed.parts) (plan_of base ranked now)
+  pub fit : (base : BaseView) (ranked : List PlanJob) (now : ℕ)
+      → AreWithin base.rooms base.holds → base.horizon ≤ 250002592000 → All (IsOnRooms base.rooms) ranked
+      → All IsPlannable ranked → StartsFit base (plan_of base ranked now) now
+
+-- Of what is counted, processors or megabytes, so much a part has of the node, and a hold holds at a moment.
+abbrev part_has : (ℕ → ℕ → ℕ) → ℕ → Part → ℕ
+part_has counted node part = cond (is_on node part) (counted (length part.cpus) part.mem) 0
+
+abbrev hold_has : (ℕ → ℕ → ℕ) → ℕ → ℕ → Hold → ℕ
+hold_has counted node moment hold = cond (covers node moment hold) (counted hold.cpus hold.mem) 0
+
+-- what a job holds of its part, until a later moment
+abbrev hold_of : ℕ → JobRecord → Part → Hold
+hold_of now job part =
+    record {
+      node = part.node;
+      from = unwrap_or job.started 0;
+      until = hold_end now job;
+      cpus = length part.cpus;
+      mem =
+          part.mem;
+    }
+
+hold_end-later : (now : ℕ) (job : JobRecord) → now < hold_end now job
+hold_end-later now job = grind (arith, nat_tests)
+
+-- at no moment more is held of a node than the parts have
+held-most : (counted : ℕ → ℕ → ℕ) (node moment now : ℕ) (jobs : List JobRecord)
+    → sum_by (hold_has counted node moment) (flat_map (holds_of_job now) jobs) ≤ sum_by (part_has counted node)
+    (parts_of jobs)
+held-most counted node moment now jobs =
+    joined-larger (hold_has counted node moment) (part_has counted node) (holds_of_job now)
+    (λ (job : JobRecord). job.parts) jobs
+    (λ k d below. let job = get_or jobs k d in
+    let each = sum_by-larger (λ part. hold_has counted node moment (hold_of now job part)) (part_has counted node)
+    job.parts (λ i part inside. grind (arith, nat_tests)) in
+    omega (arith, sum_by-map (hold_has counted node moment) (hold_of now job) job.parts, each))
+
+-- and at this moment no less
+held-now : (counted : ℕ → ℕ → ℕ) (node now : ℕ) (jobs : List JobRecord)
+    → All (λ (job : JobRecord). unwrap_or job.started 0 ≤ now) jobs
+    → sum_by (part_has counted node) (parts_of jobs) ≤ sum_by (hold_has counted node now)
+    (flat_map (holds_of_job now) jobs)
+held-now counted node now jobs started =
+    joined-larger (part_has counted node) (hold_has counted node now) (λ (job : JobRecord). job.parts)
+    (holds_of_job now) jobs
+    (λ k d below. let job = get_or jobs k d in
+    let each = sum_by-larger (part_has counted node) (λ part. hold_has counted node now (hold_of now job part))
+    job.parts
+    (λ i part inside. grind (arith, nat_tests, started k d below, hold_end-later now job)) in
+    omega (arith, sum_by-map (hold_has counted node now) (hold_of now job) job.parts, each))
+
+-- all that is held is within the nodes
+pub base-within : (s : State) → IsSound s → AreWithin (map room_of s.nodes) (flat_map (holds_of_job s.moment) s.jobs)
+unfolding mem_held
+base-within s sound =
+    let rooms = map room_of s.nodes in
+    let parts = parts_of s.jobs in
+    record {
+      nodes = All-joins (λ (hold : Hold). hold.node < length rooms) (holds_of_job s.moment) s.jobs
+          (λ k d below. let job = get_or s.jobs k d in
+          All-map (λ (hold : Hold). hold.node < length rooms) (hold_of s.moment job) job.parts
+          (λ i part inside. (All-joined (IsPartOf rooms) (λ (one : JobRecord). one.parts) s.jobs sound.held.each k d
+          below i part inside).node));
+      windows = All-joins (λ (hold : Hold). hold.from < hold.until) (holds_of_job s.moment) s.jobs
+          (λ k d below. let job = get_or s.jobs k d in
+          All-map (λ (hold : Hold). hold.from < hold.until) (hold_of s.moment job) job.parts
+          (λ i part inside. omega (arith, (sound.jobs k d below).run.start_passed, hold_end-later s.moment job)));
+      cpus = λ node moment.
+          let free = free-counted rooms parts node (sound.held.once node) in
+          omega (
+            arith,
+            held-most (λ cpus mem. cpus) node moment s.moment s.jobs,
+            held-counted rooms parts node sound.held.each,
+            free,
+          );
+      mem = λ node moment. omega (arith, held-most (λ cpus mem. mem) node moment s.moment s.jobs, sound.held.mem node);
+    }
+
+-- what is planned for a job can be
+record CanBePlanned (s : State) (need : PlanJob) : Type 0 where
+  tasks : 1 ≤ need.need.tasks
+  nodes : IsOnRooms (map room_of s.nodes) need
+  plannable : IsPlannable need
+
+ranked-planned : OrderMoves JobRecord → JobNodes → (s : State) (now : ℕ) → IsSound s
+    → All (CanBePlanned s) (ranked s now)
+unfolding plan_job
+ranked-planned moves job_nodes s now sound = ranked-all moves (CanBePlanned s) s now (λ k d below partition bounds is.
+    let job = get_or (waiting s.jobs) k d in
+    let kept = All-filter (λ (one : JobRecord). is_pending one.state) (IsKept s.moment) s.jobs sound.jobs k d below in
+    let nodes = job_nodes s.nodes partition bounds job
+    (at-place (IsOnNodes (length s.nodes)) s.partitions job.partition partition sound.partitions is) in
+    record {
+      tasks = kept.asked.tasks.0;
+      nodes = λ i node inside. omega (arith, nodes.0 i node inside, length-map s.nodes room_of);
+      plannable = record { once = nodes.1; cpus = kept.asked.cpus.0; seconds = seconds job.limit kept.limit };
+    })
+  where
+    seconds : (limit : Limit) → IsLimit limit → IfSome (seconds_of limit) (λ seconds. 1 ≤ seconds)
+    seconds (Minutes minutes) is = omega (arith, is.0)
+    seconds Unlimited is = tt
+
+-- so a plan is of jobs that wait
+pub plan-waits : OrderMoves JobRecord → PlanIds → (s : State) (now : ℕ)
+    → All (λ (placed : Placed). Contains (pending_ids s.jobs) placed.id) (planned s now)
+unfolding planned
+plan-waits moves ids s now k d below =
+    All-contains (Contains (pending_ids s.jobs)) (map (λ (job : PlanJob). job.id) (ranked s now)) _
+    (All-map (Contains (pending_ids s.jobs)) (λ (job : PlanJob). job.id) (ranked s now) (ranked-waits moves s now))
+    (ids (base_of s now) (ranked s now) now k d below)
+
+-- and of candidates
+pub plan-candidates : OrderMoves JobRecord → PlanIds → (s : State) (now : ℕ)
+    → All (λ (placed : Placed). IsOfCandidate s placed.id) (planned s now)
+unfolding planned
+plan-candidates moves ids s now k d below =
+    All-contains (IsOfCandidate s) (map (λ (job : PlanJob). job.id) (ranked s now)) _
+    (All-map (IsOfCandidate s) (λ (job : PlanJob). job.id) (ranked s now) (ranked-candidates moves s now))
+    (ids (base_of s now) (ranked s now) now k d below)
+
+-- The plan of a sound state can start.
+pub can-start : PlanLaws → (s : State) → IsSound s → CanStart s (planned s s.moment)
+unfolding planned base_of mem_held
+can-start laws s sound =
+    let now = s.moment in
+    let base = base_of s now in
+    let jobs = ranked s now in
+    let horizon : base.horizon ≤ 250002592000 = omega (arith, sound.moment, sound.settings.window.1) in
+    let can = ranked-planned laws.moves laws.nodes s now sound in
+    let rooms : All (IsOnRooms (map room_of s.nodes)) jobs = λ k d below. (can k d below).nodes in
+    let plannable : All IsPlannable jobs = λ k d below. (can k d below).plannable in
+    let fit = laws.fit base jobs now (base-within s sound) horizon rooms plannable in
+    let started : All (λ (job : JobRecord). unwrap_or job.started 0 ≤ now) s.jobs =
+    λ k d below. (sound.jobs k d below).run.start_passed in
+    record {
+      sound = sound;
+      each = λ k d below. record {
+        waits = plan-waits laws.moves laws.ids s now k d below;
+        last = omega (arith, (laws.starts base jobs now k d below).1, horizon);
+        some = laws.some base jobs now (λ j e inside. (can j e inside).tasks) k d below;
+        parts = laws.parts base jobs now horizon rooms plannable k d below;
+      };
+      apart = laws.apart base jobs now (ranked-apart laws.keeps s now sound.rising);
+      cpus = λ node. omega (
+        arith,
+        fit.cpus node,
+        held-now (λ cpus mem. cpus) node now s.jobs started,
+        held-counted (map room_of s.nodes) (parts_of s.jobs) node sound.held.each,
+      );
+      mem = λ node. omega (arith, fit.mem node, held-now (λ cpus mem. mem) node now s.jobs started);
+    }
+
+-- So those of a pass can.
+pub can-start_ready : ReadyLaws → PlanLaws → (s : State) (now : ℕ) → IsSound s → s.moment ≤ now → now ≤ last_moment
+    → CanStart (readied s now) (placements s now)
+unfolding planned base_of ranked candidates needs_of hindrance
+can-start_ready readies plans s now sound raised in_time =
+    can-start plans (readied s now) (sound-readied readies s now sound raised in_time)
+
+-- the base has the nodes' rooms
+pub base-rooms : (s : State) (now : ℕ) (base : BaseView) → base ≡ base_of s now → base.rooms ≡ map room_of s.nodes
+unfolding base_of
+base-rooms s now base is = ap (λ (one : BaseView). one.rooms) is
+
+-- what hinders a job, by whether its array is full
+abbrev hindered : State → JobRecord → Bool → Option Reason
+hindered s job full =
+    first_reason (held_reason job.held_by ∷ (hindrances_in (partition_of s job)
+    job ++ (reason_if full JobArrayTaskLimit ∷ reason_if (lacks_node s job) ReqNodeNotAvail ∷ [])))
+
+full-left : (age now : ℕ) (jobs : List JobRecord) (array most : Option ℕ)
+    → is_full (those_left (timed_out now) (is_old age now) jobs) array most ≡ is_full jobs array most
+full-left age now jobs None most = refl
+full-left age now jobs (Some array) None = refl
+full-left age now jobs (Some array) (Some most) = ap (λ holding. leb most holding) (holding-left age now array jobs)
+
+-- the same hinders a job before the first steps
+hindrance-ready : (s : State) (now : ℕ) (job : JobRecord) → hindrance (ready s now) job ≡ hindrance s job
+unfolding hindrance
+hindrance-ready s now job = ap (hindered s job) (full-left s.settings.min_job_age now s.jobs job.array (most_tasks job))
+
+-- so the candidates are those of the state before
+pub ranked_is : (s : State) (now : ℕ) → ranked (ready s now) now ≡ filter_map (needs_of s) (candidates s now)
+unfolding ranked candidates needs_of
+ranked_is s now =
+    let left = ready s now in
+    let same : filter (is_candidate left) left.jobs ≡ filter (is_candidate s) s.jobs =
+    filter_agree (is_candidate left) (is_candidate s)
+    (λ job. ap (λ some. is_pending job.state && is_none some) (hindrance-ready s now job)) left.jobs
+    ∙ candidates-wait s left.jobs ∙ ap (filter (λ job. is_none (hindrance s job)))
+    (pending-left s.settings.min_job_age now s.jobs) ∙ sym (candidates-wait s s.jobs) in
+    ap (λ some. filter_map (needs_of s) (ordered_by (is_higher s) some)) same
+
+pub plan-is : (s : State) (now : ℕ) (made : PlannedView) (base : BaseView) (jobs : List PlanJob)
+    → made ≡ record { base = base; ranked = jobs; moment = now }
+    → base ≡ base_of (ready s now) now → jobs ≡ ranked (ready s now) now
+    → plan_of made.base made.ranked made.moment ≡ placements s now
+unfolding planned
+plan-is s now made base jobs is base_is jobs_are =
+    ap (λ (one : PlannedView). plan_of one.base one.ranked one.moment) is ∙ rw (base_is, jobs_are) refl
+
+-- the numbers of the jobs bound how many there are
+pub few-jobs : (s : State) → IsSound s → length s.jobs ≤ last_job_id + 1
+few-jobs s sound =
+    omega (
+      arith,
+      length-rising (λ (job : JobRecord). job.id) 0 s.next_id s.jobs (omega arith) sound.rising
+          (λ k d below. omega arith) sound.below_next,
+      sound.next.1,
+    )
+
+-- a pending job waits as it did before the first steps, no other has its number, and it has no parts
+awaited : (s : State) (now : ℕ) (placed : Placed) → IsSound s → IsSound (readied s now)
+    → Contains (pending_ids (jobs_left s now)) placed.id → Awaits s.jobs (jobs_left s now) placed
+awaited s now placed sound ready_sound waits =
+    let left = jobs_left s now in
+    let age = s.settings.min_job_age in
+    let before = waits-with placed.id s.jobs sound.rising (rw (pending-left age now s.jobs) at waits) in
+    record {
+      waits = waits-with placed.id left ready_sound.rising waits;
+      same = with-left age now placed.id s.jobs before;
+      empty = from (Any-kept (λ (job : JobRecord). job.id) (λ (job : JobRecord). is_pending job.state) placed.id left
+          waits);
+    }
+  where
+    from : Any (λ (job : JobRecord). (job.id ≡ placed.id) × (is_pending job.state ≡ true)) (jobs_left s now)
+        → All (λ (job : JobRecord). job.id ≡ placed.id → job.parts ≡ []) (jobs_left s now)
+    from (k, job, inside, is, (here, pending)) j d below same =
+        let jobs = jobs_left s now in
+        let it : get_or jobs k d ≡ job = get_or_default jobs k d job inside ∙ is in
+        elim (cases_order j k) [
+          | inl equal ↦
+              no_parts (get_or jobs j d) (ready_sound.jobs j d below).parts
+              (pending-holds_not (get_or jobs j d).state (ap (λ place. is_pending (get_or jobs place d).state) equal
+              ∙ ap (λ (other : JobRecord). is_pending other.state) it ∙ pending))
+          | inr (inl before) ↦
+              absurd (omega (
+                arith,
+                ready_sound.rising j k d before inside,
+                same,
+                here,
+                ap (λ (one : JobRecord). one.id) it,
+              ))
+          | inr (inr after) ↦ absurd (omega (
+            arith,
+            ready_sound.rising k j d after below,
+            same,
+            here,
+            ap (λ (one : JobRecord). one.id) it,
+          ))
+        ]
+
+-- so all placements of a pass can begin, beside bits that show what is held and counts of the tasks
+pub can-begin-ready : OrderMoves JobRecord → OrderKeepsApart JobRecord → PlanIds → PlanApart
+    → (s : State) (now : ℕ) (held : List Bool) (counts : ArrayCounts) (plan : List Placed)
+    → IsSound s → IsSound (readied s now) → plan ≡ placements s now → ShowsParts (parts_of s.jobs) held
+    → CountsTasks s.jobs counts
+    → CanBegin s.jobs (jobs_left s now) held counts plan
+unfolding planned
+can-begin-ready moves keeps ids apart s now held counts plan sound ready_sound is shown counted =
+    let left = ready s now in
+    let waits : All (λ (placed : Placed). Contains (pending_ids left.jobs) placed.id) plan =
+    rw is (plan-waits moves ids left now) in
+    record {
+      rising = ready_sound.rising;
+      shown = rw (parts-left s.settings.min_job_age now s.jobs (λ k d below. (sound.jobs k d below).parts)) shown;
+      counted = record {
+        each =
+            λ array. counted.each array ∙ sym (holding-left s.settings.min_job_age now array s.jobs);
+      };
+      awaits = λ k d below. awaited s now (get_or plan k d) sound ready_sound (waits k d below);
+      once = rw is (apart (base_of left now) (ranked left now) now (ranked-apart keeps left now ready_sound.rising));
+    }

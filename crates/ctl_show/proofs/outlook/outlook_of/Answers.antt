@@ -1,0 +1,11 @@
+use Rattle.std.proofs.Common.{ap, ◌∙◌}
+use Rattle.ctl_show.specs.Showing.{highest, planned_start}
+use Rattle.ctl_show.proofs.outlook.outlook_of.Goals as goal
+
+pub returns : goal.returns
+unfolding highest
+returns c = record {
+  counts = rw c.records.ensures.value at c.in_ok-counts.ensures;
+  highest = c.highest.ensures;
+  starts = λ id. c.in_ok-starts_of.ensures id ∙ ap (λ plan. planned_start plan id) c.deref.ensures.value;
+}

@@ -1,0 +1,29 @@
+-- What a query finds once for all rows that it shows. Of the proof alone: no public call speaks of it.
+use Rattle.std.specs.Prelude.{◌≡◌, ℕ, ◌^◌, ◌-◌, ◌<◌, min, nat_eq, List, length, slice_index, slice_get}
+use Rattle.std.specs.HashMap.{get}
+use Rattle.slurm_text.specs.declared.plain.view.NodeGroup.{NodeGroup}
+use Rattle.job_table.specs.declared.record.Part.{Part}
+use Rattle.ctl_state.specs.ArrayCounts.{CountsTasks}
+use Rattle.ctl_state.specs.State.{State}
+use Rattle.ctl_show.specs.declared.outlook.Outlook.{Outlook}
+use Rattle.ctl_show.specs.Standing.{cpus_held, group_at}
+use Rattle.ctl_show.specs.Showing.{highest, planned_start}
+
+-- where a count stands still
+abbrev pub last_count : ℕ
+last_count = 2 ^ 64 - 1
+
+-- each count is how many processors of the node at its place the parts hold, as far as it counts
+pub record CountsParts (parts : List Part) (counts : List ℕ) : Type 0 where
+  pub each : (node : ℕ) → node < length counts → slice_index counts node ≡ min (cpus_held parts node) last_count
+
+-- each node is in the group of its place
+pub record GroupsNodes (s : State) (groups : List NodeGroup) : Type 0 where
+  pub each : (place : ℕ) → slice_get groups place ≡ group_at s place
+
+-- How many tasks of each array hold processors, the job that is highest in rank, and the second that the plan gives
+-- each job.
+pub record IsOutlook (s : State) (outlook : Outlook) : Type 0 where
+  pub counts : CountsTasks s.jobs outlook.counts
+  pub highest : (now : ℕ) → outlook.highest ≡ highest s now
+  pub starts : (id : ℕ) → get nat_eq outlook.starts id ≡ planned_start s.plan id

@@ -1,0 +1,182 @@
+-- What is shown of the state.
+use Rattle.std.specs.Prelude.{ℕ, ◌-◌, ◌*◌, ◌^◌, min, Bool, true, false, ◌&&◌, ◌||◌, not, nat_eq, is_none, if◌then◌else◌, unwrap_or, List, [], ◌∷◌, map, length, filter, sum_by, find, slice_get, bytes_eq, codes, Option, Some, None, option_map}
+use Rattle.std.specs.List.{list_any}
+use Rattle.slurm_text.specs.declared.plain.query.JobQuery.{JobQuery}
+use Rattle.slurm_text.specs.declared.plain.query.Query.{Query}
+use Rattle.slurm_text.specs.declared.plain.query.Query.TheVariants.{Squeue, Sinfo}
+use Rattle.slurm_text.specs.declared.plain.query.StateCode.{StateCode}
+use Rattle.slurm_text.specs.declared.plain.query.StateCode.TheVariants as code
+use Rattle.slurm_text.specs.declared.plain.query.Who.{Who}
+use Rattle.slurm_text.specs.declared.plain.query.Who.TheVariants.{Anyone, Asker, User}
+use Rattle.slurm_text.specs.declared.plain.refusal.Refusal.{Refusal}
+use Rattle.slurm_text.specs.declared.plain.refusal.Refusal.TheVariants.{InvalidPartition, InvalidJobId}
+use Rattle.slurm_text.specs.declared.plain.state.Final.TheVariants.{Completed, Cancelled, Failed, Timeout, NodeFail}
+use Rattle.slurm_text.specs.declared.plain.state.JobState.{JobState}
+use Rattle.slurm_text.specs.declared.plain.state.JobState.TheVariants.{Ended}
+use Rattle.slurm_text.specs.declared.plain.state.Reason.{Reason}
+use Rattle.slurm_text.specs.declared.plain.state.Reason.TheVariants.{Resources, Priority}
+use Rattle.slurm_text.specs.declared.plain.target.Target.{Target}
+use Rattle.slurm_text.specs.declared.plain.view.JobRow.{JobRow}
+use Rattle.slurm_text.specs.declared.plain.view.Row.{Row}
+use Rattle.slurm_text.specs.declared.plain.view.Row.TheVariants.{Job}
+use Rattle.slurm_text.specs.declared.plain.view.View.{View}
+use Rattle.backfill_planner.specs.declared.Placed.{Placed}
+use Rattle.partitions.specs.declared.record.PartRecord.{PartRecord}
+use Rattle.partitions.specs.Partitions.{place_meant}
+use Rattle.job_table.specs.declared.record.Part.{Part}
+use Rattle.job_table.specs.declared.record.JobRecord.{JobRecord}
+use Rattle.job_table.specs.JobStates.{is_pending, is_running, is_completing, is_ended, is_holding}
+use Rattle.job_table.specs.Targets.{index_of, is_named}
+use Rattle.ctl_state.specs.Planning.{names_of}
+use Rattle.ctl_state.specs.Refusals.{refused_if}
+use Rattle.ctl_state.specs.State.{State, partition_of}
+use Rattle.ctl_pass.specs.Reasons.{hindrance}
+use Rattle.ctl_pass.specs.Readiness.{candidates}
+use Rattle.ctl_show.specs.Standing.{state_rows}
+
+-- a job in this state has the code
+abbrev pub has_code : StateCode → JobState → Bool
+has_code code.Pending state = is_pending state
+has_code code.Running state = is_running state
+has_code code.Completing state = is_completing state
+has_code code.Completed (Ended Completed) = true
+has_code code.Cancelled (Ended Cancelled) = true
+has_code code.Failed (Ended Failed) = true
+has_code code.Timeout (Ended Timeout) = true
+has_code code.NodeFail (Ended NodeFail) = true
+has_code code state = false
+
+-- the state is one of those that are asked for; where none are, the job hasn't ended
+abbrev pub is_in : Option (List StateCode) → JobState → Bool
+is_in None state = is_pending state || is_holding state
+is_in (Some wanted) state = list_any (λ code. has_code code state) wanted
+
+-- the job is of those whose jobs are asked for
+abbrev pub is_of : Who → List ℕ → JobRecord → Bool
+is_of Anyone asker job = true
+is_of Asker asker job = bytes_eq job.user asker
+is_of (User name) asker job = bytes_eq job.user name
+
+-- one of the targets names the job, if there are any
+abbrev pub is_among : Option (List Target) → JobRecord → Bool
+is_among None job = true
+is_among (Some targets) job = list_any (λ target. is_named target job) targets
+
+-- the name of the job's partition
+abbrev pub partition_name : State → JobRecord → List ℕ
+partition_name s job = unwrap_or (option_map (λ (partition : PartRecord). partition.conf.name) (partition_of s job)) []
+
+-- the job is of the partition that is asked for, if one is
+abbrev pub is_there : State → Option (List ℕ) → JobRecord → Bool
+is_there s None job = true
+is_there s (Some name) job = bytes_eq (partition_name s job) name
+
+-- expected starts are shown of pending jobs alone
+abbrev pub may_be_shown : Bool → JobState → Bool
+may_be_shown starts state = not starts || is_pending state
+
+unfoldable pub is_shown : State → List ℕ → JobQuery → JobRecord → Bool
+is_shown s asker query job =
+    is_in query.states job.state && (may_be_shown query.starts job.state
+    && (is_of query.who asker job && (is_there s query.partition job && is_among query.jobs job)))
+
+-- the number of the candidate that is highest in rank
+unfoldable pub highest : State → ℕ → Option ℕ
+highest s now = option_map (λ (job : JobRecord). job.id) (slice_get (candidates s now) 0)
+
+-- why a candidate waits: the highest in rank for what it needs, the others for those above them
+abbrev pub reason_by_rank : Option ℕ → JobRecord → Reason
+reason_by_rank None job = Priority
+reason_by_rank (Some id) job = if nat_eq id job.id then Resources else Priority
+
+-- why a pending job waits
+abbrev pub reason_of : State → ℕ → JobRecord → Reason
+reason_of s now job = unwrap_or (hindrance s job) (reason_by_rank (highest s now) job)
+
+-- the second that the last plan gives a job
+abbrev pub planned_start : List Placed → ℕ → Option ℕ
+planned_start plan id =
+    option_map (λ (placed : Placed). placed.start) (find (λ (placed : Placed). nat_eq placed.id id) plan)
+
+-- how long a job runs at a moment since its start, or ran to its end; a pending one doesn't
+abbrev pub since : Option ℕ → ℕ → ℕ
+since None end = 0
+since (Some start) end = end - start
+
+abbrev pub elapsed_of : ℕ → JobRecord → ℕ
+elapsed_of now job =
+    if is_pending job.state then 0
+    else (if is_ended job.state then since job.started (unwrap_or job.ended 0) else since job.started now)
+
+-- how many nodes a job has, or needs at least; one that has ended had those of its last start
+abbrev pub nodes_of : JobRecord → ℕ
+nodes_of job =
+    if is_pending job.state then job.desc.min_nodes
+    else (if is_ended job.state then length job.last_nodes else length job.parts)
+
+abbrev pub node_names : State → JobRecord → List (List ℕ)
+node_names s job =
+    if is_pending job.state then []
+    else (if is_ended job.state then job.last_nodes else names_of s.nodes job.parts)
+
+-- how many processors a job holds, as far as they are counted, or asks for
+abbrev pub cpus_of : JobRecord → ℕ
+cpus_of job =
+    if is_pending job.state then job.desc.tasks * job.desc.cpus_per_task
+    else min (sum_by (λ (part : Part). length part.cpus) job.parts) (2 ^ 64 - 1)
+
+-- only pending jobs wait, and have a start that is planned
+abbrev pub reason_shown : State → ℕ → JobRecord → Option Reason
+reason_shown s now job = if is_pending job.state then Some (reason_of s now job) else None
+
+abbrev pub start_shown : State → JobRecord → Option ℕ
+start_shown s job = if is_pending job.state then planned_start s.plan job.id else job.started
+
+-- What is shown of a job. All jobs have the same priority.
+unfoldable pub row_of : State → ℕ → JobRecord → JobRow
+row_of s now job = record {
+  id = job.id;
+  array = job.array;
+  index = index_of job;
+  name = job.desc.name;
+  user = job.user;
+  account = unwrap_or job.desc.account (codes "root");
+  partition = partition_name s job;
+  qos = unwrap_or job.desc.qos (codes "normal");
+  state = job.state;
+  elapsed = elapsed_of now job;
+  nodes = nodes_of job;
+  node_names = node_names s job;
+  reason = reason_shown s now job;
+  start = start_shown s job;
+  priority = 1;
+  limit = job.limit;
+  cpus = cpus_of job;
+}
+
+-- the rows of jobs, in the order of their numbers
+abbrev pub job_rows : State → ℕ → List ℕ → JobQuery → List Row
+job_rows s now asker query = map (λ job. Job (row_of s now job)) (filter (is_shown s asker query) s.jobs)
+
+-- what a user's query shows at a moment
+unfoldable pub view_of : State → ℕ → List ℕ → Query → View
+view_of s now asker (Squeue query) = record { rows = job_rows s now asker query }
+view_of s now asker (Sinfo partition titles) = record { rows = state_rows s partition }
+
+-- a target names no job
+abbrev pub names_nothing : List JobRecord → Option (List Target) → Bool
+names_nothing jobs None = false
+names_nothing jobs (Some targets) = list_any (λ target. not (list_any (is_named target) jobs)) targets
+
+-- the partition that is asked for isn't there
+abbrev pub is_unknown : State → Option (List ℕ) → Bool
+is_unknown s None = false
+is_unknown s (Some name) = is_none (place_meant (Some name) s.partitions)
+
+-- why a query may be refused, in their order: it names a job or a partition that there isn't
+abbrev pub show_refusals : State → Query → List (Option Refusal)
+show_refusals s (Squeue query) =
+    refused_if (names_nothing s.jobs query.jobs) InvalidJobId
+    ∷ refused_if (is_unknown s query.partition) InvalidPartition
+    ∷ []
+show_refusals s (Sinfo partition titles) = refused_if (is_unknown s partition) InvalidPartition ∷ []

@@ -1,0 +1,58 @@
+//! What a query of jobs finds once for all rows of pending jobs.
+
+ghost use Rattle.std.specs.Prelude.{◌≡◌, ◌≢◌, ◌≤◌, ℕ, IfOk, All, AllPairs, nat_eq};
+ghost use Rattle.std.specs.HashMap.{get};
+ghost use Rattle.backfill_planner.specs.declared.Placed.{Placed};
+ghost use Rattle.ctl_state.specs.State.{state_of};
+ghost use Rattle.ctl_state.specs.Soundness.{IsSound};
+ghost use Rattle.ctl_show.specs.Found.{IsOutlook};
+ghost use Rattle.ctl_show.specs.Showing;
+
+use backfill_planner::Placed;
+use ctl_pass::highest;
+use ctl_state::array_counts::{ArrayCounts, count_arrays};
+use ctl_state::cluster::Cluster;
+use slurm_text::memory_error::Memory;
+use slurm_text::ranged::Ranged;
+use std::alloc::Global;
+use std::collections::HashMap;
+
+/// A second that can be shown.
+pub(crate) type Second = Ranged<0, 253402300799>;
+
+/// What the rows of pending jobs need of the other jobs and of the plan.
+#[derive(Drop)]
+pub(crate) struct Outlook {
+    /// The number of the job that is highest in rank.
+    pub(crate) highest: Option<u32>,
+    /// The seconds that the plan gives, by the numbers of the jobs.
+    pub(crate) starts: HashMap<u32, Second>,
+    /// How many tasks of each array hold processors.
+    pub(crate) counts: ArrayCounts,
+}
+
+// The seconds that the plan gives, by the numbers of the jobs. Linear in the plan.
+fn starts_of(alloc: Global, plan: &[Placed]) -> Result<HashMap<u32, Second>, Memory>
+    requires once { AllPairs (λ (one other : Placed). one.id ≢ other.id) plan.now }
+    requires last { All (λ (placed : Placed). placed.start ≤ 250002592000) plan.now }
+    ensures { IfOk result (λ starts. (id : ℕ) → get nat_eq starts id ≡ Showing.planned_start plan.now id) }
+{
+    let mut starts = HashMap::with_capacity(alloc, plan.len())?;
+    for placed in plan {
+        starts.insert(placed.id, Ranged::new(placed.start))?;
+    }
+    Ok(starts)
+}
+
+/// Linear in the jobs and the plan.
+pub(crate) fn outlook_of(alloc: Global, cluster: &Cluster) -> Result<Outlook, Memory>
+    requires { IsSound (state_of cluster.now) }
+    ensures { IfOk result (IsOutlook (state_of cluster.now)) }
+{
+    let counts = count_arrays(alloc, cluster.jobs.records())?;
+    Ok(Outlook {
+        highest: highest(cluster, &counts),
+        starts: starts_of(alloc, &cluster.plan)?,
+        counts,
+    })
+}

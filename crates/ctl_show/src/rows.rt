@@ -1,0 +1,218 @@
+//! The rows of jobs.
+
+ghost use Rattle.std.specs.Prelude.{◌≡◌, ◌≤◌, ◌<◌, ◌-◌, ◌^◌, ℕ, IfOk, length, min, sum_by, unwrap_or};
+ghost use Rattle.job_table.specs.declared.record.Part.{Part};
+ghost use Rattle.ctl_state.specs.State.{State, state_of, last_moment};
+ghost use Rattle.ctl_state.specs.Soundness.{IsSound};
+ghost use Rattle.ctl_show.specs.Found.{IsOutlook};
+ghost use Rattle.ctl_show.specs.Showing;
+
+use crate::jobs::is_shown;
+use crate::outlook::{Outlook, Second, outlook_of};
+use ctl_pass::hindrance;
+use ctl_state::cluster::Cluster;
+use ctl_state::jobs::is_pending;
+use ctl_state::planning::names_of;
+use job_table::record::{JobRecord, Part};
+use job_table::targets::index_of;
+use slurm_text::items::Items;
+use slurm_text::memory_error::Memory;
+use slurm_text::name::Name;
+use slurm_text::plain::query::JobQuery;
+use slurm_text::plain::state::{JobState, Reason};
+use slurm_text::plain::view::{JobRow, Row};
+use slurm_text::ranged::Ranged;
+use std::alloc::Global;
+
+// How long a job runs or ran, in seconds.
+type Elapsed = Ranged<0, 1000000000000>;
+
+// All jobs have the same priority.
+const PRIORITY: u32 = 1;
+
+// The name, or this text as one, which is a name. A text that is none comes out as want of memory.
+fn name_or(alloc: Global, name: &Option<Name>, other: &[u8]) -> Result<Name, Memory>
+    ensures { IfOk result (λ copy. copy ≡ unwrap_or name.now other.now) }
+{
+    match name {
+        Some(name) => name.copy(),
+        None => Name::read(alloc, other).map_err(|_| Memory),
+    }
+}
+
+fn partition_name(cluster: &Cluster, job: &JobRecord) -> Result<Name, Memory>
+    requires { job.now.partition < length cluster.now.partitions }
+    ensures { IfOk result (λ name. name ≡ Showing.partition_name (state_of cluster.now) job.now) }
+{
+    let partition = &cluster.partitions.records()[job.partition as usize];
+    partition.conf.name.copy()
+}
+
+// The seconds from a start to an end.
+fn since(start: Option<u64>, end: u64) -> Elapsed
+    requires { end ≤ last_moment }
+    ensures { result ≡ Showing.since start end }
+{
+    match start {
+        Some(start) => Ranged::new(end.saturating_sub(start)),
+        None => Ranged::new(0),
+    }
+}
+
+// How long the job runs at a moment, or ran.
+fn elapsed_of(moment: u64, job: &JobRecord) -> Elapsed
+    requires in_time { moment ≤ last_moment }
+    requires ended { unwrap_or job.now.ended 0 ≤ last_moment }
+    ensures { result ≡ Showing.elapsed_of moment job.now }
+{
+    match job.state {
+        JobState::Pending => Ranged::new(0),
+        JobState::Running | JobState::Completing(_) => since(job.started, moment),
+        JobState::Ended(_) => since(job.started, job.ended.unwrap_or(0)),
+    }
+}
+
+// How many nodes the job has, needs at least, or had.
+fn nodes_of(job: &JobRecord) -> u64
+    ensures { result ≡ Showing.nodes_of job.now }
+{
+    match job.state {
+        JobState::Pending => job.desc.min_nodes.get(),
+        JobState::Running | JobState::Completing(_) => job.parts.as_slice().len() as u64,
+        JobState::Ended(_) => job.last_nodes.as_slice().len() as u64,
+    }
+}
+
+// The names of the nodes that the job has or had.
+fn node_names(alloc: Global, cluster: &Cluster, job: &JobRecord) -> Result<Items<Name>, Memory>
+    ensures { IfOk result (λ names. names ≡ Showing.node_names (state_of cluster.now) job.now) }
+{
+    match job.state {
+        JobState::Pending => Ok(Items::from_vec(Vec::new(alloc))),
+        JobState::Running | JobState::Completing(_) => {
+            let names = names_of(alloc, cluster.nodes.records(), job.parts.as_slice())?;
+            Ok(Items::from_vec(names))
+        }
+        JobState::Ended(_) => job.last_nodes.copy(),
+    }
+}
+
+// How many processors the parts have. The count stands still at its type's end.
+fn cpus_in(parts: &[Part]) -> u64
+    ensures { result ≡ min (sum_by (λ (part : Part). length part.cpus) parts.now) (2 ^ 64 - 1) }
+{
+    let mut count = 0_u64;
+    for part in parts {
+        count = count.saturating_add(part.cpus.len() as u64);
+    }
+    count
+}
+
+// How many processors the job holds, or asks for.
+fn cpus_of(job: &JobRecord) -> u64
+    ensures { result ≡ Showing.cpus_of job.now }
+{
+    if is_pending(job) {
+        job.desc.tasks.get() * job.desc.cpus_per_task.get()
+    } else {
+        cpus_in(job.parts.as_slice())
+    }
+}
+
+// Why a job waits that nothing hinders.
+fn reason_by_rank(highest: Option<u32>, job: &JobRecord) -> Reason
+    ensures { result ≡ Showing.reason_by_rank highest job.now }
+{
+    match highest {
+        Some(id) if id == job.id => Reason::Resources,
+        _ => Reason::Priority,
+    }
+}
+
+// Why the job waits, where it does.
+fn reason_shown(cluster: &Cluster, outlook: &Outlook, job: &JobRecord) -> Option<Reason>
+    requires { IsOutlook (state_of cluster.now) outlook.now }
+    ensures { (now : ℕ) → result ≡ Showing.reason_shown (state_of cluster.now) now job.now }
+{
+    if !is_pending(job) {
+        return None;
+    }
+    match hindrance(cluster, &outlook.counts, job) {
+        Some(reason) => Some(reason),
+        None => Some(reason_by_rank(outlook.highest, job)),
+    }
+}
+
+// The second of the job's start, or the one planned for it.
+fn start_shown(outlook: &Outlook, job: &JobRecord) -> Option<Second>
+    requires { unwrap_or job.now.started 0 ≤ last_moment }
+    ensures { (s : State) → IsOutlook s outlook.now → result ≡ Showing.start_shown s job.now }
+{
+    if is_pending(job) {
+        return outlook.starts.get(&job.id).copied();
+    }
+    match job.started {
+        Some(start) => Some(Ranged::new(start)),
+        None => None,
+    }
+}
+
+// What is shown of the job.
+fn row_of(
+    alloc: Global,
+    cluster: &Cluster,
+    moment: u64,
+    outlook: &Outlook,
+    job: &JobRecord,
+) -> Result<JobRow, Memory>
+    requires in_time { moment ≤ last_moment }
+    requires outlook { IsOutlook (state_of cluster.now) outlook.now }
+    requires partition { job.now.partition < length cluster.now.partitions }
+    requires started { unwrap_or job.now.started 0 ≤ last_moment }
+    requires ended { unwrap_or job.now.ended 0 ≤ last_moment }
+    ensures { IfOk result (λ row. row ≡ Showing.row_of (state_of cluster.now) moment job.now) }
+{
+    Ok(JobRow {
+        id: job.id,
+        array: job.array,
+        index: index_of(job),
+        name: job.desc.name.copy()?,
+        user: job.user.copy()?,
+        account: name_or(alloc, &job.desc.account, b"root")?,
+        partition: partition_name(cluster, job)?,
+        qos: name_or(alloc, &job.desc.qos, b"normal")?,
+        state: job.state,
+        elapsed: elapsed_of(moment, job),
+        nodes: nodes_of(job),
+        node_names: node_names(alloc, cluster, job)?,
+        reason: reason_shown(cluster, outlook, job),
+        start: start_shown(outlook, job),
+        priority: PRIORITY,
+        limit: job.limit,
+        cpus: cpus_of(job),
+    })
+}
+
+/// The rows of the jobs that a user's query shows, in the order of their numbers.
+pub(crate) fn job_rows(
+    alloc: Global,
+    cluster: &Cluster,
+    moment: u64,
+    asker: &Name,
+    query: &JobQuery,
+) -> Result<Vec<Row>, Memory>
+    requires sound { IsSound (state_of cluster.now) }
+    requires in_time { moment ≤ last_moment }
+    ensures { IfOk result (λ rows.
+        rows.items ≡ Showing.job_rows (state_of cluster.now) moment asker.now query.now) }
+{
+    let outlook = outlook_of(alloc, cluster)?;
+    let mut rows = Vec::new(alloc);
+    for job in cluster.jobs.records() {
+        if is_shown(cluster, asker, query, job) {
+            let row = row_of(alloc, cluster, moment, &outlook, job)?;
+            rows.push(Row::Job(row))?;
+        }
+    }
+    Ok(rows)
+}

@@ -1,0 +1,76 @@
+//! Queries.
+
+ghost use Rattle.std.specs.Prelude.{◌≡◌, ◌≤◌, IfOk};
+ghost use Rattle.ctl_state.specs.State.{state_of, last_moment};
+ghost use Rattle.ctl_state.specs.Refusals.{first_refusal, refused_if};
+ghost use Rattle.ctl_state.specs.Soundness.{IsSound};
+ghost use Rattle.ctl_show.specs.Showing;
+
+use crate::jobs::{is_unknown, names_nothing};
+use crate::rows::job_rows;
+use crate::standing::state_rows;
+use ctl_state::cluster::Cluster;
+use slurm_text::items::Items;
+use slurm_text::memory_error::Memory;
+use slurm_text::name::Name;
+use slurm_text::plain::query::{JobQuery, Query};
+use slurm_text::plain::refusal::Refusal;
+use slurm_text::plain::view::View;
+use std::alloc::Global;
+
+// Why a query is refused that asks for this partition.
+fn partition_refusal(cluster: &Cluster, asked: &Option<Name>) -> Option<Refusal>
+    ensures { result ≡ refused_if (Showing.is_unknown (state_of cluster.now) asked.now) Refusal.InvalidPartition }
+{
+    if is_unknown(cluster, asked) {
+        Some(Refusal::InvalidPartition)
+    } else {
+        None
+    }
+}
+
+// Why a query of jobs is refused.
+fn job_refusal(cluster: &Cluster, query: &JobQuery) -> Option<Refusal>
+    requires { IsSound (state_of cluster.now) }
+    ensures { result ≡ first_refusal (Showing.show_refusals (state_of cluster.now) (Query.Squeue query.now)) }
+{
+    if names_nothing(cluster.jobs.records(), &query.jobs) {
+        return Some(Refusal::InvalidJobId);
+    }
+    partition_refusal(cluster, &query.partition)
+}
+
+/// Why a query is refused, if it is. Logarithmic in the jobs for each target, and linear in the tasks of arrays.
+pub fn refusal_of(cluster: &Cluster, query: &Query) -> Option<Refusal>
+    requires { IsSound (state_of cluster.now) }
+    ensures { result ≡ first_refusal (Showing.show_refusals (state_of cluster.now) query.now) }
+{
+    match query {
+        Query::Squeue(query) => job_refusal(cluster, query),
+        Query::Sinfo { partition, .. } => partition_refusal(cluster, partition),
+    }
+}
+
+/// What a user's query shows, at its raised moment. A query of jobs is linear in these, in the parts of those that are
+/// shown, and in the plan, and for each job in the targets and states that it names; one of partitions in the nodes,
+/// the jobs' parts and the nodes of the partitions that it shows.
+#[tactic(auto, unfolding(crate::specs::Showing::view_of))]
+pub fn view_of(
+    alloc: Global,
+    cluster: &Cluster,
+    moment: u64,
+    asker: &Name,
+    query: &Query,
+) -> Result<View, Memory>
+    requires sound { IsSound (state_of cluster.now) }
+    requires in_time { moment ≤ last_moment }
+    ensures { IfOk result (λ view. view ≡ Showing.view_of (state_of cluster.now) moment asker.now query.now) }
+{
+    let rows = match query {
+        Query::Squeue(query) => job_rows(alloc, cluster, moment, asker, query)?,
+        Query::Sinfo { partition, .. } => state_rows(alloc, cluster, partition)?,
+    };
+    Ok(View {
+        rows: Items::from_vec(rows),
+    })
+}

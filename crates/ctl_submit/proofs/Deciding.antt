@@ -1,0 +1,105 @@
+-- What is decided of a submission under its terms is decided of it.
+use Rattle.std.proofs.Common.{◌≡◌, ℕ, ◌<◌, ◌≤◌, ◌∙◌, List, ◌∷◌, All, IfOk, Option, Some, None, Result, Ok, Err, refl, sym, ap, subst, arith}
+use Rattle.std.specs.Prelude.{is_none, option_and_then, slice_get}
+use Rattle.std.proofs.lemmas.Option.{get_or_from_slice_get, slice_get_within}
+use Rattle.slurm_text.specs.declared.memory_error.Memory.{Memory}
+use Rattle.slurm_text.specs.declared.plain.job.JobDesc.{JobDesc}
+use Rattle.slurm_text.specs.declared.plain.refusal.Refusal.{Refusal}
+use Rattle.slurm_text.specs.declared.plain.refusal.Refusal.TheVariants.{InvalidAccount, InvalidPartition}
+use Rattle.slurm_text.specs.declared.plain.reply.Reply.TheVariants.{Submitted}
+use Rattle.partitions.specs.declared.record.PartRecord.{PartRecord}
+use Rattle.job_table.specs.declared.record.JobRecord.{JobRecord}
+use Rattle.ctl_state.specs.declared.record.AssocRecord.{AssocRecord}
+use Rattle.ctl_state.specs.State.{State}
+use Rattle.ctl_state.specs.Refusals.{first_refusal, refused_if}
+use Rattle.ctl_state.specs.Verdicts.{Makes}
+use Rattle.ctl_submit.specs.declared.draft.Draft.{Draft}
+use Rattle.ctl_submit.specs.declared.handed.Handed.{Handed}
+use Rattle.ctl_submit.specs.Drafts.{IsDecidedIn, terms_in}
+use Rattle.ctl_submit.specs.Submission.{CanAdd, IsDecided, Terms, account_of, assoc_for, made_under, new_arrays, new_jobs, partition_for, place_for, refusals_by, refusals_under, submit_after, terms_by, terms_of}
+use Rattle.ctl_submit.proofs.Made.{All-new_jobs, AllPairs-new_jobs, length-new_jobs}
+use Rattle.ctl_submit.proofs.Refused.{rooms}
+
+-- what holds of each member holds of one at a place
+pub All-at : {X : Type 0} (P : X → Type 0) (xs : List X) (k : ℕ) (x : X) → All P xs → slice_get xs k ≡ Some x → P x
+All-at P xs k x all there = subst P (get_or_from_slice_get xs k x x there) (all k x (slice_get_within xs k x there))
+
+-- the terms, where all of them are there
+terms-there : (s : State) (assoc : Option AssocRecord) (place : Option ℕ) (partition : Option PartRecord)
+    (one : AssocRecord) (at : ℕ) (its : PartRecord) → assoc ≡ Some one → place ≡ Some at → partition ≡ Some its
+    → terms_by s assoc place partition
+    ≡ Some (record { account = account_of s.assocs one; place = at; partition = its })
+terms-there s assoc place partition one at its known named there = rw (known, named, there) refl
+
+-- the first refusal under them is the first of all
+first-under : (s : State) (moment : ℕ) (user : List ℕ) (desc : JobDesc) (assoc : Option AssocRecord)
+    (partition : Option PartRecord) (by : Option Terms) (one : AssocRecord) (its : PartRecord) (terms : Terms)
+    → assoc ≡ Some one → partition ≡ Some its → by ≡ Some terms
+    → first_refusal (refused_if (is_none assoc) InvalidAccount
+    ∷ refused_if (is_none partition) InvalidPartition ∷ refusals_by s moment user desc by)
+    ≡ first_refusal (refusals_under s moment user desc terms)
+first-under s moment user desc assoc partition by one its terms known there under = rw (known, there, under) refl
+
+made-there : (s : State) (moment : ℕ) (user : List ℕ) (desc : JobDesc) (by : Option Terms) (terms : Terms)
+    → by ≡ Some terms
+    → made_under s moment user desc by ≡ Makes (Submitted s.next_id)
+    (submit_after s (new_jobs s moment user desc terms desc.array) (new_arrays s desc.array))
+made-there s moment user desc by terms under = rw under refl
+
+-- what isn't refused can be added
+pub can-add : (s : State) (moment : ℕ) (user : List ℕ) (desc : JobDesc) (terms : Terms)
+    → first_refusal (refusals_under s moment user desc terms) ≡ None
+    → CanAdd s (new_jobs s moment user desc terms desc.array)
+can-add s moment user desc terms none =
+    let room = rooms s moment user desc terms none in
+    let count = length-new_jobs s moment user desc terms desc.array in
+    record {
+      rising = AllPairs-new_jobs (λ (one other : JobRecord). one.id < other.id) s moment user desc terms desc.array
+          (λ one other own others before. before);
+      above = All-new_jobs (λ (job : JobRecord). s.next_id ≤ job.id) s moment user desc terms desc.array
+          (λ id of own least below first. least);
+      room = omega (arith, room.0, count);
+      numbers = omega (arith, room.1, count);
+    }
+
+terms-of : (s : State) (draft : Draft) (assoc : AssocRecord)
+    → assoc_for s draft.user.now draft.desc.now ≡ Some assoc → place_for s draft.desc.now ≡ Some draft.place
+    → partition_for s draft.desc.now ≡ Some draft.partition.now → draft.account ≡ account_of s.assocs assoc
+    → terms_of s draft.user.now draft.desc.now ≡ Some (terms_in draft)
+unfolding terms_of
+terms-of s draft assoc known named there account =
+    let its : PartRecord = draft.partition.now in
+    terms-there s (assoc_for s draft.user.now draft.desc.now) (place_for s draft.desc.now)
+    (partition_for s draft.desc.now) assoc draft.place its known named there
+    ∙ ap (λ (name : List ℕ). Some (with-account name)) (sym account)
+  where
+    with-account : List ℕ → Terms
+    with-account name = record { account = name; place = draft.place; partition = draft.partition.now }
+
+-- what is decided of a draft is decided of what the user handed in
+pub decided : (s : State) (draft : Draft) (assoc : AssocRecord) (decision : Result Handed Refusal)
+    → assoc_for s draft.user.now draft.desc.now ≡ Some assoc → place_for s draft.desc.now ≡ Some draft.place
+    → partition_for s draft.desc.now ≡ Some draft.partition.now → draft.account ≡ account_of s.assocs assoc
+    → IsDecidedIn s draft decision → IsDecided s draft.moment draft.user.now draft.desc.now decision
+decided s draft assoc (Err refusal) known named there account is =
+    first-under s draft.moment draft.user.now draft.desc.now (assoc_for s draft.user.now draft.desc.now)
+    (partition_for s draft.desc.now) (terms_of s draft.user.now draft.desc.now) assoc draft.partition.now
+    (terms_in draft) known there (terms-of s draft assoc known named there account) ∙ is
+decided s draft assoc (Ok handed) known named there account is =
+    let under = terms-of s draft assoc known named there account in (
+      first-under s draft.moment draft.user.now draft.desc.now (assoc_for s draft.user.now draft.desc.now)
+          (partition_for s draft.desc.now) (terms_of s draft.user.now draft.desc.now) assoc draft.partition.now
+          (terms_in draft) known there under ∙ is.0,
+      rw (is.1.jobs, is.1.arrays) (made-there s draft.moment draft.user.now draft.desc.now
+          (terms_of s draft.user.now draft.desc.now) (terms_in draft) under),
+      rw is.1.jobs (can-add s draft.moment draft.user.now draft.desc.now (terms_in draft) is.0),
+    )
+
+pub decided-if : (s : State) (draft : Draft) (assoc : AssocRecord) (outcome : Result (Result Handed Refusal) Memory)
+    → assoc_for s draft.user.now draft.desc.now ≡ Some assoc → place_for s draft.desc.now ≡ Some draft.place
+    → slice_get s.partitions draft.place ≡ Some draft.partition.now → draft.account ≡ account_of s.assocs assoc
+    → IfOk outcome (IsDecidedIn s draft)
+    → IfOk outcome (IsDecided s draft.moment draft.user.now draft.desc.now)
+decided-if s draft assoc (Ok decision) known named there account is =
+    decided s draft assoc decision known named (ap (option_and_then (slice_get s.partitions)) named ∙ there) account is
+decided-if s draft assoc (Err memory) known named there account is = tt

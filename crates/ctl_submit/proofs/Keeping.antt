@@ -1,0 +1,129 @@
+-- An accepted submission keeps all sound, and makes another state.
+use Rattle.std.proofs.Common.{◌≡◌, ◌≢◌, ℕ, ◌+◌, ◌<◌, ◌≤◌, ◌∙◌, true, List, [], ◌∷◌, ◌++◌, length, Option, Some, None, refl, ap, subst, arith, rules, tests, length-append}
+use Rattle.std.specs.Prelude.{IfSome, is_none, option_and_then, slice_get, unwrap_or}
+use Rattle.std.specs.Option.{option_or}
+use Rattle.std.proofs.lemmas.Option.{slice_get_within}
+use Rattle.slurm_text.specs.declared.plain.array.ArraySpec.{ArraySpec}
+use Rattle.slurm_text.specs.declared.plain.job.JobDesc.{JobDesc}
+use Rattle.slurm_text.specs.declared.plain.limit.Limit.{Limit}
+use Rattle.slurm_text.specs.declared.plain.refusal.Refusal.TheVariants.{InvalidAccount, InvalidPartition}
+use Rattle.slurm_text.specs.declared.plain.reply.Reply.{Reply}
+use Rattle.partitions.specs.declared.record.PartRecord.{PartRecord}
+use Rattle.job_table.specs.declared.record.JobRecord.{JobRecord}
+use Rattle.job_table.specs.JobStates.{is_pending}
+use Rattle.ctl_state.specs.declared.record.ArrayRecord.{ArrayRecord}
+use Rattle.ctl_state.specs.declared.record.AssocRecord.{AssocRecord}
+use Rattle.ctl_state.specs.State.{State, last_moment}
+use Rattle.ctl_state.specs.Laws.{Adding}
+use Rattle.ctl_state.specs.Refusals.{first_refusal, refused_if}
+use Rattle.ctl_state.specs.Soundness.{HasLimits, IsAsked, IsKept, IsLimit, IsSound}
+use Rattle.ctl_state.specs.Verdicts.{Makes, stamped}
+use Rattle.ctl_submit.specs.Submission.{Terms, account_of, made_under, new_arrays, new_job, new_jobs, refusals_by, refusals_under, submit_after, terms_by}
+use Rattle.ctl_submit.proofs.Deciding.{All-at, can-add}
+use Rattle.ctl_submit.proofs.Made.{All-new_jobs, AllPairs-new_jobs, length-new_jobs}
+
+-- the limit in force is in its range
+limit-in : (asked unasked : Option Limit) (longest : Limit) → IfSome asked IsLimit → IfSome unasked IsLimit
+    → IsLimit longest → IsLimit (unwrap_or (option_or asked unasked) longest)
+limit-in None None longest range left most = most
+limit-in None (Some limit) longest range left most = left
+limit-in (Some limit) unasked longest range left most = range
+
+-- a job that a submission makes in a partition that there is
+kept-new_job : (s : State) (moment : ℕ) (user : List ℕ) (desc : JobDesc) (terms : Terms) (id : ℕ) (of : Option ℕ)
+    (own : Option ArraySpec) → HasLimits terms.partition → IsAsked desc → IfSome desc.limit IsLimit
+    → IsKept moment (new_job s moment user desc terms id of own)
+kept-new_job s moment user desc terms id of own limits asked range =
+    let conf = terms.partition.conf in
+    record {
+      asked = record { tasks = asked.tasks; cpus = asked.cpus; run = asked.run; exit = asked.exit };
+      limit = limit-in desc.limit conf.default_time conf.max_time range limits.unasked limits.longest;
+      run = search (rules, tests);
+      parts = record { some = refl; apart = λ i j d before within. absurd (omega (arith, within)) };
+    }
+
+array-is : (of : Option ℕ) (id next : ℕ) → next ≤ id → IfSome of (λ first. first ≡ next)
+    → IfSome of (λ array. array ≤ id)
+array-is None id next least first = tt
+array-is (Some array) id next least first = omega (arith, least, first)
+
+array-from : (of : Option ℕ) (next : ℕ) → IfSome of (λ first. first ≡ next) → IfSome of (λ array. next ≤ array)
+array-from None next first = tt
+array-from (Some array) next first = omega (arith, first)
+
+-- a submission that isn't refused, under its terms
+submitted : Adding → (s : State) (now : ℕ) (user : List ℕ) (desc : JobDesc) (terms : Terms) → IsSound s → s.moment ≤ now
+    → now ≤ last_moment → IsAsked desc → IfSome desc.limit IsLimit
+    → slice_get s.partitions terms.place ≡ Some terms.partition
+    → first_refusal (refusals_under s now user desc terms) ≡ None
+    → IsSound (stamped now (submit_after s (new_jobs s now user desc terms desc.array) (new_arrays s desc.array)))
+submitted adding s now user desc terms sound later in_time asked range there none =
+    let limits = All-at HasLimits s.partitions terms.place terms.partition sound.limits there in
+    let within = slice_get_within s.partitions terms.place terms.partition there in
+    let added = can-add s now user desc terms none in
+    let count = length-new_jobs s now user desc terms desc.array in
+    let next : ℕ = s.next_id + length (new_jobs s now user desc terms desc.array) in
+    adding s now next (new_jobs s now user desc terms desc.array) _ sound later in_time
+    (All-new_jobs (λ (job : JobRecord). job.partition < length s.partitions) s now user desc terms desc.array
+    (λ id of own least below first. within))
+    (All-new_jobs (IsKept now) s now user desc terms desc.array
+    (λ id of own least below first. kept-new_job s now user desc terms id of own limits asked range))
+    (All-new_jobs (λ (job : JobRecord). is_pending job.state ≡ true) s now user desc terms desc.array
+    (λ id of own least below first. refl))
+    added.rising added.above
+    (All-new_jobs (λ (job : JobRecord). job.id + 1 ≤ next) s now user desc terms desc.array
+    (λ id of own least below first. omega (arith, below, count)))
+    (omega arith) added.numbers
+    (record {
+      after = All-new_jobs (λ (job : JobRecord). IfSome job.array (λ array. array ≤ job.id)) s now user desc terms
+          desc.array (λ id of own least below first. array-is of id s.next_id least first);
+      together = AllPairs-new_jobs
+          (λ (one other : JobRecord). IfSome other.array (λ array. array ≤ one.id → one.array ≡ Some array))
+          s now user desc terms desc.array (λ one other own others before at_most. refl);
+    })
+    (All-new_jobs (λ (job : JobRecord). IfSome job.array (λ array. s.next_id ≤ array)) s now user desc terms desc.array
+    (λ id of own least below first. array-from of s.next_id first))
+
+-- the state that is made
+made-after : {reply other : Reply} {after left : State} → Makes reply after ≡ Makes other left → after ≡ left
+made-after {reply} {other} {after} {left} same = cc
+
+-- An accepted submission keeps all sound.
+pub sound-made : Adding → (s after : State) (now : ℕ) (user : List ℕ) (desc : JobDesc) (reply : Reply)
+    (assoc : Option AssocRecord) (place : Option ℕ) (partition : Option PartRecord) → IsSound s → s.moment ≤ now
+    → now ≤ last_moment → IsAsked desc → IfSome desc.limit IsLimit
+    → option_and_then (slice_get s.partitions) place ≡ partition
+    → first_refusal (refused_if (is_none assoc) InvalidAccount
+    ∷ refused_if (is_none partition) InvalidPartition ∷ refusals_by s now user desc (terms_by s assoc place partition))
+    ≡ None
+    → made_under s now user desc (terms_by s assoc place partition) ≡ Makes reply after → IsSound (stamped now after)
+sound-made adding s after now user desc reply None place its sound later in_time asked range there none made =
+    absurd (cc)
+sound-made adding s after now user desc reply (Some one) None its sound later in_time asked range there none made =
+    absurd (cc)
+sound-made adding s after now user desc reply (Some one) (Some place) None sound later in_time asked range there none
+    made = absurd (cc)
+sound-made adding s after now user desc reply (Some one) (Some place) (Some its) sound later in_time asked range there
+    none made =
+    let terms : Terms = record { account = account_of s.assocs one; place = place; partition = its } in
+    subst (λ (left : State). IsSound (stamped now left)) (made-after made)
+    (submitted adding s now user desc terms sound later in_time asked range there none)
+
+-- one member more is another list
+more-arrays : (arrays : List ArrayRecord) (array : ArrayRecord) → arrays ++ array ∷ [] ≢ arrays
+more-arrays arrays array same =
+    omega (arith, ap (λ (all : List ArrayRecord). length all) same, length-append arrays (array ∷ []))
+
+changed : (s : State) (now : ℕ) (user : List ℕ) (desc : JobDesc) (terms : Terms) (array : Option ArraySpec)
+    → submit_after s (new_jobs s now user desc terms array) (new_arrays s array) ≢ s
+changed s now user desc terms None same =
+    omega (arith, ap (λ (t : State). t.next_id) same, length-new_jobs s now user desc terms None)
+changed s now user desc terms (Some array) same =
+    more-arrays s.arrays (record { id = s.next_id; indices = array.indices }) (ap (λ (t : State). t.arrays) same)
+
+-- An accepted submission makes another state.
+pub changed-made : (s after : State) (now : ℕ) (user : List ℕ) (desc : JobDesc) (reply : Reply) (by : Option Terms)
+    → made_under s now user desc by ≡ Makes reply after → after ≢ s
+changed-made s after now user desc reply None made same = absurd (cc)
+changed-made s after now user desc reply (Some terms) made same =
+    changed s now user desc terms desc.array (made-after made ∙ same)

@@ -1,0 +1,238 @@
+-- A submission: its refusals, and the jobs that it makes.
+use Rattle.std.specs.Prelude.{◌≡◌, ◌≤◌, ℕ, ◌+◌, min, max, Bool, true, false, ◌&&◌, not, is_none, is_some, nat_le, nat_lt, if◌then◌else◌, unwrap_or, List, [], ◌∷◌, ◌++◌, length, map, find, slice_get, bytes_eq, codes, All, Option, Some, None, option_map, option_and_then, Result, Ok, Err}
+use Rattle.std.specs.List.{list_any, enumerate_from}
+use Rattle.std.specs.Option.{option_or, option_to_list}
+use Rattle.slurm_text.specs.declared.plain.array.ArraySpec.{ArraySpec}
+use Rattle.slurm_text.specs.declared.plain.conf.PartState.{PartState}
+use Rattle.slurm_text.specs.declared.plain.conf.PartState.TheVariants.{Up, Down, Drain, Inactive}
+use Rattle.slurm_text.specs.declared.plain.job.JobDesc.{JobDesc}
+use Rattle.slurm_text.specs.declared.plain.limit.Limit.{Limit}
+use Rattle.slurm_text.specs.declared.plain.mem_ask.MemAsk.{MemAsk}
+use Rattle.slurm_text.specs.declared.plain.mem_ask.MemAsk.TheVariants as memory
+use Rattle.slurm_text.specs.declared.plain.state.HeldBy.{HeldBy}
+use Rattle.slurm_text.specs.declared.plain.state.HeldBy.TheVariants.{Nobody, User}
+use Rattle.slurm_text.specs.declared.plain.state.JobState.TheVariants.{Pending}
+use Rattle.slurm_text.specs.declared.plain.refusal.Refusal.{Refusal}
+use Rattle.slurm_text.specs.declared.plain.refusal.Refusal.TheVariants.{PartitionClosed, InvalidAccount, InvalidPartition, NodesNotAvailable, NotAllowedHere, JobTableFull, ArrayTooLarge, UnknownNode, JobIdsSpent}
+use Rattle.slurm_text.specs.declared.plain.reply.Reply.TheVariants.{Submitted}
+use Rattle.backfill_planner.specs.Plans.{placed_of}
+use Rattle.node_state.specs.Nodes.{place_named}
+use Rattle.partitions.specs.declared.record.PartRecord.{PartRecord}
+use Rattle.partitions.specs.Partitions.{place_meant}
+use Rattle.job_table.specs.declared.record.JobRecord.{JobRecord}
+use Rattle.job_table.specs.Table.{HaveRisingIds}
+use Rattle.ctl_state.specs.declared.record.ArrayRecord.{ArrayRecord}
+use Rattle.ctl_state.specs.declared.record.AssocRecord.{AssocRecord}
+use Rattle.ctl_state.specs.Planning.{open_room, plan_job}
+use Rattle.ctl_state.specs.Refusals.{first_refusal, refused_if}
+use Rattle.ctl_state.specs.State.{State, last_job_id}
+use Rattle.ctl_state.specs.Verdicts.{Verdict, Refuses, Makes}
+use Rattle.ctl_submit.specs.declared.handed.Handed.{Handed}
+
+-- the account that an association belongs to; there is one, root, that no association stands for
+abbrev pub account_of : List AssocRecord → AssocRecord → List ℕ
+account_of assocs assoc =
+    unwrap_or
+    (option_map (λ (parent : AssocRecord). parent.conf.name) (option_and_then (slice_get assocs) assoc.conf.parent))
+    (codes "root")
+
+-- an association is the user's, of the account that is asked for, if one is
+abbrev pub is_of_account : List AssocRecord → Option (List ℕ) → AssocRecord → Bool
+is_of_account assocs None assoc = true
+is_of_account assocs (Some account) assoc = bytes_eq (account_of assocs assoc) account
+
+abbrev pub is_users : List AssocRecord → List ℕ → Option (List ℕ) → AssocRecord → Bool
+is_users assocs user account assoc =
+    assoc.conf.user && (bytes_eq assoc.conf.name user && is_of_account assocs account assoc)
+
+-- the association that a submission counts for: the first one
+abbrev pub assoc_for : State → List ℕ → JobDesc → Option AssocRecord
+assoc_for s user desc = find (is_users s.assocs user desc.account) s.assocs
+
+-- the place of the partition that a submission means, and the partition
+abbrev pub place_for : State → JobDesc → Option ℕ
+place_for s desc = place_meant desc.partition s.partitions
+
+abbrev pub partition_for : State → JobDesc → Option PartRecord
+partition_for s desc = option_and_then (slice_get s.partitions) (place_for s desc)
+
+-- a partition that takes no jobs
+abbrev pub is_closed : PartState → Bool
+is_closed Up = false
+is_closed Down = false
+is_closed Drain = true
+is_closed Inactive = true
+
+-- the partition takes jobs of this account
+abbrev pub takes_account : Option (List (List ℕ)) → List ℕ → Bool
+takes_account None account = true
+takes_account (Some accounts) account = list_any (bytes_eq account) accounts
+
+-- the limit in force: the one asked for, or the partition's default, or its longest
+abbrev pub limit_in : PartRecord → JobDesc → Limit
+limit_in partition desc = unwrap_or (option_or desc.limit partition.conf.default_time) partition.conf.max_time
+
+-- the memory in force: the one asked for, or the partition's default, or the general one, or all of each node
+abbrev pub memory_in : State → PartRecord → JobDesc → MemAsk
+memory_in s partition desc =
+    unwrap_or (option_or (option_or desc.mem_ask partition.conf.mem_default) s.settings.mem_default) memory.All
+
+-- what a submission is settled with: its account, the place of its partition, and the partition
+pub record Terms : Type 0 where
+  pub account : List ℕ
+  pub place : ℕ
+  pub partition : PartRecord
+
+-- what a job asks for, settled; the array of a task has its own index alone
+abbrev pub settled : State → Terms → JobDesc → Option ArraySpec → JobDesc
+settled s terms desc array = record desc {
+  account = Some terms.account;
+  partition = Some terms.partition.conf.name;
+  qos = Some (unwrap_or desc.qos (codes "normal"));
+  mem_ask = Some (memory_in s terms.partition desc);
+  limit = Some (limit_in terms.partition desc);
+  held = false;
+  requeue = Some (unwrap_or desc.requeue s.settings.job_requeue);
+  array = array;
+  parsable = false;
+}
+
+-- who holds a job back that is handed in
+abbrev pub held_at_first : JobDesc → HeldBy
+held_at_first desc = if desc.held then User else Nobody
+
+-- the job with this number that a submission makes, a task of the array with that number
+abbrev pub new_job : State → ℕ → List ℕ → JobDesc → Terms → ℕ → Option ℕ → Option ArraySpec → JobRecord
+new_job s moment user desc terms id array task = record {
+  id = id;
+  array = array;
+  user = user;
+  desc = settled s terms desc task;
+  partition = terms.place;
+  submit = moment;
+  eligible = max moment (unwrap_or desc.begin 0);
+  limit = limit_in terms.partition desc;
+  held_by = held_at_first desc;
+  state = Pending;
+  starts = 0;
+  parts = [];
+  started = None;
+  ended = None;
+  exit = None;
+  last_nodes = [];
+}
+
+-- the job that a submission makes that is no array
+abbrev pub lone_job : State → ℕ → List ℕ → JobDesc → Terms → JobRecord
+lone_job s moment user desc terms = new_job s moment user desc terms s.next_id None None
+
+-- a task of an array, by its place among the indices and its index
+abbrev pub task : State → ℕ → List ℕ → JobDesc → Terms → Option ℕ → ℕ × ℕ → JobRecord
+task s moment user desc terms most (place, index) =
+    new_job s moment user desc terms (s.next_id + place) (Some s.next_id)
+    (Some (record { indices = index ∷ []; most = most }))
+
+-- the jobs that a submission makes: one, or the tasks of its array in the order of their indices
+unfoldable pub new_jobs : State → ℕ → List ℕ → JobDesc → Terms → Option ArraySpec → List JobRecord
+new_jobs s moment user desc terms None = lone_job s moment user desc terms ∷ []
+new_jobs s moment user desc terms (Some array) =
+    map (task s moment user desc terms array.most) (enumerate_from 0 array.indices)
+
+-- how many there are
+abbrev pub count_of_jobs : Option ArraySpec → ℕ
+count_of_jobs None = 1
+count_of_jobs (Some array) = length array.indices
+
+-- the index list that is kept of an array
+abbrev pub new_arrays : State → Option ArraySpec → List ArrayRecord
+new_arrays s None = []
+new_arrays s (Some array) = record { id = s.next_id; indices = array.indices } ∷ []
+
+-- how many nodes a submission may have by itself, whatever its partition asks for and allows
+abbrev pub own_bounds : JobDesc → ℕ × ℕ
+own_bounds desc = (desc.min_nodes, min desc.tasks (unwrap_or desc.max_nodes desc.tasks))
+
+-- some nodes of the partition could run the job if all were free and available; one second is as good as any
+unfoldable pub is_placeable : State → PartRecord → JobRecord → Bool
+is_placeable s partition job =
+    is_some (placed_of (map open_room s.nodes) [] (plan_job s.nodes partition (own_bounds job.desc) job) 0 0)
+
+-- a node that is named isn't there
+abbrev pub names_unknown : State → JobDesc → Bool
+names_unknown s desc = list_any (λ name. is_none (place_named name s.nodes)) (desc.required ++ desc.excluded)
+
+-- an index of the array is MaxArraySize or more
+abbrev pub is_too_large : State → Option ArraySpec → Bool
+is_too_large s None = false
+is_too_large s (Some array) = list_any (nat_le s.settings.max_array_size) array.indices
+
+-- why as many jobs may be refused, in their order
+abbrev pub refusals_of_count : State → Option ArraySpec → List (Option Refusal)
+refusals_of_count s array =
+    refused_if (is_too_large s array) ArrayTooLarge
+    ∷ refused_if (nat_lt s.settings.max_job_count (length s.jobs + count_of_jobs array)) JobTableFull
+    ∷ refused_if (nat_lt (last_job_id + 1) (s.next_id + count_of_jobs array)) JobIdsSpent
+    ∷ []
+
+-- why a submission may be refused under its terms, in their order
+abbrev pub refusals_under : State → ℕ → List ℕ → JobDesc → Terms → List (Option Refusal)
+refusals_under s moment user desc terms =
+    refused_if (is_closed terms.partition.state) PartitionClosed
+    ∷ refused_if (not (takes_account terms.partition.conf.accounts terms.account)) NotAllowedHere
+    ∷ refused_if (names_unknown s desc) UnknownNode
+    ∷ refused_if (not (is_placeable s terms.partition (lone_job s moment user desc terms))) NodesNotAvailable
+    ∷ refusals_of_count s desc.array
+
+-- the terms of a submission, for an association, to the partition at a place
+abbrev pub terms_by : State → Option AssocRecord → Option ℕ → Option PartRecord → Option Terms
+terms_by s (Some assoc) (Some place) (Some partition) =
+    Some (record { account = account_of s.assocs assoc; place = place; partition = partition })
+terms_by s assoc place partition = None
+
+unfoldable pub terms_of : State → List ℕ → JobDesc → Option Terms
+terms_of s user desc = terms_by s (assoc_for s user desc) (place_for s desc) (partition_for s desc)
+
+abbrev pub refusals_by : State → ℕ → List ℕ → JobDesc → Option Terms → List (Option Refusal)
+refusals_by s moment user desc None = []
+refusals_by s moment user desc (Some terms) = refusals_under s moment user desc terms
+
+-- why a submission may be refused, in their order
+abbrev pub submit_refusals : State → ℕ → List ℕ → JobDesc → List (Option Refusal)
+submit_refusals s moment user desc =
+    refused_if (is_none (assoc_for s user desc)) InvalidAccount
+    ∷ refused_if (is_none (partition_for s desc)) InvalidPartition
+    ∷ refusals_by s moment user desc (terms_of s user desc)
+
+-- the state with these jobs
+abbrev pub submit_after : State → List JobRecord → List ArrayRecord → State
+submit_after s jobs arrays = record s {
+  jobs = s.jobs ++ jobs;
+  arrays = s.arrays ++ arrays;
+  next_id = s.next_id + length jobs;
+}
+
+-- what an accepted submission makes
+abbrev pub made_under : State → ℕ → List ℕ → JobDesc → Option Terms → Verdict
+made_under s moment user desc None = Refuses InvalidPartition
+made_under s moment user desc (Some terms) =
+    Makes (Submitted s.next_id)
+    (submit_after s (new_jobs s moment user desc terms desc.array) (new_arrays s desc.array))
+
+abbrev pub submit_made : State → ℕ → List ℕ → JobDesc → Verdict
+submit_made s moment user desc = made_under s moment user desc (terms_of s user desc)
+
+-- the jobs can be added: their numbers follow the last one, and there is room for them
+pub record CanAdd (s : State) (jobs : List JobRecord) : Type 0 where
+  pub rising : HaveRisingIds jobs
+  pub above : All (λ (job : JobRecord). s.next_id ≤ job.id) jobs
+  pub room : length s.jobs + length jobs ≤ s.settings.max_job_count
+  pub numbers : s.next_id + length jobs ≤ last_job_id + 1
+
+-- a submission is refused for its first refusal, or makes these jobs
+abbrev pub IsDecided : State → ℕ → List ℕ → JobDesc → Result Handed Refusal → Type 0
+IsDecided s moment user desc (Err refusal) = first_refusal (submit_refusals s moment user desc) ≡ Some refusal
+IsDecided s moment user desc (Ok handed) =
+    (first_refusal (submit_refusals s moment user desc) ≡ None)
+    × (submit_made s moment user desc
+    ≡ Makes (Submitted s.next_id) (submit_after s handed.jobs.items (option_to_list handed.array)))
+    × CanAdd s handed.jobs.items

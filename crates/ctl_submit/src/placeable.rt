@@ -1,0 +1,58 @@
+//! Whether a job could ever run.
+
+ghost use Rattle.std.specs.Prelude.{◌≡◌, IfOk, length};
+ghost use Rattle.partitions.specs.Partitions.{IsOnNodes};
+ghost use Rattle.ctl_state.specs.State.{state_of};
+ghost use Rattle.ctl_state.specs.Soundness.{IsSound};
+ghost use Rattle.ctl_submit.specs.Submission;
+
+use backfill_planner::{Base, place};
+use ctl_state::cluster::Cluster;
+use ctl_state::planning::{node_order, open_rooms_of, plan_job};
+use job_table::record::JobRecord;
+use partitions::record::PartRecord;
+use resource_profile::{Profile, start};
+use slurm_text::items::Items;
+use slurm_text::memory_error::Memory;
+use slurm_text::plain::job::JobDesc;
+use std::alloc::Global;
+
+// How many nodes a submission may have by itself, at least and at most. `--nodes` in sbatch(1).
+fn own_bounds(desc: &JobDesc) -> (u32, u32)
+    ensures { result ≡ Submission.own_bounds desc.now }
+{
+    let tasks = desc.tasks.get() as u32;
+    let most = desc.max_nodes.map_or(tasks, |most| most.get() as u32);
+    (desc.min_nodes.get() as u32, tasks.min(most))
+}
+
+/// Whether some nodes of the partition could run the job if all were free and available (own). It sorts the partition's
+/// nodes.
+#[tactic(auto, unfolding(crate::specs::Submission::is_placeable))]
+pub(crate) fn is_placeable(
+    alloc: Global,
+    cluster: &Cluster,
+    partition: &PartRecord,
+    job: &JobRecord,
+) -> Result<bool, Memory>
+    requires sound { IsSound (state_of cluster.now) }
+    requires there { IsOnNodes (length cluster.now.nodes.records) partition.now }
+    ensures { IfOk result (λ could. could ≡ Submission.is_placeable (state_of cluster.now) partition.now job.now) }
+{
+    let nodes = cluster.nodes.records();
+    let order = node_order(alloc, nodes, partition)?;
+    let bounds = own_bounds(&job.desc);
+    let job = plan_job(alloc, nodes, partition, order.as_slice(), bounds, job)?;
+    let base = Base {
+        rooms: Items::from_vec(open_rooms_of(alloc, nodes)?),
+        holds: Items::from_vec(Vec::new(alloc)),
+        horizon: 0,
+    };
+    let Ok(profile) = Profile::new(alloc, base.rooms.as_slice()) else {
+        return Err(Memory);
+    };
+    match place(alloc, &profile, &base, &job, 0, 0, &mut start()) {
+        Ok(placed) => Ok(placed.is_some()),
+        Err(_) => Err(Memory),
+    }
+}

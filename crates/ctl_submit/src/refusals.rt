@@ -1,0 +1,116 @@
+//! Why a submission is refused under its terms.
+
+ghost use Rattle.std.specs.Prelude.{◌≡◌, ◌≤◌, IfOk, length, nat_le};
+ghost use Rattle.std.specs.List.{list_any};
+ghost use Rattle.partitions.specs.Partitions.{IsOnNodes};
+ghost use Rattle.ctl_state.specs.State.{state_of};
+ghost use Rattle.ctl_state.specs.Soundness.{IsSound};
+ghost use Rattle.ctl_state.specs.Refusals.{first_refusal};
+ghost use Rattle.ctl_submit.specs.Drafts.{lone_in, refusals_in};
+ghost use Rattle.ctl_submit.specs.Submission;
+
+use crate::accounts::takes_account;
+use crate::draft::Draft;
+use crate::placeable::is_placeable;
+use ctl_state::cluster::Cluster;
+use job_table::record::JobRecord;
+use slurm_text::memory_error::Memory;
+use slurm_text::plain::array::ArraySpec;
+use slurm_text::plain::conf::PartState;
+use slurm_text::plain::job::JobDesc;
+use slurm_text::plain::refusal::Refusal;
+use std::alloc::Global;
+
+// The last number that a job can have. `MaxJobId` in slurm.conf(5).
+const LAST_JOB_ID: u64 = 67_043_328;
+
+// Whether a partition in this state takes no jobs. `State` of a partition in slurm.conf(5).
+fn is_closed(state: PartState) -> bool
+    ensures { result ≡ Submission.is_closed state }
+{
+    matches!(state, PartState::Drain | PartState::Inactive)
+}
+
+// Whether a node that is named isn't there. Linear in the names.
+fn names_unknown(cluster: &Cluster, desc: &JobDesc) -> bool
+    ensures { result ≡ Submission.names_unknown (state_of cluster.now) desc.now }
+{
+    desc.required
+        .iter()
+        .chain(desc.excluded.iter())
+        .any(|name| cluster.nodes.find(name).is_none())
+}
+
+fn has_index_from(bound: u64, indices: &[u32]) -> bool
+    ensures { result ≡ list_any (nat_le bound) indices.now }
+{
+    indices.iter().any(|index| bound <= u64::from(*index))
+}
+
+// Whether an index is MaxArraySize or more. Linear in the indices.
+fn is_too_large(cluster: &Cluster, array: &Option<ArraySpec>) -> bool
+    ensures { result ≡ Submission.is_too_large (state_of cluster.now) array.now }
+{
+    let bound = cluster.settings.max_array_size.get();
+    match array {
+        Some(array) => has_index_from(bound, array.indices.iter().as_slice()),
+        None => false,
+    }
+}
+
+// How many jobs a submission makes.
+fn count_of_jobs(array: &Option<ArraySpec>) -> u64
+    ensures count { result ≡ Submission.count_of_jobs array.now }
+    ensures few { result ≤ 10_001 }
+{
+    match array {
+        Some(array) => u64::from(array.indices.count()),
+        None => 1,
+    }
+}
+
+// Why as many jobs are refused. `MaxArraySize` and `MaxJobCount` in slurm.conf(5).
+fn refusal_of_count(cluster: &Cluster, array: &Option<ArraySpec>) -> Option<Refusal>
+    ensures { result ≡ first_refusal (Submission.refusals_of_count (state_of cluster.now) array.now) }
+{
+    if is_too_large(cluster, array) {
+        return Some(Refusal::ArrayTooLarge);
+    }
+    let count = count_of_jobs(array);
+    if cluster.settings.max_job_count.get() < cluster.jobs.len() as u64 + count {
+        return Some(Refusal::JobTableFull);
+    }
+    let next = cluster.next_id;
+    if LAST_JOB_ID + 1 < u64::from(next) + count {
+        return Some(Refusal::JobIdsSpent);
+    }
+    None
+}
+
+/// Why the draft is refused, of which `lone` is the one job where it is no array.
+pub(crate) fn refusal_of(
+    alloc: Global,
+    cluster: &Cluster,
+    draft: &Draft<'_>,
+    lone: &JobRecord,
+) -> Result<Option<Refusal>, Memory>
+    requires sound { IsSound (state_of cluster.now) }
+    requires there { IsOnNodes (length cluster.now.nodes.records) draft.now.partition.now }
+    requires lone { lone.now ≡ lone_in (state_of cluster.now) draft.now }
+    ensures { IfOk result (λ refusal. refusal ≡ first_refusal (refusals_in (state_of cluster.now) draft.now)) }
+{
+    let partition = draft.partition;
+    if is_closed(partition.state) {
+        return Ok(Some(Refusal::PartitionClosed));
+    }
+    if !takes_account(&partition.conf.accounts, &draft.account) {
+        return Ok(Some(Refusal::NotAllowedHere));
+    }
+    if names_unknown(cluster, draft.desc) {
+        return Ok(Some(Refusal::UnknownNode));
+    }
+    if !is_placeable(alloc, cluster, partition, lone)? {
+        return Ok(Some(Refusal::NodesNotAvailable));
+    }
+    Ok(refusal_of_count(cluster, &draft.desc.array))
+}

@@ -1,0 +1,179 @@
+//! The jobs that a submission makes.
+
+ghost use Rattle.std.specs.Prelude.{◌≡◌, ◌+◌, ◌≤◌, ◌<◌, ◌^◌, ◌∷◌, [], All, IfOk, None, Some, length, map, max, unwrap_or};
+ghost use Rattle.std.specs.List.{enumerate_from};
+ghost use Rattle.ctl_state.specs.State.{state_of, last_job_id};
+ghost use Rattle.ctl_submit.specs.Drafts.{HasMade, job_in, lone_in, task_in};
+ghost use Rattle.ctl_submit.specs.Submission.{count_of_jobs, held_at_first};
+
+use crate::draft::Draft;
+use crate::handed::Handed;
+use crate::settled::{limit_in, settled};
+use ctl_state::cluster::Cluster;
+use ctl_state::record::ArrayRecord;
+use job_table::record::JobRecord;
+use slurm_text::items::Items;
+use slurm_text::memory_error::Memory;
+use slurm_text::plain::array::{ArraySpec, Indices};
+use slurm_text::plain::job::JobDesc;
+use slurm_text::plain::state::{HeldBy, JobState};
+use slurm_text::ranged::Ranged;
+use std::alloc::Global;
+
+// Who holds a job back that is handed in. `--hold` in sbatch(1).
+fn held_at_first(desc: &JobDesc) -> HeldBy
+    ensures { result ≡ held_at_first desc.now }
+{
+    if desc.held {
+        HeldBy::User
+    } else {
+        HeldBy::Nobody
+    }
+}
+
+// The second from which a job counts as waiting. `--begin` in sbatch(1).
+fn eligible_from(moment: u64, desc: &JobDesc) -> u64
+    ensures { result ≡ max moment (unwrap_or desc.now.begin 0) }
+{
+    moment.max(desc.begin.map_or(0, |begin| begin.get()))
+}
+
+// A job with this number, a task of the array with that number. Linear in the texts of the submission.
+fn new_job(
+    alloc: Global,
+    cluster: &Cluster,
+    draft: &Draft<'_>,
+    id: u32,
+    array: Option<u32>,
+    task: Option<ArraySpec>,
+) -> Result<JobRecord, Memory>
+    ensures { IfOk result (λ job. job ≡ job_in (state_of cluster.now) draft.now id array task) }
+{
+    let desc = draft.desc;
+    Ok(JobRecord {
+        id,
+        array,
+        user: draft.user.copy()?,
+        desc: settled(alloc, cluster, draft, task)?,
+        partition: draft.place,
+        submit: draft.moment,
+        eligible: eligible_from(draft.moment, desc),
+        limit: limit_in(draft.partition, desc),
+        held_by: held_at_first(desc),
+        state: JobState::Pending,
+        starts: 0,
+        parts: Items::from_vec(Vec::new(alloc)),
+        started: None,
+        ended: None,
+        exit: None,
+        last_nodes: Items::from_vec(Vec::new(alloc)),
+    })
+}
+
+/// The job that the draft makes where it is no array.
+pub(crate) fn lone_job(
+    alloc: Global,
+    cluster: &Cluster,
+    draft: &Draft<'_>,
+) -> Result<JobRecord, Memory>
+    ensures { IfOk result (λ job. job ≡ lone_in (state_of cluster.now) draft.now) }
+{
+    new_job(alloc, cluster, draft, cluster.next_id, None, None)
+}
+
+// The task at a place among the indices, with this index. It keeps its own index alone.
+fn task(
+    alloc: Global,
+    cluster: &Cluster,
+    draft: &Draft<'_>,
+    most: Option<Ranged<1, 4294967295>>,
+    place: u32,
+    index: u32,
+) -> Result<JobRecord, Memory>
+    requires fits { cluster.now.next_id + place < 2 ^ 32 }
+    requires small { index ≤ 99999 }
+    ensures { IfOk result (λ job. job ≡ task_in (state_of cluster.now) draft.now most (place, index)) }
+{
+    let indices = Indices::from_vec(vec![in alloc; index]?);
+    let array = ArraySpec { indices, most };
+    let id = cluster.next_id + place;
+    new_job(
+        alloc,
+        cluster,
+        draft,
+        id,
+        Some(cluster.next_id),
+        Some(array),
+    )
+}
+
+// The tasks with these indices, in their order. Linear in them.
+fn tasks_of(
+    alloc: Global,
+    cluster: &Cluster,
+    draft: &Draft<'_>,
+    most: Option<Ranged<1, 4294967295>>,
+    indices: &[u32],
+) -> Result<Vec<JobRecord>, Memory>
+    requires numbers { cluster.now.next_id + length indices.now ≤ last_job_id + 1 }
+    requires small { All (λ index. index ≤ 99999) indices.now }
+    ensures { IfOk result (λ tasks. tasks.items
+        ≡ map (task_in (state_of cluster.now) draft.now most) (enumerate_from 0 indices.now)) }
+{
+    let mut tasks = Vec::with_capacity(alloc, indices.len())?;
+    for (place, index) in indices.iter().enumerate() {
+        tasks.push(task(alloc, cluster, draft, most, place as u32, *index)?)?;
+    }
+    Ok(tasks)
+}
+
+// What the draft makes where it is this array.
+#[tactic(auto, unfolding(crate::specs::Submission::new_jobs))]
+fn handed_array(
+    alloc: Global,
+    cluster: &Cluster,
+    draft: &Draft<'_>,
+    array: &ArraySpec,
+) -> Result<Handed, Memory>
+    requires numbers { cluster.now.next_id + length array.now.indices ≤ last_job_id + 1 }
+    requires same { draft.now.desc.now.array ≡ Some array.now }
+    ensures { IfOk result (HasMade (state_of cluster.now) draft.now) }
+{
+    let indices = array.indices.iter().as_slice();
+    let jobs = tasks_of(alloc, cluster, draft, array.most, indices)?;
+    let record = ArrayRecord {
+        id: cluster.next_id,
+        indices: array.indices.copy()?,
+    };
+    Ok(Handed {
+        jobs,
+        array: Some(record),
+    })
+}
+
+// What the draft makes where it is no array.
+fn handed_job(alloc: Global, lone: JobRecord) -> Result<Handed, Memory>
+    ensures { IfOk result (λ handed. (handed.jobs.items ≡ lone ∷ []) × (handed.array ≡ None)) }
+{
+    let jobs = vec![in alloc; lone]?;
+    Ok(Handed { jobs, array: None })
+}
+
+/// What the draft makes, of which `lone` is the one job where it is no array. Linear in the tasks, and for each in the
+/// texts of the submission; the index list is kept once for all of them.
+#[tactic(auto, unfolding(crate::specs::Submission::new_jobs))]
+pub(crate) fn hand_in(
+    alloc: Global,
+    cluster: &Cluster,
+    draft: &Draft<'_>,
+    lone: JobRecord,
+) -> Result<Handed, Memory>
+    requires numbers { cluster.now.next_id + count_of_jobs draft.now.desc.now.array ≤ last_job_id + 1 }
+    requires lone { lone ≡ lone_in (state_of cluster.now) draft.now }
+    ensures { IfOk result (HasMade (state_of cluster.now) draft.now) }
+{
+    match &draft.desc.array {
+        Some(array) => handed_array(alloc, cluster, draft, array),
+        None => handed_job(alloc, lone),
+    }
+}

@@ -1,0 +1,4 @@
+pub mod Walks
+pub mod Table
+pub mod Places
+pub mod Entries

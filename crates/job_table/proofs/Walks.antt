@@ -1,0 +1,61 @@
+-- Lists of which members change one after the other.
+use Rattle.std.proofs.Common.{◌≡◌, ℕ, zero, suc, ◌+◌, ◌<◌, ◌≤◌, List, [], ◌∷◌, ◌++◌, length, map, take, drop, slice_get, All, HoldsAt, refl, ap, sym, ◌∙◌, arith, add-one}
+use Rattle.std.proofs.lemmas.List.{map-append, take-append-drop}
+use Rattle.std.proofs.lemmas.List.Elements.{All-head, All-tail}
+use Rattle.job_table.specs.Walks.{map_at, walked}
+
+-- what stays as it is
+pub map-same : {X : Type 0} (f : X → X) (xs : List X) → All (λ x. f x ≡ x) xs → map f xs ≡ xs
+map-same f [] same = refl
+map-same f (x ∷ xs) same =
+    let one : f x ≡ x = All-head (λ y. f y ≡ y) x xs same in
+    let rest = map-same f xs (All-tail (λ y. f y ≡ y) x xs same) in
+    cc
+
+pub walked-begins : {X : Type 0} (f : X → X) (place : ℕ) (xs : List X) → All (λ x. f x ≡ x) (take place xs)
+    → walked f place xs ≡ xs
+walked-begins f place xs same = rw (map-same f (take place xs) same) (take-append-drop place xs)
+
+pub walked-ends : {X : Type 0} (f : X → X) (place : ℕ) (xs : List X) → All (λ x. f x ≡ x) (drop place xs)
+    → walked f place xs ≡ map f xs
+walked-ends f place xs same =
+    ap (λ rest. map f (take place xs) ++ rest) (sym (map-same f (drop place xs) same))
+    ∙ sym (map-append f (take place xs) (drop place xs))
+    ∙ ap (map f) (take-append-drop place xs)
+
+pub walked-goes_on : {X : Type 0} (f : X → X) (place : ℕ) (xs : List X) → place < length xs
+    → map_at place f (walked f place xs) ≡ walked f (place + 1) xs
+walked-goes_on f place [] inside = absurd (omega (arith, inside))
+walked-goes_on f zero (x ∷ xs) inside = refl
+walked-goes_on f (suc place) (x ∷ xs) inside =
+    rw add-one (ap (λ rest. f x ∷ rest) (walked-goes_on f place xs (omega (arith, inside)) ∙ rw add-one refl))
+
+pub length-walked : {X : Type 0} (f : X → X) (place : ℕ) (xs : List X) → length (walked f place xs) ≡ length xs
+length-walked f zero xs = refl
+length-walked f (suc place) [] = refl
+length-walked f (suc place) (x ∷ xs) = ap suc (length-walked f place xs)
+
+pub slice_get-walked : {X : Type 0} (f : X → X) (place other : ℕ) (xs : List X) → place ≤ other
+    → slice_get (walked f place xs) other ≡ slice_get xs other
+slice_get-walked f zero other xs before = refl
+slice_get-walked f (suc place) other [] before = refl
+slice_get-walked f (suc place) zero (x ∷ xs) before = absurd (omega (arith, before))
+slice_get-walked f (suc place) (suc other) (x ∷ xs) before = slice_get-walked f place other xs (omega (arith, before))
+
+pub map_at-same : {X : Type 0} (f g : X → X) (place : ℕ) (xs : List X) → HoldsAt (λ x. f x ≡ g x) xs place
+    → map_at place f xs ≡ map_at place g xs
+map_at-same f g place [] same = refl
+map_at-same f g zero (x ∷ xs) same = ap (λ y. y ∷ xs) (same x)
+map_at-same f g (suc place) (x ∷ xs) same = ap (λ rest. x ∷ rest) (map_at-same f g place xs same)
+
+pub map_at-nothing : {X : Type 0} (f : X → X) (place : ℕ) (xs : List X) → HoldsAt (λ x. f x ≡ x) xs place
+    → map_at place f xs ≡ xs
+map_at-nothing f place [] same = refl
+map_at-nothing f zero (x ∷ xs) same = ap (λ y. y ∷ xs) (same x)
+map_at-nothing f (suc place) (x ∷ xs) same = ap (λ rest. x ∷ rest) (map_at-nothing f place xs same)
+
+pub map_at-twice : {X : Type 0} (f g : X → X) (place : ℕ) (xs : List X)
+    → map_at place g (map_at place f xs) ≡ map_at place (λ x. g (f x)) xs
+map_at-twice f g place [] = refl
+map_at-twice f g zero (x ∷ xs) = refl
+map_at-twice f g (suc place) (x ∷ xs) = ap (λ rest. x ∷ rest) (map_at-twice f g place xs)

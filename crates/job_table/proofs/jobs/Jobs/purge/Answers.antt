@@ -1,0 +1,31 @@
+-- The records that stay are in the order of their numbers.
+use Rattle.std.proofs.Common.{◌≡◌, ◌∙◌, ap, rules, not, map, filter, Bool, ◌<◌}
+use Rattle.std.specs.Map.{values_of}
+use Rattle.std.proofs.lemmas.List.Kept.{AllPairs-filter}
+use Rattle.indexmap.proofs.CallerLemmas.{filter-RetainsPairs}
+use Rattle.job_table.specs.declared.record.JobRecord.{JobRecord}
+use Rattle.job_table.specs.Table.{JobsView, entry_of, is_old}
+use Rattle.job_table.proofs.Entries.{filter-table, table-entries, values-entries}
+use Rattle.job_table.proofs.jobs.Jobs.purge.Goals as goal
+
+pub invariant_of-self : goal.invariant_of-self
+invariant_of-self c =
+    let entries = c.self.inside.by_id.entries in
+    let keep : JobRecord → Bool = λ job. not (is_old c.args.age c.args.now job) in
+    let kept : c.retain.new.self.entries ≡ filter (λ entry. keep entry.1) entries =
+    filter-RetainsPairs _ (λ entry. keep entry.1) _ (λ k v b w g call. search rules) _ _ c.retain.ensures.filtered in
+    let are : c.retain.new.self.entries ≡ map entry_of (filter keep (values_of entries)) =
+    kept ∙ filter-table keep entries c.self.invariant in
+    table-entries c.retain.new.self.entries (filter keep (values_of entries)) are
+    (AllPairs-filter (λ (one other : JobRecord). one.id < other.id) keep (values_of entries) c.self.invariant.rising)
+
+pub returns : goal.returns
+returns c =
+    let entries = c.self.inside.by_id.entries in
+    let keep : JobRecord → Bool = λ job. not (is_old c.args.age c.args.now job) in
+    let kept : c.retain.new.self.entries ≡ filter (λ entry. keep entry.1) entries =
+    filter-RetainsPairs _ (λ entry. keep entry.1) _ (λ k v b w g call. search rules) _ _ c.retain.ensures.filtered in
+    ap values_of kept
+    ∙ ap values_of (filter-table keep entries c.self.invariant)
+    ∙ values-entries (filter keep (values_of entries))
+    ∙ ap (λ (view : JobsView). filter keep view.records) c.self.view_is

@@ -1,0 +1,6 @@
+pub mod JobStates
+pub mod Changes
+pub mod Table
+pub mod Targets
+pub mod Walks
+pub mod Refusals

@@ -1,0 +1,206 @@
+//! The table of jobs, in the order of their numbers, with an index of these.
+
+ghost use Rattle.std.specs.Prelude.{◌≡◌, ◌+◌, ◌^◌, ◌<◌, ◌≤◌, ◌↔◌, ◌++◌, [], ◌∷◌, IsErrOf, IsTrue, OnOk, OnErr, All, length, map, filter, not, option_copied};
+ghost use Rattle.indexmap.specs.IndexMap.{spare, values};
+ghost use Rattle.job_table.specs.declared.record.JobRecord.{JobRecord};
+ghost use Rattle.job_table.specs.Changes.{changed};
+ghost use Rattle.job_table.specs.Table.{HaveRisingIds, IsTable, changed_if, entry_of, is_old, job_with};
+ghost use Rattle.job_table.specs.Walks.{map_at};
+
+use crate::change::{Change, apply};
+use crate::record::JobRecord;
+use indexmap::IndexMap;
+use slurm_text::plain::state::JobState;
+use std::alloc::{AllocError, AllocFailed, Global};
+use std::error::Error;
+use std::fmt;
+use std::marker::Model;
+
+/// Why no job is added.
+#[derive(Clone, Copy, PartialEq, Eq, Debug)]
+pub enum AddRefusal {
+    /// There would be more jobs than may be kept.
+    Full,
+    Memory,
+}
+
+impl fmt::Display for AddRefusal {
+    ghost use Rattle.std.specs.Prelude.{Some};
+    ghost use Rattle.job_table.specs.Refusals.{add_message};
+
+    ghost output = { λ refusal. Some (add_message refusal) };
+
+    fn fmt<W: fmt::Write>(&self, f: &mut fmt::Formatter<W>) -> fmt::Result {
+        f.write_str(match self {
+            AddRefusal::Full => "too many jobs",
+            AddRefusal::Memory => "out of memory",
+        })
+    }
+}
+
+impl Error for AddRefusal {}
+
+impl From<AllocError> for AddRefusal {
+    ghost use Rattle.std.specs.Prelude.{◌≡◌};
+    ghost use Rattle.job_table.specs.declared.jobs.AddRefusal.TheVariants.{Memory};
+
+    ghost from_gives = { λ _ refusal. refusal ≡ Memory };
+
+    fn from(_error: AllocError) -> AddRefusal {
+        AddRefusal::Memory
+    }
+}
+
+impl<T: Drop> From<AllocFailed<T>> for AddRefusal {
+    ghost use Rattle.std.specs.Prelude.{◌≡◌};
+    ghost use Rattle.job_table.specs.declared.jobs.AddRefusal.TheVariants.{Memory};
+
+    ghost from_gives = { λ _ refusal. refusal ≡ Memory };
+
+    fn from(_error: AllocFailed<T>) -> AddRefusal {
+        AddRefusal::Memory
+    }
+}
+
+/// The jobs. A contract sees their records, in the order of their numbers. slurm.conf(5), MaxJobCount.
+#[derive(Drop)]
+pub struct Jobs {
+    by_id: IndexMap<u32, JobRecord>,
+}
+
+impl Model for Jobs {
+    ghost use Rattle.indexmap.specs.IndexMap.{values};
+    ghost use Rattle.job_table.specs.Table.{IsTable, JobsView};
+
+    ghost Value = { JobsView };
+
+    ghost view = { λ jobs. record { records = values jobs.by_id } };
+
+    ghost invariant = { λ jobs. IsTable jobs.by_id.entries };
+}
+
+impl Jobs {
+    /// No jobs.
+    pub fn new(alloc: Global) -> Jobs
+        ensures { result.records ≡ [] }
+    {
+        Jobs {
+            by_id: IndexMap::new(alloc),
+        }
+    }
+
+    /// The records, in the order of their numbers, in constant time.
+    pub fn records(&self) -> &[JobRecord]
+        ensures value { result.now ≡ self.now.records }
+        ensures rising { HaveRisingIds self.now.records }
+    {
+        self.by_id.values().as_slice()
+    }
+
+    /// How many jobs there are.
+    pub fn len(&self) -> usize
+        ensures value { result ≡ length self.now.records }
+        ensures small { result < 2 ^ 63 }
+    {
+        self.by_id.len()
+    }
+
+    /// Whether there are no jobs.
+    pub fn is_empty(&self) -> bool
+        ensures { IsTrue result ↔ (self.now.records ≡ []) }
+    {
+        self.by_id.is_empty()
+    }
+
+    /// The job with this number, in constant time.
+    pub fn get(&self, id: u32) -> Option<&JobRecord>
+        ensures { option_copied result ≡ job_with id self.now.records }
+    {
+        self.by_id.get(&id)
+    }
+
+    /// Adds these jobs, whose numbers rise and are above all others, where with them there are at most so many. Linear
+    /// in them, but for a table that outgrows its memory; want of memory leaves the table as it was.
+    pub fn add(&mut self, more: Vec<JobRecord>, most: u64) -> Result<(), AddRefusal>
+        requires rising { HaveRisingIds more.items }
+        requires above { All (λ (one : JobRecord). All (λ (other : JobRecord). one.id < other.id) more.items)
+            self.old.records }
+        ensures ok { OnOk result (self.new.records ≡ self.old.records ++ more.items) }
+        ensures err { OnErr result (self.new ≡ self.old) }
+        ensures few { OnOk result (length self.old.records + length more.items ≤ most) }
+        ensures full { IsErrOf result AddRefusal.Full ↔ (most < length self.old.records + length more.items) }
+    {
+        if self.len() as u64 + more.len() as u64 > most {
+            return Err(AddRefusal::Full);
+        }
+        self.by_id.reserve(more.len())?;
+        insert_all(&mut self.by_id, more);
+        Ok(())
+    }
+
+    /// Changes the job with this number, in constant time beside the job's parts. It takes no memory.
+    pub fn change(&mut self, id: u32, change: Change)
+        ensures { self.new.records ≡ map (changed_if id change) self.old.records }
+    {
+        if let Some(place) = self.by_id.get_index_of(&id) {
+            self.change_at(place, change);
+        }
+    }
+
+    /// Changes the job at a place, in constant time beside the job's parts. It takes no memory.
+    pub fn change_at(&mut self, place: usize, change: Change)
+        requires { place < length self.old.records }
+        ensures { self.new.records ≡ map_at place (changed change) self.old.records }
+    {
+        let alloc = *self.by_id.allocator();
+        apply(alloc, &mut self.by_id[place], change);
+    }
+
+    /// Drops the records of jobs that ended so many seconds ago, all in one walk. It takes no memory. slurm.conf(5),
+    /// MinJobAge.
+    pub fn purge(&mut self, now: u64, age: u64)
+        ensures { self.new.records ≡ filter (λ job. not (is_old age now job)) self.old.records }
+    {
+        self.by_id.retain(
+            |_id: &u32, job: &mut JobRecord| -> bool
+                ensures { (result ≡ not (is_old age now job.old)) × (job.new ≡ job.old) }
+            { !has_gone(age, now, job) },
+        );
+    }
+}
+
+// Puts jobs whose numbers rise and are above all others behind these, where there is room for them.
+fn insert_all(by_id: &mut IndexMap<u32, JobRecord>, more: Vec<JobRecord>)
+    requires table { IsTable by_id.old.entries }
+    requires room { length more.items ≤ spare by_id.old }
+    requires rising { HaveRisingIds (values by_id.old ++ more.items) }
+    ensures { by_id.new.entries ≡ map entry_of (values by_id.old ++ more.items) }
+{
+    for job in more {
+        insert(by_id, job);
+    }
+}
+
+// Puts a job whose number is above all others behind these, where there is room for it.
+fn insert(by_id: &mut IndexMap<u32, JobRecord>, job: JobRecord)
+    requires table { IsTable by_id.old.entries }
+    requires room { 0 < spare by_id.old }
+    requires above { All (λ (one : JobRecord). one.id < job.id) (values by_id.old) }
+    ensures entries { by_id.new.entries ≡ map entry_of (values by_id.old ++ job ∷ []) }
+    ensures room { spare by_id.old ≤ spare by_id.new + 1 }
+{
+    let _old = by_id.insert(job.id, job).unwrap();
+}
+
+// Whether the job ended so many seconds ago; an age of 0 keeps all.
+fn has_gone(age: u64, now: u64, job: &JobRecord) -> bool
+    ensures { result ≡ is_old age now job.now }
+{
+    match job.state {
+        JobState::Ended(_) => {
+            let since = now.checked_sub(job.ended.unwrap_or(0));
+            age != 0 && since.is_some_and(|seconds| seconds >= age)
+        }
+        _ => false,
+    }
+}

@@ -1,0 +1,56 @@
+//! What is kept of a job.
+
+use slurm_text::items::Items;
+use slurm_text::name::Name;
+use slurm_text::plain::job::JobDesc;
+use slurm_text::plain::limit::Limit;
+use slurm_text::plain::orders::CpuIds;
+use slurm_text::plain::state::{HeldBy, JobState};
+
+/// What a job holds of one node.
+#[derive(Drop)]
+pub struct Part {
+    /// The node's place in the list of nodes.
+    pub node: u32,
+    /// The processors.
+    pub cpus: CpuIds,
+    /// In megabytes.
+    pub mem: u64,
+}
+
+/// A job. A task of an array is a job of its own.
+#[derive(Drop)]
+pub struct JobRecord {
+    /// Its number, from 1.
+    pub id: u32,
+    /// The number of its array, which is that of the array's first task.
+    pub array: Option<u32>,
+    /// Who handed it in.
+    pub user: Name,
+    /// What it asks for, settled: account, partition, quality of service, memory, limit and requeueing are those in
+    /// force, it is neither held nor parsable, and the array of a task has its own index alone (own).
+    pub desc: JobDesc,
+    /// The place of its partition in the list of partitions.
+    pub partition: u32,
+    /// The second at which it was handed in.
+    pub submit: u64,
+    /// The second from which it counts as waiting.
+    pub eligible: u64,
+    /// How long it may run.
+    pub limit: Limit,
+    /// Who holds it back.
+    pub held_by: HeldBy,
+    pub state: JobState,
+    /// How often it was started; the count stands still at its type's end.
+    pub starts: u32,
+    /// What it holds; the first part's node runs the script.
+    pub parts: Items<Part>,
+    /// The second of its last start.
+    pub started: Option<u64>,
+    /// The second at which it left Running, and once it has ended the one at which it ended.
+    pub ended: Option<u64>,
+    /// The exit code of its script.
+    pub exit: Option<u32>,
+    /// The nodes of its last start.
+    pub last_nodes: Items<Name>,
+}

@@ -1,0 +1,184 @@
+// What requests ask.
+
+use crate::answer::{Unanswered, push, push_variant};
+use crate::description::described;
+use crate::show::{Show, or_dash, push_field, show_joined};
+use slurm_text::items::Items;
+use slurm_text::plain::query::{JobColumn, JobQuery, Piece, Query, StateCode, Who};
+use slurm_text::plain::report::{Done, Report, Start};
+use slurm_text::plain::request::Request;
+use slurm_text::plain::target::{Target, Targets};
+use slurm_text::ranged::Ranged;
+
+impl Show for Target {
+    fn show(&self, out: &mut Vec<u8>) -> Result<(), Unanswered> {
+        self.id.show(out)?;
+        if let Some(index) = self.index {
+            out.push(b'_')?;
+            index.show(out)?;
+        }
+        Ok(())
+    }
+}
+
+impl Show for Items<Target> {
+    fn show(&self, out: &mut Vec<u8>) -> Result<(), Unanswered> {
+        show_joined(out, self.as_slice(), b" ")
+    }
+}
+
+impl Show for StateCode {
+    fn show(&self, out: &mut Vec<u8>) -> Result<(), Unanswered> {
+        push_variant(out, self)
+    }
+}
+
+impl Show for Items<StateCode> {
+    fn show(&self, out: &mut Vec<u8>) -> Result<(), Unanswered> {
+        show_joined(out, self.as_slice(), b" ")
+    }
+}
+
+// A dot, a width and a column, in braces.
+fn push_column(
+    out: &mut Vec<u8>,
+    column: JobColumn,
+    width: Option<Ranged<1, 1024>>,
+    dot: bool,
+) -> Result<(), Unanswered> {
+    out.push(b'{')?;
+    if dot {
+        out.push(b'.')?;
+    }
+    if let Some(width) = width {
+        width.show(out)?;
+        out.push(b' ')?;
+    }
+    push_variant(out, &column)?;
+    out.push(b'}')?;
+    Ok(())
+}
+
+impl Show for Piece {
+    fn show(&self, out: &mut Vec<u8>) -> Result<(), Unanswered> {
+        match self {
+            Piece::Plain(byte) => {
+                out.push(*byte)?;
+                Ok(())
+            }
+            Piece::Column { column, width, dot } => push_column(out, *column, *width, *dot),
+        }
+    }
+}
+
+impl Show for Items<Piece> {
+    fn show(&self, out: &mut Vec<u8>) -> Result<(), Unanswered> {
+        show_joined(out, self.as_slice(), b"")
+    }
+}
+
+impl Show for Start {
+    fn show(&self, out: &mut Vec<u8>) -> Result<(), Unanswered> {
+        self.id.show(out)?;
+        out.push(b'.')?;
+        self.number.show(out)
+    }
+}
+
+impl Show for Done {
+    fn show(&self, out: &mut Vec<u8>) -> Result<(), Unanswered> {
+        self.start.show(out)?;
+        out.push(b'.')?;
+        self.exit.show(out)
+    }
+}
+
+fn push_who(out: &mut Vec<u8>, who: &Who) -> Result<(), Unanswered> {
+    match who {
+        Who::Anyone => Ok(()),
+        Who::Asker => push_field(out, "me", Some(&true)),
+        Who::User(name) => push_field(out, "user", Some(name)),
+    }
+}
+
+// What a query of jobs says besides `squeue`.
+fn push_said(out: &mut Vec<u8>, query: &JobQuery) -> Result<(), Unanswered> {
+    push_who(out, &query.who)?;
+    push_field(out, "jobs", query.jobs.as_ref())?;
+    push_field(out, "partition", query.partition.as_ref())?;
+    push_field(out, "states", query.states.as_ref())?;
+    if !query.titles {
+        push_field(out, "titles", Some(&query.titles))?;
+    }
+    if query.starts {
+        push_field(out, "starts", Some(&query.starts))?;
+    }
+    push_field(out, "format", query.format.as_ref())
+}
+
+// The fields of a query.
+fn push_query_fields(out: &mut Vec<u8>, query: &Query) -> Result<(), Unanswered> {
+    match query {
+        Query::Squeue(query) => push_said(out, query),
+        Query::Sinfo { partition, titles } => {
+            push_field(out, "partition", partition.as_ref())?;
+            if *titles {
+                Ok(())
+            } else {
+                push_field(out, "titles", Some(titles))
+            }
+        }
+    }
+}
+
+fn push_query(out: &mut Vec<u8>, query: &Query) -> Result<(), Unanswered> {
+    let mut fields = Vec::new(*out.allocator());
+    push_query_fields(&mut fields, query)?;
+    let command = match query {
+        Query::Squeue(_) => "squeue ",
+        Query::Sinfo { .. } => "sinfo ",
+    };
+    out.extend_from_slice(command.as_bytes())?;
+    out.extend_from_slice(or_dash(fields)?.as_slice())?;
+    Ok(())
+}
+
+fn push_targets(out: &mut Vec<u8>, targets: &Targets) -> Result<(), Unanswered> {
+    out.extend_from_slice(b"scancel ")?;
+    match targets {
+        Targets::List(targets) => targets.show(out),
+        Targets::User(user) => {
+            out.extend_from_slice(b"user=")?;
+            user.show(out)
+        }
+    }
+}
+
+fn push_report(out: &mut Vec<u8>, report: &Report) -> Result<(), Unanswered> {
+    out.extend_from_slice(b"report ")?;
+    report.node.show(out)?;
+    out.push(b' ')?;
+    push(out, &report.boot)?;
+    out.push(b' ')?;
+    push(out, &report.number)?;
+    out.extend_from_slice(b" run=")?;
+    show_joined(out, report.running.as_slice(), b",")?;
+    out.extend_from_slice(b" done=")?;
+    show_joined(out, report.done.as_slice(), b",")
+}
+
+/// Puts a request's command behind an answer, with what it says.
+pub fn push_request(out: &mut Vec<u8>, request: &Request) -> Result<(), Unanswered> {
+    match request {
+        Request::Submit(job) => {
+            let fields = described(*out.allocator(), job)?;
+            out.extend_from_slice(b"sbatch ")?;
+            out.extend_from_slice(fields.as_slice())?;
+            Ok(())
+        }
+        Request::Cancel(targets) => push_targets(out, targets),
+        Request::Report(report) => push_report(out, report),
+        Request::Pass => push(out, &"pass"),
+        Request::Show(query) => push_query(out, query),
+    }
+}

@@ -1,0 +1,190 @@
+// How values are shown.
+
+use crate::answer::{Unanswered, push, push_variant};
+use slurm_text::items::Items;
+use slurm_text::name::{JobName, Name};
+use slurm_text::plain::array::ArraySpec;
+use slurm_text::plain::dependency::{DepId, DepItem, DepSpec};
+use slurm_text::plain::features::FeatureExpr;
+use slurm_text::plain::limit::Limit;
+use slurm_text::plain::mem_ask::MemAsk;
+use slurm_text::plain::nice::Nice;
+use slurm_text::ranged::Ranged;
+
+/// A value that an answer shows.
+pub trait Show {
+    /// Puts the value's text behind an answer.
+    fn show(&self, out: &mut Vec<u8>) -> Result<(), Unanswered>;
+}
+
+/// Puts values behind an answer, with a mark between two.
+pub fn show_joined<T: Show>(
+    out: &mut Vec<u8>,
+    values: &[T],
+    mark: &[u8],
+) -> Result<(), Unanswered> {
+    for (place, value) in values.iter().enumerate() {
+        if place > 0 {
+            out.extend_from_slice(mark)?;
+        }
+        value.show(out)?;
+    }
+    Ok(())
+}
+
+/// Puts a field behind others, where it has a value.
+pub fn push_field<T: Show>(
+    out: &mut Vec<u8>,
+    name: &str,
+    value: Option<&T>,
+) -> Result<(), Unanswered> {
+    let Some(value) = value else {
+        return Ok(());
+    };
+    if !out.is_empty() {
+        out.extend_from_slice(b"; ")?;
+    }
+    out.extend_from_slice(name.as_bytes())?;
+    out.push(b'=')?;
+    value.show(out)
+}
+
+/// The fields, or `-` where there are none.
+pub fn or_dash(fields: Vec<u8>) -> Result<Vec<u8>, Unanswered> {
+    let mut out = fields;
+    if out.is_empty() {
+        out.push(b'-')?;
+    }
+    Ok(out)
+}
+
+impl Show for u32 {
+    fn show(&self, out: &mut Vec<u8>) -> Result<(), Unanswered> {
+        push(out, self)
+    }
+}
+
+impl Show for bool {
+    fn show(&self, out: &mut Vec<u8>) -> Result<(), Unanswered> {
+        push(out, self)
+    }
+}
+
+impl<const LEAST: u64, const MOST: u64> Show for Ranged<LEAST, MOST> {
+    fn show(&self, out: &mut Vec<u8>) -> Result<(), Unanswered> {
+        push(out, &self.get())
+    }
+}
+
+impl Show for Name {
+    fn show(&self, out: &mut Vec<u8>) -> Result<(), Unanswered> {
+        out.extend_from_slice(self.as_bytes())?;
+        Ok(())
+    }
+}
+
+impl Show for JobName {
+    fn show(&self, out: &mut Vec<u8>) -> Result<(), Unanswered> {
+        out.extend_from_slice(self.as_bytes())?;
+        Ok(())
+    }
+}
+
+impl Show for MemAsk {
+    fn show(&self, out: &mut Vec<u8>) -> Result<(), Unanswered> {
+        let (kind, megabytes) = match self {
+            MemAsk::All => {
+                out.extend_from_slice(b"all")?;
+                return Ok(());
+            }
+            MemAsk::PerNode(megabytes) => ("node:", megabytes),
+            MemAsk::PerCpu(megabytes) => ("cpu:", megabytes),
+        };
+        out.extend_from_slice(kind.as_bytes())?;
+        megabytes.show(out)
+    }
+}
+
+impl Show for Limit {
+    fn show(&self, out: &mut Vec<u8>) -> Result<(), Unanswered> {
+        match self {
+            Limit::Minutes(minutes) => minutes.show(out),
+            Limit::Unlimited => push(out, &"unlimited"),
+        }
+    }
+}
+
+impl Show for Nice {
+    fn show(&self, out: &mut Vec<u8>) -> Result<(), Unanswered> {
+        match self {
+            Nice::Lower(number) => number.show(out),
+            Nice::Raise(number) => {
+                out.push(b'-')?;
+                number.show(out)
+            }
+        }
+    }
+}
+
+impl Show for Items<Name> {
+    fn show(&self, out: &mut Vec<u8>) -> Result<(), Unanswered> {
+        show_joined(out, self.as_slice(), b" and ")
+    }
+}
+
+impl Show for FeatureExpr {
+    fn show(&self, out: &mut Vec<u8>) -> Result<(), Unanswered> {
+        show_joined(out, self.alternatives.as_slice(), b" or ")
+    }
+}
+
+impl Show for ArraySpec {
+    fn show(&self, out: &mut Vec<u8>) -> Result<(), Unanswered> {
+        for (place, index) in self.indices.iter().enumerate() {
+            if place > 0 {
+                out.push(b' ')?;
+            }
+            index.show(out)?;
+        }
+        if let Some(most) = self.most {
+            out.extend_from_slice(b" most ")?;
+            most.show(out)?;
+        }
+        Ok(())
+    }
+}
+
+impl Show for DepId {
+    fn show(&self, out: &mut Vec<u8>) -> Result<(), Unanswered> {
+        self.id.show(out)?;
+        if let Some(index) = self.index {
+            out.push(b'_')?;
+            index.show(out)?;
+        }
+        Ok(())
+    }
+}
+
+impl Show for DepItem {
+    fn show(&self, out: &mut Vec<u8>) -> Result<(), Unanswered> {
+        push_variant(out, &self.kind)?;
+        let ids = self.ids.as_slice();
+        if !ids.is_empty() {
+            out.push(b' ')?;
+        }
+        show_joined(out, ids, b" ")
+    }
+}
+
+impl Show for DepSpec {
+    fn show(&self, out: &mut Vec<u8>) -> Result<(), Unanswered> {
+        out.extend_from_slice(quantifier(self).as_bytes())?;
+        out.extend_from_slice(b"; ")?;
+        show_joined(out, self.items.as_slice(), b"; ")
+    }
+}
+
+/// How many of the items must be so.
+pub fn quantifier(dependency: &DepSpec) -> &'static str {
+    if dependency.any { "any" } else { "all" }
+}

@@ -1,0 +1,106 @@
+// Texts of a job's options.
+
+use crate::answer::{Unanswered, push, refused};
+use crate::show::{Show, quantifier};
+use job_texts::array::{ArrayRefusal, read_array};
+use job_texts::dependency::{DepRefusal, read_dependency};
+use job_texts::features::{FeaturesRefusal, read_features};
+use slurm_text::plain::array::ArraySpec;
+use slurm_text::plain::dependency::DepSpec;
+use std::alloc::Global;
+
+fn shown<T: Show>(alloc: Global, value: &T) -> Result<Vec<u8>, Unanswered> {
+    let mut out = Vec::new(alloc);
+    value.show(&mut out)?;
+    Ok(out)
+}
+
+fn refused_array(alloc: Global, refusal: ArrayRefusal) -> Result<Vec<u8>, Unanswered> {
+    match refusal {
+        ArrayRefusal::Memory => Err(Unanswered::Memory),
+        ArrayRefusal::BadArray => refused(alloc, &refusal),
+    }
+}
+
+fn refused_dependency(alloc: Global, refusal: DepRefusal) -> Result<Vec<u8>, Unanswered> {
+    match refusal {
+        DepRefusal::Memory => Err(Unanswered::Memory),
+        DepRefusal::BadDep => refused(alloc, &refusal),
+    }
+}
+
+fn refused_features(alloc: Global, refusal: FeaturesRefusal) -> Result<Vec<u8>, Unanswered> {
+    match refusal {
+        FeaturesRefusal::Memory => Err(Unanswered::Memory),
+        FeaturesRefusal::BadFeatures => refused(alloc, &refusal),
+    }
+}
+
+pub fn array(alloc: Global, text: &[u8]) -> Result<Vec<u8>, Unanswered> {
+    match read_array(alloc, text) {
+        Ok(array) => shown(alloc, &array),
+        Err(refusal) => refused_array(alloc, refusal),
+    }
+}
+
+pub fn array_size(alloc: Global, text: &[u8]) -> Result<Vec<u8>, Unanswered> {
+    match read_array(alloc, text) {
+        Ok(array) => size_of_array(alloc, &array),
+        Err(refusal) => refused_array(alloc, refusal),
+    }
+}
+
+// How many indices there are, the least and the greatest.
+fn size_of_array(alloc: Global, array: &ArraySpec) -> Result<Vec<u8>, Unanswered> {
+    let mut out = Vec::new(alloc);
+    push(&mut out, &array.indices.count())?;
+    if let Some(index) = array.indices.iter().next() {
+        out.push(b' ')?;
+        push(&mut out, index)?;
+    }
+    if let Some(index) = array.indices.iter().last() {
+        out.push(b' ')?;
+        push(&mut out, index)?;
+    }
+    Ok(out)
+}
+
+pub fn dependency(alloc: Global, text: &[u8]) -> Result<Vec<u8>, Unanswered> {
+    match read_dependency(alloc, text) {
+        Ok(dependency) => shown(alloc, &dependency),
+        Err(refusal) => refused_dependency(alloc, refusal),
+    }
+}
+
+pub fn dependency_size(alloc: Global, text: &[u8]) -> Result<Vec<u8>, Unanswered> {
+    match read_dependency(alloc, text) {
+        Ok(dependency) => size_of_dependency(alloc, &dependency),
+        Err(refusal) => refused_dependency(alloc, refusal),
+    }
+}
+
+// How many items and ids there are.
+fn size_of_dependency(alloc: Global, dependency: &DepSpec) -> Result<Vec<u8>, Unanswered> {
+    let mut out = Vec::new(alloc);
+    push(&mut out, &quantifier(dependency))?;
+    out.push(b' ')?;
+    push(&mut out, &dependency.items.as_slice().len())?;
+    out.push(b' ')?;
+    push(&mut out, &count_ids(dependency))?;
+    Ok(out)
+}
+
+fn count_ids(dependency: &DepSpec) -> usize {
+    let mut count: usize = 0;
+    for item in dependency.items.as_slice() {
+        count = count.saturating_add(item.ids.as_slice().len());
+    }
+    count
+}
+
+pub fn features(alloc: Global, text: &[u8]) -> Result<Vec<u8>, Unanswered> {
+    match read_features(alloc, text) {
+        Ok(features) => shown(alloc, &features),
+        Err(refusal) => refused_features(alloc, refusal),
+    }
+}
