@@ -27,7 +27,7 @@ use Rattle.ctl_report.specs.Answering.{node_of, last_heard, staleness, made_by_r
 use Rattle.ctl_submit.specs.Submission.{made_under, submit_made, terms_of}
 use Rattle.ctl_cancel.specs.Cancelling.{cancel_after, cancel_made, goes}
 use Rattle.ctl_core.specs.Sizes.{has_room}
-use Rattle.ctl_core.specs.Step.{raised, refusals_of, made, worked, worked_on, unless_full, verdict_of, reply_of, is_unbuilt}
+use Rattle.ctl_core.specs.Step.{raised, refusals_of, made, worked, ChangesNothing, unless_full, verdict_of, reply_of, is_unbuilt}
 
 -- what is known of requests that change nothing
 pub record OnlyIdle : Type 0 where
@@ -172,36 +172,34 @@ full-idle false Unbuilt idle = absurd (cc)
 full-idle false (Makes reply after) idle = absurd (cc)
 
 made-idle : IdleKeeps → (s : State) (moment : ℕ) (user : List ℕ) (request : Request)
-    → IsSound s → reply_by (made s moment user request) ≡ Idle → worked_on s moment user request ≡ s
-made-idle keeps s moment user (Submit desc) sound idle =
+    → reply_by (made s moment user request) ≡ Idle → ChangesNothing s moment user request
+made-idle keeps s moment user (Submit desc) idle =
     elim (terms_of s user desc)
-    as (λ terms. reply_by (made_under s moment user desc terms) ≡ Idle
-    → left_by s (made_under s moment user desc terms) ≡ s)
+    as (λ terms. reply_by (made_under s moment user desc terms) ≡ Idle → ⊥)
     [ None ↦ λ idle. absurd (cc) | Some terms ↦ λ idle. absurd (cc) ] idle
-made-idle keeps s moment user (Cancel targets) sound idle = elim (cases_Bool (list_any (goes s user targets) s.jobs)) [
+made-idle keeps s moment user (Cancel targets) idle = elim (cases_Bool (list_any (goes s user targets) s.jobs)) [
   | inl some ↦ let done = rw some at idle in absurd (cc)
-  | inr none ↦ keeps.cancelling s moment user targets sound none
+  | inr none ↦ λ sound. keeps.cancelling s moment user targets sound none
 ]
-made-idle keeps s moment user (Report report) sound idle =
+made-idle keeps s moment user (Report report) idle =
     elim (node_of s report)
-    as (λ node. reply_by (made_by_report s moment report node) ≡ Idle
-    → left_by s (made_by_report s moment report node) ≡ s)
+    as (λ node. reply_by (made_by_report s moment report node) ≡ Idle → ⊥)
     [ None ↦ λ idle. absurd (cc) | Some node ↦ λ idle. absurd (cc) ] idle
-made-idle keeps s moment user Pass sound idle = elim (cases_Bool (is_idle s moment)) [
+made-idle keeps s moment user Pass idle = elim (cases_Bool (is_idle s moment)) [
   | inl stays ↦ keeps.passes s moment stays
   | inr busy ↦ let passed = rw busy at idle in absurd (cc)
 ]
-made-idle keeps s moment user (Show query) sound idle = refl
+made-idle keeps s moment user (Show query) idle = absurd (cc)
 
--- A request that is idle would change nothing.
+-- A request that is idle is one that would change nothing.
 pub step-idle : IdleKeeps → (s : State) (now : ℕ) (user : List ℕ) (request : Request)
-    → IsSound s → reply_of s now user request ≡ Idle → worked_on s (raised s now) user request ≡ s
-step-idle keeps s now user request sound idle = elim (cases_Bool (is_unbuilt s request)) [
+    → reply_of s now user request ≡ Idle → ChangesNothing s (raised s now) user request
+step-idle keeps s now user request idle = elim (cases_Bool (is_unbuilt s request)) [
   | inl unbuilt ↦ let never = rw unbuilt at idle in absurd (cc)
   | inr built ↦
       let moment = raised s now in
       let early = judged-idle (refused_if (nat_lt last_moment now) MomentTooLarge) (worked s moment user request)
       (rw built at idle) in
       let judged = judged-idle (first_refusal (refusals_of s moment user request)) _ early in
-      made-idle keeps s moment user request sound (full-idle (has_room s request) (made s moment user request) judged)
+      made-idle keeps s moment user request (full-idle (has_room s request) (made s moment user request) judged)
 ]

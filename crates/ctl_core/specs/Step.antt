@@ -1,5 +1,5 @@
 -- One step of the controller: the reply to a request, and the state after it.
-use Rattle.std.specs.Prelude.{ℕ, ◌+◌, Bool, true, false, ◌&&◌, not, if◌then◌else◌, nat_lt, max, List, [], ◌∷◌, Option, IfSome}
+use Rattle.std.specs.Prelude.{◌≡◌, ℕ, ◌+◌, Bool, true, false, ◌&&◌, not, if◌then◌else◌, nat_lt, max, List, [], ◌∷◌, Option, IfSome}
 use Rattle.slurm_text.specs.declared.plain.request.Request.{Request}
 use Rattle.slurm_text.specs.declared.plain.request.Request.TheVariants.{Submit, Cancel, Report, Pass, Show}
 use Rattle.slurm_text.specs.declared.plain.refusal.Refusal.{Refusal}
@@ -7,7 +7,7 @@ use Rattle.slurm_text.specs.declared.plain.refusal.Refusal.TheVariants.{HistoryF
 use Rattle.slurm_text.specs.declared.plain.reply.Reply.{Reply}
 use Rattle.slurm_text.specs.declared.plain.reply.Reply.TheVariants.{Submitted, Done, Passed, Orders, Idle, Shown, Refused, NotBuilt}
 use Rattle.ctl_state.specs.State.{State, last_moment}
-use Rattle.ctl_state.specs.Soundness.{IsAsked, IsLimit}
+use Rattle.ctl_state.specs.Soundness.{IsAsked, IsLimit, IsSound}
 use Rattle.ctl_state.specs.Refusals.{refused_if, first_refusal, unless_refused, is_privileged}
 use Rattle.ctl_state.specs.Verdicts.{Verdict, Refuses, Unbuilt, Tells, Makes, reply_by, left_by, stamped}
 use Rattle.ctl_pass.specs.Passing.{pass_refusals, pass_after, pass_made, jobs_planned}
@@ -45,13 +45,13 @@ made s moment user (Report report) = report_made s moment report
 made s moment user Pass = pass_made s moment
 made s moment user (Show query) = Tells (view_of s moment user query)
 
--- the state that a request would leave that isn't refused, before it bears its moment
-abbrev pub worked_on : State → ℕ → List ℕ → Request → State
-worked_on s moment user (Submit desc) = left_by s (submit_made s moment user desc)
-worked_on s moment user (Cancel targets) = cancel_after s moment user targets
-worked_on s moment user (Report report) = left_by s (report_made s moment report)
-worked_on s moment user Pass = pass_after s moment
-worked_on s moment user (Show query) = s
+-- What an idle request is: a pass that leaves the state as it is, or, where all is sound, one that cancels no job.
+abbrev pub ChangesNothing : State → ℕ → List ℕ → Request → Type 0
+ChangesNothing s moment user (Submit desc) = ⊥
+ChangesNothing s moment user (Cancel targets) = IsSound s → cancel_after s moment user targets ≡ s
+ChangesNothing s moment user (Report report) = ⊥
+ChangesNothing s moment user Pass = pass_after s moment ≡ s
+ChangesNothing s moment user (Show query) = ⊥
 
 -- what would make an entry is refused where the history can't take it
 abbrev pub unless_full : Bool → Verdict → Verdict

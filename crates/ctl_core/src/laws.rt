@@ -11,7 +11,7 @@ ghost use Rattle.ctl_state.specs.Soundness.{IsSound};
 ghost use Rattle.ctl_state.specs.Verdicts.{Stays, Makes};
 ghost use Rattle.ctl_pass.specs.Passing.{pass_after, pass_made};
 ghost use Rattle.ctl_cancel.specs.Cancelling.{cancel_after, cancel_made};
-ghost use Rattle.ctl_core.specs.Step.{verdict_of, reply_of, state_after, raised, worked_on, IsInRange};
+ghost use Rattle.ctl_core.specs.Step.{verdict_of, reply_of, state_after, raised, ChangesNothing, IsInRange};
 
 use ctl_cancel::laws::{cancelling_keeps_all_sound, cancelling_nothing_changes_nothing};
 use ctl_pass::laws::{a_pass_keeps_all_sound, an_idle_pass_changes_nothing};
@@ -42,8 +42,8 @@ pub fn raised_moments_decide_alike()
 /// A request is idle only where it is a pass that would change nothing but the moment, or cancels no job; and such a
 /// request is idle. What an accepted request makes is another state, also before it bears its moment.
 pub fn idle_requests_change_nothing()
-    ensures idle { (s : State) (now : ℕ) (user : List ℕ) (request : Request) → IsSound s
-        → reply_of s now user request ≡ Idle → worked_on s (raised s now) user request ≡ s }
+    ensures idle { (s : State) (now : ℕ) (user : List ℕ) (request : Request)
+        → reply_of s now user request ≡ Idle → ChangesNothing s (raised s now) user request }
     ensures pass { (s : State) (moment : ℕ) → pass_after s moment ≡ s → pass_made s moment ≡ Stays }
     ensures cancel { (s : State) (moment : ℕ) (user : List ℕ) (targets : Targets)
         → cancel_after s moment user targets ≡ s → cancel_made s moment user targets ≡ Stays }
