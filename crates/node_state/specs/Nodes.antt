@@ -9,11 +9,13 @@ use Rattle.node_state.specs.declared.record.DownBy.{DownBy}
 use Rattle.node_state.specs.declared.record.DownBy.TheVariants as down
 use Rattle.node_state.specs.declared.record.NodeRecord.{NodeRecord}
 use Rattle.node_state.specs.declared.record.NodeChange.{NodeChange}
+use Rattle.node_state.specs.declared.record.Held.{Held}
 use Rattle.node_state.specs.declared.record.NodeChange.TheVariants as change
 
--- what contracts see of the nodes: their records, in the order of slurm.conf
+-- what contracts see of the nodes: their records, in the order of slurm.conf, and what is held of each
 pub record NodesView : Type 0 where
   pub records : List NodeRecord
+  pub held : List Held
 
 -- a node is down, or to be drained, from the start where slurm.conf says so
 abbrev pub down_at_start : NodeStart → DownBy

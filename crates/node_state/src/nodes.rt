@@ -2,12 +2,14 @@
 
 ghost use Rattle.std.specs.Prelude.{◌≡◌, ℕ, List, map, bytes_eq, IfOk};
 ghost use Rattle.std.specs.HashMap.{get};
+ghost use Rattle.node_state.specs.Held.{AreWithin, HoldsNothing};
 ghost use Rattle.node_state.specs.Nodes.{AreNamedOnce, place_named};
 ghost use Rattle.node_state.specs.Nodes as spec;
 
 use crate::change;
-use crate::record::{NodeChange, NodeRecord};
+use crate::record::{Held, NodeChange, NodeRecord};
 use crate::standing::{has_features, is_available, opened};
+use cpu_ids::CpuIds;
 use slurm_text::memory_error::Memory;
 use slurm_text::name::Name;
 use slurm_text::plain::conf::NodeConf;
@@ -16,23 +18,25 @@ use std::alloc::Global;
 use std::collections::HashMap;
 use std::marker::Model;
 
-/// The nodes of the cluster. A contract sees the records of them.
+/// The nodes of the cluster. A contract sees the records of them, and what is held of each, which is within the node.
 #[derive(Drop)]
 pub struct Nodes {
     records: Vec<NodeRecord>,
     places: HashMap<Name, u32>,
+    held: Vec<Held>,
 }
 
 impl Model for Nodes {
     ghost use Rattle.std.specs.Prelude.{◌≡◌, ℕ, List, bytes_eq};
     ghost use Rattle.std.specs.HashMap.{get};
+    ghost use Rattle.node_state.specs.Held.{AreWithin};
     ghost use Rattle.node_state.specs.Nodes.{NodesView, AreNamedOnce, place_named};
 
     ghost Value = { NodesView };
 
-    ghost view = { λ nodes. record { records = nodes.records.items } };
+    ghost view = { λ nodes. record { records = nodes.records.items; held = nodes.held.items } };
 
-    ghost invariant = { λ nodes. AreNamedOnce nodes.records.items
+    ghost invariant = { λ nodes. AreNamedOnce nodes.records.items × AreWithin nodes.records.items nodes.held.items
         × ((name : List ℕ) → get bytes_eq nodes.places name ≡ place_named name nodes.records.items) };
 }
 
@@ -54,20 +58,42 @@ fn places_of(alloc: Global, records: &[NodeRecord]) -> Result<HashMap<Name, u32>
     Ok(places)
 }
 
+// Nothing is held of any of the nodes.
+fn nothing_held(alloc: Global, nodes: &[NodeRecord]) -> Result<Vec<Held>, Memory>
+    ensures nothing { IfOk result (λ held. HoldsNothing held.items) }
+    ensures within { IfOk result (λ held. AreWithin nodes.now held.items) }
+{
+    let mut held = Vec::with_capacity(alloc, nodes.len())?;
+    for _node in nodes {
+        held.push(Held {
+            cpus: CpuIds::none(),
+            mem: 0,
+        })?;
+    }
+    Ok(held)
+}
+
 impl Nodes {
-    ghost use Rattle.std.specs.Prelude.{◌≡◌, ◌≢◌, ◌↔◌, ◌<◌, ◌≤◌, map, length, AllPairs, IfOk, IfSome, IsFalse, IsTrue, [], slice_get, option_copied};
+    ghost use Rattle.std.specs.Prelude.{◌≡◌, ◌≢◌, ◌↔◌, ◌<◌, ◌≤◌, ◌+◌, All, map, take, length, AllPairs, IfOk, IfSome, IsFalse, IsTrue, true, [], slice_get, option_copied};
     ghost use Rattle.std.specs.List.{HoldsAt};
+    ghost use Rattle.node_state.specs.Held.{GivesBack, HoldsNothing, Takes, free_cpus, held_at, holds_cpu, mem_held};
     ghost use Rattle.node_state.specs.Nodes as spec;
 
     /// The nodes of slurm.conf(5), before anything was heard of them. Linear in their number.
     pub fn build(alloc: Global, confs: Vec<NodeConf>) -> Result<Nodes, Memory>
         requires few { length confs.items ≤ 1024 }
         requires once { AllPairs (λ one other. one.name ≢ other.name) confs.items }
-        ensures { IfOk result (λ nodes. nodes.records ≡ map spec.opened confs.items) }
+        ensures records { IfOk result (λ nodes. nodes.records ≡ map spec.opened confs.items) }
+        ensures held { IfOk result (λ nodes. HoldsNothing nodes.held) }
     {
         let records = records_of(alloc, confs)?;
         let places = places_of(alloc, records.as_slice())?;
-        Ok(Nodes { records, places })
+        let held = nothing_held(alloc, records.as_slice())?;
+        Ok(Nodes {
+            records,
+            places,
+            held,
+        })
     }
 
     /// The records of the nodes, in the order of slurm.conf(5).
@@ -130,7 +156,49 @@ impl Nodes {
         requires { place < length self.old.records }
         ensures changed { self.new.records ≡ spec.change_at place change self.old.records }
         ensures same { IsFalse result ↔ (self.new.records ≡ self.old.records) }
+        ensures held { self.new.held ≡ self.old.held }
     {
         change::apply(&mut self.records[place as usize], change)
+    }
+
+    /// What is held of the node at a place.
+    pub fn held(&self, place: u32) -> &Held
+        requires { place < length self.now.records }
+        ensures { result.now ≡ held_at self.now.held place }
+    {
+        &self.held[place as usize]
+    }
+
+    /// Takes the lowest processors of the node at a place that aren't held: so many, which are there, and so much
+    /// memory. Linear in the node's processors; it takes no memory.
+    pub fn take_cpus(&mut self, place: u32, count: u32, mem: u64) -> CpuIds
+        requires there { place < length self.old.records }
+        requires cpus { HoldsAt (λ node. count ≤ length (free_cpus node (held_at self.old.held place)))
+            self.old.records place }
+        requires mem { HoldsAt (λ node. mem_held self.old.held place + mem ≤ node.conf.mem) self.old.records place }
+        ensures lowest { HoldsAt (λ node. result ≡ take count (free_cpus node (held_at self.old.held place)))
+            self.old.records place }
+        ensures held { Takes self.old.held place result mem self.new.held }
+        ensures records { self.new.records ≡ self.old.records }
+    {
+        let cpus = self.records[place as usize].conf.cpus.get() as u32;
+        let held = &mut self.held[place as usize];
+        let taken = held.cpus.lowest_others(cpus, count);
+        held.cpus.insert_all(&taken);
+        held.mem += mem;
+        taken
+    }
+
+    /// Gives back processors and memory of the node at a place, which are held. It takes constant time, and no memory.
+    pub fn give_back(&mut self, place: u32, cpus: &CpuIds, mem: u64)
+        requires there { place < length self.old.records }
+        requires cpus { All (λ cpu. holds_cpu self.old.held place cpu ≡ true) cpus.now }
+        requires mem { mem ≤ mem_held self.old.held place }
+        ensures held { GivesBack self.old.held place cpus.now mem self.new.held }
+        ensures records { self.new.records ≡ self.old.records }
+    {
+        let held = &mut self.held[place as usize];
+        held.cpus.remove_all(cpus);
+        held.mem -= mem;
     }
 }

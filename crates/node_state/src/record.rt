@@ -1,5 +1,6 @@
 //! What is kept of a node.
 
+use cpu_ids::CpuIds;
 use slurm_text::plain::conf::NodeConf;
 
 /// The last report of a node that was accepted.
@@ -35,6 +36,15 @@ pub struct NodeRecord {
     pub empty: bool,
     /// None where no report of it was accepted yet.
     pub heard: Option<Heard>,
+}
+
+/// What is held of a node.
+#[derive(Drop)]
+pub struct Held {
+    /// The processors.
+    pub cpus: CpuIds,
+    /// In megabytes.
+    pub mem: u64,
 }
 
 /// What may happen to a node. "State" of `update NodeName` in scontrol(1), and (own) silence and reports.
