@@ -18,7 +18,7 @@ use job_table::record::JobRecord;
 use resource_profile::Hold;
 use slurm_text::items::Items;
 use slurm_text::memory_error::Memory;
-use slurm_text::plain::orders::CpuIds;
+use cpu_ids::CpuIds;
 use std::alloc::Global;
 
 fn count_of(cpus: &CpuIds) -> u32

@@ -147,7 +147,7 @@ fn launch_part(job: &JobRecord, node: u32, part: &Part) -> Result<Launch, Memory
     let is_batch_host = is_batch_host(node, job.parts.as_slice());
     Ok(Launch {
         start: start_of(job),
-        cpus: part.cpus.copy()?,
+        cpus: part.cpus.copy(),
         mem: part.mem,
         run: is_batch_host.then_some(job.desc.run.get() as u32),
         exit: is_batch_host.then_some(job.desc.exit.get() as u32),

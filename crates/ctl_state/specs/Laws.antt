@@ -1,5 +1,5 @@
 -- What stays true of every state, whatever happens. Each is proved as the contract of a law.
-use Rattle.std.specs.Prelude.{◌≡◌, ◌≢◌, ℕ, ◌+◌, ◌<◌, ◌≤◌, Bool, true, ◌&&◌, IfSome, List, length, map, count_by, ◌++◌, All, AllPairs, Contains}
+use Rattle.std.specs.Prelude.{◌≡◌, ◌≢◌, ℕ, ◌+◌, ◌<◌, ◌≤◌, Bool, true, ◌&&◌, IfSome, List, [], length, map, count_by, ◌++◌, All, AllPairs, Contains}
 use Rattle.std.specs.Cmp.{IsStrictWeakOrder}
 use Rattle.std.specs.List.Sorted.{IsPermutation, IsSortedBy, IsStableBy}
 use Rattle.backfill_planner.specs.declared.Placed.{Placed}
@@ -15,6 +15,9 @@ use Rattle.job_table.specs.JobStates.{is_pending}
 use Rattle.job_table.specs.Changes.{changed}
 use Rattle.job_table.specs.Targets.{AreTogether, is_task_of}
 use Rattle.ctl_state.specs.Holding.{parts_of, times_held, mem_held}
+use Rattle.ctl_state.specs.Index.{ShowsParts, TakesParts, GivesParts}
+use Rattle.node_state.specs.declared.record.Held.{Held}
+use Rattle.node_state.specs.Held.{held_mem, holds_cpu}
 use Rattle.ctl_state.specs.Ordered.{ordered_by}
 use Rattle.ctl_state.specs.Planning.{plan_job}
 use Rattle.ctl_state.specs.Events.{FitsChange, LetsGo, MayTake, plan_left, started_as, tasks_holding, those_left}
@@ -144,3 +147,38 @@ OrderKeepsApart X = (before : X → X → Bool) (key : X → ℕ) (xs : List X)
 abbrev pub SortOrders : Type 0 → Type 0
 SortOrders X = (before : X → X → Bool) (xs ys : List X)
     → IsStrictWeakOrder before → IsSortedBy before ys → IsStableBy before xs ys → ys ≡ ordered_by before xs
+
+-- The index goes on showing what is held: beside what a waiting job takes,
+abbrev pub TakingShows : Type 0
+TakingShows = (s : State) (now id : ℕ) (parts : List Part) (names : List (List ℕ)) (held after : List Held)
+    → IsSound s → Contains (pending_ids s.jobs) id
+    → ShowsParts held (parts_of s.jobs) → TakesParts held parts after
+    → ShowsParts after (parts_of (map (started_as now id parts names) s.jobs))
+
+-- and without what is given back of parts of which no two share a processor.
+abbrev pub GivingShows : Type 0
+GivingShows = (parts left gone : List Part) (held after : List Held)
+    → ((node cpu : ℕ) → times_held parts node cpu ≤ 1)
+    → ((node cpu : ℕ) → times_held parts node cpu ≡ times_held left node cpu + times_held gone node cpu)
+    → ((node : ℕ) → mem_held parts node ≡ mem_held left node + mem_held gone node)
+    → ShowsParts held parts → GivesParts held gone after
+    → ShowsParts after left
+
+-- What a part holds is held.
+abbrev pub PartsAreShown : Type 0
+PartsAreShown = (parts : List Part) (held : List Held) → ShowsParts held parts
+    → All (λ (part : Part). All (λ cpu. holds_cpu held part.node cpu ≡ true) part.cpus
+    × part.mem ≤ held_mem held part.node) parts
+
+-- An event in which each job keeps its parts, and of which those that go have none, leaves the parts as they were;
+abbrev pub PartsStay : Type 0
+PartsStay = (jobs : List JobRecord) (change : JobRecord → JobRecord) (goes : JobRecord → Bool)
+    → All (λ (job : JobRecord). (change job).parts ≡ job.parts) jobs
+    → All (λ (job : JobRecord). goes (change job) ≡ true → job.parts ≡ []) jobs
+    → parts_of (those_left change goes jobs) ≡ parts_of jobs
+
+-- and so do pending jobs that are added.
+abbrev pub AddedHoldNothing : Type 0
+AddedHoldNothing = (now : ℕ) (jobs more : List JobRecord)
+    → All (IsKept now) more → All (λ (job : JobRecord). is_pending job.state ≡ true) more
+    → parts_of (jobs ++ more) ≡ parts_of jobs

@@ -8,3 +8,4 @@ pub mod Verdicts
 pub mod Refusals
 pub mod Laws
 pub mod ArrayCounts
+pub mod Index

@@ -84,3 +84,17 @@ pub fn a_stable_sort_makes_the_order<T>()
     ensures apart { Laws.OrderKeepsApart T }
     ensures sorted { Laws.SortOrders T }
 {}
+
+/// The index of what is held goes on showing it: what a waiting job takes is held, and what is given back isn't. What a
+/// part holds is held.
+pub fn the_index_shows_what_is_held()
+    ensures taking { Laws.TakingShows }
+    ensures giving { Laws.GivingShows }
+    ensures parts { Laws.PartsAreShown }
+{}
+
+/// Events that drop no part, and jobs that wait, leave the parts as they were.
+pub fn parts_stay()
+    ensures stay { Laws.PartsStay }
+    ensures added { Laws.AddedHoldNothing }
+{}

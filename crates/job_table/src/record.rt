@@ -1,10 +1,10 @@
 //! What is kept of a job.
 
+use cpu_ids::CpuIds;
 use slurm_text::items::Items;
 use slurm_text::name::Name;
 use slurm_text::plain::job::JobDesc;
 use slurm_text::plain::limit::Limit;
-use slurm_text::plain::orders::CpuIds;
 use slurm_text::plain::state::{HeldBy, JobState};
 
 /// What a job holds of one node.

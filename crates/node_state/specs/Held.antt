@@ -14,8 +14,8 @@ abbrev pub holds_cpu : List Held → ℕ → ℕ → Bool
 holds_cpu held place cpu = has_id (held_at held place).cpus cpu
 
 -- how many megabytes of the node are held
-abbrev pub mem_held : List Held → ℕ → ℕ
-mem_held held place = (held_at held place).mem
+abbrev pub held_mem : List Held → ℕ → ℕ
+held_mem held place = (held_at held place).mem
 
 -- the processors of a node that aren't held, the lowest first
 abbrev pub free_cpus : NodeRecord → Held → List ℕ
@@ -33,16 +33,16 @@ AreWithin nodes held = AllZip IsWithin nodes held
 -- nothing is held
 pub record HoldsNothing (held : List Held) : Type 0 where
   pub cpus : (place cpu : ℕ) → holds_cpu held place cpu ≡ false
-  pub mem : (place : ℕ) → mem_held held place ≡ 0
+  pub mem : (place : ℕ) → held_mem held place ≡ 0
 
 -- processors and megabytes of the node at a place are held besides
 pub record Takes (before : List Held) (place : ℕ) (cpus : List ℕ) (mem : ℕ) (after : List Held) : Type 0 where
   pub cpus : (node cpu : ℕ)
       → holds_cpu after node cpu ≡ (holds_cpu before node cpu || (nat_eq node place && has_id cpus cpu))
-  pub mem : (node : ℕ) → mem_held after node ≡ mem_held before node + (if nat_eq node place then mem else 0)
+  pub mem : (node : ℕ) → held_mem after node ≡ held_mem before node + (if nat_eq node place then mem else 0)
 
 -- processors and megabytes of the node at a place are held no more
 pub record GivesBack (before : List Held) (place : ℕ) (cpus : List ℕ) (mem : ℕ) (after : List Held) : Type 0 where
   pub cpus : (node cpu : ℕ)
       → holds_cpu after node cpu ≡ (holds_cpu before node cpu && not (nat_eq node place && has_id cpus cpu))
-  pub mem : (node : ℕ) → mem_held after node ≡ mem_held before node - (if nat_eq node place then mem else 0)
+  pub mem : (node : ℕ) → held_mem after node ≡ held_mem before node - (if nat_eq node place then mem else 0)

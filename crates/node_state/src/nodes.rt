@@ -76,7 +76,7 @@ fn nothing_held(alloc: Global, nodes: &[NodeRecord]) -> Result<Vec<Held>, Memory
 impl Nodes {
     ghost use Rattle.std.specs.Prelude.{◌≡◌, ◌≢◌, ◌↔◌, ◌<◌, ◌≤◌, ◌+◌, All, map, take, length, AllPairs, IfOk, IfSome, IsFalse, IsTrue, true, [], slice_get, option_copied};
     ghost use Rattle.std.specs.List.{HoldsAt};
-    ghost use Rattle.node_state.specs.Held.{GivesBack, HoldsNothing, Takes, free_cpus, held_at, holds_cpu, mem_held};
+    ghost use Rattle.node_state.specs.Held.{GivesBack, HoldsNothing, Takes, free_cpus, held_at, holds_cpu, held_mem};
     ghost use Rattle.node_state.specs.Nodes as spec;
 
     /// The nodes of slurm.conf(5), before anything was heard of them. Linear in their number.
@@ -175,7 +175,7 @@ impl Nodes {
         requires there { place < length self.old.records }
         requires cpus { HoldsAt (λ node. count ≤ length (free_cpus node (held_at self.old.held place)))
             self.old.records place }
-        requires mem { HoldsAt (λ node. mem_held self.old.held place + mem ≤ node.conf.mem) self.old.records place }
+        requires mem { HoldsAt (λ node. held_mem self.old.held place + mem ≤ node.conf.mem) self.old.records place }
         ensures lowest { HoldsAt (λ node. result ≡ take count (free_cpus node (held_at self.old.held place)))
             self.old.records place }
         ensures held { Takes self.old.held place result mem self.new.held }
@@ -193,7 +193,7 @@ impl Nodes {
     pub fn give_back(&mut self, place: u32, cpus: &CpuIds, mem: u64)
         requires there { place < length self.old.records }
         requires cpus { All (λ cpu. holds_cpu self.old.held place cpu ≡ true) cpus.now }
-        requires mem { mem ≤ mem_held self.old.held place }
+        requires mem { mem ≤ held_mem self.old.held place }
         ensures held { GivesBack self.old.held place cpus.now mem self.new.held }
         ensures records { self.new.records ≡ self.old.records }
     {

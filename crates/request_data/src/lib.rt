@@ -1,19 +1,15 @@
-//! What users and daemons ask the controller, and what it answers, as plain data.
+//! What users and daemons ask the controller, as plain data.
 #![tactic(auto)]
 
 use crate::report::{Done, Start};
 use plain_data::Plain;
 use small_texts::memory_error::Memory;
 
-pub mod orders;
 pub mod query;
-pub mod refusal;
-pub mod reply;
 pub mod report;
 pub mod request;
 pub mod state;
 pub mod target;
-pub mod view;
 
 impl Plain for Start {
     fn copy(&self) -> Result<Start, Memory> {

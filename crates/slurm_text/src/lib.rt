@@ -1,5 +1,5 @@
 //! The small texts of a cluster's files, requests and replies, and the plain data that readers make of them: the front
-//! of five crates, which gives out all that the crates above use of them.
+//! of six crates, which gives out all that the crates above use of them.
 #![tactic(auto)]
 
 pub mod plain;

@@ -1,7 +1,7 @@
 -- The order of starts and of launches.
 use Rattle.std.specs.Prelude.{◌≡◌, Bool, true, ◌&&◌, ◌||◌, nat_eq, nat_lt, List, AllPairs}
 use Rattle.request_data.specs.declared.report.Start.{Start}
-use Rattle.request_data.specs.declared.orders.Launch.{Launch}
+use Rattle.reply_data.specs.declared.orders.Launch.{Launch}
 
 -- by job, then by number
 abbrev pub is_before : Start → Start → Bool

@@ -1,87 +1,15 @@
 //! What the controller orders a node's daemon to do.
 
-ghost use Rattle.std.specs.Prelude.{◌≡◌, ◌<◌, nat_eq, length, All, AllPairs, IfOk, bytes_eq};
-ghost use Rattle.std.specs.List.{list_any};
-ghost use Rattle.std.specs.Slice.Iter.{iter_rest};
-ghost use Rattle.std.specs.Cmp.{partial_equiv_from_equiv};
-ghost use Rattle.std.specs.Cmp.Lexicographic.{nat_list_eq_equiv};
-ghost use Rattle.request_data.specs.Starts.{InOrder, LaunchesInOrder};
+ghost use Rattle.std.specs.Prelude.{◌≡◌, IfOk};
+ghost use Rattle.reply_data.specs.Starts.{InOrder, LaunchesInOrder};
 
-use crate::report::Start;
+use cpu_ids::CpuIds;
 use plain_data::Plain;
 use plain_data::items::Items;
+use request_data::report::Start;
 use small_texts::memory_error::Memory;
 use small_texts::name::Name;
 use std::marker::Model;
-use std::slice;
-
-/// Processor numbers of a node. A contract sees them as a list that rises (own).
-#[derive(Debug, Drop)]
-pub struct CpuIds {
-    numbers: Vec<u32>,
-}
-
-impl Model for CpuIds {
-    ghost use Rattle.std.specs.Prelude.{ℕ, List, ◌<◌, All, AllPairs};
-
-    ghost Value = { List ℕ };
-
-    ghost view = { λ ids. ids.numbers.items };
-
-    ghost invariant = { λ ids. AllPairs (λ a b. a < b) ids.numbers.items × All (λ a. a < 1024) ids.numbers.items };
-}
-
-impl PartialEq for CpuIds {
-    ghost eq = { bytes_eq };
-
-    ghost laws = { partial_equiv_from_equiv nat_list_eq_equiv };
-
-    fn eq(&self, other: &CpuIds) -> bool {
-        self.numbers == other.numbers
-    }
-}
-
-impl CpuIds {
-    /// These numbers. It takes no memory.
-    pub fn from_vec(numbers: Vec<u32>) -> CpuIds
-        requires rising { AllPairs (λ a b. a < b) numbers.items }
-        requires small { All (λ a. a < 1024) numbers.items }
-        ensures { result ≡ numbers.items }
-    {
-        CpuIds { numbers }
-    }
-
-    /// How many there are.
-    pub fn len(&self) -> usize
-        ensures { result ≡ length self.now }
-    {
-        self.numbers.len()
-    }
-
-    /// Whether the number is among them. Linear.
-    pub fn contains(&self, number: u32) -> bool
-        ensures { result ≡ list_any (λ id. nat_eq id number) self.now }
-    {
-        self.numbers.iter().any(|id| *id == number)
-    }
-
-    /// The numbers, from the least on.
-    pub fn iter(&self) -> slice::Iter<'_, u32>
-        ensures value { iter_rest result ≡ self.now }
-        ensures rising { AllPairs (λ a b. a < b) self.now }
-        ensures small { All (λ a. a < 1024) self.now }
-    {
-        self.numbers.iter()
-    }
-
-    /// Equal numbers.
-    pub fn copy(&self) -> Result<CpuIds, Memory>
-        ensures { IfOk result (λ ids. ids ≡ self.now) }
-    {
-        let numbers = Vec::from_slice(*self.numbers.allocator(), self.numbers.as_slice())?;
-        Ok(CpuIds { numbers })
-    }
-}
 
 /// A start that is to be launched on the node.
 #[derive(PartialEq, Debug, Drop)]
@@ -101,7 +29,7 @@ impl Plain for Launch {
     fn copy(&self) -> Result<Launch, Memory> {
         Ok(Launch {
             start: self.start,
-            cpus: self.cpus.copy()?,
+            cpus: self.cpus.copy(),
             mem: self.mem,
             run: self.run,
             exit: self.exit,
@@ -118,7 +46,7 @@ pub struct Starts {
 impl Model for Starts {
     ghost use Rattle.std.specs.Prelude.{List};
     ghost use Rattle.request_data.specs.declared.report.Start.{Start};
-    ghost use Rattle.request_data.specs.Starts.{InOrder};
+    ghost use Rattle.reply_data.specs.Starts.{InOrder};
 
     ghost Value = { List Start };
 
@@ -165,8 +93,8 @@ pub struct Launches {
 
 impl Model for Launches {
     ghost use Rattle.std.specs.Prelude.{List};
-    ghost use Rattle.request_data.specs.declared.orders.Launch.{Launch};
-    ghost use Rattle.request_data.specs.Starts.{LaunchesInOrder};
+    ghost use Rattle.reply_data.specs.declared.orders.Launch.{Launch};
+    ghost use Rattle.reply_data.specs.Starts.{LaunchesInOrder};
 
     ghost Value = { List Launch };
 

@@ -2,7 +2,7 @@
 
 ghost use Rattle.std.specs.Prelude.{◌≡◌, IfOk};
 
-use crate::state::{JobState, Reason};
+use request_data::state::{JobState, Reason};
 use plain_data::Plain;
 use plain_data::conf::PartState;
 use plain_data::items::Items;

@@ -1,0 +1,7 @@
+//! What the controller answers, as plain data.
+#![tactic(auto)]
+
+pub mod orders;
+pub mod refusal;
+pub mod reply;
+pub mod view;
