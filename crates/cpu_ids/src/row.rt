@@ -120,7 +120,8 @@ impl CpuIds {
     /// bound.
     pub fn lowest_others(&self, bound: u32, count: u32) -> CpuIds
         requires { bound ≤ 1024 }
-        ensures { result ≡ take count (others_below bound self.now) }
+        ensures lowest { result ≡ take count (others_below bound self.now) }
+        ensures below { All (λ number. number < bound) result }
     {
         let mut lowest = CpuIds::none();
         let mut wanted = count;

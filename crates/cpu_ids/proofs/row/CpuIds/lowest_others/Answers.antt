@@ -14,3 +14,6 @@ loop-number-preserved c = elim c.if-wanted-gt0.branch [
     | else-wanted-gt0-via-else-wanted-gt0 w' ↦ lowest-full c.loop-number.invariant (omega arith)
   ])
 ]
+
+pub returns-clause-below : goal.returns-clause-below
+returns-clause-below c = λ k d inside. omega (arith, lowest-low c.loop-number.invariant k d inside)
