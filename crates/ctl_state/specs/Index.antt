@@ -1,6 +1,6 @@
 -- The index of what is held of the nodes: what it shows, and how it follows what happens to parts. No statement on states
 -- speaks of it.
-use Rattle.std.specs.Prelude.{◌≡◌, ℕ, ◌+◌, ◌-◌, Bool, ◌&&◌, ◌||◌, not, nat_lt, List}
+use Rattle.std.specs.Prelude.{◌≡◌, ℕ, ◌+◌, ◌-◌, ◌&&◌, ◌||◌, not, nat_lt, List}
 use Rattle.std.specs.List.{list_any}
 use Rattle.node_state.specs.declared.record.Held.{Held}
 use Rattle.node_state.specs.Held.{holds_cpu, held_mem}
