@@ -72,13 +72,7 @@ pub(crate) fn part_on(node: u32, parts: &[Part]) -> Option<&Part>
 
 /// Changes each job as the report wants it; what they drop is given back. Linear in the jobs, and for each that holds
 /// something of the node in what the report tells. It takes no memory.
-pub(crate) fn report_jobs(
-    nodes: &mut Nodes,
-    jobs: &mut Jobs,
-    now: u64,
-    node: u32,
-    report: &Report,
-)
+pub(crate) fn report_jobs(nodes: &mut Nodes, jobs: &mut Jobs, now: u64, node: u32, report: &Report)
     requires on { All (λ job. AreOnNodes (length nodes.old.records) job.parts) jobs.old.records }
     requires shown { ShowsJobs nodes.old.held jobs.old.records }
     ensures jobs { jobs.new.records ≡ map (reported now node report.now) jobs.old.records }

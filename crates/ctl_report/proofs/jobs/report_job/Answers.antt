@@ -7,15 +7,15 @@ use Rattle.ctl_report.specs.Reporting.{reported}
 use Rattle.ctl_report.proofs.Reported.{reported_untold}
 use Rattle.ctl_report.proofs.jobs.report_job.Goals as goal
 
-pub returns-then-not-is_listed : goal.returns-then-not-is_listed
-returns-then-not-is_listed c =
+pub returns-then-not-is_listed-clause-jobs : goal.returns-then-not-is_listed-clause-jobs
+returns-then-not-is_listed-clause-jobs c =
     let jobs = c.args.jobs.now.records in
     let job = c.index-records-place.result in
     let off : JobRecord → JobRecord = changed (DropPart c.args.node c.args.now) in
     let change : JobRecord → JobRecord = reported c.args.now c.args.node c.args.report.now in
     let read = rw c.records.ensures.value at c.index-records-place.is in
-    c.change_at.ensures
+    c.leave_node.ensures.jobs
     ∙ c.a_change_is_of_its_place.ensures.same off change c.args.place jobs
-    (at_read jobs (λ job. off job ≡ change job) c.args.place job c.requires read
+    (at_read jobs (λ job. off job ≡ change job) c.args.place job c.requires.there read
     (sym (reported_untold c.args.now c.args.node c.args.report.now job (sym c.is_at.ensures ∙ c.if-not-is_at.false)
     (sym c.done_of.ensures ∙ c.in-None.is) (sym c.is_listed.ensures ∙ c.if-not-is_listed.true))))

@@ -1,5 +1,6 @@
 use Rattle.std.proofs.Common.{◌≡◌, length}
 use Rattle.job_table.specs.Walks.{walked}
+use Rattle.ctl_report.specs.Leaving.{ShowsJobs}
 use Rattle.ctl_report.specs.Reporting.{reported}
 use Rattle.ctl_report.proofs.jobs.report_jobs.Given as goal
 
@@ -7,4 +8,6 @@ abbrev pub invariant-loop-place : goal.invariant-loop-place
 invariant-loop-place l = record {
   walk : l.jobs.records ≡ walked (reported l.now l.node l.report) l.place l.fn.jobs.records;
   end : l.place-end ≡ length l.fn.jobs.records;
+  nodes : l.nodes.records ≡ l.fn.nodes.records;
+  shown : ShowsJobs l.nodes.held l.jobs.records;
 }

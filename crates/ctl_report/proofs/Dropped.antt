@@ -1,26 +1,32 @@
 -- Who leaves a node drops what is held there no more.
-use Rattle.std.proofs.Common.{ℕ, zero, suc, ◌≡◌, ◌+◌, ◌<◌, ◌≤◌, Bool, true, false, ◌&&◌, not, cond, List, [], ◌∷◌, ◌++◌, length, filter, find, sum_by, get_or, All, HoldsAt, Option, Some, None, refl, sym, ap, ◌∙◌, arith, inl, inr}
+use Rattle.std.proofs.Common.{ℕ, zero, suc, ◌≡◌, ◌+◌, ◌<◌, ◌≤◌, Bool, true, false, cond, List, [], ◌∷◌, ◌++◌, length, map, find, sum_by, get_or, take, All, HoldsAt, Some, refl, sym, ap, subst, ◌∙◌, arith, inl, inr}
 use Rattle.std.specs.Prelude.{nat_eq}
 use Rattle.std.specs.Option.{option_to_list}
-use Rattle.std.proofs.lemmas.Bool.{cases_Bool, cond_both, eq-eqb, eqb-true, ne_eqb}
+use Rattle.std.proofs.lemmas.Bool.{cases_Bool, eqb-true, ne_eqb}
 use Rattle.std.proofs.lemmas.Bool.Decides.{nat_tests}
+use Rattle.std.proofs.lemmas.List.{length-map}
+use Rattle.std.proofs.lemmas.List.Concat.{get_or-flat_map}
 use Rattle.std.proofs.lemmas.List.Elements.{All-head, All-tail}
+use Rattle.std.proofs.lemmas.List.Folds.{length-flat_map-take}
 use Rattle.std.proofs.lemmas.List.Sums.{sum_by-append, sum_by-cons}
 use Rattle.slurm_text.specs.declared.plain.report.Done.{Done}
 use Rattle.slurm_text.specs.declared.plain.state.Final.{Final}
 use Rattle.slurm_text.specs.declared.plain.state.JobState.{JobState}
 use Rattle.slurm_text.specs.declared.plain.state.JobState.TheVariants.{Pending, Running, Completing, Ended}
 use Rattle.node_state.specs.declared.record.Held.{Held}
-use Rattle.node_state.specs.Held.{GivesBack}
+use Rattle.node_state.specs.Held.{GivesBack, held_mem, holds_cpu}
 use Rattle.job_table.specs.declared.record.Part.{Part}
 use Rattle.job_table.specs.declared.record.JobRecord.{JobRecord}
 use Rattle.job_table.specs.declared.change.Change.TheVariants.{DropPart}
 use Rattle.job_table.specs.Changes.{changed, is_on, off_node, parts_off, with_left}
 use Rattle.job_table.specs.JobStates.{is_completing}
 use Rattle.job_table.specs.Walks.{map_at}
-use Rattle.ctl_state.specs.Holding.{OnNodesApart, has_cpu, mem_held, mem_in, parts_of, times_held}
+use Rattle.ctl_state.specs.Holding.{IsPartOf, OnNodesApart, has_cpu, mem_held, mem_in, parts_of, times_held}
 use Rattle.ctl_state.specs.Index.{GivesParts}
-use Rattle.ctl_state.specs.Laws.{GivingShows}
+use Rattle.ctl_state.specs.Laws.{GivingShows, PartsAreShown}
+use Rattle.ctl_state.specs.Planning.{room_of}
+use Rattle.ctl_state.specs.Soundness.{IsSound}
+use Rattle.ctl_state.specs.State.{State}
 use Rattle.ctl_report.specs.Leaving.{AreOnNodes, ShowsJobs, part_dropped}
 use Rattle.ctl_report.specs.Reporting.{script_over}
 
@@ -122,12 +128,19 @@ unfolding mem_held
 none_given held = record { cpus = λ node cpu. grind (arith, nat_tests); mem = λ node. omega arith }
 
 -- what holds of all holds of the one that is found
-pub All_found : {X : Type 0} (P : X → Type 0) (p : X → Bool) (xs : List X) (x : X) → All P xs → find p xs ≡ Some x
+All_found : {X : Type 0} (P : X → Type 0) (p : X → Bool) (xs : List X) (x : X) → All P xs → find p xs ≡ Some x
     → P x
 All_found P p [] x all found = absurd (let never = found in cc)
 All_found P p (y ∷ ys) x all found = elim (cases_Bool (p y)) [
   | inl here ↦ let is : y ≡ x = cc (rw here at found) in rw (← is) (All-head P y ys all)
   | inr other ↦ All_found P p ys x (All-tail P y ys all) (rw other at found)
+]
+
+pub dropped_has : (P : Part → Type 0) (node : ℕ) (job : JobRecord) (part : Part) → All P job.parts
+    → part_dropped node job ≡ Some part → P part
+dropped_has P node job part all is = elim (cases_Bool (is_completing job.state)) [
+  | inl completes ↦ All_found P (is_on node) job.parts part all (rw completes at is)
+  | inr other ↦ absurd (let never = rw other at is in cc)
 ]
 
 -- A script that is over takes nothing from the parts.
@@ -153,3 +166,32 @@ pub over_on : (count now node place : ℕ) (done : Done) (jobs : List JobRecord)
 over_on count now node place done [] on = on
 over_on count now node zero done (job ∷ jobs) on = λ d. rw (script-parts now node done job) (on d)
 over_on count now node (suc place) done (job ∷ jobs) on = over_on count now node place done jobs on
+
+-- what holds of all parts holds of those of each job
+parts-at : (P : Part → Type 0) (jobs : List JobRecord) → All P (parts_of jobs)
+    → All (λ (job : JobRecord). All P job.parts) jobs
+parts-at P jobs all k d below j e inside =
+    let held : JobRecord → List Part = λ job. job.parts in
+    rw (get_or-flat_map held jobs k j d e below inside) at (all (length (parts_of (take k jobs)) + j) e
+    (omega (arith, inside, length-flat_map-take held jobs k d below)))
+
+pub parts_held : PartsAreShown → (held : List Held) (jobs : List JobRecord) (place : ℕ) (job : JobRecord)
+    → place < length jobs → job ≡ get_or jobs place job → ShowsJobs held jobs
+    → All (λ (part : Part). All (λ cpu. holds_cpu held part.node cpu ≡ true) part.cpus
+    × part.mem ≤ held_mem held part.node) job.parts
+parts_held shown held jobs place job below is shows =
+    let Holds : Part → Type 0 = λ part. All (λ cpu. holds_cpu held part.node cpu ≡ true) part.cpus
+    × part.mem ≤ held_mem held part.node in
+    subst (λ (one : JobRecord). All Holds one.parts) (sym is)
+    (parts-at Holds jobs (shown (parts_of jobs) held shows.shown) place job below)
+
+-- the parts of sound jobs are on nodes that differ and that there are
+pub sound_on : (s : State) → IsSound s → All (λ (job : JobRecord). AreOnNodes (length s.nodes) job.parts) s.jobs
+sound_on s sound k d below = record {
+  there = λ j e inside. omega (
+    arith,
+    (parts-at (IsPartOf (map room_of s.nodes)) s.jobs sound.held.each k d below j e inside).node,
+    length-map s.nodes room_of,
+  );
+  apart = (sound.jobs k d below).parts.apart;
+}
