@@ -1,7 +1,6 @@
-use Rattle.ctl_state.specs.State.{state_of}
+use Rattle.std.proofs.Common.{ap, refl, sym, ◌∙◌, ◌≡◌}
+use Rattle.ctl_state.specs.State.{State, state_of}
+use Rattle.ctl_pass.proofs.Due.{due-now}
 use Rattle.ctl_pass.proofs.Passes.{acted}
+use Rattle.ctl_pass.proofs.Readied.{old-empty, timed_out-parts}
 use Rattle.ctl_pass.proofs.pass.act.Goals as goal
-
-pub returns : goal.returns
-returns c = acted (state_of c.args.cluster.now) c.args.now c.args.decided _ _ c.requires
-    (rw c.get-age.ensures.value at c.advance.ensures) c.drop_dead.ensures

@@ -26,14 +26,6 @@ split-requires-clause-plan g c =
     ∙ plan-is (state_of c.args.cluster.now) c.args.now c.in-Ok.planned c.in_ok-base.base c.in_ok-ranked.ranked.items
     c.in-Ok.ensures.parts c.in_ok-base.ensures c.in_ok-ranked.ensures.ranked
 
-pub split-requires-clause-parts : goal.split-requires-clause-parts
-split-requires-clause-parts g c =
-    let s = state_of c.args.cluster.now in
-    let are : c.into_placements.result.items ≡ plan_of c.in_ok-base.base c.in_ok-ranked.ranked.items c.args.now =
-    c.into_placements.ensures
-    ∙ ap (λ (one : PlannedView). plan_of one.base one.ranked one.moment) c.in-Ok.ensures.parts in
-    rw (are, ← base-rooms (ready s c.args.now) c.args.now c.in_ok-base.base c.in_ok-base.ensures) c.in-Ok.ensures.apart
-
 pub overflow_cast-result : goal.overflow_cast-result
 overflow_cast-result g c =
     omega (
