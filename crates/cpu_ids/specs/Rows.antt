@@ -7,9 +7,13 @@ use Rattle.std.specs.List.{list_any, range_with_len}
 abbrev pub is_set : List ℕ → ℕ → Bool
 is_set words number = nat_eq (bit_at (slice_index words (number / 64)) (number % 64)) 1
 
+-- how many numbers a row has bits for
+unfoldable pub row_width : ℕ
+row_width = 1024
+
 -- the numbers whose bits are set, from the least on
 unfoldable pub ids_of : List ℕ → List ℕ
-ids_of words = filter (is_set words) (range_with_len 0 1024)
+ids_of words = filter (is_set words) (range_with_len 0 row_width)
 
 -- the number is among them
 abbrev pub has_id : List ℕ → ℕ → Bool

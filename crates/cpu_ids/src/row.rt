@@ -1,6 +1,6 @@
 //! A row of bits, one for each number that a processor may have.
 
-ghost use Rattle.std.specs.Prelude.{◌≡◌, ◌<◌, ◌≤◌, ◌&&◌, ◌||◌, ◌↔◌, ℕ, [], not, length, take, All, AllPairs, IfOk, IsTrue, bytes_eq, nat_eq};
+ghost use Rattle.std.specs.Prelude.{◌≡◌, ◌<◌, ◌≤◌, ◌&&◌, ◌||◌, ◌↔◌, ◌++◌, ◌∷◌, ℕ, [], not, length, take, All, AllPairs, IfOk, IsTrue, bytes_eq, nat_eq, slice_index, ◌^◌};
 ghost use Rattle.std.specs.Cmp.{partial_equiv_from_equiv};
 ghost use Rattle.std.specs.Cmp.Lexicographic.{nat_list_eq_equiv};
 ghost use Rattle.cpu_ids.specs.Rows.{has_id, others_below};
@@ -18,6 +18,11 @@ pub struct CpuIds {
     words: [u64; 16],
 }
 
+// It does nothing: its contract tells how large a word is.
+fn tell_words(words: &[u64])
+    ensures { (place : ℕ) → slice_index words.now place < 2 ^ 64 }
+{}
+
 impl Model for CpuIds {
     ghost use Rattle.std.specs.Prelude.{ℕ, List};
     ghost use Rattle.cpu_ids.specs.Rows.{ids_of};
@@ -33,6 +38,8 @@ impl PartialEq for CpuIds {
     ghost laws = { partial_equiv_from_equiv nat_list_eq_equiv };
 
     fn eq(&self, other: &CpuIds) -> bool {
+        tell_words(&self.words);
+        tell_words(&other.words);
         self.words == other.words
     }
 }
@@ -50,13 +57,19 @@ impl CpuIds {
         ensures value { result ≡ length self.now }
         ensures few { result ≤ 1024 }
     {
-        self.words.iter().map(|word| word.count_ones() as usize).sum()
+        tell_words(&self.words);
+        let mut count = 0;
+        for word in &self.words {
+            count += word.count_ones() as usize;
+        }
+        count
     }
 
     /// Whether there is none.
     pub fn is_empty(&self) -> bool
         ensures { IsTrue result ↔ (self.now ≡ []) }
     {
+        tell_words(&self.words);
         self.words == [0; 16]
     }
 
@@ -71,12 +84,15 @@ impl CpuIds {
     pub fn tell_rising(&self)
         ensures rising { AllPairs (λ a b. a < b) self.now }
         ensures small { All (λ a. a < 1024) self.now }
-    {}
+    {
+        let _words = &self.words;
+    }
 
     /// Adds the number.
     pub fn insert(&mut self, number: u32)
         requires { number < 1024 }
-        ensures { (other : ℕ) → has_id self.new other ≡ (has_id self.old other || nat_eq number other) }
+        ensures added { (other : ℕ) → has_id self.new other ≡ (has_id self.old other || nat_eq number other) }
+        ensures last { All (λ id. id < number) self.old → self.new ≡ self.old ++ number ∷ [] }
     {
         self.words[(number / WORD) as usize] |= 1 << (number % WORD);
     }
@@ -94,6 +110,7 @@ impl CpuIds {
     pub fn remove_all(&mut self, gone: &CpuIds)
         ensures { (number : ℕ) → has_id self.new number ≡ (has_id self.old number && not (has_id gone.now number)) }
     {
+        tell_words(&gone.words);
         for place in 0..16 {
             self.words[place] &= !gone.words[place];
         }
@@ -103,7 +120,8 @@ impl CpuIds {
     /// bound.
     pub fn lowest_others(&self, bound: u32, count: u32) -> CpuIds
         requires { bound ≤ 1024 }
-        ensures { result ≡ take count (others_below bound self.now) }
+        ensures lowest { result ≡ take count (others_below bound self.now) }
+        ensures below { All (λ number. number < bound) result }
     {
         let mut lowest = CpuIds::none();
         let mut wanted = count;
@@ -120,7 +138,10 @@ impl CpuIds {
     pub fn to_vec(&self, alloc: Global) -> Result<Vec<u32>, AllocError>
         ensures { IfOk result (λ numbers. numbers.items ≡ self.now) }
     {
-        (0..1024).filter(|number| self.contains(*number)).collect(alloc)
+        tell_words(&self.words);
+        (0..1024)
+            .filter(|number| self.contains(*number))
+            .collect(alloc)
     }
 
     /// Equal numbers.

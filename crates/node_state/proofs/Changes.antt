@@ -47,7 +47,7 @@ conf-noted node empty down.No = refl
 conf-noted node empty down.Silent = refl
 conf-noted node empty down.Set = refl
 
-conf-changed : (change : NodeChange) (node : NodeRecord) → (changed change node).conf ≡ node.conf
+pub conf-changed : (change : NodeChange) (node : NodeRecord) → (changed change node).conf ≡ node.conf
 conf-changed Silent node = conf-silent node node.down
 conf-changed Down node = conf-set_down node node.down
 conf-changed Drain node = refl

@@ -1,5 +1,5 @@
 -- What is held of the nodes: their processors by numbers, and megabytes.
-use Rattle.std.specs.Prelude.{◌≡◌, ℕ, ◌+◌, ◌-◌, ◌<◌, ◌≤◌, Bool, false, ◌&&◌, ◌||◌, not, nat_eq, if◌then◌else◌, List, [], length, All, slice_index_or}
+use Rattle.std.specs.Prelude.{◌≡◌, ℕ, ◌+◌, ◌-◌, ◌<◌, ◌≤◌, Bool, false, ◌&&◌, ◌||◌, not, nat_eq, if◌then◌else◌, List, [], All, slice_index_or}
 use Rattle.std.specs.List.{AllZip}
 use Rattle.cpu_ids.specs.Rows.{has_id, others_below}
 use Rattle.node_state.specs.declared.record.Held.{Held}
@@ -36,13 +36,13 @@ pub record HoldsNothing (held : List Held) : Type 0 where
   pub mem : (place : ℕ) → held_mem held place ≡ 0
 
 -- processors and megabytes of the node at a place are held besides
-pub record Takes (before : List Held) (place : ℕ) (cpus : List ℕ) (mem : ℕ) (after : List Held) : Type 0 where
+pub record Takes (before : List Held) (place : ℕ) (ids : List ℕ) (megabytes : ℕ) (after : List Held) : Type 0 where
   pub cpus : (node cpu : ℕ)
-      → holds_cpu after node cpu ≡ (holds_cpu before node cpu || (nat_eq node place && has_id cpus cpu))
-  pub mem : (node : ℕ) → held_mem after node ≡ held_mem before node + (if nat_eq node place then mem else 0)
+      → holds_cpu after node cpu ≡ (holds_cpu before node cpu || (nat_eq node place && has_id ids cpu))
+  pub mem : (node : ℕ) → held_mem after node ≡ held_mem before node + (if nat_eq node place then megabytes else 0)
 
 -- processors and megabytes of the node at a place are held no more
-pub record GivesBack (before : List Held) (place : ℕ) (cpus : List ℕ) (mem : ℕ) (after : List Held) : Type 0 where
+pub record GivesBack (before : List Held) (place : ℕ) (ids : List ℕ) (megabytes : ℕ) (after : List Held) : Type 0 where
   pub cpus : (node cpu : ℕ)
-      → holds_cpu after node cpu ≡ (holds_cpu before node cpu && not (nat_eq node place && has_id cpus cpu))
-  pub mem : (node : ℕ) → held_mem after node ≡ held_mem before node - (if nat_eq node place then mem else 0)
+      → holds_cpu after node cpu ≡ (holds_cpu before node cpu && not (nat_eq node place && has_id ids cpu))
+  pub mem : (node : ℕ) → held_mem after node ≡ held_mem before node - (if nat_eq node place then megabytes else 0)

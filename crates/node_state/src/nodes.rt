@@ -76,7 +76,7 @@ fn nothing_held(alloc: Global, nodes: &[NodeRecord]) -> Result<Vec<Held>, Memory
 impl Nodes {
     ghost use Rattle.std.specs.Prelude.{◌≡◌, ◌≢◌, ◌↔◌, ◌<◌, ◌≤◌, ◌+◌, All, map, take, length, AllPairs, IfOk, IfSome, IsFalse, IsTrue, true, [], slice_get, option_copied};
     ghost use Rattle.std.specs.List.{HoldsAt};
-    ghost use Rattle.node_state.specs.Held.{GivesBack, HoldsNothing, Takes, free_cpus, held_at, holds_cpu, held_mem};
+    ghost use Rattle.node_state.specs.Held.{GivesBack, HoldsNothing, Takes, free_cpus, held_at, holds_cpu, held_mem, IsWithin};
     ghost use Rattle.node_state.specs.Nodes as spec;
 
     /// The nodes of slurm.conf(5), before anything was heard of them. Linear in their number.
@@ -164,7 +164,8 @@ impl Nodes {
     /// What is held of the node at a place.
     pub fn held(&self, place: u32) -> &Held
         requires { place < length self.now.records }
-        ensures { result.now ≡ held_at self.now.held place }
+        ensures value { result.now ≡ held_at self.now.held place }
+        ensures within { HoldsAt (λ node. IsWithin node result.now) self.now.records place }
     {
         &self.held[place as usize]
     }
@@ -181,8 +182,10 @@ impl Nodes {
         ensures held { Takes self.old.held place result mem self.new.held }
         ensures records { self.new.records ≡ self.old.records }
     {
-        let cpus = self.records[place as usize].conf.cpus.get() as u32;
+        let node = &self.records[place as usize];
+        let (cpus, most) = (node.conf.cpus.get() as u32, node.conf.mem.get());
         let held = &mut self.held[place as usize];
+        prove!(mem <= most);
         let taken = held.cpus.lowest_others(cpus, count);
         held.cpus.insert_all(&taken);
         held.mem += mem;

@@ -8,4 +8,4 @@ places_of-requires c =
 
 pub invariant_of-result : goal.invariant_of-result
 invariant_of-result c =
-    (rw c.in_ok-records.ensures (named_once-opened c.args.confs.items c.requires.few c.requires.once), λ name. rw (← c.as_slice.ensures.value) (c.in_ok-places.ensures name))
+    (rw c.in_ok-records.ensures (named_once-opened c.args.confs.items c.requires.few c.requires.once), rw (← c.as_slice-2.ensures.value) c.in_ok-held.ensures.within, λ name. rw (← c.as_slice.ensures.value) (c.in_ok-places.ensures name))
