@@ -238,3 +238,13 @@ cancelled_at same now place jobs d state change inside is fits =
     (at_read jobs (λ job. changed change job ≡ cancelled now job) place (get_or jobs place d) inside
     (get_or_default jobs place d (get_or jobs place d) inside)
     (fits (get_or jobs place d) ∙ sym (ap (cancelled_in now (get_or jobs place d)) is)))
+
+-- Cancelling takes nothing from the parts.
+parts-in : (now : ℕ) (job : JobRecord) (state : JobState) → (cancelled_in now job state).parts ≡ job.parts
+parts-in now job state = grind (arith, nat_tests)
+
+pub parts_kept : (s : State) (now : ℕ) (user : List ℕ) (named : Bool) (job : JobRecord)
+    → (cancelled_where s now user named job).parts ≡ job.parts
+parts_kept s now user named job =
+    cond_both (named && is_none (job_refusal s user job)) _ job (λ (one : JobRecord). one.parts ≡ job.parts)
+    (λ h. parts-in now job job.state) (λ h. refl)

@@ -2,3 +2,4 @@ pub mod Naming
 pub mod Refusing
 pub mod Cancelled
 pub mod Keeping
+pub mod Indexed

@@ -2,6 +2,7 @@
 
 ghost use Rattle.std.specs.Prelude.{◌≡◌, ◌<◌, map, length};
 ghost use Rattle.std.specs.List.{list_any};
+ghost use Rattle.ctl_state.specs.Index.{IsIndexed};
 ghost use Rattle.ctl_state.specs.Soundness.{IsSound};
 ghost use Rattle.ctl_state.specs.State.{state_of};
 ghost use Rattle.job_table.specs.Table.{HaveRisingIds};
@@ -13,6 +14,7 @@ ghost use Rattle.ctl_cancel.specs.Cancelling.{cancelled_where};
 use crate::refusals::{cancels_target, job_refusal};
 use ctl_state::cluster::Cluster;
 use ctl_state::jobs::drop_placements;
+use ctl_state::laws::parts_stay;
 use job_table::change::Change;
 use job_table::jobs::Jobs;
 use job_table::laws::{a_change_is_of_its_place, a_walk_changes_all};
@@ -61,8 +63,10 @@ fn cancels_job_of(cluster: &Cluster, user: &Name, owner: &Name) -> bool
 /// target is logarithmic in the jobs and linear in the tasks of its array; and once linear in the plan.
 pub fn cancel(cluster: &mut Cluster, moment: u64, user: &Name, targets: &Targets)
     requires { IsSound (state_of cluster.old) }
-    ensures { state_of cluster.new ≡ Cancelling.cancel_after (state_of cluster.old) moment user.now targets.now }
+    ensures after { state_of cluster.new ≡ Cancelling.cancel_after (state_of cluster.old) moment user.now targets.now }
+    ensures indexed { IsIndexed cluster.old → IsIndexed cluster.new }
 {
+    parts_stay();
     match targets {
         Targets::List(targets) => cancel_targets(cluster, moment, user, targets.as_slice()),
         Targets::User(owner) => cancel_owned(cluster, moment, user, owner),
@@ -74,10 +78,11 @@ pub fn cancel(cluster: &mut Cluster, moment: u64, user: &Name, targets: &Targets
 fn cancel_targets(cluster: &mut Cluster, moment: u64, user: &Name, targets: &[Target])
     requires rising { HaveRisingIds cluster.old.jobs.records }
     requires together { AreTogether cluster.old.jobs.records }
-    ensures { state_of cluster.new ≡ record (state_of cluster.old) {
+    ensures after { state_of cluster.new ≡ record (state_of cluster.old) {
       jobs = map (Cancelling.cancelled_if (state_of cluster.old) moment user.now (Targets.List targets.now))
           cluster.old.jobs.records;
     } }
+    ensures held { cluster.new.nodes.held ≡ cluster.old.nodes.held }
 {
     for target in targets {
         cancel_target(cluster, moment, user, target);
@@ -88,10 +93,11 @@ fn cancel_targets(cluster: &mut Cluster, moment: u64, user: &Name, targets: &[Ta
 fn cancel_target(cluster: &mut Cluster, moment: u64, user: &Name, target: &Target)
     requires rising { HaveRisingIds cluster.old.jobs.records }
     requires together { AreTogether cluster.old.jobs.records }
-    ensures { state_of cluster.new ≡ record (state_of cluster.old) {
+    ensures after { state_of cluster.new ≡ record (state_of cluster.old) {
       jobs = map (λ job. cancelled_where (state_of cluster.old) moment user.now (is_named target.now job) job)
           cluster.old.jobs.records;
     } }
+    ensures held { cluster.new.nodes.held ≡ cluster.old.nodes.held }
 {
     a_walk_changes_all::<JobRecord>();
     a_change_is_of_its_place::<JobRecord>();
@@ -104,10 +110,11 @@ fn cancel_target(cluster: &mut Cluster, moment: u64, user: &Name, target: &Targe
 
 // Cancels the owner's jobs that the user may cancel.
 fn cancel_owned(cluster: &mut Cluster, moment: u64, user: &Name, owner: &Name)
-    ensures { state_of cluster.new ≡ record (state_of cluster.old) {
+    ensures after { state_of cluster.new ≡ record (state_of cluster.old) {
       jobs = map (Cancelling.cancelled_if (state_of cluster.old) moment user.now (Targets.User owner.now))
           cluster.old.jobs.records;
     } }
+    ensures held { cluster.new.nodes.held ≡ cluster.old.nodes.held }
 {
     a_walk_changes_all::<JobRecord>();
     a_change_is_of_its_place::<JobRecord>();
@@ -120,9 +127,10 @@ fn cancel_owned(cluster: &mut Cluster, moment: u64, user: &Name, owner: &Name)
 // Cancels the job at a place where it is named and the user may cancel it.
 fn cancel_where(cluster: &mut Cluster, place: usize, moment: u64, user: &Name, named: bool)
     requires { place < length cluster.old.jobs.records }
-    ensures { state_of cluster.new ≡ record (state_of cluster.old) {
+    ensures after { state_of cluster.new ≡ record (state_of cluster.old) {
       jobs = map_at place (cancelled_where (state_of cluster.old) moment user.now named) cluster.old.jobs.records;
     } }
+    ensures held { cluster.new.nodes.held ≡ cluster.old.nodes.held }
 {
     a_change_is_of_its_place::<JobRecord>();
     if named && job_refusal(cluster, user, &cluster.jobs.records()[place]).is_none() {

@@ -4,6 +4,7 @@ ghost use Rattle.std.specs.Prelude.{◌≡◌, ◌+◌, ◌^◌, ◌<◌, ◌≤
 ghost use Rattle.slurm_text.specs.declared.plain.request.Request.TheVariants.{Pass};
 ghost use Rattle.resource_profile.specs.Counts.{ticked, IsTickedUpTo};
 ghost use Rattle.ctl_state.specs.State.{state_of, last_moment};
+ghost use Rattle.ctl_state.specs.Index.{IsIndexed};
 ghost use Rattle.ctl_state.specs.Soundness.{IsSound};
 ghost use Rattle.ctl_core.specs.Answering.{Answers};
 ghost use Rattle.ctl_core.specs.Sizes.{has_room};
@@ -39,6 +40,7 @@ fn stamp(cluster: &mut Cluster, moment: u64, size: u64, answered: Answered) -> D
     ensures moment { result.moment ≡ moment }
     ensures after { state_of cluster.new
         ≡ (if is_entered answered.reply then entered moment size (state_of cluster.old) else state_of cluster.old) }
+    ensures indexed { IsIndexed cluster.old → IsIndexed cluster.new }
 {
     if answered.entered.is_some() {
         cluster.moment = moment;
@@ -64,9 +66,11 @@ fn work(
     requires raised { cluster.old.moment ≤ moment }
     requires in_time { moment ≤ last_moment }
     requires room { room ≡ has_room (state_of cluster.old) request.now }
+    requires indexed { IsIndexed cluster.old }
     ensures ok { IfOk result (Answers (state_of cluster.old) (state_of cluster.new)
         (worked (state_of cluster.old) moment user.now request.now)) }
     ensures err { OnErr result (state_of cluster.new ≡ state_of cluster.old) }
+    ensures indexed { IsIndexed cluster.new }
 {
     match request {
         Request::Submit(desc) => submit(alloc, cluster, moment, user, desc, room),
@@ -128,12 +132,14 @@ fn answer(
     request: &Request,
 ) -> Result<Decided, Memory>
     requires sound { IsSound (state_of cluster.old) }
+    requires indexed { IsIndexed cluster.old }
     ensures reply { IfOk result (λ decided. decided.reply ≡ reply_of (state_of cluster.old) now user.now request.now) }
     ensures entered { IfOk result (λ decided.
         decided.entered ≡ (if is_entered decided.reply then Some decided.reply else None)) }
     ensures moment { IfOk result (λ decided. decided.moment ≡ raised (state_of cluster.old) now) }
     ensures after { OnOk result (state_of cluster.new ≡ state_after (state_of cluster.old) now user.now request.now) }
     ensures err { OnErr result (state_of cluster.new ≡ state_of cluster.old) }
+    ensures indexed { IsIndexed cluster.new }
 {
     let moment = cluster.moment.max(now);
     if is_unbuilt(cluster, request) {
@@ -156,6 +162,7 @@ fn answer_pass<L>(
     steps: &mut Steps<L>,
 ) -> Result<Decided, Memory>
     requires sound { IsSound (state_of cluster.old) }
+    requires indexed { IsIndexed cluster.old }
     ensures reply { IfOk result (λ decided. decided.reply ≡ reply_of (state_of cluster.old) now user.now Pass) }
     ensures entered { IfOk result (λ decided.
         decided.entered ≡ (if is_entered decided.reply then Some decided.reply else None)) }
@@ -164,6 +171,7 @@ fn answer_pass<L>(
     ensures err { OnErr result (state_of cluster.new ≡ state_of cluster.old) }
     ensures steps { OnOk result (steps.new ≡ ticked steps.old (steps_of (state_of cluster.old) now user.now)) }
     ensures steps_err { OnErr result (IsTickedUpTo (steps_of (state_of cluster.old) now user.now) steps.old steps.new) }
+    ensures indexed { IsIndexed cluster.new }
 {
     let moment = cluster.moment.max(now);
     if now > LAST_MOMENT {
@@ -183,6 +191,7 @@ pub(crate) fn ask(
     request: &Request,
 ) -> Result<Decided, Memory>
     requires sound { IsSound (state_of cluster.old) }
+    requires indexed { IsIndexed cluster.old }
     ensures reply { IfOk result (λ decided. decided.reply ≡ reply_of (state_of cluster.old) now user.now request.now) }
     ensures entered { IfOk result (λ decided.
         decided.entered ≡ (if is_entered decided.reply then Some decided.reply else None)) }
@@ -190,6 +199,7 @@ pub(crate) fn ask(
     ensures after { OnOk result (state_of cluster.new ≡ state_after (state_of cluster.old) now user.now request.now) }
     ensures err { OnErr result (state_of cluster.new ≡ state_of cluster.old) }
     ensures sound { IsSound (state_of cluster.new) }
+    ensures indexed { IsIndexed cluster.new }
 {
     a_step_keeps_all_sound();
     in_range(request);
@@ -205,6 +215,7 @@ pub(crate) fn ask_pass<L>(
     steps: &mut Steps<L>,
 ) -> Result<Decided, Memory>
     requires sound { IsSound (state_of cluster.old) }
+    requires indexed { IsIndexed cluster.old }
     ensures reply { IfOk result (λ decided. decided.reply ≡ reply_of (state_of cluster.old) now user.now Pass) }
     ensures entered { IfOk result (λ decided.
         decided.entered ≡ (if is_entered decided.reply then Some decided.reply else None)) }
@@ -214,6 +225,7 @@ pub(crate) fn ask_pass<L>(
     ensures steps { OnOk result (steps.new ≡ ticked steps.old (steps_of (state_of cluster.old) now user.now)) }
     ensures steps_err { OnErr result (IsTickedUpTo (steps_of (state_of cluster.old) now user.now) steps.old steps.new) }
     ensures sound { IsSound (state_of cluster.new) }
+    ensures indexed { IsIndexed cluster.new }
 {
     a_step_keeps_all_sound();
     answer_pass(alloc, cluster, now, user, steps)

@@ -2,6 +2,7 @@
 
 ghost use Rattle.std.specs.Prelude.{◌≡◌};
 ghost use Rattle.ctl_state.specs.State.{state_of};
+ghost use Rattle.ctl_state.specs.Index.{IsIndexed};
 ghost use Rattle.ctl_state.specs.Soundness.{IsSound};
 ghost use Rattle.ctl_state.specs.Refusals.{first_refusal, unless_refused};
 ghost use Rattle.ctl_cancel.specs.Cancelling.{cancel_refusals, cancel_made};
@@ -25,10 +26,12 @@ pub(crate) fn cancel_jobs(
     targets: &Targets,
     room: bool,
 ) -> Answered
-    requires { IsSound (state_of cluster.old) }
-    ensures { Answers (state_of cluster.old) (state_of cluster.new)
+    requires sound { IsSound (state_of cluster.old) }
+    requires indexed { IsIndexed cluster.old }
+    ensures made { Answers (state_of cluster.old) (state_of cluster.new)
         (unless_refused (first_refusal (cancel_refusals (state_of cluster.old) user.now targets.now))
         (unless_full room (cancel_made (state_of cluster.old) moment user.now targets.now))) result }
+    ensures indexed { IsIndexed cluster.new }
 {
     if let Some(refusal) = refusal_of(cluster, user, targets) {
         return refused(refusal);

@@ -26,7 +26,7 @@ use slurm_text::plain::request::Request;
 use std::alloc::Global;
 use std::marker::Model;
 
-/// The controller of one cluster. A contract sees the state of the cluster.
+/// The controller of one cluster. A contract sees the state of the cluster, and not the index of what is held.
 #[derive(Drop)]
 pub struct Ctl {
     alloc: Global,
@@ -36,13 +36,14 @@ pub struct Ctl {
 impl Model for Ctl {
     ghost use Rattle.ctl_core.specs.Views.{CtlView};
     ghost use Rattle.ctl_state.specs.State.{state_of};
+    ghost use Rattle.ctl_state.specs.Index.{IsIndexed};
     ghost use Rattle.ctl_state.specs.Soundness.{IsSound};
 
     ghost Value = { CtlView };
 
     ghost view = { λ c. record { state = state_of c.cluster } };
 
-    ghost invariant = { λ c. IsSound (state_of c.cluster) };
+    ghost invariant = { λ c. IsSound (state_of c.cluster) × IsIndexed c.cluster };
 }
 
 impl Ctl {

@@ -3,6 +3,7 @@
 ghost use Rattle.std.specs.Prelude.{◌≡◌, ◌≤◌, IfOk, OnOk, OnErr, if◌then◌else◌, Some, None};
 ghost use Rattle.resource_profile.specs.Counts.{ticked, IsTickedUpTo};
 ghost use Rattle.ctl_state.specs.State.{state_of, last_moment};
+ghost use Rattle.ctl_state.specs.Index.{IsIndexed};
 ghost use Rattle.ctl_state.specs.Soundness.{IsSound};
 ghost use Rattle.ctl_state.specs.Refusals.{first_refusal, unless_refused, is_privileged};
 ghost use Rattle.ctl_pass.specs.Passing.{pass_refusals, pass_made, jobs_planned};
@@ -51,6 +52,7 @@ pub(crate) fn pass<L>(
     requires sound { IsSound (state_of cluster.old) }
     requires raised { cluster.old.moment ≤ moment }
     requires in_time { moment ≤ last_moment }
+    requires indexed { IsIndexed cluster.old }
     ensures ok { IfOk result (Answers (state_of cluster.old) (state_of cluster.new)
         (unless_refused (first_refusal (pass_refusals (state_of cluster.old) user.now))
         (unless_full room (pass_made (state_of cluster.old) moment)))) }
@@ -60,6 +62,7 @@ pub(crate) fn pass<L>(
     ensures steps_err { OnErr result (IsTickedUpTo
         (if is_privileged (state_of cluster.old) user.now then jobs_planned (state_of cluster.old) moment else 0)
         steps.old steps.new) }
+    ensures indexed { IsIndexed cluster.new }
 {
     if let Some(refusal) = refusal_of(cluster, user) {
         return Ok(refused(refusal));

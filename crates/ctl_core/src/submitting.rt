@@ -2,6 +2,7 @@
 
 ghost use Rattle.std.specs.Prelude.{◌≡◌, IfOk, OnErr};
 ghost use Rattle.ctl_state.specs.State.{state_of};
+ghost use Rattle.ctl_state.specs.Index.{IsIndexed};
 ghost use Rattle.ctl_state.specs.Soundness.{IsSound};
 ghost use Rattle.ctl_state.specs.Refusals.{first_refusal, unless_refused};
 ghost use Rattle.ctl_submit.specs.Submission.{submit_refusals, submit_made};
@@ -28,11 +29,13 @@ pub(crate) fn submit(
     desc: &JobDesc,
     room: bool,
 ) -> Result<Answered, Memory>
-    requires { IsSound (state_of cluster.old) }
+    requires sound { IsSound (state_of cluster.old) }
+    requires indexed { IsIndexed cluster.old }
     ensures ok { IfOk result (Answers (state_of cluster.old) (state_of cluster.new)
         (unless_refused (first_refusal (submit_refusals (state_of cluster.old) moment user.now desc.now))
         (unless_full room (submit_made (state_of cluster.old) moment user.now desc.now)))) }
     ensures err { OnErr result (state_of cluster.new ≡ state_of cluster.old) }
+    ensures indexed { IsIndexed cluster.new }
 {
     match decide(alloc, cluster, moment, user, desc)? {
         Err(refusal) => Ok(refused(refusal)),

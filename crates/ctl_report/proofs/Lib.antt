@@ -3,3 +3,4 @@ pub mod InOrder
 pub mod Places
 pub mod Reported
 pub mod Launching
+pub mod Leaving

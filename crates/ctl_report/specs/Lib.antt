@@ -1,3 +1,4 @@
 pub mod Reporting
 pub mod Ordering
 pub mod Answering
+pub mod Leaving

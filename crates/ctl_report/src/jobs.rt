@@ -1,15 +1,18 @@
 //! What a report does to the jobs.
 
-ghost use Rattle.std.specs.Prelude.{◌≡◌, ◌<◌, map, length, Some};
-ghost use Rattle.job_table.specs.Changes.{changed};
+ghost use Rattle.std.specs.Prelude.{◌≡◌, ◌<◌, map, All, find, length, option_copied, Some};
+ghost use Rattle.std.specs.List.{HoldsAt, list_any};
+ghost use Rattle.job_table.specs.Changes.{changed, is_on};
 ghost use Rattle.job_table.specs.Walks.{map_at};
-ghost use Rattle.std.specs.List.{list_any};
 ghost use Rattle.ctl_report.specs.Reporting.{is_last_start, is_listed, done_of, is_at, is_batch_host, final_of, script_over, told_over, reported};
+ghost use Rattle.ctl_report.specs.Leaving.{AreOnNodes, ShowsJobs};
 
+use crate::leaving::leave_node;
 use job_table::change::Change;
 use job_table::jobs::Jobs;
 use job_table::laws::{a_change_is_of_its_place, a_walk_changes_all};
 use job_table::record::{JobRecord, Part};
+use node_state::nodes::Nodes;
 use slurm_text::plain::report::{Done, Report, Start};
 use slurm_text::plain::state::Final;
 
@@ -60,21 +63,49 @@ pub(crate) fn is_batch_host(node: u32, parts: &[Part]) -> bool
     }
 }
 
-/// Changes each job as the report wants it. Linear in the jobs, and for each that holds something of the node in what
-/// the report tells. It takes no memory.
-pub(crate) fn report_jobs(jobs: &mut Jobs, now: u64, node: u32, report: &Report)
-    ensures { jobs.new.records ≡ map (reported now node report.now) jobs.old.records }
+/// What the parts have on the node; of several the first.
+pub(crate) fn part_on(node: u32, parts: &[Part]) -> Option<&Part>
+    ensures { option_copied result ≡ find (is_on node) parts.now }
+{
+    parts.iter().find(|part| part.node == node)
+}
+
+/// Changes each job as the report wants it; what they drop is given back. Linear in the jobs, and for each that holds
+/// something of the node in what the report tells. It takes no memory.
+pub(crate) fn report_jobs(
+    nodes: &mut Nodes,
+    jobs: &mut Jobs,
+    now: u64,
+    node: u32,
+    report: &Report,
+)
+    requires on { All (λ job. AreOnNodes (length nodes.old.records) job.parts) jobs.old.records }
+    requires shown { ShowsJobs nodes.old.held jobs.old.records }
+    ensures jobs { jobs.new.records ≡ map (reported now node report.now) jobs.old.records }
+    ensures nodes { nodes.new.records ≡ nodes.old.records }
+    ensures shown { ShowsJobs nodes.new.held jobs.new.records }
 {
     a_walk_changes_all::<JobRecord>();
     for place in 0..jobs.records().len() {
-        report_job(jobs, place, now, node, report);
+        report_job(nodes, jobs, place, now, node, report);
     }
 }
 
 // Changes the job at a place as the report wants it.
-fn report_job(jobs: &mut Jobs, place: usize, now: u64, node: u32, report: &Report)
-    requires { place < length jobs.old.records }
-    ensures { jobs.new.records ≡ map_at place (reported now node report.now) jobs.old.records }
+fn report_job(
+    nodes: &mut Nodes,
+    jobs: &mut Jobs,
+    place: usize,
+    now: u64,
+    node: u32,
+    report: &Report,
+)
+    requires there { place < length jobs.old.records }
+    requires on { HoldsAt (λ job. AreOnNodes (length nodes.old.records) job.parts) jobs.old.records place }
+    requires shown { ShowsJobs nodes.old.held jobs.old.records }
+    ensures jobs { jobs.new.records ≡ map_at place (reported now node report.now) jobs.old.records }
+    ensures nodes { nodes.new.records ≡ nodes.old.records }
+    ensures shown { ShowsJobs nodes.new.held jobs.new.records }
 {
     a_change_is_of_its_place::<JobRecord>();
     let job = &jobs.records()[place];
@@ -82,10 +113,10 @@ fn report_job(jobs: &mut Jobs, place: usize, now: u64, node: u32, report: &Repor
         return;
     }
     match done_of(report, job) {
-        Some(done) => finish(jobs, place, now, node, done),
+        Some(done) => finish(nodes, jobs, place, now, node, done),
         None => {
             if !is_listed(report, job) {
-                jobs.change_at(place, Change::DropPart { node, moment: now });
+                leave_node(nodes, jobs, place, now, node);
             }
         }
     }
@@ -93,13 +124,17 @@ fn report_job(jobs: &mut Jobs, place: usize, now: u64, node: u32, report: &Repor
 
 // The start of the job at a place is told to be over on the node.
 #[tactic(auto, using(crate::proofs::Places::length_map_at))]
-fn finish(jobs: &mut Jobs, place: usize, now: u64, node: u32, done: Done)
-    requires { place < length jobs.old.records }
-    ensures { jobs.new.records ≡ map_at place (told_over now node done) jobs.old.records }
+fn finish(nodes: &mut Nodes, jobs: &mut Jobs, place: usize, now: u64, node: u32, done: Done)
+    requires there { place < length jobs.old.records }
+    requires on { HoldsAt (λ job. AreOnNodes (length nodes.old.records) job.parts) jobs.old.records place }
+    requires shown { ShowsJobs nodes.old.held jobs.old.records }
+    ensures jobs { jobs.new.records ≡ map_at place (told_over now node done) jobs.old.records }
+    ensures nodes { nodes.new.records ≡ nodes.old.records }
+    ensures shown { ShowsJobs nodes.new.held jobs.new.records }
 {
     a_change_is_of_its_place::<JobRecord>();
     end_script(jobs, place, now, node, done);
-    jobs.change_at(place, Change::DropPart { node, moment: now });
+    leave_node(nodes, jobs, place, now, node);
 }
 
 // The script of the job at a place is over, if it ran on the node.

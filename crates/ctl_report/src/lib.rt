@@ -3,6 +3,7 @@
 
 mod jobs;
 pub mod laws;
+mod leaving;
 mod nodes;
 mod ordering;
 mod report;

@@ -24,7 +24,8 @@ pub(crate) fn is_after(heard: &Heard, report: &Report) -> bool
 /// Notes the report at its node, if there is one at the place, in constant time.
 #[tactic(auto, using(crate::proofs::Heard::heard_past))]
 pub(crate) fn hear(nodes: &mut Nodes, now: u64, place: u32, report: &Report)
-    ensures { nodes.new.records ≡ heard_nodes now place report.now nodes.old.records }
+    ensures heard { nodes.new.records ≡ heard_nodes now place report.now nodes.old.records }
+    ensures held { nodes.new.held ≡ nodes.old.held }
 {
     if place >= nodes.len() {
         return;

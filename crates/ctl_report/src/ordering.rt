@@ -1,13 +1,12 @@
 //! What the node is ordered to do.
 
-ghost use Rattle.std.specs.Prelude.{◌≡◌, ◌||◌, not, is_some, IfOk, map, filter, filter_map, ℕ, find, option_copied};
+ghost use Rattle.std.specs.Prelude.{◌≡◌, ◌||◌, not, is_some, IfOk, map, filter, filter_map, ℕ};
 ghost use Rattle.std.specs.List.{list_any};
-ghost use Rattle.job_table.specs.Changes.{is_on};
 ghost use Rattle.job_table.specs.Table.{HaveRisingIds};
 ghost use Rattle.ctl_report.specs.Reporting.{is_listed, done_of};
 ghost use Rattle.ctl_report.specs.Ordering.{in_order, is_same, killed, launch_of, launch_part, start_of, stays};
 
-use crate::jobs::{done_of, is_at, is_batch_host, is_listed};
+use crate::jobs::{done_of, is_at, is_batch_host, is_listed, part_on};
 use crate::starts::in_order;
 use job_table::record::{JobRecord, Part};
 use slurm_text::memory_error::Memory;
@@ -126,12 +125,6 @@ fn launch_of(job: &JobRecord, node: u32, report: &Report) -> Result<Option<Launc
         return Ok(None);
     }
     Ok(Some(launch_part(job, node, part)?))
-}
-
-fn part_on(node: u32, parts: &[Part]) -> Option<&Part>
-    ensures { option_copied result ≡ find (is_on node) parts.now }
-{
-    parts.iter().find(|part| part.node == node)
 }
 
 // Whether the report tells of the job's start.

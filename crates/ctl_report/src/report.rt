@@ -2,6 +2,7 @@
 
 ghost use Rattle.std.specs.Prelude.{◌≡◌, ◌<◌, ℕ, IfOk, IfSome, length};
 ghost use Rattle.ctl_state.specs.State.{state_of};
+ghost use Rattle.ctl_state.specs.Index.{IsIndexed};
 ghost use Rattle.ctl_state.specs.Soundness.{IsSound};
 ghost use Rattle.ctl_state.specs.Refusals.{first_refusal};
 ghost use Rattle.ctl_report.specs.Reporting.{report_after};
@@ -92,10 +93,14 @@ pub fn orders(
     })
 }
 
-/// Does what the report of the node at a place makes of the cluster. It takes no memory.
+/// Does what the report of the node at a place makes of the cluster; the index goes on showing what is held. It takes no
+/// memory.
 pub fn accept(cluster: &mut Cluster, moment: u64, node: u32, report: &Report)
-    ensures { state_of cluster.new ≡ report_after (state_of cluster.old) moment node report.now }
+    requires sound { IsSound (state_of cluster.old) }
+    requires indexed { IsIndexed cluster.old }
+    ensures after { state_of cluster.new ≡ report_after (state_of cluster.old) moment node report.now }
+    ensures indexed { IsIndexed cluster.new }
 {
+    report_jobs(&mut cluster.nodes, &mut cluster.jobs, moment, node, report);
     hear(&mut cluster.nodes, moment, node, report);
-    report_jobs(&mut cluster.jobs, moment, node, report);
 }

@@ -80,13 +80,13 @@ sound-nodes s nodes sound same stay =
     let up : AreUp nodes (parts_of s.jobs) = λ k d below. stay (get_or (parts_of s.jobs) k d).node (sound.up k d below) in
     search rules
 
--- pending jobs hold nothing
-parts-added : (now : ℕ) (jobs more : List JobRecord) → All (IsKept now) more → All (λ (job : JobRecord). is_pending job.state ≡ true) more
+-- jobs that hold nothing add no parts; and pending jobs hold nothing
+pub parts-added : (jobs more : List JobRecord) → All (λ (job : JobRecord). job.parts ≡ []) more
     → parts_of (jobs ++ more) ≡ parts_of jobs
-parts-added now jobs more kept pending =
+parts-added jobs more nothing =
     let parts : JobRecord → List Part = λ job. job.parts in
     flat_map-append parts jobs more
-    ∙ ap (λ held. parts_of jobs ++ held) (flat_map-nothing parts more (λ k d below. pending-nothing now (get_or more k d) (kept k d below) (pending k d below)))
+    ∙ ap (λ held. parts_of jobs ++ held) (flat_map-nothing parts more nothing)
     ∙ append-nil (parts_of jobs)
 
 planned-added : (jobs more : List JobRecord) (plan : List Placed) → PlansPending jobs plan → PlansPending (jobs ++ more) plan
@@ -123,7 +123,8 @@ pub sound-added : (s : State) (now next : ℕ) (more : List JobRecord) (arrays :
     → IsSound (record s { jobs = s.jobs ++ more; arrays = arrays; next_id = next; moment = now })
 sound-added s now next more arrays sound later in_time of kept pending rising above below on room tied new =
     let both = s.jobs ++ more in
-    let same = parts-added now s.jobs more kept pending in
+    let same = parts-added s.jobs more
+    (λ k d below. pending-nothing now (get_or more k d) (kept k d below) (pending k d below)) in
     let rise : HaveRisingIds both = pairs-append (λ (one other : JobRecord). one.id < other.id) s.jobs more sound.rising rising
     (λ k d old j e new. omega (arith, sound.below_next k d old, above j e new)) in
     let together : AreTogether both = together-added s.jobs more s.next_id sound.together tied sound.below_next new in

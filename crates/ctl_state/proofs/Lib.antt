@@ -5,5 +5,6 @@ pub mod Held
 pub mod LetGo
 pub mod Taken
 pub mod Added
+pub mod Indexed
 pub mod Ordering
 pub mod Choosing

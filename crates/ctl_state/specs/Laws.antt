@@ -177,8 +177,7 @@ PartsStay = (jobs : List JobRecord) (change : JobRecord → JobRecord) (goes : J
     → All (λ (job : JobRecord). goes (change job) ≡ true → job.parts ≡ []) jobs
     → parts_of (those_left change goes jobs) ≡ parts_of jobs
 
--- and so do pending jobs that are added.
+-- and so do jobs that are added and hold nothing.
 abbrev pub AddedHoldNothing : Type 0
-AddedHoldNothing = (now : ℕ) (jobs more : List JobRecord)
-    → All (IsKept now) more → All (λ (job : JobRecord). is_pending job.state ≡ true) more
-    → parts_of (jobs ++ more) ≡ parts_of jobs
+AddedHoldNothing = (jobs more : List JobRecord)
+    → All (λ (job : JobRecord). job.parts ≡ []) more → parts_of (jobs ++ more) ≡ parts_of jobs

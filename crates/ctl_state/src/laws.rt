@@ -93,7 +93,7 @@ pub fn the_index_shows_what_is_held()
     ensures parts { Laws.PartsAreShown }
 {}
 
-/// Events that drop no part, and jobs that wait, leave the parts as they were.
+/// Events that drop no part, and added jobs that hold nothing, leave the parts as they were.
 pub fn parts_stay()
     ensures stay { Laws.PartsStay }
     ensures added { Laws.AddedHoldNothing }

@@ -1,5 +1,5 @@
 -- What is decided of a submission under its terms is decided of it.
-use Rattle.std.proofs.Common.{◌≡◌, ℕ, ◌<◌, ◌≤◌, ◌∙◌, List, ◌∷◌, All, IfOk, Option, Some, None, Result, Ok, Err, refl, sym, ap, subst, arith}
+use Rattle.std.proofs.Common.{◌≡◌, ℕ, ◌<◌, ◌≤◌, ◌∙◌, List, [], ◌∷◌, All, IfOk, Option, Some, None, Result, Ok, Err, refl, sym, ap, subst, arith}
 use Rattle.std.specs.Prelude.{is_none, option_and_then, slice_get}
 use Rattle.std.proofs.lemmas.Option.{get_or_from_slice_get, slice_get_within}
 use Rattle.slurm_text.specs.declared.memory_error.Memory.{Memory}
@@ -58,6 +58,8 @@ can-add s moment user desc terms none =
           (λ one other own others before. before);
       above = All-new_jobs (λ (job : JobRecord). s.next_id ≤ job.id) s moment user desc terms desc.array
           (λ id of own least below first. least);
+      nothing = All-new_jobs (λ (job : JobRecord). job.parts ≡ []) s moment user desc terms desc.array
+          (λ id of own least below first. refl);
       room = omega (arith, room.0, count);
       numbers = omega (arith, room.1, count);
     }

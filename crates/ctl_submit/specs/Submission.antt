@@ -221,10 +221,11 @@ made_under s moment user desc (Some terms) =
 abbrev pub submit_made : State → ℕ → List ℕ → JobDesc → Verdict
 submit_made s moment user desc = made_under s moment user desc (terms_of s user desc)
 
--- the jobs can be added: their numbers follow the last one, and there is room for them
+-- the jobs can be added: their numbers follow the last one, they hold nothing, and there is room for them
 pub record CanAdd (s : State) (jobs : List JobRecord) : Type 0 where
   pub rising : HaveRisingIds jobs
   pub above : All (λ (job : JobRecord). s.next_id ≤ job.id) jobs
+  pub nothing : All (λ (job : JobRecord). job.parts ≡ []) jobs
   pub room : length s.jobs + length jobs ≤ s.settings.max_job_count
   pub numbers : s.next_id + length jobs ≤ last_job_id + 1
 

@@ -5,6 +5,7 @@ ghost use Rattle.std.specs.Option.{option_to_list};
 ghost use Rattle.partitions.specs.Partitions.{IsOnNodes};
 ghost use Rattle.job_table.specs.declared.record.JobRecord.{JobRecord};
 ghost use Rattle.ctl_state.specs.State.{state_of};
+ghost use Rattle.ctl_state.specs.Index.{IsIndexed};
 ghost use Rattle.ctl_state.specs.Soundness.{IsSound};
 ghost use Rattle.ctl_submit.specs.Drafts.{IsDecidedIn};
 ghost use Rattle.ctl_submit.specs.Submission.{CanAdd, IsDecided, submit_after};
@@ -15,6 +16,7 @@ use crate::handed::Handed;
 use crate::refusals::refusal_of;
 use crate::tasks::{hand_in, lone_job};
 use ctl_state::cluster::Cluster;
+use ctl_state::laws::parts_stay;
 use slurm_text::memory_error::Memory;
 use slurm_text::name::Name;
 use slurm_text::plain::job::JobDesc;
@@ -78,7 +80,9 @@ pub fn accept(cluster: &mut Cluster, handed: Handed) -> Result<(), Memory>
     ensures ok { OnOk result (state_of cluster.new
         ≡ submit_after (state_of cluster.old) handed.jobs.items (option_to_list handed.array)) }
     ensures err { OnErr result (state_of cluster.new ≡ state_of cluster.old) }
+    ensures indexed { IsIndexed cluster.old → IsIndexed cluster.new }
 {
+    parts_stay();
     let Handed { jobs, array } = handed;
     let count = jobs.len() as u32;
     let most = cluster.settings.max_job_count.get();

@@ -17,6 +17,7 @@ loop-place-preserved c =
           c.loop-place.place
           c.is-named.result c.index-records-place.result held.walk (omega arith)
           (rw c.records.ensures.value at c.index-records-place.is)
-          (c.is-named.ensures.test ∙ ap owned (sym c.index-records-place.is)) c.cancel_where.ensures;
+          (c.is-named.ensures.test ∙ ap owned (sym c.index-records-place.is)) c.cancel_where.ensures.after;
+      held = c.cancel_where.ensures.held ∙ held.held;
       end = held.end;
     }

@@ -18,12 +18,13 @@ loop-place-preserved c =
           (is_named c.args.target.now) c.loop-place.place
           c.is_named-named.result c.index-records-place.result held.walk (omega arith)
           (rw c.records-in-loop-place.ensures.value at c.index-records-place.is)
-          c.is_named-named.ensures c.cancel_where.ensures;
+          c.is_named-named.ensures c.cancel_where.ensures.after;
+      held = c.cancel_where.ensures.held ∙ held.held;
       end = held.end;
     }
 
-pub returns : goal.returns
-returns c =
+pub returns-clause-after : goal.returns-clause-after
+returns-clause-after c =
     let s = state_of c.args.cluster.now in
     let jobs = c.args.cluster.now.jobs.records in
     let target = c.args.target.now in

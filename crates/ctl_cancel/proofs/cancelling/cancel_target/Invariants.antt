@@ -11,5 +11,6 @@ invariant-loop-place l = record {
     jobs = walked (λ job. cancelled_where (state_of l.fn.cluster) l.moment l.user (is_named l.target job) job)
         l.place l.fn.cluster.jobs.records;
   };
+  held : l.cluster.nodes.held ≡ l.fn.cluster.nodes.held;
   end : l.place-end ≤ length l.fn.cluster.jobs.records;
 }

@@ -16,16 +16,17 @@ loop-target-preserved c =
     let now = c.args.moment in
     let user = c.args.user.now in
     record {
-      others = others_stay s before after now user _ jobs held.others c.cancel_target.ensures;
+      others = others_stay s before after now user _ jobs held.others c.cancel_target.ensures.after;
       rest = next_target s before after now user c.args.targets.now c.loop-target.target-index _ jobs held.others
-          c.cancel_target.ensures c.loop-target-test.true
+          c.cancel_target.ensures.after c.loop-target-test.true
           ∙ held.rest;
-      rising = still_rising s before after now user _ jobs held.others c.cancel_target.ensures held.rising;
-      together = still_together s before after now user _ jobs held.others c.cancel_target.ensures held.together;
+      held = c.cancel_target.ensures.held ∙ held.held;
+      rising = still_rising s before after now user _ jobs held.others c.cancel_target.ensures.after held.rising;
+      together = still_together s before after now user _ jobs held.others c.cancel_target.ensures.after held.together;
     }
 
-pub returns : goal.returns
-returns c =
+pub returns-clause-after : goal.returns-clause-after
+returns-clause-after c =
     let s = state_of c.args.cluster.now in
     let jobs = c.loop-target.cluster.jobs.records in
     let targets = c.args.targets.now in

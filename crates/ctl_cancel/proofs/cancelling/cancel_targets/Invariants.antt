@@ -12,6 +12,7 @@ invariant-loop-target l = record {
   rest : map (cancelled_if (state_of l.fn.cluster) l.moment l.user (Listed (drop l.target-index l.targets)))
       l.cluster.jobs.records
       ≡ map (cancelled_if (state_of l.fn.cluster) l.moment l.user (Listed l.targets)) l.fn.cluster.jobs.records;
+  held : l.cluster.nodes.held ≡ l.fn.cluster.nodes.held;
   rising : HaveRisingIds l.cluster.jobs.records;
   together : AreTogether l.cluster.jobs.records;
 }

@@ -5,8 +5,8 @@ use Rattle.ctl_cancel.proofs.Cancelled.{goes_at, stays_at}
 use Rattle.ctl_cancel.proofs.cancelling.cancel_where.Goals as goal
 use Rattle.ctl_cancel.proofs.cancelling.cancel_where.Goals.{else-named-via-then-named+else-is_none, else-named-via-else-named}
 
-pub returns-then-is_none : goal.returns-then-is_none
-returns-then-is_none c =
+pub returns-then-is_none-clause-after : goal.returns-then-is_none-clause-after
+returns-then-is_none-clause-after c =
     let s = state_of c.args.cluster.now in
     let jobs = c.args.cluster.now.jobs.records in
     let user = c.args.user.now in
@@ -20,8 +20,8 @@ returns-then-is_none c =
     (rw c.records.ensures.value at c.index-records-place.is)
     c.if-named.true free))
 
-pub returns-else-named : goal.returns-else-named
-returns-else-named c =
+pub returns-else-named-clause-after : goal.returns-else-named-clause-after
+returns-else-named-clause-after c =
     let s = state_of c.args.cluster.now in
     let jobs = c.args.cluster.now.jobs.records in
     let user = c.args.user.now in

@@ -7,7 +7,7 @@ overflow_cast-started g c =
     omega (
       arith,
       c.len-started.ensures,
-      ap length c.in_ok-decided.ensures.decided.starts,
+      c.in_ok-decided.ensures.decided.count,
       c.few_start_or_stay.ensures (state_of c.args.cluster.now) c.args.moment c.requires.sound,
     )
 

@@ -1,0 +1,32 @@
+-- Cancelling leaves what is held as it is, so the index goes on showing it.
+use Rattle.std.proofs.Common.{◌≡◌, ℕ, Bool, false, not, List, [], ◌∷◌, map, filter, refl, sym, ap, ◌∙◌}
+use Rattle.slurm_text.specs.declared.plain.target.Targets.{Targets}
+use Rattle.node_state.specs.declared.record.Held.{Held}
+use Rattle.job_table.specs.declared.record.JobRecord.{JobRecord}
+use Rattle.job_table.specs.declared.record.Part.{Part}
+use Rattle.ctl_state.specs.declared.cluster.Cluster.{Cluster}
+use Rattle.ctl_state.specs.Holding.{parts_of}
+use Rattle.ctl_state.specs.Index.{IsIndexed, ShowsParts}
+use Rattle.ctl_state.specs.Laws.{PartsStay}
+use Rattle.ctl_state.specs.State.{State, state_of}
+use Rattle.ctl_cancel.specs.Cancelling.{are_naming, cancel_after, cancelled_if}
+use Rattle.ctl_cancel.proofs.Cancelled.{parts_kept}
+
+all-stay : (jobs : List JobRecord) → filter (λ (job : JobRecord). not false) jobs ≡ jobs
+all-stay [] = refl
+all-stay (job ∷ jobs) = ap (λ rest. job ∷ rest) (all-stay jobs)
+
+-- the parts of all jobs are as they were
+parts-kept : PartsStay → (s : State) (now : ℕ) (user : List ℕ) (targets : Targets)
+    → parts_of (map (cancelled_if s now user targets) s.jobs) ≡ parts_of s.jobs
+parts-kept stay s now user targets =
+    let change = cancelled_if s now user targets in
+    ap parts_of (sym (all-stay (map change s.jobs)))
+    ∙ stay s.jobs change (λ job. false) (λ k d below. parts_kept s now user _ _) (λ k d below never. absurd (cc))
+
+pub indexed_kept : PartsStay → (before after : Cluster) (now : ℕ) (user : List ℕ) (targets : Targets)
+    → state_of after ≡ cancel_after (state_of before) now user targets → after.nodes.held ≡ before.nodes.held
+    → IsIndexed before → IsIndexed after
+indexed_kept stay before after now user targets is held indexed =
+    let parts = ap (λ (s : State). parts_of s.jobs) is ∙ parts-kept stay (state_of before) now user targets in
+    rw (held, parts) indexed
