@@ -2,12 +2,12 @@
 
 ghost use Rattle.std.specs.Prelude.{◌≡◌, IfOk};
 
-use request_data::state::{JobState, Reason};
 use plain_data::Plain;
 use plain_data::conf::PartState;
 use plain_data::items::Items;
 use plain_data::limit::Limit;
 use plain_data::ranged::Ranged;
+use request_data::state::{JobState, Reason};
 use small_texts::memory_error::Memory;
 use small_texts::name::{JobName, Name};
 
