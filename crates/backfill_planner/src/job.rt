@@ -1,34 +1,50 @@
-ghost use Rattle.std.specs.Prelude.{◌≡◌, ◌≢◌, AllPairs};
+ghost use Rattle.std.specs.Prelude.{◌≡◌, ◌≢◌, IfOk, AllPairs};
 ghost use Rattle.backfill_planner.specs.Placements.{IsPlannable};
 
 use node_pick::Need;
+use slurm_text::memory_error::Memory;
 use slurm_text::plain::mem_ask::MemAsk;
 use slurm_text::ranged::Ranged;
 use std::marker::Model;
+use std::sync::ArcSlice;
 
-/// Places of nodes among the rooms, each once.
+/// Places of nodes among the rooms, each once: a list that jobs share, and that nothing changes once it is made. It may
+/// be shared between threads too.
 #[derive(Drop)]
 pub struct NodeList {
-    nodes: Vec<u32>,
+    nodes: ArcSlice<u32>,
 }
 
 impl Model for NodeList {
     ghost use Rattle.std.specs.Prelude.{ℕ, ◌≢◌, List, AllPairs};
+    ghost use Rattle.std.specs.Arc.{arc_slice_items};
 
     ghost Value = { List ℕ };
 
-    ghost view = { λ list. list.nodes.items };
+    ghost view = { λ list. arc_slice_items list.nodes };
 
-    ghost invariant = { λ list. AllPairs (λ one other. one ≢ other) list.nodes.items };
+    ghost invariant = { λ list. AllPairs (λ one other. one ≢ other) (arc_slice_items list.nodes) };
 }
 
 impl NodeList {
-    /// These nodes. It takes no memory.
-    pub fn from_vec(nodes: Vec<u32>) -> Self
+    /// These nodes. It takes memory for what counts those that share them, and copies none.
+    pub fn from_vec(nodes: Vec<u32>) -> Result<Self, Memory>
         requires { AllPairs (λ one other. one ≢ other) nodes.items }
-        ensures { result ≡ nodes.items }
+        ensures { IfOk result (λ list. list ≡ nodes.items) }
     {
-        NodeList { nodes }
+        Ok(NodeList {
+            nodes: ArcSlice::from_vec(nodes)?,
+        })
+    }
+
+    /// An equal list, which shares the nodes with this one. Constant time; it copies no node and takes no memory, and
+    /// is refused only where more lists share the nodes than can be counted.
+    pub fn share(&self) -> Result<Self, Memory>
+        ensures { IfOk result (λ list. list ≡ self.now) }
+    {
+        Ok(NodeList {
+            nodes: self.nodes.clone()?,
+        })
     }
 
     /// The nodes in order.

@@ -5,7 +5,9 @@ pub mod Held
 pub mod FirstReason
 pub mod Ranks
 pub mod Splits
+pub mod Due
 pub mod Starting
 pub mod Planned
+pub mod Begun
 pub mod Passes
 pub mod Few

@@ -232,6 +232,12 @@ filter_map-more h f xs i x within is =
       filter_map-append h (map f (take i xs)) (f x ∷ []),
     ) refl
 
+pub filter_map-next : {X Y : Type 0} (h : X → Option Y) (xs : List X) (i : ℕ) (x : X) → i < length xs
+    → x ≡ get_or xs i x
+    → filter_map h (take (i + 1) xs) ≡ filter_map h (take i xs) ++ cons_option (h x) []
+filter_map-next h xs i x within is =
+    rw (take_more xs i x within, ← is, filter_map-append h (take i xs) (x ∷ [])) refl
+
 -- the rest of a list from one element on
 pub next : {X : Type 0} (xs : List X) (i : ℕ) (x : X) → i < length xs → x ≡ get_or xs i x
     → drop i xs ≡ x ∷ drop (i + 1) xs

@@ -25,27 +25,29 @@ use Rattle.ctl_state.specs.Laws.{OrderMoves}
 use Rattle.ctl_state.specs.Soundness.{IsSound, pending_ids}
 use Rattle.ctl_state.specs.State.{State, last_moment}
 use Rattle.ctl_state.specs.Verdicts.{stamped}
+use Rattle.ctl_pass.specs.declared.live_arrays.LiveArrays.{LiveArrays}
 use Rattle.ctl_pass.specs.declared.pass.Decided.{Decided}
+use Rattle.ctl_pass.specs.Awaiting.{placements_of}
 use Rattle.ctl_pass.specs.Limits.{is_over, timed_out}
 use Rattle.ctl_pass.specs.Live.{has_array}
-use Rattle.ctl_pass.specs.Passing.{is_idle, IsDecided, outcome, pass_after}
+use Rattle.ctl_pass.specs.Passing.{is_idle, HasArrays, IsDecided, outcome, pass_after, placements_due}
 use Rattle.ctl_pass.specs.Readiness.{arrays_left, jobs_left, ready, placements}
 use Rattle.ctl_pass.specs.SamePlans.{same_plans, same_shares, same_placements}
-use Rattle.ctl_pass.specs.Starting.{start_of, begun, started, may_start}
+use Rattle.ctl_pass.specs.Starting.{start_of, begun, begun_by, started, may_start}
+use Rattle.ctl_pass.specs.Taking.{CanStart}
+use Rattle.ctl_pass.proofs.Due.{can-due, due-jobs}
 use Rattle.ctl_pass.proofs.Lists.{Any-kept, filter-whole, length-kept, sum_by-map, sum_by-more}
 use Rattle.ctl_pass.proofs.Planned.{PlanIds, PlanLaws, can-start_ready, plan-waits}
 use Rattle.ctl_pass.proofs.Readied.{ReadyLaws, by_limit, length-left, readied, running-not_ended}
-use Rattle.ctl_pass.proofs.Starting.{IsGiven, StartLaws, all-given, jobs-begun, sound-started, started-keeps, started-same}
+use Rattle.ctl_pass.proofs.Starting.{IsGiven, StartLaws, all-given, sound-started, started-keeps, started-same}
 
 -- the arrays of which there are tasks are those that are kept
-pub arrays-kept : (s : State) (now : ℕ) (decided : Decided) → IsDecided s now decided
-    → filter (λ (array : ArrayRecord). has_array decided.arrays array.id) s.arrays
-    ≡ arrays_left (jobs_left s now) s.arrays
+pub arrays-kept : (jobs : List JobRecord) (arrays : List ArrayRecord) (live : LiveArrays) → HasArrays jobs live
+    → filter (λ (array : ArrayRecord). has_array live array.id) arrays ≡ arrays_left jobs arrays
 unfolding arrays_left
-arrays-kept s now decided is =
-    filter_agree (λ (array : ArrayRecord). has_array decided.arrays array.id)
-    (λ (array : ArrayRecord). list_any (is_task_of array.id) (jobs_left s now)) (λ array. is.arrays.each array.id)
-    s.arrays
+arrays-kept jobs arrays live has =
+    filter_agree (λ (array : ArrayRecord). has_array live array.id)
+    (λ (array : ArrayRecord). list_any (is_task_of array.id) jobs) (λ array. has.each array.id) arrays
 
 -- what is tested of a pass is whether it is idle
 pub idle_is : (s : State) (now : ℕ) (decided : Decided) → IsDecided s now decided
@@ -57,24 +59,20 @@ unfolding is_idle
 idle_is s now decided is =
     rw (
       is.ended,
-      is.starts,
+      is.count,
       is.stays,
       ← length-left s.settings.min_job_age now s.jobs,
       ← length-kept (λ (array : ArrayRecord). has_array decided.arrays array.id) s.arrays,
-      arrays-kept s now decided is,
+      arrays-kept (jobs_left s now) s.arrays decided.arrays is.arrays,
     ) refl
 
 -- So is the state after a pass, from what was decided.
-pub acted : (s : State) (now : ℕ) (decided : Decided) (jobs : List JobRecord) (arrays : List ArrayRecord)
-    → IsDecided s now decided
-    → jobs ≡ fold (begun now) (jobs_left s now) decided.starts.items
-    → arrays ≡ filter (λ (array : ArrayRecord). has_array decided.arrays array.id) s.arrays
-    → record s { jobs = jobs; arrays = arrays; plan = decided.stays.items } ≡ pass_after s now
-acted s now decided jobs arrays is jobs_are arrays_are =
-    let begun_are : jobs ≡ (outcome s now).jobs =
-    jobs_are ∙ ap (fold (begun now) (jobs_left s now)) is.starts
-    ∙ sym (jobs-begun s now (jobs_left s now) (placements s now)) in
-    rw (begun_are, arrays_are, arrays-kept s now decided is, is.stays) refl
+pub acted : (s : State) (now : ℕ) (decided : Decided) → IsDecided s now decided
+    → record (ready s now) {
+    jobs = fold (begun_by s.nodes now) (jobs_left s now) (placements_of decided.starts.items);
+    plan = decided.stays.items } ≡ pass_after s now
+acted s now decided is =
+    rw (is.starts, is.stays, due-jobs s now (jobs_left s now) (placements s now)) refl
 
 shares-same : (one other : Share) → Decides (same_shares one other) (one ≡ other)
 shares-same one other = (
@@ -262,6 +260,12 @@ origins s now =
     )) (λ other. has)) some each))
     (All-filter (λ job. not (is_old s.settings.min_job_age now job)) Origin (map (timed_out now) s.jobs)
     (All-map Origin (timed_out now) s.jobs ran))
+
+-- The placements that are due in a pass can start one after another.
+pub can-start_due : ReadyLaws → PlanLaws → (s : State) (now : ℕ) → IsSound s → s.moment ≤ now → now ≤ last_moment
+    → CanStart (readied s now) (placements_due s now)
+can-start_due readies plans s now sound raised in_time =
+    can-due (readied s now) (placements s now) (can-start_ready readies plans s now sound raised in_time)
 
 -- A pass keeps all sound.
 pub sound-passed : ReadyLaws → PlanLaws → StartLaws → (s : State) (now : ℕ) → IsSound s → s.moment ≤ now

@@ -34,15 +34,14 @@ use Rattle.ctl_state.specs.Planning.{room_of, seconds_of, plan_job}
 use Rattle.ctl_state.specs.Soundness.{IsSound, IsKept, IsLimit, pending_ids}
 use Rattle.ctl_state.specs.State.{State, partition_of, last_moment, last_job_id}
 use Rattle.ctl_pass.specs.Awaiting.{Awaits, CanBegin}
-use Rattle.ctl_pass.specs.HeldIds.{ShowsParts}
 use Rattle.ctl_pass.specs.Limits.{timed_out, holds_of_job, hold_end}
 use Rattle.ctl_pass.specs.Readiness.{jobs_left, ready, base_of, is_candidate, is_higher, candidates, needs_of, ranked, planned, placements}
+use Rattle.ctl_pass.specs.Taking.{CanStart}
 use Rattle.ctl_pass.specs.Reasons.{first_reason, held_reason, hindrance, hindrances_in, is_full, lacks_node, most_tasks, reason_if}
 use Rattle.ctl_pass.proofs.Held.{held-counted, free-counted}
 use Rattle.ctl_pass.proofs.Lists.{sum_by-larger, sum_by-map, joined-larger, Any-kept, length-rising, at-place, All-joins, All-joined}
 use Rattle.ctl_pass.proofs.Ranks.{IsOfCandidate, waiting, candidates-wait, ranked-all, ranked-candidates, ranked-waits, ranked-apart}
-use Rattle.ctl_pass.proofs.Readied.{ReadyLaws, readied, sound-readied, no_parts, parts-left, pending-holds_not, pending-left}
-use Rattle.ctl_pass.proofs.Starting.{CanStart}
+use Rattle.ctl_pass.proofs.Readied.{ReadyLaws, readied, sound-readied, pending-holds_not, pending-left}
 use Rattle.ctl_pass.proofs.Tasks.{holding-left, waits-with, with-left}
 
 -- the laws of plans that a pass rests on
@@ -218,6 +217,7 @@ can-start laws s sound =
         fit.cpus node,
         held-now (λ cpus mem. cpus) node now s.jobs started,
         held-counted (map room_of s.nodes) (parts_of s.jobs) node sound.held.each,
+        free-counted (map room_of s.nodes) (parts_of s.jobs) node (sound.held.once node),
       );
       mem = λ node. omega (arith, fit.mem node, held-now (λ cpus mem. mem) node now s.jobs started);
     }
@@ -281,61 +281,29 @@ few-jobs s sound =
       sound.next.1,
     )
 
--- a pending job waits as it did before the first steps, no other has its number, and it has no parts
+-- a pending job waits as it did before the first steps
 awaited : (s : State) (now : ℕ) (placed : Placed) → IsSound s → IsSound (readied s now)
     → Contains (pending_ids (jobs_left s now)) placed.id → Awaits s.jobs (jobs_left s now) placed
 awaited s now placed sound ready_sound waits =
-    let left = jobs_left s now in
     let age = s.settings.min_job_age in
     let before = waits-with placed.id s.jobs sound.rising (rw (pending-left age now s.jobs) at waits) in
     record {
-      waits = waits-with placed.id left ready_sound.rising waits;
+      waits = waits-with placed.id (jobs_left s now) ready_sound.rising waits;
       same = with-left age now placed.id s.jobs before;
-      empty = from (Any-kept (λ (job : JobRecord). job.id) (λ (job : JobRecord). is_pending job.state) placed.id left
-          waits);
     }
-  where
-    from : Any (λ (job : JobRecord). (job.id ≡ placed.id) × (is_pending job.state ≡ true)) (jobs_left s now)
-        → All (λ (job : JobRecord). job.id ≡ placed.id → job.parts ≡ []) (jobs_left s now)
-    from (k, job, inside, is, (here, pending)) j d below same =
-        let jobs = jobs_left s now in
-        let it : get_or jobs k d ≡ job = get_or_default jobs k d job inside ∙ is in
-        elim (cases_order j k) [
-          | inl equal ↦
-              no_parts (get_or jobs j d) (ready_sound.jobs j d below).parts
-              (pending-holds_not (get_or jobs j d).state (ap (λ place. is_pending (get_or jobs place d).state) equal
-              ∙ ap (λ (other : JobRecord). is_pending other.state) it ∙ pending))
-          | inr (inl before) ↦
-              absurd (omega (
-                arith,
-                ready_sound.rising j k d before inside,
-                same,
-                here,
-                ap (λ (one : JobRecord). one.id) it,
-              ))
-          | inr (inr after) ↦ absurd (omega (
-            arith,
-            ready_sound.rising k j d after below,
-            same,
-            here,
-            ap (λ (one : JobRecord). one.id) it,
-          ))
-        ]
 
--- so all placements of a pass can begin, beside bits that show what is held and counts of the tasks
+-- so all placements of a pass can begin, beside counts of the tasks
 pub can-begin-ready : OrderMoves JobRecord → OrderKeepsApart JobRecord → PlanIds → PlanApart
-    → (s : State) (now : ℕ) (held : List Bool) (counts : ArrayCounts) (plan : List Placed)
-    → IsSound s → IsSound (readied s now) → plan ≡ placements s now → ShowsParts (parts_of s.jobs) held
-    → CountsTasks s.jobs counts
-    → CanBegin s.jobs (jobs_left s now) held counts plan
+    → (s : State) (now : ℕ) (counts : ArrayCounts) (plan : List Placed)
+    → IsSound s → IsSound (readied s now) → plan ≡ placements s now → CountsTasks s.jobs counts
+    → CanBegin s.jobs (jobs_left s now) counts plan
 unfolding planned
-can-begin-ready moves keeps ids apart s now held counts plan sound ready_sound is shown counted =
+can-begin-ready moves keeps ids apart s now counts plan sound ready_sound is counted =
     let left = ready s now in
     let waits : All (λ (placed : Placed). Contains (pending_ids left.jobs) placed.id) plan =
     rw is (plan-waits moves ids left now) in
     record {
       rising = ready_sound.rising;
-      shown = rw (parts-left s.settings.min_job_age now s.jobs (λ k d below. (sound.jobs k d below).parts)) shown;
       counted = record {
         each =
             λ array. counted.each array ∙ sym (holding-left s.settings.min_job_age now array s.jobs);

@@ -1,6 +1,6 @@
 -- What the first steps of a pass leave: jobs past their limits complete, and old records are gone.
 use Rattle.std.proofs.lemmas.Bool.Decides.{nat_tests}
-use Rattle.std.proofs.Common.{◌≡◌, ℕ, suc, ◌+◌, ◌≤◌, ◌<◌, Bool, true, false, ◌&&◌, ◌||◌, not, cond, eqb, leb, List, [], ◌∷◌, ◌++◌, length, map, filter, flat_map, take, get_or, unwrap_or, All, Contains, Some, None, refl, ◌∙◌, arith, inl, inr, rules, tests}
+use Rattle.std.proofs.Common.{◌≡◌, ℕ, suc, ◌+◌, ◌≤◌, ◌<◌, Bool, true, false, ◌&&◌, ◌||◌, not, cond, eqb, leb, List, [], ◌∷◌, ◌++◌, length, map, filter, flat_map, take, get_or, unwrap_or, All, Contains, Some, None, refl, sym, ◌∙◌, arith, inl, inr, rules, tests}
 use Rattle.std.specs.List.{list_any}
 use Rattle.std.proofs.lemmas.Bool.{cond_both, and_parts, cases_Bool, ne_eqb}
 use Rattle.std.proofs.lemmas.List.{take_more, map-append, append-nil, length-map}
@@ -163,35 +163,14 @@ length-left age now (job ∷ jobs) =
     one_more : (a b : ℕ) → eqb (suc a) (suc b) ≡ eqb a b
     one_more a b = grind (arith, nat_tests)
 
--- the same parts are held, since an old job holds none
-pub parts-left : (age now : ℕ) (jobs : List JobRecord) → All HasItsParts jobs
-    → parts_of (those_left (timed_out now) (is_old age now) jobs) ≡ parts_of jobs
-parts-left age now [] each = refl
-parts-left age now (job ∷ jobs) each =
-    let empty : is_old age now job ≡ true → job.parts ≡ [] =
-    λ old. no_parts job (All-head HasItsParts job jobs each)
-    (ended-others job.state (old-ended age now job old)).1 in
-    grind (
-      arith,
-      nat_tests,
-      parts-left age now jobs (All-tail HasItsParts job jobs each),
-      timed_out-old age now job,
-      empty,
-    )
+-- each job keeps its parts, and an old one has none
+pub timed_out-parts : (now : ℕ) (job : JobRecord) → (timed_out now job).parts ≡ job.parts
+timed_out-parts now job = by_limit (λ after. after.parts ≡ job.parts) now job (λ over running. refl) (λ within. refl)
 
--- their numbers rise
-pub rising-left : (age now : ℕ) (jobs : List JobRecord) → HaveRisingIds jobs
-    → HaveRisingIds (those_left (timed_out now) (is_old age now) jobs)
-rising-left age now jobs rising =
-    let lower : JobRecord → JobRecord → Type 0 = λ one other. one.id < other.id in
-    AllPairs-filter lower (λ job. not (is_old age now job)) (map (timed_out now) jobs)
-    (pairs-map lower (timed_out now) jobs (λ i j d before within.
-    omega (
-      arith,
-      rising i j d before within,
-      timed_out-id now (get_or jobs i d),
-      timed_out-id now (get_or jobs j d),
-    )))
+pub old-empty : (age now : ℕ) (job : JobRecord) → HasItsParts job → is_old age now (timed_out now job) ≡ true
+    → job.parts ≡ []
+old-empty age now job has old =
+    no_parts job has (ended-others job.state (old-ended age now job (sym (timed_out-old age now job) ∙ old))).1
 
 -- one more job of those that are left, and whether it is a task of an array
 timed_out-task : (now array : ℕ) (job : JobRecord) → is_task_of array (timed_out now job) ≡ is_task_of array job

@@ -25,8 +25,8 @@ use Rattle.ctl_state.specs.Laws.{Taking, TakenTimes, TakenMem, OthersWait, Plann
 use Rattle.ctl_state.specs.Planning.{names_of, room_of}
 use Rattle.ctl_state.specs.Soundness.{IsSound, PlansPending, is_up_at, pending_ids}
 use Rattle.ctl_state.specs.State.{State}
-use Rattle.ctl_pass.specs.declared.starts.JobStart.{JobStart}
-use Rattle.ctl_pass.specs.Starting.{part_of, start_of, begun, started, may_start, IsAsPlanned, HasStarted}
+use Rattle.ctl_pass.specs.Starting.{JobStart, part_of, start_of, begun, started, may_start, IsAsPlanned, HasStarted}
+use Rattle.ctl_pass.specs.Taking.{CanStart, IsReady}
 use Rattle.ctl_pass.proofs.Held.{cpus_held, cpus_in, held-counted, held-grown, free-counted, free-are}
 use Rattle.ctl_pass.proofs.Lists.{sum_by-map, pairs-take, pairs-head, pairs-tail, pairs-map, Any-kept}
 use Rattle.ctl_pass.proofs.Readied.{no-plan}
@@ -42,19 +42,6 @@ started-same one other now jobs (placed ∷ later) same =
       started-same one other now (begun now jobs (start_of other.nodes jobs placed)) later same,
       started-same one other now jobs later same,
     ) refl
-
--- the jobs are those that the starts make
-pub jobs-begun : (s : State) (now : ℕ) (jobs : List JobRecord) (plan : List Placed)
-    → (started s now jobs plan).jobs ≡ fold (begun now) jobs (started s now jobs plan).starts
-unfolding started
-jobs-begun s now jobs [] = refl
-jobs-begun s now jobs (placed ∷ later) =
-    grind (
-      arith,
-      nat_tests,
-      jobs-begun s now jobs later,
-      jobs-begun s now (begun now jobs (start_of s.nodes jobs placed)) later,
-    )
 
 -- what each start keeps of the jobs, all of them keep
 pub started-keeps : (P : List JobRecord → Type 0) (s : State) (now : ℕ) (jobs : List JobRecord) (plan : List Placed)
@@ -96,27 +83,6 @@ pub record StartLaws : Type 0 where
   pub mem : TakenMem
   pub waits : OthersWait
   pub planned : Planning
-
--- a placement that can start once it is due
-pub record IsReady (s : State) (placed : Placed) : Type 0 where
-  pub waits : Contains (pending_ids s.jobs) placed.id
-  pub last : placed.start ≤ 250002592000
-  pub some : 1 ≤ length placed.parts
-  pub parts : AreParts (map room_of s.nodes) placed.parts
-
--- A plan whose due placements can start one after another: the state is sound, no two placements are of one job, and
--- all that
--- the due ones take fits beside what is held.
-pub record CanStart (s : State) (plan : List Placed) : Type 0 where
-  pub sound : IsSound s
-  pub each : All (IsReady s) plan
-  pub apart : AllPairs (λ (one other : Placed). one.id ≢ other.id) plan
-  pub cpus : (node : ℕ)
-      → cpus_held (map room_of s.nodes) (parts_of s.jobs) node + sum_by (cpus_on node)
-      (starts_at s.moment plan) ≤ cpus_of (map room_of s.nodes) node
-  pub mem : (node : ℕ)
-      → mem_held (parts_of s.jobs) node + sum_by (mem_on node) (starts_at s.moment plan) ≤ mem_of (map room_of s.nodes)
-      node
 
 -- the parts that a placement gets, and the state once it has started
 abbrev pub parts_for : State → Placed → List Part
@@ -215,7 +181,7 @@ module _ (laws : StartLaws) where
       let rest = All-tail (IsReady s) placed later can.each in
       let apart = pairs-head (λ (one other : Placed). one.id ≢ other.id) placed later can.apart in
       let cpus : (node : ℕ)
-      → cpus_held rooms held node + sum_by (cpus_on node) (placed ∷ starts_at s.moment later) ≤ cpus_of rooms node =
+      → sum_by (cpus_on node) (placed ∷ starts_at s.moment later) ≤ length (free_ids rooms held node) =
       λ node. rw due at (can.cpus node) in
       let mem : (node : ℕ)
       → mem_held held node + sum_by (mem_on node) (placed ∷ starts_at s.moment later) ≤ mem_of rooms node =
@@ -225,9 +191,10 @@ module _ (laws : StartLaws) where
         mem node,
         sum_by-cons (mem_on node) placed (starts_at s.moment later),
       )) in
+      let sound = laws.taking s placed.id more names [] can.sound may
+      (no-plan (map (started_as s.moment placed.id more names) s.jobs)) in
       record {
-        sound = laws.taking s placed.id more names [] can.sound may
-            (no-plan (map (started_as s.moment placed.id more names) s.jobs));
+        sound = sound;
         each = λ k d below. let was = rest k d below in
             let waits = laws.waits s.jobs s.moment placed.id (get_or later k d).id more names was.waits
             (λ same. apart k d below (sym same)) in
@@ -240,6 +207,8 @@ module _ (laws : StartLaws) where
               arith,
               cpus node,
               sum_by-cons (cpus_on node) placed (starts_at s.moment later),
+              free-counted rooms held node (can.sound.held.once node),
+              free-counted rooms (parts_of (after_start s placed).jobs) node (sound.held.once node),
               grown,
               held-counted rooms more node may.each,
               cpus-taken s placed node,
@@ -296,26 +265,42 @@ given rooms jobs (share ∷ shares) fit =
     let cpus = length-take-le share.cpus (free_ids rooms (parts_of jobs) share.node) (All-head fits share shares fit) in
     (record { node = refl; cpus = cpus; mem = refl }, given rooms jobs shares (All-tail fits share shares fit))
 
+-- what is free of a node is enough for each share of the first that starts
+pub fits-first : (s : State) (placed : Placed) (later : List Placed) → CanStart s (placed ∷ later)
+    → eqb placed.start s.moment ≡ true
+    → All (λ (share : Share). (share.cpus ≤ length (free_ids (map room_of s.nodes) (parts_of s.jobs) share.node))
+    × (mem_held (parts_of s.jobs) share.node + share.mem ≤ mem_of (map room_of s.nodes) share.node)) placed.parts
+fits-first s placed later can due = λ k d below.
+    let share = get_or placed.parts k d in
+    let cpus : Share → ℕ = λ one. cond (eqb one.node share.node) one.cpus 0 in
+    let mem : Share → ℕ = λ one. cond (eqb one.node share.node) one.mem 0 in
+    let whole : (cpus share ≡ share.cpus) × (mem share ≡ share.mem) =
+    rw (eq-eqb share.node share.node refl) (refl, refl) in
+    let free = rw due at (can.cpus share.node) in
+    let room = rw due at (can.mem share.node) in (
+      omega (
+        arith,
+        whole.0,
+        get_or-le-sum_by cpus placed.parts k d below,
+        free,
+        sum_by-cons (cpus_on share.node) placed (starts_at s.moment later),
+      ),
+      omega (
+        arith,
+        whole.1,
+        get_or-le-sum_by mem placed.parts k d below,
+        room,
+        sum_by-cons (mem_on share.node) placed (starts_at s.moment later),
+      ),
+    )
+
 -- the first that starts
 given-first : (s : State) (placed : Placed) (later : List Placed) → CanStart s (placed ∷ later)
     → eqb placed.start s.moment ≡ true → Any (HasStarted s.moment placed) (after_start s placed).jobs
 given-first s placed later can due =
     let rooms = map room_of s.nodes in
     let fits : All (λ (share : Share). share.cpus ≤ length (free_ids rooms (parts_of s.jobs) share.node)) placed.parts =
-    λ k d below.
-    let share = get_or placed.parts k d in
-    let amount : Share → ℕ = λ one. cond (eqb one.node share.node) one.cpus 0 in
-    let whole : amount share ≡ share.cpus = rw (eq-eqb share.node share.node refl) refl in
-    let room = rw due at (can.cpus share.node) in
-    let free = free-counted rooms (parts_of s.jobs) share.node (can.sound.held.once share.node) in
-    omega (
-      arith,
-      whole,
-      get_or-le-sum_by amount placed.parts k d below,
-      room,
-      sum_by-cons (cpus_on share.node) placed (starts_at s.moment later),
-      free,
-    ) in
+    λ k d below. (fits-first s placed later can due k d below).0 in
     by (given rooms s.jobs placed.parts fits) (Any-kept (λ (job : JobRecord). job.id)
     (λ (job : JobRecord). is_pending job.state) placed.id s.jobs (All-head (IsReady s) placed later can.each).waits)
   where

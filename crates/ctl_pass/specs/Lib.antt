@@ -4,6 +4,6 @@ pub mod Readiness
 pub mod Starting
 pub mod SamePlans
 pub mod Passing
-pub mod HeldIds
 pub mod Awaiting
 pub mod Live
+pub mod Taking

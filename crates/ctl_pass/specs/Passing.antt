@@ -1,8 +1,9 @@
 -- A pass: it ends what is over its limit, drops old records, plans the pending jobs, and starts those planned at once.
-use Rattle.std.specs.Prelude.{◌≡◌, ℕ, Bool, ◌&&◌, not, nat_eq, if◌then◌else◌, List, [], ◌∷◌, length, count_by, Option}
+use Rattle.std.specs.Prelude.{◌≡◌, ℕ, Bool, ◌&&◌, not, nat_eq, if◌then◌else◌, List, [], ◌∷◌, length, count_by, All, Option}
 use Rattle.slurm_text.specs.declared.plain.reply.Reply.TheVariants.{Passed}
 use Rattle.slurm_text.specs.declared.plain.refusal.Refusal.{Refusal}
 use Rattle.slurm_text.specs.declared.plain.refusal.Refusal.TheVariants.{AccessDenied}
+use Rattle.backfill_planner.specs.declared.Placed.{Placed}
 use Rattle.ctl_state.specs.State.{State}
 use Rattle.ctl_state.specs.Verdicts.{Verdict, Stays, Makes}
 use Rattle.ctl_state.specs.Refusals.{refused_if, is_privileged}
@@ -11,15 +12,20 @@ use Rattle.job_table.specs.declared.record.JobRecord.{JobRecord}
 use Rattle.job_table.specs.Targets.{is_task_of}
 use Rattle.ctl_pass.specs.declared.live_arrays.LiveArrays.{LiveArrays}
 use Rattle.ctl_pass.specs.declared.pass.Decided.{Decided}
+use Rattle.ctl_pass.specs.Awaiting.{IsPrepared, placements_of}
 use Rattle.ctl_pass.specs.Live.{has_array}
 use Rattle.ctl_pass.specs.Limits.{is_over}
 use Rattle.ctl_pass.specs.Readiness.{arrays_left, jobs_left, ready, ranked, placements}
-use Rattle.ctl_pass.specs.Starting.{Started, started}
+use Rattle.ctl_pass.specs.Starting.{Started, due, started}
 use Rattle.ctl_pass.specs.SamePlans.{same_plans}
 
 -- what comes of the plan
 abbrev pub outcome : State → ℕ → Started
 outcome s now = started s now (jobs_left s now) (placements s now)
+
+-- the placements that start
+abbrev pub placements_due : State → ℕ → List Placed
+placements_due s now = due s.nodes now (jobs_left s now) (placements s now)
 
 -- the state after a pass
 abbrev pub pass_after : State → ℕ → State
@@ -54,9 +60,11 @@ jobs_planned s now = length (ranked (ready s now) now)
 pub record HasArrays (jobs : List JobRecord) (arrays : LiveArrays) : Type 0 where
   pub each : (array : ℕ) → has_array arrays array ≡ list_any (is_task_of array) jobs
 
--- what was decided is what the pass makes
+-- what was decided is what the pass makes, and the starts are prepared
 pub record IsDecided (s : State) (now : ℕ) (decided : Decided) : Type 0 where
   pub ended : decided.ended ≡ count_by (is_over now) s.jobs
-  pub starts : decided.starts.items ≡ (outcome s now).starts
+  pub starts : placements_of decided.starts.items ≡ placements_due s now
+  pub prepared : All (IsPrepared s.nodes) decided.starts.items
+  pub count : length decided.starts.items ≡ length (outcome s now).starts
   pub stays : decided.stays.items ≡ (outcome s now).stays
   pub arrays : HasArrays (jobs_left s now) decided.arrays

@@ -14,7 +14,14 @@ use Rattle.ctl_state.specs.Planning.{names_of, room_of}
 use Rattle.ctl_state.specs.State.{State}
 use Rattle.ctl_pass.specs.Reasons.{first_reason, limits_reached}
 use Rattle.ctl_state.specs.Holding.{free_ids, parts_of}
-use Rattle.ctl_pass.specs.declared.starts.JobStart.{JobStart}
+
+-- the start of a job
+pub record JobStart : Type 0 where
+  pub id : ℕ
+  -- in the order of its nodes
+  pub parts : List Part
+  -- the names of the nodes of its parts
+  pub nodes : List (List ℕ)
 
 -- the part that a share becomes: with the lowest processors of the node that stand in no part
 abbrev pub part_of : List NodeRoom → List JobRecord → Share → Part
@@ -33,6 +40,10 @@ start_of nodes jobs placed =
 -- the jobs once this one has started
 abbrev pub begun : ℕ → List JobRecord → JobStart → List JobRecord
 begun now jobs start = map (started_as now start.id start.parts start.nodes) jobs
+
+-- the jobs once the job of this placement has started
+abbrev pub begun_by : List NodeRecord → ℕ → List JobRecord → Placed → List JobRecord
+begun_by nodes now jobs placed = begun now jobs (start_of nodes jobs placed)
 
 -- the job reaches no limit beside what these jobs hold
 abbrev pub is_free : List JobRecord → Option JobRecord → Bool
@@ -61,6 +72,14 @@ started s now jobs (placed ∷ later) =
     record rest { starts = start ∷ rest.starts }
     )
     else (let rest = started s now jobs later in record rest { stays = placed ∷ rest.stays })
+
+-- the placements that start, in this order
+unfoldable pub due : List NodeRecord → ℕ → List JobRecord → List Placed → List Placed
+due nodes now jobs [] = []
+due nodes now jobs (placed ∷ later) =
+    if nat_eq placed.start now && may_start jobs placed.id
+    then placed ∷ due nodes now (begun_by nodes now jobs placed) later
+    else due nodes now jobs later
 
 -- the part has all that the share was planned
 pub record IsAsPlanned (share : Share) (part : Part) : Type 0 where

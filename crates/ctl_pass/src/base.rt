@@ -24,7 +24,7 @@ use std::alloc::Global;
 fn count_of(cpus: &CpuIds) -> u32
     ensures { result ≡ length cpus.now }
 {
-    cpus.iter().len() as u32
+    cpus.len() as u32
 }
 
 // Adds what the job holds.

@@ -8,10 +8,10 @@ ghost use Rattle.ctl_state.specs.State.{State, last_job_id, last_moment};
 ghost use Rattle.job_table.specs.JobStates.{is_running};
 ghost use Rattle.ctl_state.specs.Soundness.{IsSound};
 ghost use Rattle.ctl_state.specs.Verdicts.{stamped};
-ghost use Rattle.ctl_pass.specs.declared.starts.JobStart.{JobStart};
 ghost use Rattle.ctl_pass.specs.Readiness.{is_candidate, jobs_left, ready, placements};
-ghost use Rattle.ctl_pass.specs.Starting.{HasStarted, begun, may_start};
-ghost use Rattle.ctl_pass.specs.Passing.{outcome, pass_after, is_idle};
+ghost use Rattle.ctl_pass.specs.Starting.{HasStarted, JobStart, begun, may_start};
+ghost use Rattle.ctl_pass.specs.Taking.{CanStart, unplanned};
+ghost use Rattle.ctl_pass.specs.Passing.{outcome, pass_after, placements_due, is_idle};
 
 use backfill_planner::laws::{parts_are_apart, placements_are_of_ranked_jobs, starts_fit};
 use ctl_state::laws::{
@@ -106,6 +106,21 @@ pub fn what_a_pass_plans_is_sound()
     every_change_but_a_start_lets_go();
     jobs_are_kept();
     letting_go_keeps_all_sound();
+}
+
+/// The placements that are due in a pass can start one after another.
+pub(crate) fn what_is_due_can_start()
+    ensures { (s : State) (now : ℕ) → IsSound s → s.moment ≤ now → now ≤ last_moment
+        → CanStart (unplanned now (ready s now)) (placements_due s now) }
+{
+    every_change_but_a_start_lets_go();
+    jobs_are_kept();
+    letting_go_keeps_all_sound();
+    a_stable_sort_makes_the_order::<JobRecord>();
+    jobs_get_nodes_that_are_there();
+    placements_are_of_ranked_jobs();
+    parts_are_apart();
+    starts_fit();
 }
 
 /// No more jobs start and stay than there are numbers.

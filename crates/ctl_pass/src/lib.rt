@@ -2,7 +2,7 @@
 #![tactic(auto)]
 
 mod base;
-mod free_ids;
+mod beginning;
 pub mod laws;
 mod limits;
 mod live_arrays;
@@ -17,4 +17,4 @@ pub use live_arrays::LiveArrays;
 pub use pass::{Decided, act, decide, is_idle, refusal_of};
 pub use ranking::highest;
 pub use reasons::hindrance;
-pub use starts::JobStart;
+pub use starts::DueStart;

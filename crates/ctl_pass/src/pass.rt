@@ -1,32 +1,33 @@
 //! A pass: what it decides, and what it does.
 
-ghost use Rattle.std.specs.Prelude.{◌≡◌, ◌≤◌, ◌&&◌, not, nat_eq, IfOk, OnOk, OnErr, fold, filter, length};
+ghost use Rattle.std.specs.Prelude.{◌≡◌, ◌≤◌, ◌&&◌, not, nat_eq, IfOk, OnOk, OnErr, filter, length};
 ghost use Rattle.std.specs.List.{list_all, list_any};
 ghost use Rattle.resource_profile.specs.Counts.{ticked, IsTickedUpTo};
 ghost use Rattle.ctl_state.specs.State.{state_of, last_moment};
-ghost use Rattle.ctl_state.specs.Events.{those_left};
+ghost use Rattle.ctl_state.specs.Index.{IsIndexed};
 ghost use Rattle.ctl_state.specs.Soundness.{IsSound};
 ghost use Rattle.ctl_state.specs.Refusals.{first_refusal};
 ghost use Rattle.ctl_state.specs.declared.record.ArrayRecord.{ArrayRecord};
 ghost use Rattle.ctl_pass.specs.Live.{has_array};
-ghost use Rattle.ctl_pass.specs.Limits.{timed_out};
 ghost use Rattle.job_table.specs.Table.{is_old};
-ghost use Rattle.ctl_pass.specs.Starting.{begun};
+ghost use Rattle.ctl_pass.specs.Readiness.{jobs_left, ready};
 ghost use Rattle.ctl_pass.specs.SamePlans.{same_plans};
 ghost use Rattle.ctl_pass.specs.Passing;
 
 use crate::base::base_of;
+use crate::beginning::begin;
+use crate::laws::what_is_due_can_start;
 use crate::limits::{any_old, count_over, time_out};
 use crate::live_arrays::{LiveArrays, live_arrays};
 use crate::ranking::rank;
 use crate::same_plans::are_same;
 use crate::split::split;
-use crate::starts::{JobStart, begin};
+use crate::starts::DueStart;
 use backfill_planner::{Placed, plan};
 use ctl_state::array_counts::count_arrays;
 use ctl_state::cluster::Cluster;
+use ctl_state::laws::parts_stay;
 use ctl_state::record::ArrayRecord;
-use job_table::jobs::Jobs;
 use resource_profile::Steps;
 use slurm_text::memory_error::Memory;
 use slurm_text::name::Name;
@@ -38,8 +39,8 @@ use std::alloc::Global;
 pub struct Decided {
     /// How many jobs it takes out of Running.
     pub ended: u32,
-    /// The jobs that it starts.
-    pub starts: Vec<JobStart>,
+    /// The placements that it starts, each with room for its parts.
+    pub starts: Vec<DueStart>,
     /// The placements that begin later, or whose jobs reach a limit.
     pub stays: Vec<Placed>,
     /// The arrays of which there are tasks afterwards.
@@ -57,9 +58,9 @@ pub fn refusal_of(cluster: &Cluster, user: &Name) -> Option<Refusal>
     }
 }
 
-/// What a pass at its raised moment does. Linear in jobs, parts, the nodes' processors and for each candidate its
-/// nodes, beside what its plan costs; the nodes of each partition are sorted, and where tiers rise the candidates. The
-/// tasks of arrays are counted once, in one walk over the jobs.
+/// What a pass at its raised moment does. Linear in jobs, parts, nodes and for each candidate its nodes, beside what its
+/// plan costs; the nodes of each partition are sorted, and where tiers rise the candidates. The tasks of arrays are
+/// counted once, in one walk over the jobs.
 /// It counts a step for each job that it plans, and after want of memory at most that many.
 pub fn decide<L>(
     alloc: Global,
@@ -122,16 +123,6 @@ pub fn is_idle(cluster: &Cluster, now: u64, decided: &Decided) -> bool
     is_same(cluster, now, decided)
 }
 
-// Sees to the limits, drops the old records, and starts jobs.
-fn advance(age: u64, now: u64, jobs: &mut Jobs, starts: Vec<JobStart>)
-    ensures { jobs.new.records
-        ≡ fold (begun now) (those_left (timed_out now) (is_old age now) jobs.old.records) starts.items }
-{
-    time_out(now, jobs);
-    jobs.purge(now, age);
-    begin(now, jobs, starts);
-}
-
 // Drops the arrays of which there are no tasks.
 fn drop_dead(live: &LiveArrays, arrays: &mut Vec<ArrayRecord>)
     ensures { arrays.new.items ≡ filter (λ (array : ArrayRecord). has_array live.now array.id) arrays.old.items }
@@ -139,13 +130,32 @@ fn drop_dead(live: &LiveArrays, arrays: &mut Vec<ArrayRecord>)
     arrays.retain(|array| live.has(array.id));
 }
 
-/// Does what was decided. Linear in the jobs, the arrays and the starts' parts; it takes no memory.
-pub fn act(cluster: &mut Cluster, now: u64, decided: Decided)
-    requires { Passing.IsDecided (state_of cluster.old) now decided }
-    ensures { state_of cluster.new ≡ Passing.pass_after (state_of cluster.old) now }
+// Sees to the limits, drops the old records, and the arrays of which there are no tasks.
+fn make_ready(cluster: &mut Cluster, now: u64, live: &LiveArrays)
+    requires { Passing.HasArrays (jobs_left (state_of cluster.old) now) live.now }
+    ensures ready { state_of cluster.new ≡ ready (state_of cluster.old) now }
+    ensures held { cluster.new.nodes.held ≡ cluster.old.nodes.held }
 {
     let age = cluster.settings.min_job_age.get();
-    advance(age, now, &mut cluster.jobs, decided.starts);
-    drop_dead(&decided.arrays, &mut cluster.arrays);
+    time_out(now, &mut cluster.jobs);
+    cluster.jobs.purge(now, age);
+    drop_dead(live, &mut cluster.arrays);
+}
+
+/// Does what was decided. Linear in the jobs, the arrays and the starts' parts, of which each looks at its node's
+/// processors; it takes no memory.
+pub fn act(cluster: &mut Cluster, now: u64, decided: Decided)
+    requires sound { IsSound (state_of cluster.old) }
+    requires raised { cluster.old.moment ≤ now }
+    requires in_time { now ≤ last_moment }
+    requires indexed { IsIndexed cluster.old }
+    requires decided { Passing.IsDecided (state_of cluster.old) now decided }
+    ensures after { state_of cluster.new ≡ Passing.pass_after (state_of cluster.old) now }
+    ensures indexed { IsIndexed cluster.new }
+{
+    what_is_due_can_start();
+    parts_stay();
+    make_ready(cluster, now, &decided.arrays);
+    begin(now, cluster, decided.starts);
     cluster.plan = decided.stays;
 }

@@ -11,7 +11,7 @@ ghost use Rattle.partitions.specs.Partitions.{IsOnNodes};
 ghost use Rattle.ctl_pass.specs.Readiness;
 
 use crate::reasons::hindrance;
-use backfill_planner::PlanJob;
+use backfill_planner::{NodeList, PlanJob};
 use ctl_state::array_counts::ArrayCounts;
 use ctl_state::cluster::Cluster;
 use ctl_state::jobs::is_pending;
@@ -21,7 +21,6 @@ use job_table::record::JobRecord;
 use node_state::record::NodeRecord;
 use partitions::bounds::bounds_of;
 use partitions::record::PartRecord;
-use slurm_text::items::Items;
 use slurm_text::memory_error::Memory;
 use std::alloc::Global;
 
@@ -78,18 +77,18 @@ fn by_rank<'a>(
     Ok(jobs)
 }
 
-// The order of the nodes of each partition.
+// The order of the nodes of each partition, each made once: its jobs share it.
 fn node_orders(
     alloc: Global,
     nodes: &[NodeRecord],
     partitions: &[PartRecord],
-) -> Result<Vec<Items<u32>>, Memory>
+) -> Result<Vec<NodeList>, Memory>
     requires { All (IsOnNodes (length nodes.now)) partitions.now }
     ensures { IfOk result (λ orders. orders.items ≡ map (Planning.node_order nodes.now) partitions.now) }
 {
     let mut orders = Vec::with_capacity(alloc, partitions.len())?;
     for partition in partitions {
-        orders.push(Items::from_vec(node_order(alloc, nodes, partition)?))?;
+        orders.push(node_order(alloc, nodes, partition)?)?;
     }
     Ok(orders)
 }
@@ -99,7 +98,7 @@ fn node_orders(
 fn need_of(
     alloc: Global,
     cluster: &Cluster,
-    orders: &[Items<u32>],
+    orders: &[NodeList],
     job: &JobRecord,
 ) -> Result<Option<PlanJob>, Memory>
     requires partitions { All (IsOnNodes (length cluster.now.nodes.records)) cluster.now.partitions }
@@ -115,7 +114,7 @@ fn need_of(
     let Some(bounds) = bounds_of(partition, &job.desc) else {
         return Ok(None);
     };
-    let order = orders[job.partition as usize].as_slice();
+    let order = &orders[job.partition as usize];
     let nodes = cluster.nodes.records();
     Ok(Some(plan_job(alloc, nodes, partition, order, bounds, job)?))
 }
@@ -124,7 +123,7 @@ fn need_of(
 fn needs_of(
     alloc: Global,
     cluster: &Cluster,
-    orders: &[Items<u32>],
+    orders: &[NodeList],
     jobs: &[&JobRecord],
 ) -> Result<Vec<PlanJob>, Memory>
     requires partitions { All (IsOnNodes (length cluster.now.nodes.records)) cluster.now.partitions }
@@ -144,9 +143,10 @@ fn needs_of(
     Ok(ranked)
 }
 
-/// What the jobs need that the pass plans, highest in rank first. Linear in the jobs, and for each candidate in the
-/// nodes of its partition; where tiers rise among the candidates, these are sorted. Each partition's nodes are sorted
-/// once.
+/// What the jobs need that the pass plans, highest in rank first. Linear in the jobs; the nodes of each partition are
+/// sorted once, and its candidates share them, so that a candidate that says nothing of its nodes costs constant time.
+/// One that does costs the nodes of its partition, and for each of them what it names. Where tiers rise among the
+/// candidates, these are sorted.
 pub(crate) fn rank(
     alloc: Global,
     cluster: &Cluster,

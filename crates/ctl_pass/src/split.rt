@@ -1,35 +1,29 @@
 //! What comes of a plan: some placements start, the others stay.
 
-ghost use Rattle.std.specs.Prelude.{◌≡◌, ℕ, ◌+◌, ◌*◌, ◌<◌, ◌≤◌, ◌^◌, All, IfOk, OnOk, List, map, nat_eq, length, if◌then◌else◌};
+ghost use Rattle.std.specs.Prelude.{◌≡◌, ℕ, ◌+◌, ◌<◌, ◌≤◌, ◌^◌, All, IfOk, OnOk, List, nat_eq, length, if◌then◌else◌};
 ghost use Rattle.std.specs.List.{list_any};
 ghost use Rattle.backfill_planner.specs.declared.Placed.{Placed};
-ghost use Rattle.backfill_planner.specs.Placements.{AreParts};
 ghost use Rattle.job_table.specs.declared.record.JobRecord.{JobRecord};
 ghost use Rattle.job_table.specs.Table.{job_with};
 ghost use Rattle.job_table.specs.Targets.{is_number};
 ghost use Rattle.ctl_state.specs.ArrayCounts.{CountsTasks, count_in};
 ghost use Rattle.ctl_state.specs.State.{state_of, last_moment};
-ghost use Rattle.ctl_state.specs.Planning.{room_of};
-ghost use Rattle.ctl_state.specs.Soundness.{IsSound, IsNode};
+ghost use Rattle.ctl_state.specs.Soundness.{IsSound};
 ghost use Rattle.ctl_pass.specs.Readiness;
 ghost use Rattle.ctl_pass.specs.Starting;
 ghost use Rattle.ctl_pass.specs.Passing;
-ghost use Rattle.ctl_pass.specs.HeldIds.{AddsParts};
-ghost use Rattle.ctl_pass.specs.Awaiting.{CanBegin, array_of, start_by};
+ghost use Rattle.ctl_pass.specs.Awaiting.{CanBegin, IsPrepared, array_of, placements_of};
 
-use crate::free_ids::{held_ids, take_parts};
 use crate::laws::what_a_pass_plans_is_sound;
 use crate::reasons::limit_reached;
-use crate::starts::JobStart;
+use crate::starts::{DueStart, prepare};
 use backfill_planner::Placed;
 use backfill_planner::laws::placements_are_of_ranked_jobs;
 use ctl_state::array_counts::ArrayCounts;
 use ctl_state::cluster::Cluster;
 use ctl_state::laws::a_stable_sort_makes_the_order;
-use ctl_state::planning::names_of;
 use job_table::jobs::Jobs;
 use job_table::record::JobRecord;
-use slurm_text::items::Items;
 use slurm_text::memory_error::Memory;
 use std::alloc::Global;
 
@@ -62,61 +56,30 @@ fn count_start(jobs: &Jobs, counts: &mut ArrayCounts, id: u32) -> Result<(), Mem
     }
 }
 
-// The start of a placement beside what is held: its processors are held and its task is counted from then on.
-fn start(
-    alloc: Global,
-    cluster: &Cluster,
-    held: &mut [bool],
-    counts: &mut ArrayCounts,
-    placed: &Placed,
-) -> Result<JobStart, Memory>
-    requires nodes { All IsNode cluster.now.nodes.records }
-    requires shares { AreParts (map room_of cluster.now.nodes.records) placed.now.parts }
-    requires long { length held.old ≡ length cluster.now.nodes.records * 1024 }
-    requires room { (array : ℕ) → count_in counts.old array + 1 < 2 ^ 64 }
-    ensures start { IfOk result (λ start. start ≡ start_by cluster.now.nodes.records held.old placed.now) }
-    ensures held { IfOk result (λ start. AddsParts held.old start.parts held.new) }
-    ensures counts { OnOk result ((array : ℕ) → count_in counts.new array ≡ count_in counts.old array
-        + (if is_number array (array_of (job_with placed.now.id cluster.now.jobs.records)) then 1 else 0)) }
-{
-    let nodes = cluster.nodes.records();
-    let parts = take_parts(alloc, nodes, held, placed.parts.as_slice())?;
-    let names = names_of(alloc, nodes, &parts)?;
-    count_start(&cluster.jobs, counts, placed.id)?;
-    Ok(JobStart {
-        id: placed.id,
-        parts: Items::from_vec(parts),
-        nodes: Items::from_vec(names),
-    })
-}
-
-// The starts of the placements that begin now and whose jobs may start, each beside what is held and counted and what
-// those before it took; and the placements that stay.
+// The placements that begin now and whose jobs may start, each beside the tasks that are counted and those that started
+// before it; and the placements that stay.
 fn settle(
     alloc: Global,
     cluster: &Cluster,
     now: u64,
-    held: &mut [bool],
     counts: &mut ArrayCounts,
     placements: Vec<Placed>,
-) -> Result<(Vec<JobStart>, Vec<Placed>), Memory>
-    requires nodes { All IsNode cluster.now.nodes.records }
-    requires long { length held.old ≡ length cluster.now.nodes.records * 1024 }
-    requires parts { All (λ (placed : Placed).
-        AreParts (map room_of cluster.now.nodes.records) placed.parts) placements.items }
-    requires room { (array : ℕ) → count_in counts.old array + length placements.items < 2 ^ 64 }
+) -> Result<(Vec<DueStart>, Vec<Placed>), Memory>
+    requires { (array : ℕ) → count_in counts.old array + length placements.items < 2 ^ 64 }
     ensures starts { IfOk result (λ both. (jobs : List JobRecord)
-        → CanBegin cluster.now.jobs.records jobs held.old counts.old placements.items
-        → both.0.items ≡ (Starting.started (state_of cluster.now) now jobs placements.items).starts) }
+        → CanBegin cluster.now.jobs.records jobs counts.old placements.items
+        → placements_of both.0.items ≡ Starting.due cluster.now.nodes.records now jobs placements.items) }
+    ensures prepared { IfOk result (λ both. All (IsPrepared cluster.now.nodes.records) both.0.items) }
     ensures stays { IfOk result (λ both. (jobs : List JobRecord)
-        → CanBegin cluster.now.jobs.records jobs held.old counts.old placements.items
+        → CanBegin cluster.now.jobs.records jobs counts.old placements.items
         → both.1.items ≡ (Starting.started (state_of cluster.now) now jobs placements.items).stays) }
 {
     let mut starts = Vec::new(alloc);
     let mut stays = Vec::with_capacity(alloc, placements.len())?;
     for placed in placements {
         if placed.start == now && may_start(&cluster.jobs, counts, placed.id) {
-            starts.push(start(alloc, cluster, held, counts, &placed)?)?;
+            count_start(&cluster.jobs, counts, placed.id)?;
+            starts.push(prepare(alloc, cluster.nodes.records(), placed)?)?;
         } else {
             stays.push(placed)?;
         }
@@ -125,23 +88,22 @@ fn settle(
 }
 
 /// The starts that come of the plan, and the placements that stay, where the tasks of the jobs are counted. Linear in
-/// the plan, and where something begins now in the parts and the nodes' processors; each part of a start looks at its
-/// node's processors.
+/// the plan.
 pub(crate) fn split(
     alloc: Global,
     cluster: &Cluster,
     now: u64,
     mut counts: ArrayCounts,
     placements: Vec<Placed>,
-) -> Result<(Vec<JobStart>, Vec<Placed>), Memory>
+) -> Result<(Vec<DueStart>, Vec<Placed>), Memory>
     requires sound { IsSound (state_of cluster.now) }
     requires raised { cluster.now.moment ≤ now }
     requires in_time { now ≤ last_moment }
     requires counted { CountsTasks cluster.now.jobs.records counts }
     requires plan { placements.items ≡ Readiness.placements (state_of cluster.now) now }
-    requires parts { All (λ (placed : Placed).
-        AreParts (map room_of cluster.now.nodes.records) placed.parts) placements.items }
-    ensures starts { IfOk result (λ both. both.0.items ≡ (Passing.outcome (state_of cluster.now) now).starts) }
+    ensures starts { IfOk result (λ both. placements_of both.0.items
+        ≡ Passing.placements_due (state_of cluster.now) now) }
+    ensures prepared { IfOk result (λ both. All (IsPrepared cluster.now.nodes.records) both.0.items) }
     ensures stays { IfOk result (λ both. both.1.items ≡ (Passing.outcome (state_of cluster.now) now).stays) }
 {
     if !any_begins(now, &placements) {
@@ -150,7 +112,5 @@ pub(crate) fn split(
     what_a_pass_plans_is_sound();
     a_stable_sort_makes_the_order::<JobRecord>();
     placements_are_of_ranked_jobs();
-    let nodes = cluster.nodes.records().len();
-    let mut held = held_ids(alloc, nodes, cluster.jobs.records())?;
-    settle(alloc, cluster, now, &mut held, &mut counts, placements)
+    settle(alloc, cluster, now, &mut counts, placements)
 }

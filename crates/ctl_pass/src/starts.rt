@@ -1,42 +1,55 @@
 //! The starts of a pass.
 
-ghost use Rattle.std.specs.Prelude.{◌≡◌, fold};
-ghost use Rattle.ctl_pass.specs.Starting;
+ghost use Rattle.std.specs.Prelude.{◌≡◌, IfOk};
+ghost use Rattle.ctl_pass.specs.Awaiting.{IsPrepared};
+ghost use Rattle.ctl_pass.specs.Awaiting;
 
-use job_table::change::Change;
-use job_table::jobs::Jobs;
+use backfill_planner::{Placed, Share};
 use job_table::record::Part;
+use node_state::record::NodeRecord;
 use slurm_text::items::Items;
+use slurm_text::memory_error::Memory;
 use slurm_text::name::Name;
+use std::alloc::Global;
 
-/// The start of a job, with the parts that it gets (own).
+/// A placement that is due, and what its start needs besides processors (own).
 #[derive(Drop)]
-pub struct JobStart {
-    /// The job's number.
-    pub id: u32,
-    /// In the order of its nodes.
-    pub parts: Items<Part>,
-    /// The names of the nodes of its parts.
+pub struct DueStart {
+    /// What was planned for the job.
+    pub placed: Placed,
+    /// None yet, with room for one of each share.
+    pub parts: Vec<Part>,
+    /// The names of the nodes of the shares.
     pub nodes: Items<Name>,
 }
 
-// Starts one of the jobs.
-fn begin_one(now: u64, jobs: &mut Jobs, start: JobStart)
-    ensures { jobs.new.records ≡ Starting.begun now jobs.old.records start }
+// The names of the nodes of these shares.
+fn names_at(alloc: Global, nodes: &[NodeRecord], shares: &[Share]) -> Result<Vec<Name>, Memory>
+    ensures { IfOk result (λ names. names.items ≡ Awaiting.names_at nodes.now shares.now) }
 {
-    let change = Change::Start {
-        moment: now,
-        parts: start.parts,
-        nodes: start.nodes,
-    };
-    jobs.change(start.id, change);
+    let mut names = Vec::with_capacity(alloc, shares.len())?;
+    for share in shares {
+        if let Some(node) = nodes.get(share.node as usize) {
+            names.push(node.conf.name.copy()?)?;
+        }
+    }
+    Ok(names)
 }
 
-/// Starts the jobs, each in constant time beside its parts. It takes no memory.
-pub(crate) fn begin(now: u64, jobs: &mut Jobs, starts: Vec<JobStart>)
-    ensures { jobs.new.records ≡ fold (Starting.begun now) jobs.old.records starts.items }
+/// Takes the memory for a start. Linear in the placement's shares.
+pub(crate) fn prepare(
+    alloc: Global,
+    nodes: &[NodeRecord],
+    placed: Placed,
+) -> Result<DueStart, Memory>
+    ensures placed { IfOk result (λ start. start.placed ≡ placed) }
+    ensures prepared { IfOk result (IsPrepared nodes.now) }
 {
-    for start in starts {
-        begin_one(now, jobs, start);
-    }
+    let parts = Vec::with_capacity(alloc, placed.parts.as_slice().len())?;
+    let names = names_at(alloc, nodes, placed.parts.as_slice())?;
+    Ok(DueStart {
+        placed,
+        parts,
+        nodes: Items::from_vec(names),
+    })
 }

@@ -49,7 +49,7 @@ pub order-there : (nodes : List NodeRecord) (partition : PartRecord) → IsOnNod
 unfolding node_order
 order-there nodes partition on = All-permutation (λ place. place < length nodes) _ _ (ordered-moves (is_taken_before nodes) partition.nodes) on.there
 
-order-once : (nodes : List NodeRecord) (partition : PartRecord) → IsOnNodes (length nodes) partition → AllPairs (λ one other. one ≢ other) (node_order nodes partition)
+pub order-once : (nodes : List NodeRecord) (partition : PartRecord) → IsOnNodes (length nodes) partition → AllPairs (λ one other. one ≢ other) (node_order nodes partition)
 unfolding node_order
 order-once nodes partition on = ordered-pairs (is_taken_before nodes) (λ one other. one ≢ other) (λ one other differ same. differ (sym same)) partition.nodes on.once
 
@@ -104,16 +104,24 @@ among-there nodes desc partition on =
     (λ known. All-append there (filter must places) (filter rest places) (All-filter must there places all) (All-filter rest there places all))
     (λ unknown. All-nil there)
 
-pub among-once : (nodes : List NodeRecord) (desc : JobDesc) (partition : PartRecord) → IsOnNodes (length nodes) partition
-    → AllPairs (λ one other. one ≢ other) (nodes_among nodes desc (node_order nodes partition))
-among-once nodes desc partition on =
+-- those of the places at which it may run, the required ones first
+pub first-once : (nodes : List NodeRecord) (desc : JobDesc) (order : List ℕ) → AllPairs (λ one other. one ≢ other) order
+    → AllPairs (λ one other. one ≢ other) (required_first nodes desc (filter (is_at (may_run desc) nodes) order))
+first-once nodes desc order differs =
     let differ : ℕ → ℕ → Type 0 = λ one other. one ≢ other in
     let must : ℕ → Bool = is_at (must_have desc) nodes in
     let rest : ℕ → Bool = λ place. not (must place) in
-    let places = filter (is_at (may_run desc) nodes) (node_order nodes partition) in
-    let once = AllPairs-filter differ (is_at (may_run desc) nodes) (node_order nodes partition) (order-once nodes partition on) in
-    cond_both (are_there nodes desc places) (required_first nodes desc places) [] (AllPairs differ)
-    (λ known. pairs-append differ (filter must places) (filter rest places) (AllPairs-filter differ must places once) (AllPairs-filter differ rest places once)
+    let places = filter (is_at (may_run desc) nodes) order in
+    let once = AllPairs-filter differ (is_at (may_run desc) nodes) order differs in
+    pairs-append differ (filter must places) (filter rest places) (AllPairs-filter differ must places once) (AllPairs-filter differ rest places once)
     (λ k d below j e within same. both_ways (must (get_or (filter must places) k d)) (ap must same ∙ not-true _ (filter_passes rest places j e within))
-    (filter_passes must places k d below)))
+    (filter_passes must places k d below))
+
+pub among-once : (nodes : List NodeRecord) (desc : JobDesc) (partition : PartRecord) → IsOnNodes (length nodes) partition
+    → AllPairs (λ one other. one ≢ other) (nodes_among nodes desc (node_order nodes partition))
+among-once nodes desc partition on =
+    let order = node_order nodes partition in
+    let places = filter (is_at (may_run desc) nodes) order in
+    cond_both (are_there nodes desc places) (required_first nodes desc places) [] (AllPairs (λ one other. one ≢ other))
+    (λ known. first-once nodes desc order (order-once nodes partition on))
     (λ unknown i j d before below. absurd (omega (arith, below)))

@@ -167,8 +167,8 @@ GivingShows = (parts left gone : List Part) (held after : List Held)
 -- What a part holds is held.
 abbrev pub PartsAreShown : Type 0
 PartsAreShown = (parts : List Part) (held : List Held) → ShowsParts held parts
-    → All (λ (part : Part). All (λ cpu. holds_cpu held part.node cpu ≡ true) part.cpus
-    × part.mem ≤ held_mem held part.node) parts
+    → All (λ (part : Part). (All (λ cpu. holds_cpu held part.node cpu ≡ true) part.cpus)
+    × (part.mem ≤ held_mem held part.node)) parts
 
 -- An event in which each job keeps its parts, and of which those that go have none, leaves the parts as they were;
 abbrev pub PartsStay : Type 0

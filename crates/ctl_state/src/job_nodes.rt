@@ -5,6 +5,7 @@ ghost use Rattle.std.specs.List.{list_any};
 ghost use Rattle.node_state.specs.Nodes.{is_named};
 ghost use Rattle.ctl_state.specs.Planning.{are_there, has, is_at, may_run, must_have, nodes_among, required_first};
 
+use backfill_planner::NodeList;
 use node_state::record::NodeRecord;
 use node_state::standing::has_features;
 use slurm_text::items::Items;
@@ -118,23 +119,24 @@ fn takes_any(desc: &JobDesc) -> bool
         && desc.features.is_none()
 }
 
-/// The places of the job's nodes among those of a partition in their order, in the order in which it takes them. Linear
-/// in the nodes, and for a job that names nodes or features in what it names for each of them.
+/// The places of the job's nodes among those of a partition in their order, in the order in which it takes them. A job
+/// that says nothing of its nodes shares the order, in constant time; for any other it is linear in the nodes, and for
+/// each of them in what the job names.
 pub(crate) fn nodes_among(
     alloc: Global,
     nodes: &[NodeRecord],
     desc: &JobDesc,
-    order: &[u32],
-) -> Result<Vec<u32>, Memory>
+    order: &NodeList,
+) -> Result<NodeList, Memory>
     requires { All (λ place. place < length nodes.now) order.now }
-    ensures { IfOk result (λ places. places.items ≡ nodes_among nodes.now desc.now order.now) }
+    ensures { IfOk result (λ places. places ≡ nodes_among nodes.now desc.now order.now) }
 {
     if takes_any(desc) {
-        return Ok(Vec::from_slice(alloc, order)?);
+        return order.share();
     }
-    let places = allowed(alloc, nodes, desc, order)?;
+    let places = allowed(alloc, nodes, desc, order.as_slice())?;
     if !are_there(nodes, desc, &places) {
-        return Ok(Vec::new(alloc));
+        return NodeList::from_vec(Vec::new(alloc));
     }
-    required_first(alloc, nodes, desc, &places)
+    NodeList::from_vec(required_first(alloc, nodes, desc, &places)?)
 }

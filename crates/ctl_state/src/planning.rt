@@ -61,8 +61,7 @@ fn weight_at(nodes: &[NodeRecord], place: u32) -> u64
         .map_or(0, |node| node.conf.weight.get())
 }
 
-/// The places of a partition's nodes, in the order in which jobs take them. It sorts them.
-pub fn node_order(
+fn sorted_places(
     alloc: Global,
     nodes: &[NodeRecord],
     partition: &PartRecord,
@@ -72,6 +71,19 @@ pub fn node_order(
     let mut order = Vec::from_slice(alloc, partition.nodes.as_slice())?;
     order.sort_by_key(|place| (weight_at(nodes, *place), *place))?;
     Ok(order)
+}
+
+/// The places of a partition's nodes, in the order in which jobs take them, as a list that jobs can share. It sorts
+/// them.
+pub fn node_order(
+    alloc: Global,
+    nodes: &[NodeRecord],
+    partition: &PartRecord,
+) -> Result<NodeList, Memory>
+    requires { IsOnNodes (length nodes.now) partition.now }
+    ensures { IfOk result (λ order. order ≡ Planning.node_order nodes.now partition.now) }
+{
+    NodeList::from_vec(sorted_places(alloc, nodes, partition)?)
 }
 
 fn need_of(desc: &JobDesc, bounds: (u32, u32)) -> Result<Need, Memory>
@@ -97,14 +109,15 @@ fn seconds_of(limit: Limit) -> Option<Ranged<1, 3153600000>>
     }
 }
 
-/// What the job needs in its partition, whose nodes stand in this order, on so many nodes at least and at most. Linear
-/// in the nodes of the partition, and for a job that names nodes or features in what it names for each of them.
+/// What the job needs in its partition, whose nodes stand in this order, on so many nodes at least and at most. A job
+/// that says nothing of its nodes shares the order, in constant time; for any other it is linear in the nodes of the
+/// partition, and for each of them in what the job names.
 #[tactic(auto, unfolding(crate::specs::Planning::plan_job))]
 pub fn plan_job(
     alloc: Global,
     nodes: &[NodeRecord],
     partition: &PartRecord,
-    order: &[u32],
+    order: &NodeList,
     bounds: (u32, u32),
     job: &JobRecord,
 ) -> Result<PlanJob, Memory>
@@ -124,7 +137,7 @@ pub fn plan_job(
             .map_or(desc.tasks.get() as u32, |count| count.get() as u32),
         mem_ask: desc.mem_ask.unwrap_or(MemAsk::All),
         exclusive: desc.exclusive || partition.conf.exclusive,
-        nodes: NodeList::from_vec(nodes_among(alloc, nodes, desc, order)?),
+        nodes: nodes_among(alloc, nodes, desc, order)?,
         seconds: seconds_of(job.limit),
     })
 }

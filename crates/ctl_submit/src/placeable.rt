@@ -42,7 +42,7 @@ pub(crate) fn is_placeable(
     let nodes = cluster.nodes.records();
     let order = node_order(alloc, nodes, partition)?;
     let bounds = own_bounds(&job.desc);
-    let job = plan_job(alloc, nodes, partition, order.as_slice(), bounds, job)?;
+    let job = plan_job(alloc, nodes, partition, &order, bounds, job)?;
     let base = Base {
         rooms: Items::from_vec(open_rooms_of(alloc, nodes)?),
         holds: Items::from_vec(Vec::new(alloc)),

@@ -75,7 +75,7 @@ fn hold_running(profile: &mut Profile, size: &Size, chance: &mut Chance) -> Resu
     Ok(())
 }
 
-// All nodes in order.
+// All nodes in order, a list that the jobs share.
 fn all_nodes(alloc: Global, count: u32) -> Result<NodeList>
     ensures { IfOk result (λ nodes. All (λ node. node < count) nodes) }
 {
@@ -83,13 +83,13 @@ fn all_nodes(alloc: Global, count: u32) -> Result<NodeList>
     for node in 0..count {
         nodes.push(node)?;
     }
-    Ok(NodeList::from_vec(nodes))
+    Ok(NodeList::from_vec(nodes)?)
 }
 
 // A pending job, of up to the most tasks, with a processor and a megabyte each.
-fn pending_job(alloc: Global, size: &Size, id: u32, chance: &mut Chance) -> Result<PlanJob>
+fn pending_job(size: &Size, nodes: &NodeList, id: u32, chance: &mut Chance) -> Result<PlanJob>
     requires { (1 ≤ size.now.tasks) × (1 ≤ size.now.minutes) × (id < size.now.pending) }
-    ensures { IfOk result (λ job. All (λ node. node < size.now.nodes) job.nodes) }
+    ensures { IfOk result (λ job. job.nodes ≡ nodes.now) }
 {
     let tasks = chance.up_to(size.tasks);
     let seconds = 60 * u64::from(chance.up_to(size.minutes));
@@ -109,7 +109,7 @@ fn pending_job(alloc: Global, size: &Size, id: u32, chance: &mut Chance) -> Resu
         per_node: size.processors,
         mem_ask: MemAsk::PerCpu(Ranged::new(1)),
         exclusive: false,
-        nodes: all_nodes(alloc, size.nodes)?,
+        nodes: nodes.share()?,
         seconds: if limited {
             Some(Ranged::new(seconds))
         } else {
@@ -125,8 +125,9 @@ fn pending_jobs(alloc: Global, size: &Size, chance: &mut Chance) -> Result<Vec<P
     if size.tasks == 0 || size.minutes == 0 {
         return Ok(jobs);
     }
+    let nodes = all_nodes(alloc, size.nodes)?;
     for id in 0..size.pending {
-        let job = pending_job(alloc, size, id, chance)?;
+        let job = pending_job(size, &nodes, id, chance)?;
         jobs.push(job).unwrap();
     }
     Ok(jobs)

@@ -2,9 +2,11 @@
 
 ghost use Rattle.std.specs.Prelude.{◌≡◌, ◌++◌, flat_map, OnOk};
 ghost use Rattle.slurm_print.specs.Orders.{orders_text, head_line, start_text, start_line, launch_line, number_or_dash};
+ghost use Rattle.slurm_print.specs.Ranges.{ranges_text};
 
 use crate::line::{push_labelled, push_number, push_text};
 use crate::ranges::push_ranges;
+use cpu_ids::CpuIds;
 use slurm_text::memory_error::Memory;
 use slurm_text::plain::orders::{Launch, Orders};
 use slurm_text::plain::report::Start;
@@ -55,12 +57,19 @@ fn push_launch(out: &mut Vec<u8>, launch: &Launch) -> Result<(), Memory>
     push_text(out, b"launch ")?;
     push_start(out, &launch.start)?;
     push_text(out, b" cpus=")?;
-    push_ranges(out, launch.cpus.iter().as_slice())?;
+    push_cpus(out, &launch.cpus)?;
     push_labelled(out, b" mem=", launch.mem)?;
     push_if_known(out, b" run=", launch.run)?;
     push_if_known(out, b" exit=", launch.exit)?;
     push_text(out, b"\n")?;
     Ok(())
+}
+
+fn push_cpus(out: &mut Vec<u8>, cpus: &CpuIds) -> Result<(), Memory>
+    ensures { OnOk result (out.new.items ≡ out.old.items ++ ranges_text cpus.now) }
+{
+    let numbers = cpus.to_vec(*out.allocator())?;
+    push_ranges(out, numbers.as_slice())
 }
 
 fn push_start(out: &mut Vec<u8>, start: &Start) -> Result<(), Memory>

@@ -34,12 +34,12 @@ fn nodes(alloc: Global, text: &[u8], count: usize) -> Result<NodeList, Unanswere
 {
     let numbers = narrow_numbers(alloc, text, b'+')?;
     match *numbers.as_slice() {
-        [one] if (one as usize) < count => Ok(NodeList::from_vec(Vec::from_slice(alloc, &[one])?)),
+        [one] if (one as usize) < count => Ok(NodeList::from_vec(Vec::from_slice(alloc, &[one])?)?),
         [one, two] if one < two && (two as usize) < count => {
-            Ok(NodeList::from_vec(Vec::from_slice(alloc, &[one, two])?))
+            Ok(NodeList::from_vec(Vec::from_slice(alloc, &[one, two])?)?)
         }
         [one, two, three] if one < two && two < three && (three as usize) < count => {
-            Ok(NodeList::from_vec(Vec::from_slice(alloc, &[one, two, three])?))
+            Ok(NodeList::from_vec(Vec::from_slice(alloc, &[one, two, three])?)?)
         }
         _ => Err(Unanswered::Arguments),
     }

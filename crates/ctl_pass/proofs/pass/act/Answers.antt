@@ -1,7 +1,48 @@
-use Rattle.ctl_state.specs.State.{state_of}
+use Rattle.std.proofs.Common.{fold, get_or, ap, subst, sym, ◌∙◌}
+use Rattle.ctl_state.specs.State.{State, state_of}
+use Rattle.job_table.specs.Table.{is_old}
+use Rattle.ctl_pass.specs.Awaiting.{placements_of}
+use Rattle.ctl_pass.specs.Limits.{timed_out}
+use Rattle.ctl_pass.specs.Readiness.{jobs_left, placements, ready}
+use Rattle.ctl_pass.specs.Starting.{begun_by}
+use Rattle.ctl_pass.specs.Taking.{AreDue, unplanned}
+use Rattle.ctl_pass.proofs.Due.{due-now}
 use Rattle.ctl_pass.proofs.Passes.{acted}
+use Rattle.ctl_pass.proofs.Readied.{old-empty, timed_out-parts}
 use Rattle.ctl_pass.proofs.pass.act.Goals as goal
 
-pub returns : goal.returns
-returns c = acted (state_of c.args.cluster.now) c.args.now c.args.decided _ _ c.requires
-    (rw c.get-age.ensures.value at c.advance.ensures) c.drop_dead.ensures
+pub begin-requires-clause-due : goal.begin-requires-clause-due
+begin-requires-clause-due c =
+    let s = state_of c.args.cluster.now in
+    let now = c.args.now in
+    let decided = c.requires.decided in
+    let can = c.what_is_due_can_start.ensures s now c.requires.sound c.requires.raised c.requires.in_time in
+    let due : AreDue (unplanned now (ready s now)) c.args.decided.starts.items =
+    record {
+      prepared = decided.prepared;
+      due = rw decided.starts (due-now s.nodes now (jobs_left s now) (placements s now));
+      can = rw decided.starts can;
+    } in
+    let AreAll : State → Type 0 = λ one. AreDue (unplanned now one) c.args.decided.starts.items in
+    subst AreAll (sym c.make_ready.ensures.ready) due
+
+pub begin-requires-clause-indexed : goal.begin-requires-clause-indexed
+begin-requires-clause-indexed c =
+    let s = state_of c.args.cluster.now in
+    let now = c.args.now in
+    let age = s.settings.min_job_age in
+    let stay = c.parts_stay.ensures.stay s.jobs (timed_out now) (is_old age now)
+    (λ k d below. timed_out-parts now (get_or s.jobs k d))
+    (λ k d below. old-empty age now (get_or s.jobs k d) (c.requires.sound.jobs k d below).parts) in
+    rw (c.make_ready.ensures.held, ap (λ (one : State). one.jobs) c.make_ready.ensures.ready, stay) c.requires.indexed
+
+pub returns-clause-after : goal.returns-clause-after
+returns-clause-after c =
+    let now = c.args.now in
+    let starts = c.args.decided.starts.items in
+    let begun : State → State = λ one. record one {
+      jobs = fold (begun_by one.nodes now) one.jobs (placements_of starts);
+    } in
+    let planned : State → State = λ one. record one { plan = c.args.decided.stays.items } in
+    ap planned c.begin.ensures.after ∙ ap (λ one. planned (begun one)) c.make_ready.ensures.ready
+    ∙ acted (state_of c.args.cluster.now) now c.args.decided c.requires.decided

@@ -1,11 +1,14 @@
-use Rattle.std.proofs.Common.{◌≡◌, length, arith, ap, ◌∙◌}
+use Rattle.std.proofs.Common.{◌≡◌, length, arith, ap, sym, ◌∙◌, rules}
 use Rattle.std.proofs.lemmas.List.{length-map}
 use Rattle.std.proofs.lemmas.List.Sums.{count_by-le-length}
 use Rattle.backfill_planner.specs.Plans.{PlannedView, plan_of}
 use Rattle.ctl_state.specs.Planning.{room_of}
 use Rattle.ctl_state.specs.State.{state_of}
 use Rattle.ctl_pass.specs.Limits.{is_over}
-use Rattle.ctl_pass.specs.Readiness.{ready}
+use Rattle.ctl_pass.specs.declared.starts.DueStart.{DueStart}
+use Rattle.ctl_pass.specs.Passing.{outcome}
+use Rattle.ctl_pass.specs.Readiness.{jobs_left, placements, ready}
+use Rattle.ctl_pass.proofs.Due.{due-count}
 use Rattle.ctl_pass.proofs.Planned.{base-rooms, plan-is, few-jobs}
 use Rattle.ctl_pass.proofs.pass.decide.Goals as goal
 
@@ -26,14 +29,6 @@ split-requires-clause-plan g c =
     ∙ plan-is (state_of c.args.cluster.now) c.args.now c.in-Ok.planned c.in_ok-base.base c.in_ok-ranked.ranked.items
     c.in-Ok.ensures.parts c.in_ok-base.ensures c.in_ok-ranked.ensures.ranked
 
-pub split-requires-clause-parts : goal.split-requires-clause-parts
-split-requires-clause-parts g c =
-    let s = state_of c.args.cluster.now in
-    let are : c.into_placements.result.items ≡ plan_of c.in_ok-base.base c.in_ok-ranked.ranked.items c.args.now =
-    c.into_placements.ensures
-    ∙ ap (λ (one : PlannedView). plan_of one.base one.ranked one.moment) c.in-Ok.ensures.parts in
-    rw (are, ← base-rooms (ready s c.args.now) c.args.now c.in_ok-base.base c.in_ok-base.ensures) c.in-Ok.ensures.apart
-
 pub overflow_cast-result : goal.overflow_cast-result
 overflow_cast-result g c =
     omega (
@@ -43,3 +38,13 @@ overflow_cast-result g c =
       count_by-le-length (is_over c.args.now) c.records-2.result.now,
       few-jobs _ c.requires.sound,
     )
+
+pub returns-clause-decided : goal.returns-clause-decided
+returns-clause-decided g c =
+    let s = state_of c.args.cluster.now in
+    let now = c.args.now in
+    let starts = c.in_ok-starts.starts.items in
+    let count : length starts ≡ length (outcome s now).starts =
+    sym (length-map starts (λ (start : DueStart). start.placed)) ∙ ap length c.in_ok-starts.ensures.starts
+    ∙ due-count s now (jobs_left s now) (placements s now) in
+    search (rules, count)

@@ -1,4 +1,4 @@
-use Rattle.std.proofs.Common.{length, ap, sym, ◌∙◌, arith}
+use Rattle.std.proofs.Common.{length, ap, sym, arith}
 use Rattle.std.proofs.lemmas.List.{length-map}
 use Rattle.std.proofs.lemmas.Option.{slice_get_within}
 use Rattle.partitions.specs.Partitions.{IsOnNodes}
@@ -26,5 +26,4 @@ plan_job-requires-clause-there c =
 pub plan_job-requires-clause-order : goal.plan_job-requires-clause-order
 plan_job-requires-clause-order c =
     rw c.records-nodes.ensures.value
-    (c.as_slice-order.ensures ∙ order-at c.args.cluster.now.nodes.records _ _ _ _ _ c.requires.orders
-    (sym c.in-Some.ensures) c.index-orders-job.is)
+    (order-at c.args.cluster.now.nodes.records _ _ _ _ _ c.requires.orders (sym c.in-Some.ensures) c.index-orders-job.is)

@@ -1,9 +1,9 @@
 use Rattle.std.proofs.Common.{length, ap, sym, ◌∙◌, arith}
 use Rattle.std.proofs.lemmas.Result.{IfOk-weaker}
 use Rattle.ctl_state.specs.State.{state_of}
-use Rattle.ctl_pass.specs.Awaiting.{CanBegin}
-use Rattle.ctl_pass.specs.Readiness.{jobs_left}
-use Rattle.ctl_pass.specs.Starting.{started}
+use Rattle.ctl_pass.specs.Awaiting.{CanBegin, placements_of}
+use Rattle.ctl_pass.specs.Readiness.{jobs_left, placements}
+use Rattle.ctl_pass.specs.Starting.{due, started}
 use Rattle.ctl_pass.proofs.Few.{few-planned}
 use Rattle.ctl_pass.proofs.Planned.{can-begin-ready, few-jobs}
 use Rattle.ctl_pass.proofs.Splits.{none-starts}
@@ -12,16 +12,19 @@ use Rattle.ctl_pass.proofs.split.split.Goals as goal
 
 pub returns-then-not-any_begins-clause-starts : goal.returns-then-not-any_begins-clause-starts
 returns-then-not-any_begins-clause-starts c =
-    c.new.ensures.items ∙ sym (none-starts _ _ _ _
-    (rw (c.deref.ensures.value, c.requires.plan) at (sym c.any_begins.ensures ∙ c.if-not-any_begins.true))).0
+    let s = state_of c.args.cluster.now in
+    let none = rw (c.deref.ensures.value, c.requires.plan) at (sym c.any_begins.ensures ∙ c.if-not-any_begins.true) in
+    ap placements_of c.new.ensures.items
+    ∙ sym (none-starts s c.args.now (jobs_left s c.args.now) (placements s c.args.now) none).0
 
 pub returns-then-not-any_begins-clause-stays : goal.returns-then-not-any_begins-clause-stays
 returns-then-not-any_begins-clause-stays c =
-    c.requires.plan ∙ sym (none-starts _ _ _ _ (rw (c.deref.ensures.value, c.requires.plan) at (sym c.any_begins.ensures
-    ∙ c.if-not-any_begins.true))).1
+    let s = state_of c.args.cluster.now in
+    let none = rw (c.deref.ensures.value, c.requires.plan) at (sym c.any_begins.ensures ∙ c.if-not-any_begins.true) in
+    c.requires.plan ∙ sym (none-starts s c.args.now (jobs_left s c.args.now) (placements s c.args.now) none).1
 
-pub settle-requires-clause-room : goal.settle-requires-clause-room
-settle-requires-clause-room c = λ array.
+pub settle-requires : goal.settle-requires
+settle-requires c = λ array.
     let s = state_of c.args.cluster.now in
     let plan = few-planned c.a_stable_sort_makes_the_order.ensures.moves s c.args.now c.requires.sound in
     omega (
@@ -33,27 +36,24 @@ settle-requires-clause-room c = λ array.
       ap length c.requires.plan,
     )
 
--- the placements can begin beside the bits and the counts
+-- the placements can begin beside the counts
 can : (c : goal.After-drop-counts-2)
-    → CanBegin c.args.cluster.now.jobs.records (jobs_left (state_of c.args.cluster.now) c.args.now)
-    c.deref_mut.result.now c.args.counts c.args.placements.items
+    → CanBegin c.args.cluster.now.jobs.records (jobs_left (state_of c.args.cluster.now) c.args.now) c.args.counts
+    c.args.placements.items
 can c =
     let s = state_of c.args.cluster.now in
     let sound = c.what_a_pass_plans_is_sound.ensures s c.args.now c.requires.sound c.requires.raised
     c.requires.in_time in
-    rw c.deref_mut.ensures.value
-    (can-begin-ready c.a_stable_sort_makes_the_order.ensures.moves c.a_stable_sort_makes_the_order.ensures.apart
-    c.placements_are_of_ranked_jobs.ensures.ids
-    c.placements_are_of_ranked_jobs.ensures.apart s c.args.now c.in_ok-held.held.items c.args.counts
-    c.args.placements.items c.requires.sound sound c.requires.plan
-    (rw c.records.ensures.value at c.in_ok-held.ensures.shown) c.requires.counted)
+    can-begin-ready c.a_stable_sort_makes_the_order.ensures.moves c.a_stable_sort_makes_the_order.ensures.apart
+    c.placements_are_of_ranked_jobs.ensures.ids c.placements_are_of_ranked_jobs.ensures.apart s c.args.now c.args.counts
+    c.args.placements.items c.requires.sound sound c.requires.plan c.requires.counted
 
 pub returns-clause-starts : goal.returns-clause-starts
 returns-clause-starts c =
     let s = state_of c.args.cluster.now in
     let left = jobs_left s c.args.now in
     IfOk-weaker c.settle.result _ _ (λ both has. has left (can c)
-    ∙ ap (λ plan. (started s c.args.now left plan).starts) c.requires.plan) c.settle.ensures.starts
+    ∙ ap (λ plan. due s.nodes c.args.now left plan) c.requires.plan) c.settle.ensures.starts
 
 pub returns-clause-stays : goal.returns-clause-stays
 returns-clause-stays c =

@@ -1,14 +1,10 @@
-use Rattle.ctl_state.proofs.Choosing.{among-once, among-there, order-there}
+use Rattle.ctl_state.proofs.Choosing.{among-there, order-there}
 use Rattle.ctl_state.proofs.planning.plan_job.Goals as goal
 
 pub nodes_among-requires : goal.nodes_among-requires
 nodes_among-requires c = rw c.requires.order (order-there c.args.nodes.now c.args.partition.now c.requires.there)
 
-pub from_vec-requires : goal.from_vec-requires
-from_vec-requires c =
-    rw (c.in_ok-nodes_among.ensures, c.requires.order) (among-once c.args.nodes.now c.args.job.now.desc c.args.partition.now c.requires.there)
-
 pub returns-clause-nodes : goal.returns-clause-nodes
 returns-clause-nodes c =
-    rw (c.from_vec.ensures, c.in_ok-nodes_among.ensures, c.requires.order)
+    rw (c.in_ok-nodes_among.ensures, c.requires.order)
     (among-there c.args.nodes.now c.args.job.now.desc c.args.partition.now c.requires.there)
