@@ -1,15 +1,13 @@
 -- Cancelling leaves what is held as it is, so the index goes on showing it.
-use Rattle.std.proofs.Common.{◌≡◌, ℕ, Bool, false, not, List, [], ◌∷◌, map, filter, refl, sym, ap, ◌∙◌}
+use Rattle.std.proofs.Common.{◌≡◌, ℕ, false, not, List, [], ◌∷◌, map, filter, refl, sym, ap, ◌∙◌}
 use Rattle.slurm_text.specs.declared.plain.target.Targets.{Targets}
-use Rattle.node_state.specs.declared.record.Held.{Held}
 use Rattle.job_table.specs.declared.record.JobRecord.{JobRecord}
-use Rattle.job_table.specs.declared.record.Part.{Part}
 use Rattle.ctl_state.specs.declared.cluster.Cluster.{Cluster}
 use Rattle.ctl_state.specs.Holding.{parts_of}
-use Rattle.ctl_state.specs.Index.{IsIndexed, ShowsParts}
+use Rattle.ctl_state.specs.Index.{IsIndexed}
 use Rattle.ctl_state.specs.Laws.{PartsStay}
 use Rattle.ctl_state.specs.State.{State, state_of}
-use Rattle.ctl_cancel.specs.Cancelling.{are_naming, cancel_after, cancelled_if}
+use Rattle.ctl_cancel.specs.Cancelling.{cancelled_if}
 use Rattle.ctl_cancel.proofs.Cancelled.{parts_kept}
 
 all-stay : (jobs : List JobRecord) → filter (λ (job : JobRecord). not false) jobs ≡ jobs
@@ -25,8 +23,9 @@ parts-kept stay s now user targets =
     ∙ stay s.jobs change (λ job. false) (λ k d below. parts_kept s now user _ _) (λ k d below never. absurd (cc))
 
 pub indexed_kept : PartsStay → (before after : Cluster) (now : ℕ) (user : List ℕ) (targets : Targets)
-    → state_of after ≡ cancel_after (state_of before) now user targets → after.nodes.held ≡ before.nodes.held
-    → IsIndexed before → IsIndexed after
+    → state_of after
+    ≡ record (state_of before) { jobs = map (cancelled_if (state_of before) now user targets) before.jobs.records }
+    → after.nodes.held ≡ before.nodes.held → IsIndexed before → IsIndexed after
 indexed_kept stay before after now user targets is held indexed =
     let parts = ap (λ (s : State). parts_of s.jobs) is ∙ parts-kept stay (state_of before) now user targets in
     rw (held, parts) indexed
