@@ -69,8 +69,9 @@ idle_is s now decided is =
 -- So is the state after a pass, from what was decided.
 pub acted : (s : State) (now : ℕ) (decided : Decided) → IsDecided s now decided
     → record (ready s now) {
-    jobs = fold (begun_by s.nodes now) (jobs_left s now) (placements_of decided.starts.items);
-    plan = decided.stays.items } ≡ pass_after s now
+      jobs = fold (begun_by s.nodes now) (jobs_left s now) (placements_of decided.starts.items);
+      plan = decided.stays.items;
+    } ≡ pass_after s now
 acted s now decided is =
     rw (is.starts, is.stays, due-jobs s now (jobs_left s now) (placements s now)) refl
 

@@ -12,13 +12,13 @@ ghost use Rattle.ctl_pass.specs.Readiness;
 use crate::laws::what_a_pass_plans_is_sound;
 use crate::limits::{hold_end, is_old};
 use backfill_planner::Base;
+use cpu_ids::CpuIds;
 use ctl_state::cluster::Cluster;
 use ctl_state::planning::rooms_of;
 use job_table::record::JobRecord;
 use resource_profile::Hold;
 use slurm_text::items::Items;
 use slurm_text::memory_error::Memory;
-use cpu_ids::CpuIds;
 use std::alloc::Global;
 
 fn count_of(cpus: &CpuIds) -> u32

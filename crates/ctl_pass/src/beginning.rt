@@ -77,7 +77,8 @@ pub(crate) fn begin(now: u64, cluster: &mut Cluster, starts: Vec<DueStart>)
     requires due { AreDue (unplanned now (state_of cluster.old)) starts.items }
     requires indexed { IsIndexed cluster.old }
     ensures after { state_of cluster.new ≡ record (state_of cluster.old) {
-        jobs = fold (begun_by cluster.old.nodes.records now) cluster.old.jobs.records (placements_of starts.items) } }
+      jobs = fold (begun_by cluster.old.nodes.records now) cluster.old.jobs.records (placements_of starts.items);
+    } }
     ensures indexed { IsIndexed cluster.new }
 {
     taking_keeps_all_sound();
