@@ -1,9 +1,8 @@
 -- Due placements that start one after another, on what the index of the nodes shows as free.
 use Rattle.std.proofs.lemmas.Bool.Decides.{nat_tests}
-use Rattle.std.proofs.Common.{◌≡◌, ◌≢◌, ℕ, ◌+◌, ◌≤◌, ◌<◌, false, ◌&&◌, not, eqb, ltb, List, [], ◌∷◌, ◌++◌, length, map, take, get_or, All, AllPairs, refl, ap, sym, ◌∙◌, arith}
-use Rattle.std.specs.List.{HoldsAt, list_any, range_with_len}
-use Rattle.std.specs.Prelude.{option_map, slice_get}
-use Rattle.std.proofs.lemmas.Bool.{and_left, eq-eqb, ne_eqb}
+use Rattle.std.proofs.Common.{◌≡◌, ◌≢◌, ℕ, ◌<◌, not, eqb, ltb, List, [], ◌∷◌, ◌++◌, length, map, take, get_or, All, AllPairs, refl, ap, ◌∙◌, arith}
+use Rattle.std.specs.List.{HoldsAt, range_with_len}
+use Rattle.std.proofs.lemmas.Bool.{eq-eqb, ne_eqb}
 use Rattle.std.proofs.lemmas.List.{get_or-map, get_or-take, get_or_default, length-map, length-take}
 use Rattle.std.proofs.lemmas.List.Elements.{All-head, All-map, All-tail, filter_agree}
 use Rattle.std.proofs.lemmas.List.Folds.{list_any-append, list_any_none}
@@ -17,8 +16,8 @@ use Rattle.job_table.specs.declared.record.JobRecord.{JobRecord}
 use Rattle.job_table.specs.declared.record.Part.{Part}
 use Rattle.node_state.specs.declared.record.Held.{Held}
 use Rattle.node_state.specs.declared.record.NodeRecord.{NodeRecord}
-use Rattle.node_state.specs.Held.{Takes, free_cpus, held_at, held_mem, holds_cpu}
-use Rattle.ctl_state.specs.Holding.{cpus_of, free_ids, has_cpu, mem_held, mem_in, mem_of, parts_of, times_held}
+use Rattle.node_state.specs.Held.{Takes, free_cpus, held_at, holds_cpu}
+use Rattle.ctl_state.specs.Holding.{cpus_of, free_ids, has_cpu, mem_held, mem_in, parts_of, times_held}
 use Rattle.ctl_state.specs.Index.{ShowsParts, TakesParts}
 use Rattle.ctl_state.specs.Laws.{TakingShows}
 use Rattle.ctl_state.specs.Planning.{names_of, room_of}
@@ -35,15 +34,11 @@ room-is : (nodes : List NodeRecord) (place : ℕ) (d : NodeRecord) → place < l
     → room_at (map room_of nodes) place ≡ room_of (get_or nodes place d)
 room-is nodes place d within = get_or-map room_of nodes place d _ within
 
--- so what is free of it, and its memory, by its record
-pub free-at : (nodes : List NodeRecord) (held : List Held) (place : ℕ) (d : NodeRecord) → place < length nodes
+-- so what is free of it, by its record
+free-at : (nodes : List NodeRecord) (held : List Held) (place : ℕ) (d : NodeRecord) → place < length nodes
     → free_by nodes held place ≡ free_cpus (get_or nodes place d) (held_at held place)
 free-at nodes held place d within =
     ap (λ (room : NodeRoom). others_below room.cpus (held_at held place).cpus) (room-is nodes place d within)
-
-pub mem-at : (nodes : List NodeRecord) (place : ℕ) (d : NodeRecord) → place < length nodes
-    → mem_of (map room_of nodes) place ≡ (get_or nodes place d).conf.mem
-mem-at nodes place d within = ap (λ (room : NodeRoom). room.mem) (room-is nodes place d within)
 
 -- the lowest of them
 pub lowest-at : (nodes : List NodeRecord) (held : List Held) (place count : ℕ) (cpus : List ℕ) → place < length nodes

@@ -1,26 +1,17 @@
--- What parts hold of a node's processors: how many, which are free, the bits of those that are held, and what a share
--- becomes beside them.
+-- What parts hold of a node's processors: how many, and which are free.
 use Rattle.std.proofs.lemmas.Bool.Decides.{nat_tests}
-use Rattle.std.proofs.Common.{◌≡◌, ◌≢◌, ℕ, zero, suc, ◌+◌, ◌*◌, ◌≤◌, ◌<◌, Bool, true, false, ◌&&◌, ◌||◌, not, cond, eqb, ltb, List, [], ◌∷◌, ◌++◌, length, map, filter, take, set, get_or, sum_by, count_by, All, AllPairs, refl, ap, sym, ◌∙◌, arith, inl, inr}
-use Rattle.std.specs.List.{range_with_len, list_any}
-use Rattle.std.proofs.lemmas.Bool.{cases_Bool, eqb-true, ne_eqb, and_left}
-use Rattle.std.proofs.lemmas.List.{get_or-take, get_or-set_same, get_or-set_other, get_or_default, take_more, length-take, length-append, map-id, take_all, take-append-le, append-nil}
-use Rattle.std.proofs.lemmas.List.Elements.{All-filter, All-weaker, filter_passes, All-head, All-tail, All-map, All-take}
-use Rattle.std.proofs.lemmas.List.Folds.{list_any-append, list_any_none}
-use Rattle.std.proofs.lemmas.List.FromFn.{length-range_with_len, filter_of_map_range_with_len_more}
+use Rattle.std.proofs.Common.{◌≡◌, ℕ, ◌+◌, ◌≤◌, ◌<◌, Bool, true, cond, eqb, List, length, filter, get_or, sum_by, All, AllPairs, refl, arith, inl, inr}
+use Rattle.std.specs.List.{range_with_len}
+use Rattle.std.proofs.lemmas.Bool.{cases_Bool, eqb-true}
+use Rattle.std.proofs.lemmas.List.Elements.{All-filter, All-weaker, filter_passes}
+use Rattle.std.proofs.lemmas.List.FromFn.{length-range_with_len}
 use Rattle.std.proofs.lemmas.List.Kept.{AllPairs-filter}
 use Rattle.std.proofs.lemmas.List.Sums.{length-filter}
 use Rattle.resource_profile.specs.declared.NodeRoom.{NodeRoom}
-use Rattle.backfill_planner.specs.declared.Share.{Share}
 use Rattle.job_table.specs.declared.record.Part.{Part}
-use Rattle.job_table.specs.declared.record.JobRecord.{JobRecord}
 use Rattle.job_table.specs.Changes.{is_on}
-use Rattle.node_state.specs.declared.record.NodeRecord.{NodeRecord}
-use Rattle.ctl_state.specs.Holding.{cpus_of, has_cpu, times_held, free_ids, IsPartOf, parts_of}
-use Rattle.ctl_state.specs.Planning.{room_of}
-use Rattle.ctl_state.specs.Soundness.{IsNode}
-use Rattle.ctl_pass.specs.Starting.{part_of}
-use Rattle.ctl_pass.proofs.Lists.{sum_by-same, sum_by-none, sum_by-ones, sum_by-add, sum_by-swap, range-rises, range-below, range-rising, pairs-take, filter-same}
+use Rattle.ctl_state.specs.Holding.{cpus_of, has_cpu, times_held, free_ids, IsPartOf}
+use Rattle.ctl_pass.proofs.Lists.{sum_by-same, sum_by-none, sum_by-ones, sum_by-add, sum_by-swap, range-rises, range-below, range-rising}
 
 -- how many processors of the node the parts hold, each as often as it stands in them; and how many one part has
 pub cpus_held : List NodeRoom → List Part → ℕ → ℕ

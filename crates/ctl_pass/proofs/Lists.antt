@@ -249,11 +249,6 @@ map-same f g [] same = refl
 map-same f g (x ∷ xs) same =
     grind (arith, map-same f g xs (All-tail (λ y. f y ≡ g y) x xs same), All-head (λ y. f y ≡ g y) x xs same)
 
-pub filter-same : {X : Type 0} (p q : X → Bool) (xs : List X) → All (λ x. p x ≡ q x) xs → filter p xs ≡ filter q xs
-filter-same p q [] same = refl
-filter-same p q (x ∷ xs) same =
-    rw (All-head (λ y. p y ≡ q y) x xs same, filter-same p q xs (All-tail (λ y. p y ≡ q y) x xs same)) refl
-
 pub All-joined : {X Y : Type 0} (P : Y → Type 0) (f : X → List Y) (xs : List X) → All P (flat_map f xs)
     → All (λ x. All P (f x)) xs
 All-joined P f xs each k e below j d inside =

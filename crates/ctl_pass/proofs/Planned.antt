@@ -1,10 +1,9 @@
 -- The plan of a pass: what is held is within the nodes, what is planned is of candidates and can start, and its jobs
 -- await that.
 use Rattle.std.proofs.lemmas.Bool.Decides.{nat_tests}
-use Rattle.std.proofs.Common.{◌≡◌, ◌≢◌, ℕ, ◌+◌, ◌≤◌, ◌<◌, Bool, true, ◌&&◌, cond, leb, List, [], ◌∷◌, ◌++◌, length, map, filter, flat_map, get_or, sum_by, unwrap_or, All, AllPairs, Any, Contains, Option, Some, None, IfSome, refl, ap, sym, ◌∙◌, arith, inl, inr}
+use Rattle.std.proofs.Common.{◌≡◌, ◌≢◌, ℕ, ◌+◌, ◌≤◌, ◌<◌, Bool, ◌&&◌, cond, leb, List, [], ◌∷◌, ◌++◌, length, map, filter, flat_map, get_or, sum_by, unwrap_or, All, AllPairs, Contains, Option, Some, None, IfSome, refl, ap, sym, ◌∙◌, arith}
 use Rattle.std.specs.Prelude.{filter_map, is_none}
-use Rattle.std.proofs.lemmas.Bool.{cases_order}
-use Rattle.std.proofs.lemmas.List.{get_or_default, length-map}
+use Rattle.std.proofs.lemmas.List.{length-map}
 use Rattle.std.proofs.lemmas.List.Elements.{All-contains, All-filter, All-map, filter_agree}
 use Rattle.resource_profile.specs.declared.Hold.{Hold}
 use Rattle.resource_profile.specs.Free.{covers}
@@ -39,9 +38,9 @@ use Rattle.ctl_pass.specs.Readiness.{jobs_left, ready, base_of, is_candidate, is
 use Rattle.ctl_pass.specs.Taking.{CanStart}
 use Rattle.ctl_pass.specs.Reasons.{first_reason, held_reason, hindrance, hindrances_in, is_full, lacks_node, most_tasks, reason_if}
 use Rattle.ctl_pass.proofs.Held.{held-counted, free-counted}
-use Rattle.ctl_pass.proofs.Lists.{sum_by-larger, sum_by-map, joined-larger, Any-kept, length-rising, at-place, All-joins, All-joined}
+use Rattle.ctl_pass.proofs.Lists.{sum_by-larger, sum_by-map, joined-larger, length-rising, at-place, All-joins, All-joined}
 use Rattle.ctl_pass.proofs.Ranks.{IsOfCandidate, waiting, candidates-wait, ranked-all, ranked-candidates, ranked-waits, ranked-apart}
-use Rattle.ctl_pass.proofs.Readied.{ReadyLaws, readied, sound-readied, pending-holds_not, pending-left}
+use Rattle.ctl_pass.proofs.Readied.{ReadyLaws, readied, sound-readied, pending-left}
 use Rattle.ctl_pass.proofs.Tasks.{holding-left, waits-with, with-left}
 
 -- the laws of plans that a pass rests on

@@ -1,13 +1,11 @@
 -- What the first steps of a pass leave: jobs past their limits complete, and old records are gone.
 use Rattle.std.proofs.lemmas.Bool.Decides.{nat_tests}
-use Rattle.std.proofs.Common.{◌≡◌, ℕ, suc, ◌+◌, ◌≤◌, ◌<◌, Bool, true, false, ◌&&◌, ◌||◌, not, cond, eqb, leb, List, [], ◌∷◌, ◌++◌, length, map, filter, flat_map, take, get_or, unwrap_or, All, Contains, Some, None, refl, sym, ◌∙◌, arith, inl, inr, rules, tests}
+use Rattle.std.proofs.Common.{◌≡◌, ℕ, suc, ◌+◌, ◌≤◌, ◌<◌, Bool, true, false, ◌&&◌, not, cond, eqb, leb, List, [], ◌∷◌, ◌++◌, length, map, filter, flat_map, take, get_or, unwrap_or, Contains, Some, None, refl, sym, ◌∙◌, arith, inl, inr, rules, tests}
 use Rattle.std.specs.List.{list_any}
 use Rattle.std.proofs.lemmas.Bool.{cond_both, and_parts, cases_Bool, ne_eqb}
 use Rattle.std.proofs.lemmas.List.{take_more, map-append, append-nil, length-map}
 use Rattle.std.proofs.lemmas.List.Concat.{flat_map-append}
-use Rattle.std.proofs.lemmas.List.Elements.{All-weaker, All-head, All-tail, All-nil, filter-append}
-use Rattle.std.proofs.lemmas.List.Folds.{list_any-append}
-use Rattle.std.proofs.lemmas.List.Kept.{AllPairs-filter}
+use Rattle.std.proofs.lemmas.List.Elements.{All-weaker, All-nil, filter-append}
 use Rattle.std.proofs.lemmas.List.Sums.{length-filter, count_by-le-length}
 use Rattle.slurm_text.specs.declared.plain.state.JobState.{JobState}
 use Rattle.slurm_text.specs.declared.plain.state.JobState.TheVariants.{Completing}
@@ -17,16 +15,14 @@ use Rattle.job_table.specs.declared.record.JobRecord.{JobRecord}
 use Rattle.job_table.specs.declared.change.Change.TheVariants.{Leave}
 use Rattle.job_table.specs.Changes.{changed}
 use Rattle.job_table.specs.JobStates.{is_running, is_ended, is_holding, is_pending}
-use Rattle.job_table.specs.Table.{HaveRisingIds, is_old}
-use Rattle.job_table.specs.Targets.{is_task_of}
+use Rattle.job_table.specs.Table.{is_old}
 use Rattle.ctl_state.specs.Events.{LetsGo, those_left}
-use Rattle.ctl_state.specs.Holding.{parts_of, has_members}
+use Rattle.ctl_state.specs.Holding.{has_members}
 use Rattle.ctl_state.specs.Laws.{LettingGo, ChangesLetGo, LetsGoNothing, KeptLater}
 use Rattle.ctl_state.specs.Soundness.{IsSound, IsKept, PlansPending, pending_ids, HasItsParts}
 use Rattle.ctl_state.specs.State.{State, last_moment}
 use Rattle.ctl_pass.specs.Limits.{deadline, is_over, timed_out, holds_of_job}
 use Rattle.ctl_pass.specs.Readiness.{ready}
-use Rattle.ctl_pass.proofs.Lists.{pairs-map}
 
 -- no plan names nobody
 pub no-plan : (jobs : List JobRecord) → PlansPending jobs []
@@ -171,26 +167,3 @@ pub old-empty : (age now : ℕ) (job : JobRecord) → HasItsParts job → is_old
     → job.parts ≡ []
 old-empty age now job has old =
     no_parts job has (ended-others job.state (old-ended age now job (sym (timed_out-old age now job) ∙ old))).1
-
--- one more job of those that are left, and whether it is a task of an array
-timed_out-task : (now array : ℕ) (job : JobRecord) → is_task_of array (timed_out now job) ≡ is_task_of array job
-timed_out-task now array job =
-    by_limit (λ after. is_task_of array after ≡ is_task_of array job) now job (λ over running. refl) (λ within. refl)
-
-pub tasks-more : (age now array i : ℕ) (jobs : List JobRecord) (job : JobRecord) → i < length jobs
-    → job ≡ get_or jobs i job
-    → list_any (is_task_of array) (those_left (timed_out now) (is_old age now) (take (i + 1) jobs))
-    ≡ (list_any (is_task_of array) (those_left (timed_out now) (is_old age now) (take i jobs)) || (not
-    (is_old age now job) && is_task_of array job))
-tasks-more age now array i jobs job within is =
-    let keep : JobRecord → Bool = λ one. not (is_old age now one) in
-    let before = map (timed_out now) (take i jobs) in
-    let any = list_any-append (is_task_of array) (filter keep before) (filter keep (timed_out now job ∷ [])) in
-    rw (
-      take_more jobs i job within,
-      ← is,
-      map-append (timed_out now) (take i jobs) (job ∷ []),
-      filter-append keep before (timed_out now job ∷ []),
-      any,
-    )
-    (grind (arith, nat_tests, timed_out-old age now job, timed_out-task now array job))

@@ -1,7 +1,7 @@
 -- The walk over a plan: what is counted while placements start, and that those that start and stay are the
 -- definition's.
 use Rattle.std.proofs.lemmas.Bool.Decides.{nat_tests}
-use Rattle.std.proofs.Common.{◌≡◌, ◌≢◌, ℕ, ◌+◌, ◌<◌, Bool, true, false, ◌&&◌, cond, eqb, List, [], ◌∷◌, ◌++◌, fold, get_or, All, Option, refl, ap, sym, ◌∙◌, append_assoc, arith}
+use Rattle.std.proofs.Common.{◌≡◌, ◌≢◌, ℕ, ◌+◌, ◌<◌, Bool, true, false, ◌&&◌, cond, eqb, List, [], ◌∷◌, ◌++◌, fold, get_or, Option, refl, ap, sym, ◌∙◌, append_assoc, arith}
 use Rattle.std.specs.List.{list_any}
 use Rattle.std.proofs.lemmas.List.Elements.{All-head, All-tail}
 use Rattle.std.proofs.lemmas.List.Sums.{fold_push}
@@ -13,10 +13,10 @@ use Rattle.job_table.specs.Targets.{is_number}
 use Rattle.node_state.specs.declared.record.NodeRecord.{NodeRecord}
 use Rattle.ctl_state.specs.declared.array_counts.ArrayCounts.{ArrayCounts}
 use Rattle.ctl_state.specs.ArrayCounts.{CountsTasks, count_in}
-use Rattle.ctl_state.specs.Events.{started_as, waits}
+use Rattle.ctl_state.specs.Events.{started_as}
 use Rattle.ctl_state.specs.State.{State}
 use Rattle.ctl_pass.specs.Awaiting.{Awaits, CanBegin, array_of}
-use Rattle.ctl_pass.specs.Starting.{JobStart, Started, begun, begun_by, due, may_start, start_of, started}
+use Rattle.ctl_pass.specs.Starting.{JobStart, begun, begun_by, due, may_start, start_of, started}
 use Rattle.ctl_pass.proofs.Lists.{pairs-head, pairs-map, pairs-tail}
 use Rattle.ctl_pass.proofs.Tasks.{counted-begun, with-begun}
 

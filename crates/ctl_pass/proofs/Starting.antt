@@ -1,7 +1,7 @@
 -- The starts of a plan: what each takes, that all stays sound, that each job gets what was planned, and that none
 -- reaches a limit.
 use Rattle.std.proofs.lemmas.Bool.Decides.{nat_tests}
-use Rattle.std.proofs.Common.{◌≡◌, ◌≢◌, ◌⊎◌, ℕ, zero, suc, ◌+◌, ◌≤◌, ◌<◌, true, ◌&&◌, not, cond, eqb, List, [], ◌∷◌, length, map, fold, take, get_or, sum_by, All, AllPairs, Any, Contains, refl, ap, sym, ◌∙◌, arith, inl, inr}
+use Rattle.std.proofs.Common.{◌≡◌, ◌≢◌, ◌⊎◌, ℕ, zero, suc, ◌+◌, ◌≤◌, ◌<◌, true, ◌&&◌, not, cond, eqb, List, [], ◌∷◌, length, map, fold, take, get_or, sum_by, All, Any, Contains, refl, ap, sym, ◌∙◌, arith, inl, inr}
 use Rattle.std.specs.List.{AllZip}
 use Rattle.std.proofs.lemmas.Bool.{cases_Bool, and_parts, eq-eqb, eqb-true, ne_eqb}
 use Rattle.std.proofs.lemmas.List.{length-take, length-take-le, length-map, get_or-map}
@@ -12,7 +12,6 @@ use Rattle.resource_profile.specs.declared.NodeRoom.{NodeRoom}
 use Rattle.resource_profile.specs.Free.{room_at}
 use Rattle.backfill_planner.specs.declared.Placed.{Placed}
 use Rattle.backfill_planner.specs.declared.Share.{Share}
-use Rattle.backfill_planner.specs.Placements.{AreParts}
 use Rattle.backfill_planner.specs.Plans.{starts_at, cpus_on, mem_on}
 use Rattle.job_table.specs.declared.record.JobRecord.{JobRecord}
 use Rattle.job_table.specs.declared.record.Part.{Part}
@@ -27,7 +26,7 @@ use Rattle.ctl_state.specs.Soundness.{IsSound, PlansPending, is_up_at, pending_i
 use Rattle.ctl_state.specs.State.{State}
 use Rattle.ctl_pass.specs.Starting.{JobStart, part_of, start_of, begun, started, may_start, IsAsPlanned, HasStarted}
 use Rattle.ctl_pass.specs.Taking.{CanStart, IsReady}
-use Rattle.ctl_pass.proofs.Held.{cpus_held, cpus_in, held-counted, held-grown, free-counted, free-are}
+use Rattle.ctl_pass.proofs.Held.{cpus_in, held-counted, held-grown, free-counted, free-are}
 use Rattle.ctl_pass.proofs.Lists.{sum_by-map, pairs-take, pairs-head, pairs-tail, pairs-map, Any-kept}
 use Rattle.ctl_pass.proofs.Readied.{no-plan}
 

@@ -1,5 +1,5 @@
 -- What placements and jobs are like that are to start.
-use Rattle.std.specs.Prelude.{◌≡◌, ◌≢◌, ℕ, ◌≤◌, Bool, true, List, [], length, map, filter_map, slice_get, vec_capacity, All, AllPairs, Option, option_map, option_and_then}
+use Rattle.std.specs.Prelude.{◌≡◌, ◌≢◌, ℕ, ◌≤◌, true, List, [], length, map, filter_map, slice_get, vec_capacity, All, AllPairs, Option, option_map, option_and_then}
 use Rattle.backfill_planner.specs.declared.Placed.{Placed}
 use Rattle.backfill_planner.specs.declared.Share.{Share}
 use Rattle.job_table.specs.declared.record.JobRecord.{JobRecord}

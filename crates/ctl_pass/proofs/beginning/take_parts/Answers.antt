@@ -1,4 +1,4 @@
-use Rattle.std.proofs.Common.{◌≡◌, ◌+◌, List, [], ◌∷◌, ◌++◌, length, map, take, get_or, ap, sym, refl, ◌∙◌, arith}
+use Rattle.std.proofs.Common.{◌≡◌, ◌+◌, [], ◌∷◌, ◌++◌, length, map, take, get_or, ap, sym, refl, ◌∙◌, arith}
 use Rattle.std.proofs.lemmas.List.{get_or_default, take-map}
 use Rattle.backfill_planner.specs.declared.Share.{Share}
 use Rattle.ctl_pass.specs.Taking.{part_by}
