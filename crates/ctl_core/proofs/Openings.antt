@@ -2,12 +2,16 @@
 use Rattle.std.proofs.Common.{◌≡◌, ℕ, ◌<◌, ◌≤◌, List, [], ◌∷◌, map, length, All, refl, ap, arith}
 use Rattle.slurm_text.specs.declared.plain.conf.NodeConf.{NodeConf}
 use Rattle.resource_profile.specs.declared.NodeRoom.{NodeRoom}
+use Rattle.job_table.specs.declared.record.JobRecord.{JobRecord}
+use Rattle.node_state.specs.declared.record.Held.{Held}
 use Rattle.node_state.specs.declared.record.NodeRecord.{NodeRecord}
+use Rattle.node_state.specs.Held.{HoldsNothing}
 use Rattle.node_state.specs.Nodes.{opened}
 use Rattle.partitions.specs.Partitions.{IsOnNodes}
 use Rattle.slurm_text.specs.Confs.{node_names}
 use Rattle.ctl_state.specs.State.{State, last_job_id}
-use Rattle.ctl_state.specs.Holding.{times_held, mem_held, IsHeldOnce}
+use Rattle.ctl_state.specs.Holding.{times_held, mem_held, parts_of, IsHeldOnce}
+use Rattle.ctl_state.specs.Index.{ShowsParts}
 use Rattle.ctl_state.specs.Planning.{room_of}
 use Rattle.ctl_state.specs.Soundness.{IsSound, HasRanges, HasLimits, AreNodes}
 
@@ -52,3 +56,9 @@ sound-opening s ranges nodes on_nodes limits no_jobs no_plan next size moment = 
     last = λ k d within. absurd (omega (arith, within));
   });
 }
+
+-- where nothing is held, that shows what no jobs hold
+pub shows-none : (held : List Held) (jobs : List JobRecord) → HoldsNothing held → jobs ≡ []
+    → ShowsParts held (parts_of jobs)
+unfolding times_held mem_held
+shows-none held jobs nothing none = rw none (record { cpus = nothing.cpus; mem = nothing.mem })
