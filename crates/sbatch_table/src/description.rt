@@ -1,6 +1,5 @@
 // What a description of a job says.
 
-use crate::answer::Unanswered;
 use crate::show::{Show, or_dash, push_field, show_joined};
 use slurm_text::items::Items;
 use slurm_text::name::Name;
@@ -8,6 +7,7 @@ use slurm_text::plain::job::JobDesc;
 use slurm_text::plain::nice::Nice;
 use slurm_text::ranged::Ranged;
 use std::alloc::Global;
+use table_lines::answer::Unanswered;
 
 // Names of nodes.
 #[derive(Clone, Copy)]

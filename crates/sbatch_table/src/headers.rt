@@ -1,12 +1,13 @@
 // Headers of blocks.
 
-use crate::answer::{LONGEST, Unanswered, push};
 use crate::requests::push_request;
 use crate::show::Show;
 use command_words::command::Command;
 use command_words::fault::{WordFault, WordKind};
 use command_words::header::{Asked, Meaning, read_header};
 use std::alloc::Global;
+use table_lines::answer::{Unanswered, push};
+use table_lines::fields::LONGEST;
 
 fn push_asked(out: &mut Vec<u8>, asked: &Asked) -> Result<(), Unanswered> {
     out.extend_from_slice(b"Asks ")?;

@@ -1,11 +1,12 @@
 // The words and the script of sbatch(1).
 
-use crate::answer::{LONGEST, Unanswered, push};
 use crate::description::described;
 use sbatch_reader::reader::{read_job, script_word};
 use sbatch_reader::refusal::JobRefusal;
 use slurm_text::words::{Words, WordsRefusal, split_words};
 use std::alloc::Global;
+use table_lines::answer::{Unanswered, push};
+use table_lines::fields::LONGEST;
 
 // The moment at which words are read.
 const NOW: u64 = 1000;

@@ -1,14 +1,14 @@
 // What requests ask.
 
-use crate::answer::{Unanswered, push, push_variant};
 use crate::description::described;
-use crate::show::{Show, or_dash, push_field, show_joined};
+use crate::show::{Show, or_dash, push_field, push_variant, show_joined};
 use slurm_text::items::Items;
 use slurm_text::plain::query::{JobColumn, JobQuery, Piece, Query, StateCode, Who};
 use slurm_text::plain::report::{Done, Report, Start};
 use slurm_text::plain::request::Request;
 use slurm_text::plain::target::{Target, Targets};
 use slurm_text::ranged::Ranged;
+use table_lines::answer::{Unanswered, push};
 
 impl Show for Target {
     fn show(&self, out: &mut Vec<u8>) -> Result<(), Unanswered> {

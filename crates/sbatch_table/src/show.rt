@@ -1,6 +1,5 @@
 // How values are shown.
 
-use crate::answer::{Unanswered, push, push_variant};
 use slurm_text::items::Items;
 use slurm_text::name::{JobName, Name};
 use slurm_text::plain::array::ArraySpec;
@@ -10,11 +9,20 @@ use slurm_text::plain::limit::Limit;
 use slurm_text::plain::mem_ask::MemAsk;
 use slurm_text::plain::nice::Nice;
 use slurm_text::ranged::Ranged;
+use std::fmt::Debug;
+use table_lines::answer::{Unanswered, push};
 
 /// A value that an answer shows.
 pub trait Show {
     /// Puts the value's text behind an answer.
     fn show(&self, out: &mut Vec<u8>) -> Result<(), Unanswered>;
+}
+
+/// Puts the name of an enum's variant behind an answer.
+pub fn push_variant<T: Debug>(out: &mut Vec<u8>, value: &T) -> Result<(), Unanswered> {
+    let text = format!(in *out.allocator(); "{value:?}")?;
+    out.extend_from_slice(text.as_bytes())?;
+    Ok(())
 }
 
 /// Puts values behind an answer, with a mark between two.

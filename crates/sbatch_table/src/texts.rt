@@ -1,6 +1,5 @@
 // Texts of a job's options.
 
-use crate::answer::{Unanswered, push, refused};
 use crate::show::{Show, quantifier};
 use job_texts::array::{ArrayRefusal, read_array};
 use job_texts::dependency::{DepRefusal, read_dependency};
@@ -8,6 +7,7 @@ use job_texts::features::{FeaturesRefusal, read_features};
 use slurm_text::plain::array::ArraySpec;
 use slurm_text::plain::dependency::DepSpec;
 use std::alloc::Global;
+use table_lines::answer::{Unanswered, push, refused};
 
 fn shown<T: Show>(alloc: Global, value: &T) -> Result<Vec<u8>, Unanswered> {
     let mut out = Vec::new(alloc);

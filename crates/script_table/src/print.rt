@@ -1,12 +1,9 @@
 // An outcome as lines.
 
 use crate::outcome::Outcome;
-use percent_encoding::{AsciiSet, CONTROLS, percent_encode};
+use percent_encoding::percent_encode;
 use std::alloc::AllocError;
-
-fn escaped() -> AsciiSet {
-    CONTROLS.add(b'%')
-}
+use table_lines::table::ESCAPED;
 
 // Each line of the text behind the mark. A last one that doesn't end has `!` behind the mark.
 fn push_lines(out: &mut String, mark: &str, text: &[u8]) -> Result<(), AllocError> {
@@ -17,7 +14,7 @@ fn push_lines(out: &mut String, mark: &str, text: &[u8]) -> Result<(), AllocErro
             out.push_str("!")?;
         }
         out.push_str(" ")?;
-        percent_encode(whole.unwrap_or(line), escaped()).append_to(out)?;
+        percent_encode(whole.unwrap_or(line), ESCAPED).append_to(out)?;
         out.push_str("\n")?;
     }
     Ok(())

@@ -1,8 +1,10 @@
 // The blocks of a text, fed in pieces.
 
-use crate::answer::{Called, Unanswered, number, push};
+use crate::Called;
 use block_frame::{Blocks, Form, Next};
 use std::alloc::Global;
+use table_lines::answer::{Unanswered, push};
+use table_lines::fields::number;
 
 // Puts the headers of the blocks that are whole behind the answer, in brackets. Where a block is bad, its place.
 fn take_blocks(
@@ -32,15 +34,15 @@ fn cut(alloc: Global, piece: &[u8], text: &[u8]) -> Result<Vec<u8>, Unanswered> 
     for bytes in text.chunks(piece) {
         blocks.feed(bytes)?;
         if let Some(place) = take_blocks(&mut blocks, &mut out, text.len())? {
-            push(alloc, &mut out, &" bad at ")?;
-            push(alloc, &mut out, &place)?;
+            push(&mut out, &" bad at ")?;
+            push(&mut out, &place)?;
             return Ok(out);
         }
     }
-    push(alloc, &mut out, &" up to ")?;
-    push(alloc, &mut out, &blocks.place())?;
+    push(&mut out, &" up to ")?;
+    push(&mut out, &blocks.place())?;
     if !blocks.is_empty() {
-        push(alloc, &mut out, &" and more")?;
+        push(&mut out, &" and more")?;
     }
     Ok(out)
 }

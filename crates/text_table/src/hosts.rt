@@ -1,10 +1,12 @@
 // Host expressions.
 
-use crate::answer::{Called, LONGEST, Unanswered, number, refused, taken};
+use crate::Called;
 use slurm_text::folding::fold_hosts;
 use slurm_text::hosts::{HostRefusal, expand_hosts};
 use slurm_text::name::Name;
 use std::alloc::Global;
+use table_lines::answer::{Unanswered, refused, taken};
+use table_lines::fields::{LONGEST, number};
 
 fn refused_hosts(alloc: Global, refusal: HostRefusal) -> Result<Vec<u8>, Unanswered> {
     match refusal {

@@ -1,6 +1,6 @@
 // Lines of squeue.
 
-use crate::answer::{Called, Unanswered, refused};
+use crate::Called;
 use crate::rows::job_row;
 use slurm_print::text::text;
 use slurm_text::items::Items;
@@ -10,6 +10,7 @@ use slurm_text::plain::request::Request;
 use slurm_text::plain::view::{Row, View};
 use squeue_format::format::{FormatRefusal, read_format};
 use std::alloc::Global;
+use table_lines::answer::{Unanswered, refused};
 
 // What squeue shows of these rows.
 fn shown(

@@ -1,25 +1,37 @@
-//! Calls the functions that the lines of a table name, and prints each line with the answer.
+//! Calls the functions of small texts that the lines of a table name, and prints each line with the answer.
 #![tactic(auto)]
 
-mod answer;
 mod blocks;
-mod fields;
 mod hosts;
 mod lines;
-mod picks;
-mod plans;
-mod profiles;
 mod rows;
-mod table;
 mod texts;
 mod times;
 mod words;
 
+use std::alloc::Global;
 use std::io;
+use table_lines::answer::Unanswered;
+use table_lines::table::{answers, print_answers};
+
+/// What the functions of a module answer: nothing where the call is none of theirs.
+type Called = Option<Result<Vec<u8>, Unanswered>>;
+
+// The functions of texts.
+fn call_of_texts(alloc: Global, function: &str, arguments: &[&[u8]]) -> Called {
+    texts::call(alloc, function, arguments)
+        .or_else(|| hosts::call(alloc, function, arguments))
+        .or_else(|| words::call(alloc, function, arguments))
+        .or_else(|| times::call(alloc, function, arguments))
+}
+
+fn answer(alloc: Global, function: &str, arguments: &[&[u8]]) -> Result<Vec<u8>, Unanswered> {
+    call_of_texts(alloc, function, arguments)
+        .or_else(|| blocks::call(alloc, function, arguments))
+        .or_else(|| lines::call(alloc, function, arguments))
+        .unwrap_or(Err(Unanswered::Arguments))
+}
 
 fn main(rt: HostRuntime) -> io::Result<()> {
-    let alloc = rt.alloc();
-    let text = io::read_to_string(alloc, rt.reader())?;
-    let answers = table::answers(alloc, text.as_str())?;
-    print!(rt; "{answers}")
+    print_answers(&rt, |alloc, table| answers(alloc, table, "|", answer))
 }

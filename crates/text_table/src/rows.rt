@@ -1,25 +1,16 @@
 // Jobs as squeue shows them.
 
-use crate::answer::{LONGEST, Unanswered, number};
-use crate::fields::{narrow_number, parts};
 use slurm_num::parse_limit;
 use slurm_text::hosts::expand_hosts;
 use slurm_text::items::Items;
-use slurm_text::name::{JobName, Name, NameRefusal};
+use slurm_text::name::{JobName, Name};
 use slurm_text::plain::limit::Limit;
 use slurm_text::plain::state::{Final, JobState, Reason};
 use slurm_text::plain::view::JobRow;
 use slurm_text::ranged::Ranged;
 use std::alloc::Global;
-
-impl From<NameRefusal> for Unanswered {
-    fn from(refusal: NameRefusal) -> Unanswered {
-        match refusal {
-            NameRefusal::Memory => Unanswered::Memory,
-            NameRefusal::BadName => Unanswered::Arguments,
-        }
-    }
-}
+use table_lines::answer::Unanswered;
+use table_lines::fields::{LONGEST, narrow_number, number, parts};
 
 // A job that waits for a reason, or `R`, `CG` or `TO`.
 fn state(text: &[u8]) -> Result<(JobState, Option<Reason>), Unanswered> {

@@ -1,12 +1,14 @@
 // Names, numbers, amounts of memory and moments.
 
-use crate::answer::{Called, Unanswered, number as argument, refused, taken};
+use crate::Called;
 use slurm_text::digits::parse_number;
 use slurm_text::memory::parse_mem;
 use slurm_text::moment;
 use slurm_text::moment::parse_moment;
 use slurm_text::name::{JobName, Name, NameRefusal};
 use std::alloc::Global;
+use table_lines::answer::{Unanswered, refused, taken};
+use table_lines::fields::number as argument;
 
 fn quoted(alloc: Global, text: &[u8]) -> Result<Vec<u8>, Unanswered> {
     let mut out = Vec::new(alloc);

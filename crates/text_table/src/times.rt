@@ -1,11 +1,13 @@
 // Time limits, lengths of time, fractions and shares.
 ghost use Rattle.std.specs.Prelude.{◌<◌, ◌^◌, IfOk};
 
-use crate::answer::{Called, Unanswered, number, refused, taken};
+use crate::Called;
 use slurm_num::plain::Limit;
 use slurm_num::{Ratio, parse_limit, print_elapsed};
 use std::alloc::Global;
 use std::cmp::Ordering;
+use table_lines::answer::{Unanswered, refused, taken};
+use table_lines::fields::number;
 
 // A limit in minutes.
 fn limit(alloc: Global, text: &[u8]) -> Result<Vec<u8>, Unanswered> {

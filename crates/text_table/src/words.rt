@@ -1,9 +1,10 @@
 // Words of a line, as a shell reads and writes them.
 
-use crate::answer::{Called, LONGEST, Unanswered, refused};
-use crate::fields::parts;
+use crate::Called;
 use slurm_text::words::{Words, WordsRefusal, quote_words, split_words, words_of};
 use std::alloc::Global;
+use table_lines::answer::{Unanswered, refused};
+use table_lines::fields::{LONGEST, parts};
 
 fn refused_words(alloc: Global, refusal: WordsRefusal) -> Result<Vec<u8>, Unanswered> {
     match refusal {

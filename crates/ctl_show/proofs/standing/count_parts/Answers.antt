@@ -9,4 +9,4 @@ loop-part-preserved c = λ before counted.
     let there = c.requires i part c.loop-part-test.true in
     counts-more before c.args.parts.now i part c.loop-part.counts c.saturating_add.result c.loop-part-test.true
     c.part-item.is (omega (arith, rw (← c.part-item.is) at there, c.loop-part.auto.counts))
-    (rw c.len.ensures at c.saturating_add.ensures) (c.loop-part.invariant before counted)
+    (rw c.len.ensures.value at c.saturating_add.ensures) (c.loop-part.invariant before counted)

@@ -1,5 +1,6 @@
 use Rattle.std.proofs.Common.{◌≡◌}
-use Rattle.text_table.proofs.profiles.held.Given as goal
+use Rattle.plan_table.proofs.profiles.held.Given as goal
 
+-- the rooms stay
 abbrev pub invariant-loop-text : goal.invariant-loop-text
 invariant-loop-text l = l.profile.rooms ≡ l.rooms
