@@ -1,5 +1,5 @@
 -- One line more of what is told.
-use Rattle.std.proofs.Common.{◌≡◌, ℕ, List, [], ◌∷◌, ◌++◌, append_assoc, refl}
+use Rattle.std.proofs.Common.{ℕ, List, [], ◌∷◌, ◌++◌, append_assoc, refl}
 use Rattle.table_lines.specs.Tables.{AreTold}
 
 pub told-more : (lines : List (List ℕ)) (text line behind : List ℕ) → AreTold lines text
