@@ -58,9 +58,9 @@ pub fn refusal_of(cluster: &Cluster, user: &Name) -> Option<Refusal>
     }
 }
 
-/// What a pass at its raised moment does. Linear in jobs, parts, nodes and for each candidate its nodes, beside what its
-/// plan costs; the nodes of each partition are sorted, and where tiers rise the candidates. The tasks of arrays are
-/// counted once, in one walk over the jobs.
+/// What a pass at its raised moment does. Linear in jobs, parts and nodes, and for each candidate that names nodes or
+/// features in the nodes of its partition, beside what its plan costs; the nodes of each partition are sorted, and
+/// where tiers rise the candidates. The tasks of arrays are counted once, in one walk over the jobs.
 /// It counts a step for each job that it plans, and after want of memory at most that many.
 pub fn decide<L>(
     alloc: Global,
