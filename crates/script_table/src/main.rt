@@ -7,8 +7,10 @@ mod print;
 mod table;
 
 use std::io;
-use table_lines::table::print_answers;
 
 fn main(rt: HostRuntime) -> io::Result<()> {
-    print_answers(&rt, table::answers)
+    let alloc = rt.alloc();
+    let text = io::read_to_string(alloc, rt.reader())?;
+    let answers = table::answers(alloc, text.as_str())?;
+    print!(rt; "{answers}")
 }

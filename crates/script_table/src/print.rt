@@ -1,9 +1,12 @@
 // An outcome as lines.
 
 use crate::outcome::Outcome;
-use percent_encoding::percent_encode;
+use percent_encoding::{AsciiSet, CONTROLS, percent_encode};
 use std::alloc::AllocError;
-use table_lines::table::ESCAPED;
+
+fn escaped() -> AsciiSet {
+    CONTROLS.add(b'%')
+}
 
 // Each line of the text behind the mark. A last one that doesn't end has `!` behind the mark.
 fn push_lines(out: &mut String, mark: &str, text: &[u8]) -> Result<(), AllocError> {
@@ -14,7 +17,7 @@ fn push_lines(out: &mut String, mark: &str, text: &[u8]) -> Result<(), AllocErro
             out.push_str("!")?;
         }
         out.push_str(" ")?;
-        percent_encode(whole.unwrap_or(line), ESCAPED).append_to(out)?;
+        percent_encode(whole.unwrap_or(line), escaped()).append_to(out)?;
         out.push_str("\n")?;
     }
     Ok(())
