@@ -30,6 +30,10 @@ pub struct JobRecord {
     /// What it asks for, settled: account, partition, quality of service, memory, limit and requeueing are those in
     /// force, it is neither held nor parsable, and the array of a task has its own index alone (own).
     pub desc: JobDesc,
+    /// The place of its association in the list of associations: its user's, of its account.
+    pub assoc: u32,
+    /// The place of its quality of service in the list of these.
+    pub qos: u32,
     /// The place of its partition in the list of partitions.
     pub partition: u32,
     /// The second at which it was handed in.

@@ -1,1 +1,2 @@
+pub mod Assocs
 pub mod Confs

@@ -126,20 +126,3 @@ impl Model for Conf {
 
     ghost invariant = { λ conf. IsConf conf.nodes conf.partitions };
 }
-
-/// An association: an account or a user of it. sacctmgr(1), "Flat file".
-#[derive(Debug, Drop)]
-pub struct AssocConf {
-    /// The place of the account that it belongs to; None where that is root.
-    pub parent: Option<u32>,
-    pub name: Name,
-    /// Whether it is a user; else it is an account.
-    pub user: bool,
-}
-
-/// What the association file says.
-#[derive(Debug, Drop)]
-pub struct AssocFile {
-    /// The associations, in the order of the file.
-    pub assocs: Items<AssocConf>,
-}

@@ -7,6 +7,7 @@ use small_texts::memory_error::Memory;
 use small_texts::name::Name;
 
 pub mod array;
+pub mod assoc;
 pub mod conf;
 pub mod dependency;
 pub mod features;

@@ -4,6 +4,19 @@ ghost use Rattle.std.specs.Prelude.{◌≡◌, IfOk};
 
 use small_texts::memory_error::Memory;
 
+/// Which limit of submitted jobs a submission exceeds. "Limits" in sacctmgr(1).
+#[derive(Clone, Copy, PartialEq, Eq, Debug)]
+pub enum Which {
+    /// `MaxSubmitJobs` of the user's association, or the nearest one above it that has one.
+    AssocMaxSubmitJobs,
+    /// `GrpSubmitJobs` of the association or of one above it.
+    AssocGrpSubmitJobs,
+    /// `GrpSubmitJobs` of the quality of service.
+    QosGrpSubmitJobs,
+    /// `MaxSubmitJobsPerUser` of the quality of service.
+    QosMaxSubmitJobsPerUser,
+}
+
 /// Why a request was refused. The numbers are those that its text shows (own).
 #[derive(PartialEq, Debug, Drop)]
 pub enum Refusal {
@@ -13,10 +26,14 @@ pub enum Refusal {
     InvalidAccount,
     /// 3: there is no such partition, or none was named and there is no default.
     InvalidPartition,
+    /// 4: there is no such quality of service.
+    InvalidQos,
     /// 5: no choice of nodes could ever give the job what it asks for.
     NodesNotAvailable,
-    /// 6: the partition doesn't take jobs of this account.
+    /// 6: the partition doesn't take jobs of this account, or of this quality of service.
     NotAllowedHere,
+    /// 7: the jobs that haven't ended and the new ones are more than a limit allows, which is given.
+    SubmitLimit { which: Which, limit: u64 },
     /// 8: the jobs that are kept and the new ones are more than MaxJobCount.
     JobTableFull,
     /// 9: an index of the array is MaxArraySize or more.
@@ -48,8 +65,13 @@ impl Refusal {
             Refusal::PartitionClosed => Ok(Refusal::PartitionClosed),
             Refusal::InvalidAccount => Ok(Refusal::InvalidAccount),
             Refusal::InvalidPartition => Ok(Refusal::InvalidPartition),
+            Refusal::InvalidQos => Ok(Refusal::InvalidQos),
             Refusal::NodesNotAvailable => Ok(Refusal::NodesNotAvailable),
             Refusal::NotAllowedHere => Ok(Refusal::NotAllowedHere),
+            Refusal::SubmitLimit { which, limit } => Ok(Refusal::SubmitLimit {
+                which: *which,
+                limit: *limit,
+            }),
             Refusal::JobTableFull => Ok(Refusal::JobTableFull),
             Refusal::ArrayTooLarge => Ok(Refusal::ArrayTooLarge),
             Refusal::InvalidJobId => Ok(Refusal::InvalidJobId),

@@ -52,8 +52,24 @@ pub enum Reason {
     PartitionTimeLimit,
     /// It can't have as many nodes as its partition asks for, or as few as it allows.
     PartitionNodeLimit,
+    /// Its limit is above the longest one of its quality of service.
+    QosMaxWallDurationPerJobLimit,
     /// As many tasks of its array hold processors as may at once.
     JobArrayTaskLimit,
+    /// As many jobs of its association, or of one above it, hold processors as may at once.
+    AssocGrpJobsLimit,
+    /// These jobs would have more processors than they may at once.
+    AssocGrpCpuLimit,
+    /// As many jobs of its association hold processors as may at once.
+    AssocMaxJobsLimit,
+    /// As many jobs of its quality of service hold processors as may at once.
+    QosGrpJobsLimit,
+    /// These jobs would have more processors than they may at once.
+    QosGrpCpuLimit,
+    /// As many jobs of its user in its quality of service hold processors as may at once.
+    QosMaxJobsPerUserLimit,
+    /// These jobs would have more processors than they may at once.
+    QosMaxCpuPerUserLimit,
     /// A node that it must have is down or drained.
     ReqNodeNotAvail,
     /// It is the next in rank.
