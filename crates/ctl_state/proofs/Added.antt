@@ -19,7 +19,7 @@ use Rattle.job_table.specs.JobStates.{is_pending}
 use Rattle.ctl_state.specs.Holding.{IsHeldOnce, IsPartOf, cpus_of, mem_of, parts_of}
 use Rattle.ctl_state.specs.Planning.{room_of}
 use Rattle.partitions.specs.Partitions.{IsOnNodes}
-use Rattle.ctl_state.specs.Soundness.{AreNodes, AreOfPartitions, AreUp, IsKept, IsSound, PlansPending, is_up_at, pending_ids}
+use Rattle.ctl_state.specs.Soundness.{AreNodes, AreOfPartitions, IsOfAccounts, AreUp, IsKept, IsSound, PlansPending, is_up_at, pending_ids}
 use Rattle.ctl_state.proofs.Kept.{kept-later, pending-nothing}
 use Rattle.ctl_state.proofs.Lists.{flat_map-nothing, pairs-append}
 
@@ -116,12 +116,12 @@ together-added jobs more next are come below later =
 
 pub sound-added : (s : State) (now next : ℕ) (more : List JobRecord) (arrays : List ArrayRecord) → IsSound s
     → s.moment ≤ now → now ≤ last_moment
-    → AreOfPartitions s.partitions more → All (IsKept now) more → All (λ (job : JobRecord). is_pending job.state ≡ true) more
+    → AreOfPartitions s.partitions more → All (IsOfAccounts s.assocs s.qos) more → All (IsKept now) more → All (λ (job : JobRecord). is_pending job.state ≡ true) more
     → HaveRisingIds more → All (λ (job : JobRecord). s.next_id ≤ job.id) more
     → All (λ (job : JobRecord). job.id + 1 ≤ next) more → s.next_id ≤ next → next ≤ last_job_id + 1
     → AreTogether more → All (λ (job : JobRecord). IfSome job.array (λ array. s.next_id ≤ array)) more
     → IsSound (record s { jobs = s.jobs ++ more; arrays = arrays; next_id = next; moment = now })
-sound-added s now next more arrays sound later in_time of kept pending rising above below on room tied new =
+sound-added s now next more arrays sound later in_time of by kept pending rising above below on room tied new =
     let both = s.jobs ++ more in
     let same = parts-added s.jobs more
     (λ k d below. pending-nothing now (get_or more k d) (kept k d below) (pending k d below)) in
@@ -131,6 +131,8 @@ sound-added s now next more arrays sound later in_time of kept pending rising ab
     let low : All (λ (job : JobRecord). job.id < next) both = All-append (λ (job : JobRecord). job.id < next) s.jobs more
     (λ k d old. omega (arith, sound.below_next k d old, on)) (λ k d new. omega (arith, below k d new)) in
     let partitions : AreOfPartitions s.partitions both = All-append (λ (job : JobRecord). job.partition < length s.partitions) s.jobs more sound.of_partitions of in
+    let accounts : All (IsOfAccounts s.assocs s.qos) both =
+    All-append (IsOfAccounts s.assocs s.qos) s.jobs more sound.of_accounts by in
     let all : All (IsKept now) both =
     All-append (IsKept now) s.jobs more (All-weaker (IsKept s.moment) (IsKept now) (λ job was. kept-later s.moment now job later was) s.jobs sound.jobs) kept in
     let up : AreUp s.nodes (parts_of both) = rw same sound.up in

@@ -28,14 +28,18 @@ kept-let_go before now job after kept lets =
 
 -- where all parts stay, where those that one keeps and then another do, and where those that aren't on a node do
 all-stay : (now : ℕ) (job after : JobRecord) → after.id ≡ job.id → after.array ≡ job.array
+    → after.user ≡ job.user → after.assoc ≡ job.assoc → after.qos ≡ job.qos
     → after.partition ≡ job.partition → after.parts ≡ job.parts
     → IsKept now after → LetsGo now job after
-all-stay now job after same task of held kept =
+all-stay now job after same task whose by with of held kept =
     let keep : Part → Bool = λ part. true in
     let parts : after.parts ≡ filter keep job.parts = held ∙ sym (filter-all job.parts) in
     record {
       id = same;
       array = task;
+      user = whose;
+      assoc = by;
+      qos = with;
       partition = of;
       keep = keep;
       parts = parts;
@@ -46,7 +50,7 @@ all-stay now job after same task of held kept =
     }
 
 pub lets_go-same : (now : ℕ) (job : JobRecord) → IsKept now job → LetsGo now job job
-lets_go-same now job kept = all-stay now job job refl refl refl refl kept
+lets_go-same now job kept = all-stay now job job refl refl refl refl refl refl refl kept
 
 pub lets_go-twice : (now : ℕ) (job middle after : JobRecord) → LetsGo now job middle → LetsGo now middle after → LetsGo now job after
 lets_go-twice now job middle after one two =
@@ -55,6 +59,9 @@ lets_go-twice now job middle after one two =
     record {
       id = two.id ∙ one.id;
       array = two.array ∙ one.array;
+      user = two.user ∙ one.user;
+      assoc = two.assoc ∙ one.assoc;
+      qos = two.qos ∙ one.qos;
       partition = two.partition ∙ one.partition;
       keep = keep;
       parts = parts;
@@ -76,6 +83,9 @@ leaves-node now node final job [] kept completing off =
     record {
       id = refl;
       array = refl;
+      user = refl;
+      assoc = refl;
+      qos = refl;
       partition = refl;
       keep = λ part. not (is_on node part);
       parts = off;
@@ -88,6 +98,9 @@ leaves-node now node final job (part ∷ later) kept completing off =
     record {
       id = refl;
       array = refl;
+      user = refl;
+      assoc = refl;
+      qos = refl;
       partition = refl;
       keep = λ part. not (is_on node part);
       parts = off;
@@ -107,7 +120,7 @@ off_node-lets_go now node (Ended final) job kept is = lets_go-same now job kept
 cancelled-again : (now : ℕ) (job : JobRecord) → IsKept now job → job.state ≡ Completing Requeue
     → LetsGo now job (record job { state = Completing Cancelled })
 cancelled-again now job kept is =
-    all-stay now job (record job { state = Completing Cancelled }) refl refl refl refl (search (rules, tests))
+    all-stay now job (record job { state = Completing Cancelled }) refl refl refl refl refl refl refl (search (rules, tests))
 
 not_again-lets_go : (now : ℕ) (state : JobState) (job : JobRecord) → IsKept now job → job.state ≡ state
     → LetsGo now job (not_again job state)
@@ -123,22 +136,22 @@ changed-lets_go now (Start moment parts nodes) job never kept = absurd never
 changed-lets_go now (Leave final moment exit) job at kept =
     let after : JobRecord = record job { state = Completing final; ended = Some now; exit = exit } in
     rw at (cond_both (is_running job.state) after job (LetsGo now job)
-    (λ runs. all-stay now job after refl refl refl refl (search (rules, tests)))
+    (λ runs. all-stay now job after refl refl refl refl refl refl refl (search (rules, tests)))
     (λ idle. lets_go-same now job kept))
 changed-lets_go now (CancelPending moment) job at kept =
     let after : JobRecord = record job { state = Ended Cancelled; ended = Some now } in
     rw at (cond_both (is_pending job.state) after job (LetsGo now job)
-    (λ waits. all-stay now job after refl refl refl refl (search (rules, tests)))
+    (λ waits. all-stay now job after refl refl refl refl refl refl refl (search (rules, tests)))
     (λ other. lets_go-same now job kept))
 changed-lets_go now CancelRequeue job fits kept = not_again-lets_go now job.state job kept refl
 changed-lets_go now (DropPart node moment) job at kept = rw at (off_node-lets_go now node job.state job kept refl)
 changed-lets_go now (SetHold by) job fits kept =
-    all-stay now job (record job { held_by = by }) refl refl refl refl (search rules)
+    all-stay now job (record job { held_by = by }) refl refl refl refl refl refl refl (search rules)
 changed-lets_go now (SetLimit limit) job fits kept =
     let after : JobRecord = record job { limit = limit; desc = record job.desc { limit = Some limit } } in
-    all-stay now job after refl refl refl refl (search rules)
+    all-stay now job after refl refl refl refl refl refl refl (search rules)
 changed-lets_go now (SetNice nice) job fits kept =
-    all-stay now job (record job { desc = record job.desc { nice = nice } }) refl refl refl refl (search rules)
+    all-stay now job (record job { desc = record job.desc { nice = nice } }) refl refl refl refl refl refl refl (search rules)
 
 pub kept-started : (now : ℕ) (parts : List Part) (names : List (List ℕ)) (job : JobRecord) → has_members parts ≡ true
     → OnNodesApart parts → IsKept now job

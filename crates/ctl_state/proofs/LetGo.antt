@@ -14,11 +14,13 @@ use Rattle.job_table.specs.JobStates.{is_pending}
 use Rattle.job_table.specs.Table.{HaveRisingIds, job_with}
 use Rattle.job_table.specs.Targets.{AreTogether}
 use Rattle.ctl_state.specs.declared.record.ArrayRecord.{ArrayRecord}
+use Rattle.accounts_qos.specs.declared.record.AssocRecord.{AssocRecord}
+use Rattle.accounts_qos.specs.declared.record.QosRecord.{QosRecord}
 use Rattle.ctl_state.specs.State.{State, last_moment}
 use Rattle.ctl_state.specs.Holding.{IsHeldOnce, IsPartOf, mem_held, mem_in, parts_of, times_held}
 use Rattle.ctl_state.specs.Planning.{room_of}
 use Rattle.ctl_state.specs.Events.{LetsGo, plan_left, those_left, waits}
-use Rattle.ctl_state.specs.Soundness.{AreOfPartitions, AreUp, IsKept, IsSound, PlansPending, is_up_at, pending_ids}
+use Rattle.ctl_state.specs.Soundness.{AreOfPartitions, IsOfAccounts, AreUp, IsKept, IsSound, PlansPending, is_up_at, pending_ids}
 use Rattle.ctl_state.proofs.Held.{cpu_in}
 use Rattle.ctl_state.proofs.Kept.{kept-let_go}
 use Rattle.ctl_state.proofs.Lists.{All-flat_map, All-from_flat_map, filter-all, found-passes, pairs-kept, rising-kept}
@@ -78,6 +80,13 @@ together-kept change jobs same task are =
       together = pairs-kept FollowsOn tag_of change jobs both are.together;
     }
 
+-- a job that keeps its user, his association and its quality of service is still of them
+pub accounts-kept : (assocs : List AssocRecord) (qos : List QosRecord) (job after : JobRecord)
+    → after.user ≡ job.user → after.assoc ≡ job.assoc → after.qos ≡ job.qos
+    → IsOfAccounts assocs qos job → IsOfAccounts assocs qos after
+accounts-kept assocs qos job after whose by with is =
+    record { assoc = rw (whose, by) is.assoc; qos = rw with is.qos }
+
 pub sound-left : (s : State) (now : ℕ) (change : JobRecord → JobRecord) (goes : JobRecord → Bool)
     (arrays : List ArrayRecord) (plan : List Placed)
     → IsSound s → now ≤ last_moment → All (λ job. LetsGo now job (change job)) s.jobs
@@ -104,6 +113,11 @@ sound-left s now change goes arrays plan sound in_time lets planned =
     let partitions : AreOfPartitions s.partitions after =
     All-filter stays of changed
     (All-map of change s.jobs (λ k d below. rw ((lets k d below).partition) (sound.of_partitions k d below))) in
+    let accounts : All (IsOfAccounts s.assocs s.qos) after =
+    All-filter stays (IsOfAccounts s.assocs s.qos) changed
+    (All-map (IsOfAccounts s.assocs s.qos) change s.jobs
+    (λ k d below. accounts-kept s.assocs s.qos (get_or s.jobs k d) (change (get_or s.jobs k d))
+    (lets k d below).user (lets k d below).assoc (lets k d below).qos (sound.of_accounts k d below))) in
     let kept : All (IsKept now) after = All-filter stays (IsKept now) changed
     (All-map (IsKept now) change s.jobs (λ k d below. kept-let_go s.moment now (get_or s.jobs k d) (change (get_or s.jobs k d)) (sound.jobs k d below) (lets k d below))) in
     let up : AreUp s.nodes (parts_of after) = all-left (λ (part : Part). is_up_at s.nodes part.node ≡ true) now change goes s.jobs lets sound.up in

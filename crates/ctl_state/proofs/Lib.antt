@@ -8,3 +8,4 @@ pub mod Added
 pub mod Indexed
 pub mod Ordering
 pub mod Choosing
+mod Holding

@@ -1,6 +1,5 @@
 -- A waiting job that takes free parts keeps all sound, and adds just these to what is held.
 use Rattle.std.proofs.Common.{◌≡◌, ◌≢◌, ℕ, ◌+◌, ◌<◌, ◌≤◌, Bool, true, false, cond, ◌&&◌, eqb, List, length, map, sum_by, All, AllPairs, Any, Contains, get_or, refl, ◌∙◌, sym, arith, rules, inl, inr}
-use Rattle.std.specs.Prelude.{count_by}
 use Rattle.std.specs.List.{list_any}
 use Rattle.std.proofs.lemmas.Bool.{cases_Bool, cases_eq, cond_both, and_parts, eqb-true, ne_eqb}
 use Rattle.std.proofs.lemmas.List.Elements.{All-map, All-weaker}
@@ -11,20 +10,20 @@ use Rattle.backfill_planner.specs.declared.Placed.{Placed}
 use Rattle.job_table.specs.declared.record.Part.{Part}
 use Rattle.job_table.specs.declared.record.JobRecord.{JobRecord}
 use Rattle.job_table.specs.declared.change.Change.TheVariants.{Start}
-use Rattle.job_table.specs.JobStates.{is_holding, is_pending}
+use Rattle.job_table.specs.JobStates.{is_pending}
 use Rattle.job_table.specs.Changes.{changed}
-use Rattle.job_table.specs.Table.{HaveRisingIds, has_id}
-use Rattle.job_table.specs.Targets.{AreTogether, is_task_of}
+use Rattle.job_table.specs.Table.{HaveRisingIds}
+use Rattle.job_table.specs.Targets.{AreTogether}
 use Rattle.ctl_state.specs.State.{State}
 use Rattle.ctl_state.specs.Holding.{IsHeldOnce, IsPartOf, OnNodesApart, has_cpu, mem_held, mem_in, parts_of, times_held}
 use Rattle.ctl_state.specs.Planning.{room_of}
-use Rattle.ctl_state.specs.Events.{MayTake, started_as, tasks_holding}
-use Rattle.ctl_state.specs.Soundness.{AreOfPartitions, AreUp, IsKept, IsSound, PlansPending, is_up_at, pending_ids}
-use Rattle.ctl_state.proofs.Counts.{count-once, sum-each, sum-grown, sum_by-flat_map}
+use Rattle.ctl_state.specs.Events.{MayTake, started_as}
+use Rattle.ctl_state.specs.Soundness.{AreOfPartitions, IsOfAccounts, AreUp, IsKept, IsSound, PlansPending, is_up_at, pending_ids}
+use Rattle.ctl_state.proofs.Counts.{count-once, sum-grown, sum_by-flat_map}
 use Rattle.ctl_state.proofs.Held.{cpu_in, was-held}
 use Rattle.ctl_state.proofs.Kept.{kept-started, pending-nothing}
-use Rattle.ctl_state.proofs.LetGo.{together-kept}
-use Rattle.ctl_state.proofs.Lists.{All-flat_map, All-from_flat_map, contains-still, passes-with, rising-kept}
+use Rattle.ctl_state.proofs.LetGo.{accounts-kept, together-kept}
+use Rattle.ctl_state.proofs.Lists.{All-flat_map, All-from_flat_map, contains-still, rising-kept}
 
 -- a job with another number stays as it is
 other-same : (now id : ℕ) (parts : List Part) (names : List (List ℕ)) (job : JobRecord) → job.id ≢ id
@@ -42,6 +41,14 @@ same-id : (now id : ℕ) (parts : List Part) (names : List (List ℕ)) (job : Jo
 same-id now id parts names job = cond_both (eqb job.id id) (changed (Start now parts names) job) job
     (λ (after : JobRecord). after.id ≡ job.id) (λ here. refl) (λ other. refl)
 
+same-accounts : (now id : ℕ) (parts : List Part) (names : List (List ℕ)) (job : JobRecord)
+    → ((started_as now id parts names job).user ≡ job.user) × ((started_as now id parts names job).assoc ≡ job.assoc)
+    × ((started_as now id parts names job).qos ≡ job.qos)
+same-accounts now id parts names job =
+    cond_both (eqb job.id id) (changed (Start now parts names) job) job
+    (λ (after : JobRecord). (after.user ≡ job.user) × (after.assoc ≡ job.assoc) × (after.qos ≡ job.qos))
+    (λ here. (refl, refl, refl)) (λ other. (refl, refl, refl))
+
 same-array : (now id : ℕ) (parts : List Part) (names : List (List ℕ)) (job : JobRecord)
     → (started_as now id parts names job).array ≡ job.array
 same-array now id parts names job =
@@ -55,10 +62,6 @@ others-wait jobs now id other parts names waits differ =
     contains-still (λ (job : JobRecord). job.id) (λ (job : JobRecord). is_pending job.state)
     (started_as now id parts names) other jobs
     (λ (job : JobRecord) is. other-same now id parts names job (λ same. differ (sym is ∙ same))) waits
-
--- whether a job is a task of the array that holds processors, as a number
-abbrev holds : ℕ → JobRecord → ℕ
-holds array job = cond (is_task_of array job && is_holding job.state) 1 0
 
 -- what is held grows by just the parts
 sum-taken : (amount : Part → ℕ) (moment now id : ℕ) (parts : List Part) (names : List (List ℕ))
@@ -90,38 +93,6 @@ pub mem-taken : (s : State) (now id node : ℕ) (parts : List Part) (names : Lis
 unfolding mem_held
 mem-taken s now id node parts names sound waits =
     sum-taken (mem_in node) s.moment now id parts names s.jobs sound.rising sound.jobs waits
-
--- the tasks of an array that hold processors are more by the one that starts, if it is one of them
-one-taken : (now id array : ℕ) (parts : List Part) (names : List (List ℕ)) (job : JobRecord)
-    → (job.id ≡ id → is_pending job.state ≡ true)
-    → holds array (started_as now id parts names job)
-    ≡ holds array job + cond (has_id id job && is_task_of array job) 1 0
-one-taken now id array parts names job waits = elim (cases_Bool (eqb job.id id)) [
-  | inl here ↦ rw (here, pending-idle job.state (waits (eqb-true job.id id here))) (starts (is_task_of array job))
-  | inr other ↦ rw other (omega arith)
-]
-  where
-    pending-idle : (state : JobState) → is_pending state ≡ true → is_holding state ≡ false
-    pending-idle Pending is = refl
-    pending-idle Running is = absurd (let never = is in cc)
-    pending-idle (Completing final) is = absurd (let never = is in cc)
-    pending-idle (Ended final) is = refl
-
-    starts : (task : Bool) → cond (task && true) 1 0 ≡ cond (task && false) 1 0 + cond task 1 0
-    starts true = omega arith
-    starts false = omega arith
-
-pub tasks-taken : (s : State) (now id array : ℕ) (parts : List Part) (names : List (List ℕ)) → IsSound s
-    → Contains (pending_ids s.jobs) id
-    → tasks_holding (map (started_as now id parts names) s.jobs) array
-    ≡ tasks_holding s.jobs array + count_by (λ job. has_id id job && is_task_of array job) s.jobs
-unfolding tasks_holding
-tasks-taken s now id array parts names sound waits =
-    sum-each (holds array) (λ job. cond (has_id id job && is_task_of array job) 1 0)
-    (started_as now id parts names) s.jobs
-    (λ k d below. one-taken now id array parts names (get_or s.jobs k d)
-    (passes-with (λ (job : JobRecord). job.id) (λ (job : JobRecord). is_pending job.state) id s.jobs
-    sound.rising waits k d below))
 
 -- parts on nodes that differ have a processor once at most
 parts-once : (node cpu : ℕ) (parts : List Part) → OnNodesApart parts → times_held parts node cpu ≤ 1
@@ -197,6 +168,11 @@ sound-taken s id parts names plan sound may planned =
     let partitions : AreOfPartitions s.partitions (map start s.jobs) =
     All-map of start s.jobs (λ k d below. rw (same-partition s.moment id parts names (get_or s.jobs k d))
     (sound.of_partitions k d below)) in
+    let accounts : All (IsOfAccounts s.assocs s.qos) (map start s.jobs) =
+    All-map (IsOfAccounts s.assocs s.qos) start s.jobs
+    (λ k d below. let stays = same-accounts s.moment id parts names (get_or s.jobs k d) in
+    accounts-kept s.assocs s.qos (get_or s.jobs k d) (start (get_or s.jobs k d)) stays.0 stays.1 stays.2
+    (sound.of_accounts k d below)) in
     let kept : All (IsKept s.moment) (map start s.jobs) = All-map (IsKept s.moment) start s.jobs (All-weaker (IsKept s.moment) (λ job. IsKept s.moment (start job))
     (λ job kept. cond_both (eqb job.id id) (changed (Start s.moment parts names) job) job (IsKept s.moment)
     (λ here. kept-started s.moment parts names job may.some may.apart kept) (λ other. kept)) s.jobs sound.jobs) in

@@ -1,5 +1,5 @@
 -- What an event may make of the jobs: it lets go of parts, or a job that waits takes parts that are free.
-use Rattle.std.specs.Prelude.{◌≡◌, ℕ, ◌+◌, ◌≤◌, Bool, true, false, ◌&&◌, not, List, map, filter, count_by, All, Contains, Option, Some, None}
+use Rattle.std.specs.Prelude.{◌≡◌, ℕ, ◌+◌, ◌≤◌, Bool, true, false, not, List, map, filter, All, Contains, Option, Some, None}
 use Rattle.node_state.specs.declared.record.NodeRecord.{NodeRecord}
 use Rattle.job_table.specs.declared.record.Part.{Part}
 use Rattle.job_table.specs.declared.record.JobRecord.{JobRecord}
@@ -8,16 +8,18 @@ use Rattle.job_table.specs.declared.change.Change.{Change}
 use Rattle.job_table.specs.declared.change.Change.TheVariants.{Start, Leave, CancelPending, CancelRequeue, DropPart, SetHold, SetLimit, SetNice}
 use Rattle.job_table.specs.JobStates.{is_holding, is_pending}
 use Rattle.job_table.specs.Table.{changed_if, job_with}
-use Rattle.job_table.specs.Targets.{is_task_of}
 use Rattle.ctl_state.specs.Holding.{IsPartOf, OnNodesApart, has_members, times_held, mem_held, mem_of, parts_of}
 use Rattle.ctl_state.specs.Planning.{room_of}
 use Rattle.ctl_state.specs.Soundness.{AreUp, IsAsked, IsLimit, IsWellRun, pending_ids}
 
--- What an event that starts nothing may make of a job: it keeps its number, its array, its partition and some of its
--- parts.
+-- What an event that starts nothing may make of a job: it keeps its number, its array, its user with his association,
+-- its quality of service, its partition and some of its parts.
 pub record LetsGo (now : ℕ) (job after : JobRecord) : Type 0 where
   pub id : after.id ≡ job.id
   pub array : after.array ≡ job.array
+  pub user : after.user ≡ job.user
+  pub assoc : after.assoc ≡ job.assoc
+  pub qos : after.qos ≡ job.qos
   pub partition : after.partition ≡ job.partition
   pub keep : Part → Bool
   pub parts : after.parts ≡ filter keep job.parts
@@ -53,10 +55,6 @@ waits (Some job) = is_pending job.state
 -- the placements of those that still wait
 abbrev pub plan_left : List JobRecord → List Placed → List Placed
 plan_left jobs plan = filter (λ (placed : Placed). waits (job_with placed.id jobs)) plan
-
--- how many tasks of the array hold processors
-unfoldable pub tasks_holding : List JobRecord → ℕ → ℕ
-tasks_holding jobs array = count_by (λ (job : JobRecord). is_task_of array job && is_holding job.state) jobs
 
 -- parts that a waiting job may take: on nodes that differ and are up, of processors that stand in no part, with memory
 -- for all

@@ -1,5 +1,5 @@
 -- What stays true of every state, whatever happens. Each is proved as the contract of a law.
-use Rattle.std.specs.Prelude.{◌≡◌, ◌≢◌, ℕ, ◌+◌, ◌<◌, ◌≤◌, Bool, true, ◌&&◌, IfSome, List, [], length, map, count_by, ◌++◌, All, AllPairs, Contains}
+use Rattle.std.specs.Prelude.{◌≡◌, ◌≢◌, ℕ, ◌+◌, ◌<◌, ◌≤◌, Bool, true, IfSome, Some, List, [], ◌∷◌, length, map, ◌++◌, All, AllPairs, Contains}
 use Rattle.std.specs.Cmp.{IsStrictWeakOrder}
 use Rattle.std.specs.List.Sorted.{IsPermutation, IsSortedBy, IsStableBy}
 use Rattle.backfill_planner.specs.declared.Placed.{Placed}
@@ -13,16 +13,18 @@ use Rattle.ctl_state.specs.declared.record.ArrayRecord.{ArrayRecord}
 use Rattle.ctl_state.specs.State.{State, last_moment, last_job_id, last_size}
 use Rattle.job_table.specs.JobStates.{is_pending}
 use Rattle.job_table.specs.Changes.{changed}
-use Rattle.job_table.specs.Targets.{AreTogether, is_task_of}
+use Rattle.job_table.specs.Targets.{AreTogether}
 use Rattle.ctl_state.specs.Holding.{parts_of, times_held, mem_held}
 use Rattle.ctl_state.specs.Index.{ShowsParts, TakesParts, GivesParts}
 use Rattle.node_state.specs.declared.record.Held.{Held}
 use Rattle.node_state.specs.Held.{held_mem, holds_cpu}
 use Rattle.ctl_state.specs.Ordered.{ordered_by}
 use Rattle.ctl_state.specs.Planning.{plan_job}
-use Rattle.ctl_state.specs.Events.{FitsChange, LetsGo, MayTake, plan_left, started_as, tasks_holding, those_left}
-use Rattle.ctl_state.specs.Soundness.{AreOfPartitions, IsSound, IsKept, PlansPending, is_up_at, pending_ids}
-use Rattle.job_table.specs.Table.{HaveRisingIds, has_id}
+use Rattle.ctl_state.specs.Events.{FitsChange, LetsGo, MayTake, plan_left, started_as, those_left}
+use Rattle.ctl_state.specs.Counted.{counted_of, holding}
+use Rattle.run_limits.specs.Tallies.{HaveSameSums}
+use Rattle.ctl_state.specs.Soundness.{AreOfPartitions, IsOfAccounts, IsSound, IsKept, PlansPending, is_up_at, pending_ids}
+use Rattle.job_table.specs.Table.{HaveRisingIds, job_with}
 
 -- An event that starts nothing keeps all sound: each job that stays keeps some of its parts.
 abbrev pub LettingGo : Type 0
@@ -61,12 +63,11 @@ TakenMem = (s : State) (now id node : ℕ) (parts : List Part) (names : List (Li
     → mem_held (parts_of (map (started_as now id parts names) s.jobs)) node
     ≡ mem_held (parts_of s.jobs) node + mem_held parts node
 
--- The tasks of an array that hold processors are more by the one that starts, if it is a task of that array.
-abbrev pub TakenTasks : Type 0
-TakenTasks = (s : State) (now id array : ℕ) (parts : List Part) (names : List (List ℕ))
-    → IsSound s → Contains (pending_ids s.jobs) id
-    → tasks_holding (map (started_as now id parts names) s.jobs) array
-    ≡ tasks_holding s.jobs array + count_by (λ job. has_id id job && is_task_of array job) s.jobs
+-- Those that hold processors are more by the waiting job that starts, whatever is summed over them.
+abbrev pub TakenCounts : Type 0
+TakenCounts = (jobs : List JobRecord) (now id : ℕ) (parts : List Part) (names : List (List ℕ)) (job : JobRecord)
+    → HaveRisingIds jobs → job_with id jobs ≡ Some job → is_pending job.state ≡ true
+    → HaveSameSums (holding jobs ++ counted_of job ∷ []) (holding (map (started_as now id parts names) jobs))
 
 -- Whoever waited before a start of another waits after it.
 abbrev pub OthersWait : Type 0
@@ -85,7 +86,7 @@ NodesStay = (s : State) (nodes : List NodeRecord)
 abbrev pub Adding : Type 0
 Adding = (s : State) (now next : ℕ) (more : List JobRecord) (arrays : List ArrayRecord)
     → IsSound s → s.moment ≤ now → now ≤ last_moment
-    → AreOfPartitions s.partitions more → All (IsKept now) more
+    → AreOfPartitions s.partitions more → All (IsOfAccounts s.assocs s.qos) more → All (IsKept now) more
     → All (λ (job : JobRecord). is_pending job.state ≡ true) more
     → HaveRisingIds more → All (λ (job : JobRecord). s.next_id ≤ job.id) more
     → All (λ (job : JobRecord). job.id + 1 ≤ next) more → s.next_id ≤ next → next ≤ last_job_id + 1

@@ -7,5 +7,5 @@ pub mod Planning
 pub mod Verdicts
 pub mod Refusals
 pub mod Laws
-pub mod ArrayCounts
+pub mod Counted
 pub mod Index

@@ -1,5 +1,5 @@
 -- What every state keeps.
-use Rattle.std.specs.Prelude.{◌≡◌, ◌≢◌, ℕ, ◌+◌, ◌<◌, ◌≤◌, Bool, true, ◌||◌, is_some, IfSome, unwrap_or, List, length, map, filter, All, AllPairs, Contains}
+use Rattle.std.specs.Prelude.{◌≡◌, ◌≢◌, ℕ, ◌+◌, ◌<◌, ◌≤◌, Bool, true, ◌||◌, is_some, IfSome, unwrap_or, List, length, map, filter, slice_get, All, AllPairs, Contains, Some, option_map}
 use Rattle.slurm_text.specs.declared.plain.limit.Limit.{Limit}
 use Rattle.slurm_text.specs.declared.plain.limit.Limit.TheVariants.{Minutes, Unlimited}
 use Rattle.slurm_text.specs.declared.plain.conf.Settings.{Settings}
@@ -13,6 +13,9 @@ use Rattle.partitions.specs.declared.record.PartRecord.{PartRecord}
 use Rattle.partitions.specs.Partitions.{IsOnNodes}
 use Rattle.job_table.specs.declared.record.Part.{Part}
 use Rattle.job_table.specs.declared.record.JobRecord.{JobRecord}
+use Rattle.accounts_qos.specs.declared.record.AssocRecord.{AssocRecord}
+use Rattle.accounts_qos.specs.declared.record.QosRecord.{QosRecord}
+use Rattle.accounts_qos.specs.Accounts.{is_of_user}
 use Rattle.ctl_state.specs.State.{State, last_job_id, last_moment, last_size}
 use Rattle.job_table.specs.Table.{HaveRisingIds}
 use Rattle.job_table.specs.Targets.{AreTogether}
@@ -97,12 +100,18 @@ pub record HasLimits (partition : PartRecord) : Type 0 where
 abbrev pub AreOfPartitions : List PartRecord → List JobRecord → Type 0
 AreOfPartitions partitions jobs = All (λ (job : JobRecord). job.partition < length partitions) jobs
 
+-- the job's association is of its user, and there is its quality of service
+pub record IsOfAccounts (assocs : List AssocRecord) (qos : List QosRecord) (job : JobRecord) : Type 0 where
+  pub assoc : option_map (is_of_user job.user) (slice_get assocs job.assoc) ≡ Some true
+  pub qos : job.qos < length qos
+
 pub record IsSound (s : State) : Type 0 where
   pub settings : HasRanges s.settings
   pub nodes : AreNodes s.nodes
   pub partitions : All (IsOnNodes (length s.nodes)) s.partitions
   pub limits : All HasLimits s.partitions
   pub of_partitions : AreOfPartitions s.partitions s.jobs
+  pub of_accounts : All (IsOfAccounts s.assocs s.qos) s.jobs
   -- the numbers of the jobs rise, and are below the next one
   pub rising : HaveRisingIds s.jobs
   pub below_next : All (λ (job : JobRecord). job.id < s.next_id) s.jobs

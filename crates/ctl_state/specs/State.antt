@@ -2,14 +2,16 @@
 use Rattle.std.specs.Prelude.{ℕ, List, [], map, slice_get, Option}
 use Rattle.slurm_text.specs.declared.plain.conf.Settings.{Settings}
 use Rattle.slurm_text.specs.Confs.{ConfView}
-use Rattle.slurm_text.specs.declared.plain.conf.AssocFile.{AssocFile}
+use Rattle.slurm_text.specs.Assocs.{AssocView}
 use Rattle.backfill_planner.specs.declared.Placed.{Placed}
 use Rattle.node_state.specs.declared.record.NodeRecord.{NodeRecord}
 use Rattle.node_state.specs.Nodes.{opened}
 use Rattle.partitions.specs.declared.record.PartRecord.{PartRecord}
 use Rattle.partitions.specs.Partitions
 use Rattle.ctl_state.specs.declared.record.ArrayRecord.{ArrayRecord}
-use Rattle.ctl_state.specs.declared.record.AssocRecord.{AssocRecord}
+use Rattle.accounts_qos.specs.declared.record.AssocRecord.{AssocRecord}
+use Rattle.accounts_qos.specs.declared.record.QosRecord.{QosRecord}
+use Rattle.accounts_qos.specs.Accounts
 use Rattle.job_table.specs.declared.record.JobRecord.{JobRecord}
 use Rattle.ctl_state.specs.declared.cluster.Cluster.{Cluster}
 
@@ -21,6 +23,8 @@ pub record State : Type 0 where
   pub nodes : List NodeRecord
   -- in the order of the association file
   pub assocs : List AssocRecord
+  -- the qualities of service, in the order of the association file
+  pub qos : List QosRecord
   -- in the order of their numbers
   pub jobs : List JobRecord
   -- the arrays of which there are tasks, in the order of their numbers
@@ -47,12 +51,13 @@ abbrev pub last_size : ℕ
 last_size = 1073741824
 
 -- the state before any request: what the two files say, no job and no plan
-abbrev pub opening : ConfView → AssocFile → State
+abbrev pub opening : ConfView → AssocView → State
 opening conf file = record {
   settings = conf.settings;
   partitions = map (Partitions.opened (map opened conf.nodes)) conf.partitions;
   nodes = map opened conf.nodes;
-  assocs = map (λ assoc. record { conf = assoc }) file.assocs;
+  assocs = map Accounts.opened file.assocs;
+  qos = map Accounts.opened_qos file.qos;
   jobs = [];
   arrays = [];
   plan = [];
@@ -67,7 +72,8 @@ state_of c = record {
   settings = c.settings;
   partitions = c.partitions;
   nodes = c.nodes.records;
-  assocs = c.assocs.items;
+  assocs = c.assocs.records;
+  qos = c.assocs.qos;
   jobs = c.jobs.records;
   arrays = c.arrays.items;
   plan = c.plan.items;

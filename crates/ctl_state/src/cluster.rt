@@ -4,7 +4,8 @@ ghost use Rattle.std.specs.Prelude.{◌≡◌};
 ghost use Rattle.ctl_state.specs.Refusals;
 ghost use Rattle.ctl_state.specs.State.{state_of};
 
-use crate::record::{ArrayRecord, AssocRecord};
+use crate::record::ArrayRecord;
+use accounts_qos::assocs::Assocs;
 use backfill_planner::Placed;
 use job_table::jobs::Jobs;
 use node_state::nodes::Nodes;
@@ -20,8 +21,8 @@ pub struct Cluster {
     pub partitions: Partitions,
     /// In the order of slurm.conf.
     pub nodes: Nodes,
-    /// In the order of the association file.
-    pub assocs: Vec<AssocRecord>,
+    /// The accounts and their users, and the qualities of service, in the order of the association file.
+    pub assocs: Assocs,
     /// In the order of their numbers.
     pub jobs: Jobs,
     /// The arrays of which there are tasks, in the order of their numbers.

@@ -20,7 +20,7 @@ pub fn taking_keeps_all_sound()
 pub fn what_is_taken_is_counted()
     ensures times { Laws.TakenTimes }
     ensures mem { Laws.TakenMem }
-    ensures tasks { Laws.TakenTasks }
+    ensures counts { Laws.TakenCounts }
 {}
 
 /// Whoever waited before a start of another waits after it.

@@ -2,8 +2,8 @@
 //! happens.
 #![tactic(auto)]
 
-pub mod array_counts;
 pub mod cluster;
+pub mod counting;
 mod job_nodes;
 pub mod jobs;
 pub mod laws;

@@ -1,13 +1,6 @@
-//! What the state keeps of associations and arrays.
+//! What the state keeps of arrays.
 
 use slurm_text::plain::array::Indices;
-use slurm_text::plain::conf::AssocConf;
-
-/// An association.
-#[derive(Drop)]
-pub struct AssocRecord {
-    pub conf: AssocConf,
-}
 
 /// An array of jobs of which there are tasks: its indices are kept once for all of these (own).
 #[derive(Drop)]
