@@ -3,3 +3,4 @@
 
 pub mod assocs;
 pub mod record;
+mod way_up;
