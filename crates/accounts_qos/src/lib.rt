@@ -2,5 +2,6 @@
 #![tactic(auto)]
 
 pub mod assocs;
+pub mod laws;
 pub mod record;
 mod way_up;

@@ -11,6 +11,7 @@ ghost use Rattle.ctl_submit.specs.Submission;
 
 use crate::accounts::takes_jobs_of;
 use crate::draft::Draft;
+use crate::limits::limit_exceeded;
 use crate::placeable::is_placeable;
 use ctl_state::cluster::Cluster;
 use job_table::record::JobRecord;
