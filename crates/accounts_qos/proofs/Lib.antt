@@ -1,3 +1,3 @@
-pub mod Meant
+pub mod Meanings
 pub mod Numbers
 pub mod Way

@@ -4,6 +4,7 @@ ghost use Rattle.std.specs.Prelude.{◌≡◌, ◌<◌, ◌^◌, ℕ, List, leng
 ghost use Rattle.std.specs.HashMap.{get};
 ghost use Rattle.accounts_qos.specs.Accounts as spec;
 
+use crate::meant;
 use crate::record::{AssocRecord, QosRecord};
 use crate::way_up::way_up;
 use arrayvec::ArrayVec;
@@ -139,6 +140,29 @@ impl Assocs {
         ensures { result.now ≡ self.now.qos }
     {
         self.qos.as_slice()
+    }
+
+    /// The place of the association that a user means who names this account, or none: then his default account. Linear
+    /// in the associations, for each default account of his that he has no part in once more; it takes no memory.
+    /// sacctmgr(1), DefaultAccount.
+    pub fn find(&self, user: &Name, account: Option<&Name>) -> Option<u32>
+        ensures { result ≡ spec.place_meant self.now.records user.now (option_copied account.entry) }
+    {
+        meant::place_meant(self.records.as_slice(), user, account).map(|place| place as u32)
+    }
+
+    /// The place of the quality of service with this name, or of `normal` where none is named. Linear in them.
+    pub fn find_qos(&self, name: Option<&Name>) -> Option<u32>
+        ensures { result ≡ spec.qos_meant self.now.qos (option_copied name.entry) }
+    {
+        meant::qos_meant(self.qos.as_slice(), name).map(|place| place as u32)
+    }
+
+    /// The name of the account that an association of these belongs to.
+    pub fn account(&self, assoc: &AssocRecord) -> &[u8]
+        ensures { result.now ≡ spec.account_of self.now.records assoc.now }
+    {
+        meant::account_of(self.records.as_slice(), assoc)
     }
 
     /// The limits of the association at a place.

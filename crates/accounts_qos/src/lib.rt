@@ -3,5 +3,6 @@
 
 pub mod assocs;
 pub mod laws;
+mod meant;
 pub mod record;
 mod way_up;

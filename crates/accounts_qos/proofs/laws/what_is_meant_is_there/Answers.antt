@@ -1,4 +1,4 @@
-use Rattle.accounts_qos.proofs.Meant.{meant-his, meant-there}
+use Rattle.accounts_qos.proofs.Meanings.{meant-his, meant-there}
 use Rattle.accounts_qos.proofs.laws.what_is_meant_is_there.Goals as goal
 
 pub returns : goal.returns
