@@ -1,1 +1,7 @@
+pub mod DepthLemmas
+pub mod IndexLemmas
+pub mod ListLemmas
 pub mod OptionLemmas
+pub mod QosLemmas
+pub mod ReaderLemmas
+pub mod TreeLemmas

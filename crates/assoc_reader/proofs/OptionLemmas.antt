@@ -1,7 +1,8 @@
 -- The first option of a text, cut off, and the options of what follows it.
-use Rattle.std.proofs.Common.{ℕ, zero, suc, cond, ◌≡◌, ◌+◌, ◌<◌, ◌≤◌, Bool, true, false, List, [], ◌∷◌, length, take, drop, refl, ap, sym, ◌∙◌, one-add, arith}
+use Rattle.std.proofs.Common.{ℕ, zero, suc, cond, ◌≡◌, ◌+◌, ◌-◌, ◌<◌, ◌≤◌, Bool, true, false, List, [], ◌∷◌, length, take, drop, refl, ap, sym, ◌∙◌, one-add, arith}
 use Rattle.std.specs.List.{onto_first}
 use Rattle.std.proofs.lemmas.Bool.Decides.{nat_tests}
+use Rattle.std.proofs.lemmas.Grind.{common_steps}
 use Rattle.assoc_reader.specs.Options.{quoted_behind, ends_option, option_len, options_from}
 
 -- a colon ends an option only where no quote is open
@@ -19,7 +20,8 @@ cut-cons quoted b text more = by_end (ends_option quoted b) refl where
   by_end true e less = ap (λ (q : Bool). [] ∷ options_from q text) (closed quoted b e)
   by_end false e less =
       let here = more (omega arith) in
-      rw (one-add (option_len (quoted_behind quoted b) text), here) refl
+      let next : 1 + option_len (quoted_behind quoted b) text + 1 ≡ suc (option_len (quoted_behind quoted b) text + 1) = omega arith in
+      rw (next, one-add (option_len (quoted_behind quoted b) text), here) refl
 
 cut : (quoted : Bool) (text : List ℕ) → Cut quoted text
 cut quoted [] = λ less. absurd (omega arith)
@@ -41,8 +43,12 @@ whole : (quoted : Bool) (text : List ℕ) → Whole quoted text
 whole quoted [] = λ all. refl
 whole quoted (b ∷ text) = whole-cons quoted b text (whole (quoted_behind quoted b) text)
 
-pub first_of_more : (text : List ℕ) → option_len false text < length text → options_from false text ≡ take (option_len false text) text ∷ options_from false (drop (option_len false text + 1) text)
-first_of_more text less = cut false text less
+-- what follows a number of bytes, as a slice gives it
+rest-of : (n : ℕ) (text : List ℕ) → take (length text - n) (drop n text) ≡ drop n text
+rest-of n text = grind (arith, common_steps)
+
+pub first_of_more : (text : List ℕ) → option_len false text < length text → options_from false text ≡ take (option_len false text) text ∷ options_from false (take (length text - (option_len false text + 1)) (drop (option_len false text + 1) text))
+first_of_more text less = rw (rest-of (option_len false text + 1) text) (cut false text less)
 
 pub only_one : (text : List ℕ) → option_len false text ≡ length text → options_from false text ≡ text ∷ []
 only_one text all = whole false text all

@@ -1,17 +1,18 @@
 //! The associations, as far as they are read, with indexes of their names.
 
-ghost use Rattle.std.specs.Prelude.{◌≡◌, ◌-◌, suc, length, option_copied};
-ghost use Rattle.slurm_text.specs.Assocs.{greatest_depth, parents_in, way_up};
+ghost use Rattle.std.specs.Prelude.{◌≡◌, ◌<◌, ◌^◌, slice_get, option_copied};
+ghost use Rattle.slurm_text.specs.Assocs.{greatest_depth};
 ghost use Rattle.assoc_reader.specs.Tree.{is_root, depth_of};
 
 use crate::assoc_words::AssocWords;
+use crate::counts::Counts;
+use crate::name_index::NameIndex;
 use crate::refusal::AssocKind;
 use slurm_text::items::Items;
 use slurm_text::memory_error::Memory;
 use slurm_text::name::Name;
 use slurm_text::plain::assoc::AssocConf;
 use std::alloc::Global;
-use std::collections::{HashMap, HashSet};
 use std::marker::Model;
 
 const MOST_USERS: u32 = 4_096;
@@ -26,14 +27,8 @@ const GREATEST_DEPTH: usize = 16;
 pub(crate) struct AssocTree {
     assocs: Vec<AssocConf>,
     parent: Option<u32>,
-    /// The places of the accounts.
-    accounts: HashMap<Name, u32>,
-    /// The users, each with the place of its account.
-    users: HashSet<(Option<u32>, Name)>,
-    user_count: u32,
-    /// How many belong to root, and how many to each association.
-    root_children: u32,
-    children: Vec<u32>,
+    names: NameIndex,
+    counts: Counts,
 }
 
 impl Model for AssocTree {
@@ -41,25 +36,14 @@ impl Model for AssocTree {
 
     ghost Value = { TreeView };
 
-    ghost use Rattle.std.specs.Prelude.{List, ℕ, Option, ◌≡◌, ◌<◌, ◌&&◌, None, Some, length, bytes_eq, get_or, nat_eq};
-    ghost use Rattle.std.specs.Option.{option_eq};
-    ghost use Rattle.std.specs.List.{list_any};
-    ghost use Rattle.std.specs.HashMap.{get};
-    ghost use Rattle.std.specs.HashSet.{contains};
-    ghost use Rattle.assoc_reader.specs.Tree.{IsTree, account_place, is_user_of, users_in, children_of};
+    ghost use Rattle.assoc_reader.specs.Tree.{IsTree};
+    ghost use Rattle.assoc_reader.specs.Index.{Indexes, IsCount};
 
     ghost view = { λ tree. record { assocs = tree.assocs.items; parent = tree.parent } };
 
     ghost invariant = { λ tree. IsTree (record { assocs = tree.assocs.items; parent = tree.parent })
-        × ((name : List ℕ) → get bytes_eq tree.accounts name ≡ account_place name tree.assocs.items)
-        × ((parent : Option ℕ) → (name : List ℕ)
-        → contains (λ one other. option_eq nat_eq one.0 other.0 && bytes_eq one.1 other.1) tree.users (parent, name)
-        ≡ list_any (is_user_of parent name) tree.assocs.items)
-        × (tree.user_count ≡ users_in tree.assocs.items)
-        × (tree.root_children ≡ children_of None tree.assocs.items)
-        × (length tree.children.items ≡ length tree.assocs.items)
-        × ((place : ℕ) → place < length tree.assocs.items
-        → get_or tree.children.items place 0 ≡ children_of (Some place) tree.assocs.items) };
+        × Indexes tree.names tree.assocs.items
+        × IsCount tree.counts tree.assocs.items };
 }
 
 fn is_root(name: &[u8]) -> bool
@@ -68,11 +52,17 @@ fn is_root(name: &[u8]) -> bool
     name == b"root".as_slice()
 }
 
-#[tactic(auto, unfolding(slurm_text::specs::Assocs::greatest_depth))]
 fn greatest_depth() -> usize
-    ensures { result ≡ greatest_depth }
+    ensures value { result ≡ greatest_depth }
+    ensures small { result < 2 ^ 32 }
 {
     GREATEST_DEPTH
+}
+
+fn assoc_at(assocs: &[AssocConf], place: u32) -> Option<&AssocConf>
+    ensures { option_copied result ≡ slice_get assocs.now place }
+{
+    assocs.get(place as usize)
 }
 
 // How deep an account stands, root at 0: a step for each level.
@@ -85,7 +75,7 @@ fn depth_of(parent: Option<u32>, assocs: &[AssocConf]) -> usize
         let Some(place) = at else {
             return level;
         };
-        let Some(assoc) = assocs.get(place as usize) else {
+        let Some(assoc) = assoc_at(assocs, place) else {
             return level;
         };
         at = assoc.parent;
@@ -94,9 +84,8 @@ fn depth_of(parent: Option<u32>, assocs: &[AssocConf]) -> usize
 }
 
 impl AssocTree {
-    ghost use Rattle.std.specs.Prelude.{◌≡◌, ◌∷◌, ◌++◌, [], None, OnOk, IfOk, IfSome, MatchOption};
-    ghost use Rattle.slurm_text.specs.Assocs.{parents_in, way_up, greatest_depth};
-    ghost use Rattle.assoc_reader.specs.Tree.{TreeView, no_assocs, parent_named, children_of, is_named, is_full, name_fault, with_assoc, IsAccountAt, IsTree};
+    ghost use Rattle.std.specs.Prelude.{◌≡◌, ◌∷◌, ◌++◌, [], None, OnOk, IfOk, IfSome, nat_le};
+    ghost use Rattle.assoc_reader.specs.Tree.{TreeView, no_assocs, parent_named, users_in, children_of, is_named, is_full, name_fault, with_assoc, IsAccountAt, IsTree};
 
     /// None, and root for the next ones.
     #[tactic(auto, unfolding(crate::specs::Tree::no_assocs))]
@@ -106,11 +95,8 @@ impl AssocTree {
         AssocTree {
             assocs: Vec::new(alloc),
             parent: None,
-            accounts: HashMap::new(alloc),
-            users: HashSet::new(alloc),
-            user_count: 0,
-            root_children: 0,
-            children: Vec::new(alloc),
+            names: NameIndex::new(alloc),
+            counts: Counts::new(alloc),
         }
     }
 
@@ -123,8 +109,8 @@ impl AssocTree {
         if is_root(name.as_bytes()) {
             return Some(None);
         }
-        match self.accounts.get(name) {
-            Some(place) => Some(Some(*place)),
+        match self.names.account(name) {
+            Some(place) => Some(Some(place)),
             None => None,
         }
     }
@@ -142,28 +128,30 @@ impl AssocTree {
         ensures { IfOk result (λ named. named ≡ is_named self.now user name.now) }
     {
         if user {
-            let key = (self.parent, name.copy()?);
-            Ok(self.users.contains(&key))
+            self.names.has_user(self.parent, name)
         } else {
             Ok(self.parent_named(name).is_some())
         }
     }
 
-    fn children(&self) -> u32
-        ensures { result ≡ children_of self.now.parent self.now.assocs }
+    fn has_most_users(&self) -> bool
+        ensures { result ≡ nat_le 4_096 (users_in self.now.assocs) }
     {
-        match self.parent {
-            Some(place) => self.children[place as usize],
-            None => self.root_children,
-        }
+        self.counts.users >= MOST_USERS
+    }
+
+    fn has_most_children(&self) -> bool
+        ensures { result ≡ nat_le 256 (children_of self.now.parent self.now.assocs) }
+    {
+        self.counts.children(self.parent) >= MOST_CHILDREN
     }
 
     #[tactic(auto, unfolding(crate::specs::Tree::is_full))]
     fn is_full(&self, user: bool) -> bool
         ensures { result ≡ is_full self.now user }
     {
-        (user && self.user_count >= MOST_USERS)
-            || self.children() >= MOST_CHILDREN
+        (user && self.has_most_users())
+            || self.has_most_children()
             || depth_of(self.parent, self.assocs.as_slice()) >= greatest_depth()
     }
 
@@ -181,36 +169,26 @@ impl AssocTree {
         }
     }
 
-    /// Puts one more behind the others. After an error the tree is of no use.
+    /// Puts one more behind the others.
+    #[tactic(auto, unfolding(crate::specs::Tree::with_assoc, crate::specs::Tree::assoc_conf))]
     pub(crate) fn push(&mut self, user: bool, name: Name, words: AssocWords) -> Result<(), Memory>
         requires { name_fault self.old user name ≡ None }
         ensures { OnOk result (self.new ≡ with_assoc self.old user name words) }
     {
         let place = u32::try_from(self.assocs.len()).map_err(|_| Memory)?;
-        let key = name.copy()?;
+        let assoc = AssocConf {
+            parent: self.parent,
+            name,
+            user,
+            shares: words.shares,
+            default_account: words.default_account,
+            limits: words.limits,
+        };
         self.assocs.reserve(1)?;
-        self.children.reserve(1)?;
-        if user {
-            self.users.insert((self.parent, key))?;
-            self.user_count += 1;
-        } else {
-            self.accounts.insert(key, place)?;
-        }
-        match self.parent {
-            Some(parent) => self.children[parent as usize] += 1,
-            None => self.root_children += 1,
-        }
-        self.children.push(0).unwrap();
-        self.assocs
-            .push(AssocConf {
-                parent: self.parent,
-                name,
-                user,
-                shares: words.shares,
-                default_account: words.default_account,
-                limits: words.limits,
-            })
-            .unwrap();
+        self.counts.grow()?;
+        self.names.add(&assoc, place)?;
+        self.counts.add(user, self.parent);
+        self.assocs.push(assoc).unwrap();
         Ok(())
     }
 

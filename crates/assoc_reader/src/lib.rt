@@ -3,9 +3,11 @@
 
 mod assoc_tree;
 mod assoc_words;
+mod counts;
 mod draft;
 mod keys;
 mod lines;
+mod name_index;
 mod options;
 mod qos_table;
 mod qos_words;

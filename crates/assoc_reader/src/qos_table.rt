@@ -40,7 +40,12 @@ impl Model for QosTable {
 fn has_qos(qos: &[QosConf], name: &[u8]) -> bool
     ensures { result ≡ has name.now (qos_names qos.now) }
 {
-    qos.iter().any(|one| name == one.name.as_bytes())
+    for one in qos {
+        if name == one.name.as_bytes() {
+            return true;
+        }
+    }
+    false
 }
 
 impl QosTable {
