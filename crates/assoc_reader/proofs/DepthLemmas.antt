@@ -1,5 +1,5 @@
 -- The way up from an association, where one more stands behind the others.
-use Rattle.std.proofs.Common.{ℕ, zero, suc, ◌≡◌, ◌+◌, ◌-◌, ◌<◌, ◌≤◌, List, [], ◌∷◌, ◌++◌, length, unwrap_or, IfSome, ◌⊎◌, inl, inr, Option, Some, None, option_map, refl, ap, sym, ◌∙◌, one-add, arith}
+use Rattle.std.proofs.Common.{ℕ, zero, suc, ◌≡◌, ◌+◌, ◌-◌, ◌<◌, ◌≤◌, List, [], ◌∷◌, ◌++◌, length, unwrap_or, IfSome, ◌⊎◌, inl, inr, Option, Some, None, option_map, refl, ap, sym, one-add, arith}
 use Rattle.std.specs.List.{slice_get}
 use Rattle.std.proofs.lemmas.Bool.{cases_order}
 use Rattle.std.proofs.lemmas.Option.{slice_get-map}

@@ -1,5 +1,5 @@
 -- What is kept beside the associations, with one more of them.
-use Rattle.std.proofs.Common.{ℕ, zero, suc, get_or, ◌≡◌, ◌+◌, ◌<◌, ◌≤◌, Bool, true, false, not, cond, ◌&&◌, ◌||◌, nat_eq, List, [], ◌∷◌, ◌++◌, length, bytes_eq, Option, Some, None, refl, ap, sym, ◌∙◌, arith}
+use Rattle.std.proofs.Common.{ℕ, zero, suc, get_or, ◌≡◌, ◌+◌, ◌≤◌, Bool, true, false, not, cond, ◌&&◌, ◌||◌, nat_eq, List, [], ◌∷◌, ◌++◌, length, bytes_eq, Option, Some, None, refl, ap, sym, ◌∙◌, arith}
 use Rattle.std.specs.List.{list_any, position}
 use Rattle.std.specs.Option.{option_eq}
 use Rattle.std.proofs.lemmas.List.{length_push}
@@ -8,7 +8,7 @@ use Rattle.std.proofs.lemmas.Slice.Eq.{bytes_eq-Decides}
 use Rattle.slurm_text.specs.Assocs.{is_same_place}
 use Rattle.slurm_text.specs.declared.plain.assoc.AssocConf.{AssocConf}
 use Rattle.assoc_reader.specs.Index.{is_same_user, kept_for, IsCount}
-use Rattle.assoc_reader.specs.Tree.{is_account, is_user_of, account_place, users_in, children_of}
+use Rattle.assoc_reader.specs.Tree.{is_account, is_user_of, account_place}
 use Rattle.assoc_reader.specs.declared.counts.Counts.{Counts}
 use Rattle.assoc_reader.proofs.ListLemmas.{position-push, list_any-push}
 

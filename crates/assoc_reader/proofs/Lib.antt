@@ -3,5 +3,4 @@ pub mod IndexLemmas
 pub mod ListLemmas
 pub mod OptionLemmas
 pub mod QosLemmas
-pub mod ReaderLemmas
 pub mod TreeLemmas

@@ -1,7 +1,6 @@
 -- The first option of a text, cut off, and the options of what follows it.
-use Rattle.std.proofs.Common.{ℕ, zero, suc, cond, ◌≡◌, ◌+◌, ◌-◌, ◌<◌, ◌≤◌, Bool, true, false, List, [], ◌∷◌, length, take, drop, refl, ap, sym, ◌∙◌, one-add, arith}
+use Rattle.std.proofs.Common.{ℕ, suc, cond, ◌≡◌, ◌+◌, ◌-◌, ◌<◌, Bool, true, false, List, [], ◌∷◌, length, take, drop, refl, ap, one-add, arith}
 use Rattle.std.specs.List.{onto_first}
-use Rattle.std.proofs.lemmas.Bool.Decides.{nat_tests}
 use Rattle.std.proofs.lemmas.Grind.{common_steps}
 use Rattle.assoc_reader.specs.Options.{quoted_behind, ends_option, option_len, options_from}
 

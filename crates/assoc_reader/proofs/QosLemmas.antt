@@ -1,8 +1,8 @@
 -- One more quality of service behind the others, whose name has no fault.
-use Rattle.std.proofs.Common.{ℕ, ◌≡◌, ◌≢◌, ◌+◌, ◌<◌, ◌≤◌, Bool, true, false, cond, ◌||◌, nat_lt, if◌then◌else◌, List, [], ◌∷◌, ◌++◌, length, map, get_or, codes, bytes_eq, Any, AllPairs, Option, Some, None, refl, ap, sym, ◌∙◌, arith}
+use Rattle.std.proofs.Common.{ℕ, ◌≡◌, ◌≢◌, ◌+◌, ◌<◌, ◌≤◌, Bool, true, false, nat_lt, if◌then◌else◌, List, [], ◌∷◌, ◌++◌, length, get_or, codes, bytes_eq, Any, AllPairs, Some, None, refl, sym, ◌∙◌, arith}
 use Rattle.std.specs.List.{list_any}
 use Rattle.std.proofs.lemmas.Bool.Decides.{nat_tests}
-use Rattle.std.proofs.lemmas.List.{length_push, length-map, map-append, get_or_push, get_or_append_left}
+use Rattle.std.proofs.lemmas.List.{length_push, length-map, map-append, get_or_push}
 use Rattle.std.proofs.lemmas.List.Folds.{Any-from_list_any}
 use Rattle.std.proofs.lemmas.List.Quantifiers.{all_pairs_push}
 use Rattle.std.proofs.lemmas.Slice.Eq.{bytes_eq-Decides}
@@ -11,7 +11,6 @@ use Rattle.slurm_text.specs.declared.plain.assoc.QosConf.{QosConf}
 use Rattle.assoc_reader.specs.Qos.{qos_names, counted, qos_fault, qos_conf, with_normal, IsQosList}
 use Rattle.assoc_reader.specs.Words.{no_qos_words}
 use Rattle.assoc_reader.specs.declared.qos_words.QosWords.{QosWords}
-use Rattle.assoc_reader.specs.declared.refusal.AssocKind.{AssocKind}
 use Rattle.assoc_reader.specs.declared.refusal.AssocKind.TheVariants.{TwiceNamed, OverLimit}
 use Rattle.assoc_reader.proofs.ListLemmas.{fails-at, list_any-of}
 

@@ -1,5 +1,5 @@
 -- One more association behind the others, whose name has no fault.
-use Rattle.std.proofs.Common.{ℕ, suc, ◌≡◌, ◌≢◌, ◌+◌, ◌<◌, ◌≤◌, Bool, true, false, not, cond, ◌&&◌, ◌||◌, nat_le, nat_eq, if◌then◌else◌, List, [], ◌∷◌, ◌++◌, length, map, count_by, get_or, codes, bytes_eq, All, AllPairs, IfSome, is_some, Option, Some, None, option_map, ◌⊎◌, inl, inr, refl, ap, sym, ◌∙◌, arith}
+use Rattle.std.proofs.Common.{ℕ, ◌≡◌, ◌≢◌, ◌+◌, ◌<◌, ◌≤◌, Bool, true, false, not, cond, ◌&&◌, ◌||◌, nat_le, nat_eq, if◌then◌else◌, List, [], ◌∷◌, ◌++◌, length, get_or, codes, bytes_eq, All, AllPairs, IfSome, is_some, Option, Some, None, option_map, ◌⊎◌, inl, inr, refl, ap, arith}
 use Rattle.std.specs.List.{list_any, position, slice_get}
 use Rattle.std.proofs.lemmas.Bool.{cases_order}
 use Rattle.std.proofs.lemmas.Bool.Decides.{nat_tests}
@@ -9,11 +9,10 @@ use Rattle.std.proofs.lemmas.List.Sums.{sum_by_push}
 use Rattle.std.proofs.lemmas.List.Quantifiers.{all_pairs_push, position-Some}
 use Rattle.std.proofs.lemmas.Option.{slice_get-map, slice_get-get_or}
 use Rattle.std.proofs.lemmas.Slice.Eq.{bytes_eq-Decides}
-use Rattle.slurm_text.specs.Assocs.{StandsUnder, AreNamedApart, is_same_place, parents_in, way_up, greatest_depth}
+use Rattle.slurm_text.specs.Assocs.{StandsUnder, AreNamedApart, is_same_place, parents_in, greatest_depth}
 use Rattle.slurm_text.specs.declared.plain.assoc.AssocConf.{AssocConf}
 use Rattle.assoc_reader.specs.Tree.{TreeView, is_root, is_account, is_user_of, account_place, parent_named, is_named, users_in, children_of, depth_of, is_full, name_fault, assoc_conf, with_assoc, IsAccountAt, IsTree}
 use Rattle.assoc_reader.specs.declared.assoc_words.AssocWords.{AssocWords}
-use Rattle.assoc_reader.specs.declared.refusal.AssocKind.{AssocKind}
 use Rattle.assoc_reader.specs.declared.refusal.AssocKind.TheVariants.{TwiceNamed, OverLimit}
 use Rattle.assoc_reader.proofs.DepthLemmas.{Rises, Within, way_up-push}
 use Rattle.assoc_reader.proofs.ListLemmas.{slice_get-before, slice_get-last, slice_get-behind, fails-at, none-passes}

@@ -16,7 +16,8 @@ is_same_user one other = option_eq nat_eq one.0 other.0 && bytes_eq one.1 other.
 -- the index leads from each name to its account, and knows the users
 pub record Indexes (index : NameIndex) (assocs : List AssocConf) : Type 0 where
   pub accounts : (name : List ℕ) → get bytes_eq index.accounts name ≡ account_place name assocs
-  pub users : (parent : Option ℕ) (name : List ℕ) → contains is_same_user index.users (parent, name) ≡ list_any (is_user_of parent name) assocs
+  pub users : (parent : Option ℕ) (name : List ℕ)
+      → contains is_same_user index.users (parent, name) ≡ list_any (is_user_of parent name) assocs
 
 -- the number that is kept for an account
 abbrev pub kept_for : Option ℕ → Counts → ℕ

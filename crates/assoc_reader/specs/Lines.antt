@@ -1,5 +1,5 @@
 -- The form of a line, which begins with a word, a dash and a name in single quotes.
-use Rattle.std.specs.Prelude.{ℕ, ◌+◌, Bool, true, false, ◌==◌, nat_lt, if◌then◌else◌, List, [], ◌∷◌, take, drop, position, Option, Some, None, option_map}
+use Rattle.std.specs.Prelude.{ℕ, ◌+◌, Bool, true, ◌==◌, nat_lt, if◌then◌else◌, List, [], ◌∷◌, take, drop, position, Option, Some, None, option_map}
 use Rattle.std.specs.List.{list_all}
 use Rattle.slurm_text.specs.Name.{is_name}
 use Rattle.slurm_text.specs.Options.{◌>>=◌}

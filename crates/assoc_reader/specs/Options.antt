@@ -1,5 +1,5 @@
 -- The options behind a line's name, with a colon before each.
-use Rattle.std.specs.Prelude.{ℕ, ◌+◌, ◌-◌, Bool, true, false, not, ◌&&◌, ◌==◌, nat_lt, nat_le, if◌then◌else◌, List, [], ◌∷◌, length, slice_index, slice_range, Option, Some, None, option_map, Result, Ok, Err, ok_or}
+use Rattle.std.specs.Prelude.{ℕ, ◌+◌, ◌-◌, Bool, false, not, ◌&&◌, ◌==◌, nat_lt, nat_le, if◌then◌else◌, List, [], ◌∷◌, length, slice_index, slice_range, Option, Some, None, option_map, Result, Ok, ok_or}
 use Rattle.std.specs.List.{list_any, onto_first}
 use Rattle.conf_values.specs.Refusal.{◌>>=◌}
 use Rattle.assoc_reader.specs.Lines.{cut_at}
@@ -77,7 +77,8 @@ unfoldable pub pair_in : List ℕ → Option (List ℕ × List ℕ)
 pair_in option = pair_of_cut (cut_at 61 option)
 
 -- what was said, with one more option
-unfoldable pub with_option : {K W : Type 0} → (List ℕ → Option K) → (W → K → List ℕ → Option W) → W → List ℕ → Result W AssocKind
+unfoldable pub with_option : {K W : Type 0} → (List ℕ → Option K) → (W → K → List ℕ → Option W)
+    → W → List ℕ → Result W AssocKind
 with_option key_named with_value words option = do
   pair ← ok_or (pair_in option) BadLine
   key ← ok_or (key_named pair.0) UnknownKey

@@ -2,8 +2,6 @@
 use Rattle.std.specs.Prelude.{ℕ, Bool, if◌then◌else◌, List, [], ◌∷◌, bytes_eq, codes, Option, Some, None, option_map, Result}
 use Rattle.slurm_num.specs.Limits.{limit_of}
 use Rattle.slurm_text.specs.Fields.{fields}
-use Rattle.slurm_text.specs.declared.plain.assoc.AssocLimits.{AssocLimits}
-use Rattle.slurm_text.specs.declared.plain.assoc.QosLimits.{QosLimits}
 use Rattle.conf_values.specs.Values.{name_in, number_in, u32_in}
 use Rattle.assoc_reader.specs.Keys.{assoc_key, qos_key}
 use Rattle.assoc_reader.specs.Options.{with_option, said_by}
@@ -76,21 +74,20 @@ with_qos_value words qos.MaxWall text =
     option_map (λ limit. record words { limits = record words.limits { max_wall = Some limit } }) (limit_of text)
 with_qos_value words qos.WithoutEffect text = Some words
 
--- no limits
-unfoldable pub no_qos_limits : QosLimits
-no_qos_limits = record {
-  grp_jobs = None;
-  grp_submit = None;
-  grp_cpus = None;
-  user_jobs = None;
-  user_submit = None;
-  user_cpus = None;
-  max_wall = None;
-}
-
 -- a quality of service of which a line says nothing: priority 0, and no limits
 unfoldable pub no_qos_words : QosWords
-no_qos_words = record { priority = 0; limits = no_qos_limits }
+no_qos_words = record {
+  priority = 0;
+  limits = record {
+    grp_jobs = None;
+    grp_submit = None;
+    grp_cpus = None;
+    user_jobs = None;
+    user_submit = None;
+    user_cpus = None;
+    max_wall = None;
+  };
+}
 
 unfoldable pub qos_said : List ℕ → Result QosWords AssocKind
 qos_said rest = said_by (with_option qos_key with_qos_value) no_qos_words rest

@@ -2,9 +2,9 @@
 
 ghost use Rattle.std.specs.Prelude.{◌≡◌, codes, bytes_eq};
 ghost use Rattle.slurm_text.specs.Hosts.{has};
-ghost use Rattle.assoc_reader.specs.Qos.{qos_names};
+ghost use Rattle.assoc_reader.specs.Qos.{qos_names, qos_conf};
 
-use crate::qos_words::{QosWords, no_qos_limits};
+use crate::qos_words::QosWords;
 use crate::refusal::AssocKind;
 use slurm_text::items::Items;
 use slurm_text::memory_error::Memory;
@@ -48,6 +48,18 @@ fn has_qos(qos: &[QosConf], name: &[u8]) -> bool
     false
 }
 
+// A quality of service by what its line says.
+#[tactic(auto, unfolding(crate::specs::Qos::qos_conf))]
+fn make_qos(name: Name, words: QosWords) -> QosConf
+    ensures { result ≡ qos_conf name words }
+{
+    QosConf {
+        name,
+        priority: words.priority,
+        limits: words.limits,
+    }
+}
+
 impl QosTable {
     ghost use Rattle.std.specs.Prelude.{◌≡◌, ◌++◌, ◌∷◌, [], None, OnOk, IfOk};
     ghost use Rattle.assoc_reader.specs.Qos.{qos_names, qos_fault, qos_conf, with_normal, IsQosList};
@@ -80,21 +92,16 @@ impl QosTable {
     }
 
     /// Puts one more behind the others.
-    #[tactic(auto, unfolding(crate::specs::Qos::qos_conf))]
     pub(crate) fn push(&mut self, name: Name, words: QosWords) -> Result<(), Memory>
         requires { qos_fault (qos_names self.old) name ≡ None }
         ensures { OnOk result (self.new ≡ self.old ++ qos_conf name words ∷ []) }
     {
-        self.qos.push(QosConf {
-            name,
-            priority: words.priority,
-            limits: words.limits,
-        })?;
+        self.qos.push(make_qos(name, words))?;
         Ok(())
     }
 
     /// The qualities of service, `normal` behind them where no line gives it.
-    #[tactic(auto, unfolding(crate::specs::Qos::with_normal, crate::specs::Qos::qos_conf, crate::specs::Words::no_qos_words))]
+    #[tactic(auto, unfolding(crate::specs::Qos::with_normal))]
     pub(crate) fn into_items(self, alloc: Global) -> Result<Items<QosConf>, Memory>
         ensures value { IfOk result (λ qos. qos ≡ with_normal self) }
         ensures sound { IsQosList self }
@@ -102,11 +109,7 @@ impl QosTable {
         let mut qos = self.qos;
         if !has_qos(qos.as_slice(), NORMAL) {
             let name = Name::read(alloc, NORMAL).map_err(|_| Memory)?;
-            qos.push(QosConf {
-                name,
-                priority: 0,
-                limits: no_qos_limits(),
-            })?;
+            qos.push(make_qos(name, QosWords::new()))?;
         }
         Ok(Items::from_vec(qos))
     }

@@ -1,7 +1,7 @@
 //! What the options of a quality of service say.
 
 ghost use Rattle.std.specs.Prelude.{ℕ, ◌≡◌, IfOk, OnOk, IsErrOf, Ok, Err, Some, None};
-ghost use Rattle.assoc_reader.specs.Words.{no_qos_limits, qos_said};
+ghost use Rattle.assoc_reader.specs.Words.{qos_said};
 ghost use Rattle.assoc_reader.specs.declared.refusal.AssocKind.{AssocKind};
 
 use crate::keys::{QosKey, qos_key};
@@ -20,22 +20,6 @@ pub(crate) struct QosWords {
     pub(crate) limits: QosLimits,
 }
 
-/// No limits.
-#[tactic(auto, unfolding(crate::specs::Words::no_qos_limits))]
-pub(crate) fn no_qos_limits() -> QosLimits
-    ensures { result ≡ no_qos_limits }
-{
-    QosLimits {
-        grp_jobs: None,
-        grp_submit: None,
-        grp_cpus: None,
-        user_jobs: None,
-        user_submit: None,
-        user_cpus: None,
-        max_wall: None,
-    }
-}
-
 impl QosWords {
     ghost use Rattle.std.specs.Prelude.{ℕ, ◌≡◌, OnOk, IsErrOf, Ok, Err, Some, None, OnSome, IfNone};
     ghost use Rattle.assoc_reader.specs.Keys.{qos_key};
@@ -43,13 +27,22 @@ impl QosWords {
     ghost use Rattle.assoc_reader.specs.Words.{no_qos_words, with_qos_value};
     ghost use Rattle.assoc_reader.specs.declared.refusal.AssocKind.{AssocKind};
 
+    /// A line without options.
     #[tactic(auto, unfolding(crate::specs::Words::no_qos_words))]
-    fn new() -> QosWords
+    pub(crate) fn new() -> QosWords
         ensures { result ≡ no_qos_words }
     {
         QosWords {
             priority: 0,
-            limits: no_qos_limits(),
+            limits: QosLimits {
+                grp_jobs: None,
+                grp_submit: None,
+                grp_cpus: None,
+                user_jobs: None,
+                user_submit: None,
+                user_cpus: None,
+                max_wall: None,
+            },
         }
     }
 

@@ -96,7 +96,7 @@ impl From<memory_error::Memory> for AssocRefusal {
 
 /// Why a line wasn't read.
 #[derive(Clone, Copy)]
-pub enum Fault {
+pub(crate) enum Fault {
     Refused(AssocKind),
     Memory,
 }

@@ -1,4 +1,4 @@
-use Rattle.std.proofs.Common.{◌≡◌, ◌+◌, length, Option, None, Some}
+use Rattle.std.proofs.Common.{◌≡◌}
 use Rattle.std.specs.Option.{option_copied}
 use Rattle.assoc_reader.specs.Keys.{qos_key}
 use Rattle.assoc_reader.specs.Options.{with_option, after_options, options_of_rest, text_left}

@@ -1,4 +1,3 @@
-use Rattle.std.proofs.Common.{◌≡◌}
 use Rattle.assoc_reader.proofs.QosLemmas.{whole}
 use Rattle.assoc_reader.proofs.reader.end_file.Goals as goal
 

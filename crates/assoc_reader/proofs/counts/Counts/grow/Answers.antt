@@ -1,4 +1,4 @@
-use Rattle.std.proofs.Common.{◌≡◌, refl, is_ok}
+use Rattle.std.proofs.Common.{refl, is_ok}
 use Rattle.assoc_reader.proofs.IndexLemmas.{count-grown}
 use Rattle.assoc_reader.proofs.counts.Counts.grow.Goals as goal
 

@@ -1,6 +1,4 @@
-use Rattle.std.proofs.Common.{◌≡◌, List, true, false, cond, Some, bytes_eq, length, ap, sym, ◌∙◌}
-use Rattle.assoc_reader.specs.Index.{is_same_user}
-use Rattle.assoc_reader.specs.Tree.{account_place}
+use Rattle.std.proofs.Common.{sym, ◌∙◌}
 use Rattle.assoc_reader.proofs.IndexLemmas.{account-more, account-same, user-more, user-same}
 use Rattle.assoc_reader.proofs.name_index.NameIndex.add.Goals as goal
 

@@ -1,4 +1,3 @@
-use Rattle.std.proofs.Common.{sym}
 use Rattle.assoc_reader.proofs.QosLemmas.{none-yet}
 use Rattle.assoc_reader.proofs.qos_table.QosTable.new.Goals as goal
 
