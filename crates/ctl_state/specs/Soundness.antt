@@ -101,9 +101,9 @@ abbrev pub AreOfPartitions : List PartRecord → List JobRecord → Type 0
 AreOfPartitions partitions jobs = All (λ (job : JobRecord). job.partition < length partitions) jobs
 
 -- the job's association is of its user, and there is its quality of service
-pub record IsOfAccounts (assocs : List AssocRecord) (qos : List QosRecord) (job : JobRecord) : Type 0 where
+pub record IsOfAccounts (assocs : List AssocRecord) (qualities : List QosRecord) (job : JobRecord) : Type 0 where
   pub assoc : option_map (is_of_user job.user) (slice_get assocs job.assoc) ≡ Some true
-  pub qos : job.qos < length qos
+  pub qos : job.qos < length qualities
 
 pub record IsSound (s : State) : Type 0 where
   pub settings : HasRanges s.settings
