@@ -1,2 +1,3 @@
 pub mod Counts
+pub mod Reached
 pub mod Telling

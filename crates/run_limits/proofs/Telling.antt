@@ -1,16 +1,19 @@
 -- What a tally tells.
-use Rattle.std.proofs.Common.{◌≡◌, ℕ, Bool, true, false, ◌&&◌, nat_eq, List, [], ◌∷◌, ◌++◌, Option, Some, None, refl, ap, sym, ◌∙◌, arith}
+use Rattle.std.proofs.Common.{◌≡◌, ℕ, Bool, true, false, ◌&&◌, nat_eq, List, [], ◌∷◌, ◌++◌, Option, Some, None, refl, ap, sym, ◌∙◌, ◌+◌, arith}
+use Rattle.std.proofs.Math.Path.{fun_ext}
 use Rattle.std.proofs.lemmas.Bool.Decides.{nat_tests}
 use Rattle.std.specs.List.{list_any}
 use Rattle.std.specs.HashMap.{get}
 use Rattle.accounts_qos.specs.declared.record.AssocRecord.{AssocRecord}
-use Rattle.accounts_qos.specs.Accounts.{above, are_of_one_user, is_same_number, user_number}
+use Rattle.accounts_qos.specs.declared.record.QosRecord.{QosRecord}
+use Rattle.accounts_qos.specs.Accounts.{limits_at, above, are_of_one_user, is_same_number, user_number}
 use Rattle.run_limits.specs.declared.counted.Counted.{Counted}
 use Rattle.run_limits.specs.declared.counted.Counts.{Counts}
 use Rattle.run_limits.specs.declared.counted.Group.{Group}
 use Rattle.run_limits.specs.declared.counted.Group.TheVariants.{Array, Below, InQos, OfUser}
 use Rattle.run_limits.specs.declared.tally.Tally.{Tally}
 use Rattle.run_limits.specs.Counting.{counts_of, is_in, is_number}
+use Rattle.run_limits.specs.Limits.{Beside, is_above, has_jobs_too_many, has_cpus_too_many}
 use Rattle.run_limits.specs.Tallies.{Shows, HaveSameSums, told, told_of_user, kept, with_job_if, is_same_pair}
 use Rattle.run_limits.proofs.Counts.{counts-more, counts-same}
 
@@ -66,3 +69,24 @@ shows_more assocs old new job jobs more shows group =
 pub shows_same : (assocs : List AssocRecord) (tally : Tally) (some others : List Counted) → HaveSameSums some others → Shows assocs tally some → Shows assocs tally others
 unfolding Shows
 shows_same assocs tally some others same shows group = shows group ∙ counts-same (is_in assocs group) some others same
+
+-- what the tally tells decides whether the job is one too many, or has too many processors, at one of some places
+pub jobs_told : (assocs : List AssocRecord) (qos : List QosRecord) (tally : Tally) (holding : List Counted) (places : List ℕ) → Shows assocs tally holding
+    → list_any (λ place. is_above (limits_at assocs place).grp_jobs ((told assocs tally (Below place)).jobs + 1)) places
+      ≡ list_any (has_jobs_too_many (record { assocs = assocs; qos = qos; holding = holding })) places
+unfolding Shows
+jobs_told assocs qos tally holding places shows =
+    ap (λ (counts : Group → Counts). list_any (λ place. is_above (limits_at assocs place).grp_jobs ((counts (Below place)).jobs + 1)) places) (fun_ext shows)
+
+pub cpus_told : (assocs : List AssocRecord) (qos : List QosRecord) (tally : Tally) (holding : List Counted) (places : List ℕ) (cpus : ℕ) → Shows assocs tally holding
+    → list_any (λ place. is_above (limits_at assocs place).grp_cpus ((told assocs tally (Below place)).cpus + cpus)) places
+      ≡ list_any (has_cpus_too_many (record { assocs = assocs; qos = qos; holding = holding }) cpus) places
+unfolding Shows
+cpus_told assocs qos tally holding places cpus shows =
+    ap (λ (counts : Group → Counts). list_any (λ place. is_above (limits_at assocs place).grp_cpus ((counts (Below place)).cpus + cpus)) places) (fun_ext shows)
+
+-- what it tells of a group
+pub group_told : (assocs : List AssocRecord) (tally : Tally) (holding : List Counted) (group : Group) → Shows assocs tally holding
+    → told assocs tally group ≡ counts_of (is_in assocs group) holding
+unfolding Shows
+group_told assocs tally holding group shows = shows group

@@ -9,24 +9,11 @@ ghost use Rattle.run_limits.specs.Limits.{assoc_limits_reached, first_reason, is
 ghost use Rattle.run_limits.specs.Tallies.{Shows, told};
 
 use crate::counted::{Counted, Counts, Group};
+use crate::limit::{Limit, is_above};
 use crate::tally::Tally;
 use accounts_qos::assocs::Assocs;
 use slurm_text::plain::assoc::QosLimits;
 use slurm_text::plain::state::Reason;
-use slurm_text::ranged::Ranged;
-
-// Whether so many and so many more are above a limit.
-fn is_above<const MOST: u64>(limit: Option<Ranged<0, MOST>>, counted: u64, more: u64) -> bool
-    ensures { result ≡ is_above limit (counted + more) }
-{
-    let Some(limit) = limit else {
-        return false;
-    };
-    match counted.checked_add(more) {
-        Some(sum) => limit.get() < sum,
-        None => true,
-    }
-}
 
 // Whether as many tasks of the job's array hold processors as may at once.
 #[tactic(auto, unfolding(crate::specs::Tallies::Shows))]
@@ -63,7 +50,7 @@ fn has_cpus_too_many(assocs: &Assocs, tally: &Tally, places: &[u32], cpus: u64) 
 }
 
 // How many jobs may hold processors at once: the nearest limit at these places.
-fn most_jobs(assocs: &Assocs, places: &[u32]) -> Option<Ranged<0, 9999999999>>
+fn most_jobs(assocs: &Assocs, places: &[u32]) -> Option<Limit>
     ensures { result ≡ nearest (map (λ place. (limits_at assocs.now.records place).max_jobs) places.now) }
 {
     for place in places {
@@ -123,9 +110,8 @@ pub fn limit_reached(assocs: &Assocs, tally: &Tally, job: &Counted, most: Option
     if is_full(assocs, tally, job.array, most) {
         return Some(Reason::JobArrayTaskLimit);
     }
-    let reached = assoc_limit_reached(assocs, tally, job);
-    if reached.is_some() {
-        return reached;
+    if let Some(reason) = assoc_limit_reached(assocs, tally, job) {
+        return Some(reason);
     }
     let all = tally.counts(assocs, Group::InQos(job.qos));
     let users = tally.counts(
