@@ -1,11 +1,11 @@
 //! Which limits on jobs that haven't ended new jobs exceed.
 
-ghost use Rattle.std.specs.Prelude.{◌≡◌, ◌+◌, ℕ, List, map};
+ghost use Rattle.std.specs.Prelude.{◌≡◌, ◌+◌, ℕ, [], ◌∷◌, List, map};
 ghost use Rattle.accounts_qos.specs.Accounts.{limits_at, qos_limits_at};
 ghost use Rattle.run_limits.specs.declared.counted.Counted.{Counted as CountedJob};
 ghost use Rattle.run_limits.specs.declared.counted.Group.{Group as GroupOfJobs};
 ghost use Rattle.run_limits.specs.declared.counted.Group.TheVariants.{Below, InQos, OfUser};
-ghost use Rattle.slurm_text.specs.declared.plain.refusal.Which.TheVariants.{AssocGrpSubmitJobs};
+ghost use Rattle.slurm_text.specs.declared.plain.refusal.Which.TheVariants.{AssocGrpSubmitJobs, QosGrpSubmitJobs, QosMaxSubmitJobsPerUser};
 ghost use Rattle.run_limits.specs.Counting.{counts_of, is_in};
 ghost use Rattle.run_limits.specs.Limits.{nearest};
 ghost use Rattle.run_limits.specs.Submitting.{exceeded, first_exceeded, submit_limits};
@@ -62,10 +62,53 @@ fn group_exceeded<C: CountsJobs>(assocs: &Assocs, places: &[u32], counter: &C, n
 {
     for place in places {
         let limit = assocs.limits(*place).grp_submit;
-        let refusal = exceeded(Which::AssocGrpSubmitJobs, limit, counter, Group::Below(*place), new);
-        if refusal.is_some() {
-            return refusal;
+        let group = Group::Below(*place);
+        if let Some(refusal) = exceeded(Which::AssocGrpSubmitJobs, limit, counter, group, new) {
+            return Some(refusal);
         }
     }
     None
+}
+
+// The first limit of the job's quality of service that the new jobs exceed.
+fn qos_exceeded<C: CountsJobs>(assocs: &Assocs, job: &Counted, counter: &C, new: u64) -> Option<Refusal>
+    ensures { result ≡ first_exceeded (
+        exceeded QosGrpSubmitJobs (qos_limits_at assocs.now.qos job.now.qos).grp_submit
+        (C.jobs_of counter.now (InQos job.now.qos) + new)
+        ∷ exceeded QosMaxSubmitJobsPerUser (qos_limits_at assocs.now.qos job.now.qos).user_submit
+        (C.jobs_of counter.now (OfUser job.now.assoc job.now.qos) + new)
+        ∷ []) }
+{
+    let limits = assocs.qos_limits(job.qos);
+    let all = Group::InQos(job.qos);
+    if let Some(refusal) = exceeded(Which::QosGrpSubmitJobs, limits.grp_submit, counter, all, new) {
+        return Some(refusal);
+    }
+    let users = Group::OfUser {
+        assoc: job.assoc,
+        qos: job.qos,
+    };
+    exceeded(Which::QosMaxSubmitJobsPerUser, limits.user_submit, counter, users, new)
+}
+
+/// The first limit that so many new jobs like this one exceed beside those that haven't ended, which the counter counts;
+/// None where they exceed none. Linear in its way up to root, but for the counter, which it asks only where a limit
+/// stands. `MaxSubmitJobs` and `GrpSubmitJobs` in sacctmgr(1).
+pub fn submit_limit<C: CountsJobs>(assocs: &Assocs, job: &Counted, new: u64, counter: &C) -> Option<Refusal>
+    ensures { (unended : List CountedJob)
+        → ((group : GroupOfJobs) → C.jobs_of counter.now group ≡ (counts_of (is_in assocs.now.records group) unended).jobs)
+        → result ≡ first_exceeded (submit_limits
+        (record { assocs = assocs.now.records; qos = assocs.now.qos; holding = unended }) job.now new) }
+{
+    let places = assocs.above(job.assoc);
+    let places = places.as_slice();
+    let most = most_submitted(assocs, places);
+    let own = Group::Below(job.assoc);
+    if let Some(refusal) = exceeded(Which::AssocMaxSubmitJobs, most, counter, own, new) {
+        return Some(refusal);
+    }
+    if let Some(refusal) = group_exceeded(assocs, places, counter, new) {
+        return Some(refusal);
+    }
+    qos_exceeded(assocs, job, counter, new)
 }
