@@ -33,7 +33,7 @@ pub first_more : (name key : List ℕ) (assocs : List AssocRecord) (place : ℕ)
 first_more name key assocs place assoc was now first inside is same before found after =
     let more : take (place + 1) assocs ≡ take place assocs ++ assoc ∷ [] = take_more assocs place assoc inside ∙ ap (λ last. take place assocs ++ last ∷ []) (sym is) in
     let goes : position (is_named name) (take (place + 1) assocs) ≡ option_or (position (is_named name) (take place assocs)) (if bytes_eq assoc.conf.name name then Some place else None)
-      = ap (position (is_named name)) more ∙ position-more (is_named name) (take place assocs) assoc place (length-take-le place assocs (omega (arith, inside))) in
+    = ap (position (is_named name)) more ∙ position-more (is_named name) (take place assocs) assoc place (length-take-le place assocs (omega (arith, inside))) in
     (after ∙ ap (λ other. if bytes_eq other name then Some first else was) same) ∙ (at (bytes_eq assoc.conf.name name) refl ∙ sym goes) where
       at : (b : Bool) → bytes_eq assoc.conf.name name ≡ b → (if b then Some first else was) ≡ option_or (position (is_named name) (take place assocs)) (if b then Some place else None)
       at true has =
@@ -55,10 +55,11 @@ found assocs place assoc is =
     let here : get_or assocs place assoc ≡ assoc = get_or_from_slice_get assocs place assoc assoc is in
     let passes : test (get_or assocs place assoc) ≡ true = rw here ((bytes_eq-Decides assoc.conf.name assoc.conf.name).1 refl) in
     let first : position_or_len test assocs ≤ place = ⊎_elim (λ before. absurd (differ (sym passes ∙ fails_before_first test assocs place assoc before)))
-      (λ reached. reached) (cases_lt place (position_or_len test assocs)) in
+    (λ reached. reached) (cases_lt place (position_or_len test assocs)) in
     at (position_or_len test assocs) (length assocs) (omega (arith, first, inside)) where
       differ : true ≡ false → ⊥
       differ same = cc
+
       at : (n m : ℕ) → n < m → cond (ltb n m) (Some n) None ≡ Some (unwrap_or (cond (ltb n m) (Some n) None) 0)
       at n m less = grind (arith, nat_tests)
 
@@ -92,9 +93,10 @@ numbers_tell assocs here there = at (slice_get assocs here) (slice_get assocs th
         at false true names numbers =
             let same : number_in assocs one ≡ number_in assocs other = grind (arith, nat_tests, numbers) in
             sym names ∙ (bytes_eq-Decides _ _).1 (same-name assocs here there one other is_one is_other same)
+
   at : (one other : Option AssocRecord) → slice_get assocs here ≡ one → slice_get assocs there ≡ other
       → is_same_user (option_map (λ (assoc : AssocRecord). assoc.conf.name) one) (option_map (λ (assoc : AssocRecord). assoc.conf.name) other)
-        ≡ is_same_number (option_map (number_in assocs) one) (option_map (number_in assocs) other)
+      ≡ is_same_number (option_map (number_in assocs) one) (option_map (number_in assocs) other)
   at None None is_one is_other = refl
   at None (Some other) is_one is_other = refl
   at (Some one) None is_one is_other = refl

@@ -64,6 +64,7 @@ below (suc most) assocs rooted bound (Some place) fine =
       weaker : (parent : Option ℕ) → IfSome parent (λ other. other < place) → IfSome parent (λ other. other < bound)
       weaker None less = less
       weaker (Some other) less = omega (arith, less, fine)
+
       at : (found : Option AssocRecord) → IfSome found (λ (assoc : AssocRecord). IfSome assoc.conf.parent (λ parent. parent < place))
           → ((parent : Option ℕ) → IfSome parent (λ other. other < bound) → All (λ other. other < bound) (way_up most (parents_of assocs) parent))
           → All (λ other. other < bound) (unwrap_or (option_map (λ parent. place ∷ way_up most (parents_of assocs) parent) (option_map (λ (assoc : AssocRecord). assoc.conf.parent) found)) [])

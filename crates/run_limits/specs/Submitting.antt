@@ -29,3 +29,9 @@ submit_limits beside job new =
     ∷ exceeded QosMaxSubmitJobsPerUser (qos_limits_at beside.qos job.qos).user_submit
     ((counts_in beside (OfUser job.assoc job.qos)).jobs + new)
     ∷ [])
+
+-- the first limit that is exceeded
+abbrev pub first_exceeded : List (Option Refusal) → Option Refusal
+first_exceeded [] = None
+first_exceeded (None ∷ later) = first_exceeded later
+first_exceeded (Some refusal ∷ later) = Some refusal

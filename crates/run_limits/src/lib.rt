@@ -3,5 +3,7 @@
 
 pub mod counted;
 pub mod laws;
+mod limit;
 pub mod reasons;
+pub mod submitting;
 pub mod tally;

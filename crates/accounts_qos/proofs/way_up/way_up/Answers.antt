@@ -18,12 +18,12 @@ returns-in_default-get c =
 pub loop-preserved : goal.loop-preserved
 loop-preserved c = record {
   places =
-    ap (λ front. front ++ onwards (16 - (c.loop.counter + 1)) c.args.records.now c.in-Some-get.assoc.now.conf.parent) c.push.ensures.items
-    ∙ append_assoc c.loop.places.items (c.in-Some.place ∷ []) (onwards (16 - (c.loop.counter + 1)) c.args.records.now c.in-Some-get.assoc.now.conf.parent)
-    ∙ ap (λ rest. c.loop.places.items ++ rest) (sym (ap (onwards (16 - c.loop.counter) c.args.records.now) c.in-Some.is
+      ap (λ front. front ++ onwards (16 - (c.loop.counter + 1)) c.args.records.now c.in-Some-get.assoc.now.conf.parent) c.push.ensures.items
+      ∙ append_assoc c.loop.places.items (c.in-Some.place ∷ []) (onwards (16 - (c.loop.counter + 1)) c.args.records.now c.in-Some-get.assoc.now.conf.parent)
+      ∙ ap (λ rest. c.loop.places.items ++ rest) (sym (ap (onwards (16 - c.loop.counter) c.args.records.now) c.in-Some.is
       ∙ way_step (16 - (c.loop.counter + 1)) (16 - c.loop.counter) c.args.records.now c.in-Some.place c.in-Some-get.assoc.now
-        (omega (arith, c.loop-test.true)) c.in-Some-get.ensures.lookup.0 c.in-Some-get.ensures.lookup.1))
-    ∙ c.loop.invariant.places;
+      (omega (arith, c.loop-test.true)) c.in-Some-get.ensures.lookup.0 c.in-Some-get.ensures.lookup.1))
+      ∙ c.loop.invariant.places;
   few = omega (arith, c.push.ensures.len, c.loop.invariant.few);
 }
 
