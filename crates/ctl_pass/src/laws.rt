@@ -71,11 +71,11 @@ pub fn starts_get_all_they_planned()
     plans_keep_all_sound();
 }
 
-/// No start exceeds a limit: just before each, its job reached none beside what the jobs held then, those started
-/// before it in the pass among them.
+/// No start exceeds a limit: just before each, its job reached none of its array, its association, those above it and
+/// its quality of service, beside the jobs that held processors then, those started before it in the pass among them.
 pub fn no_start_exceeds_a_limit()
     ensures { (s : State) (now k : ℕ) (d : JobStart) → k < length (outcome s now).starts
-        → may_start (fold (begun now) (jobs_left s now) (take k (outcome s now).starts))
+        → may_start s (fold (begun now) (jobs_left s now) (take k (outcome s now).starts))
         (slice_index_or (outcome s now).starts k d).id ≡ true }
 {}
 
