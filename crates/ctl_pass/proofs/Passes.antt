@@ -277,12 +277,18 @@ sound-passed readies plans starts s now sound raised in_time =
     (sound-started starts left (jobs_left s now) (placements s now)
     (can-start_ready readies plans s now sound raised in_time))
 
--- Each placement that is due is of a job that has started with all that was planned for it, or it stays.
+-- Each placement that is due is of a job that has started with all that was planned for it; or it stays, and was held
+-- back.
 pub given-passed : ReadyLaws → PlanLaws → StartLaws → (s : State) (now : ℕ) → IsSound s → s.moment ≤ now
-    → now ≤ last_moment
-    → All (IsGiven now (pass_after s now).jobs (pass_after s now).plan) (placements s now)
+    → now ≤ last_moment → All (IsGiven s now (jobs_left s now) (outcome s now)) (placements s now)
+unfolding may_start
 given-passed readies plans starts s now sound raised in_time =
     let left = readied s now in
-    rw (← started-same s now now left.jobs left.jobs left.arrays [] (placements s now))
-    (all-given starts left (jobs_left s now) (placements s now)
-    (can-start_ready readies plans s now sound raised in_time))
+    let given : All (IsGiven s now left.jobs (started left now left.jobs (placements s now))) (placements s now) =
+    λ k d below due. elim (all-given starts left left.jobs (placements s now)
+    (can-start_ready readies plans s now sound raised in_time) k d below due) [
+      | inl has ↦ inl has
+      | inr (stands, held) ↦
+          inr (stands, record { before = held.before; some = held.some; reached = held.reached })
+    ] in
+    rw (← started-same s now now left.jobs left.jobs left.arrays [] (placements s now)) given

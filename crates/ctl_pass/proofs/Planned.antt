@@ -25,7 +25,7 @@ use Rattle.job_table.specs.JobStates.{is_pending}
 use Rattle.job_table.specs.Table.{is_old}
 use Rattle.run_limits.specs.declared.counted.Counted.{Counted}
 use Rattle.run_limits.specs.declared.tally.Tally.{Tally}
-use Rattle.run_limits.specs.Limits.{first_reason, limits_reached, reason_if}
+use Rattle.run_limits.specs.Limits.{Beside, first_reason, limits_reached, reason_if}
 use Rattle.run_limits.specs.Tallies.{Shows}
 use Rattle.ctl_state.specs.Counted.{counted_of, holding}
 use Rattle.ctl_state.specs.Events.{those_left}
@@ -239,7 +239,7 @@ base-rooms s now base is = ap (λ (one : BaseView). one.rooms) is
 -- what hinders a job beside what is counted
 abbrev hindered : State → JobRecord → List Counted → Option Reason
 hindered s job counted =
-    let beside = record { assocs = s.assocs; qos = s.qos; holding = counted } in
+    let beside : Beside = record { assocs = s.assocs; qos = s.qos; holding = counted } in
     first_reason (held_reason job.held_by ∷ (hindrances_in (partition_of s job)
     job ++ (reason_if (exceeds_wall s job)
     QosMaxWallDurationPerJobLimit ∷ (limits_reached beside (counted_of job) (most_tasks job)

@@ -18,7 +18,7 @@ use Rattle.ctl_state.specs.Laws.{TakenCounts}
 use Rattle.ctl_state.specs.Soundness.{pending_ids}
 use Rattle.ctl_pass.specs.Awaiting.{CountsOneMore}
 use Rattle.ctl_pass.specs.Limits.{timed_out}
-use Rattle.ctl_pass.proofs.Lists.{Any-kept, pairs-head, pairs-tail}
+use Rattle.ctl_pass.proofs.Lists.{Any-kept, kept-left, pairs-head, pairs-tail}
 use Rattle.ctl_pass.proofs.Readied.{by_limit, ended-others, old-ended, running-holds, running-not_ended, timed_out-id, timed_out-old}
 
 abbrev lower : JobRecord → JobRecord → Type 0
@@ -65,28 +65,23 @@ with-begun now id other parts names [] differ = refl
 with-begun now id other parts names (job ∷ jobs) differ =
     grind (arith, nat_tests, with-begun now id other parts names jobs differ, differ)
 
-timed_out-counts : (now : ℕ) (job : JobRecord)
-    → (counted_of (timed_out now job) ≡ counted_of job)
-    × (is_holding (timed_out now job).state ≡ is_holding job.state)
-timed_out-counts now job =
-    by_limit (λ after. (counted_of after ≡ counted_of job) × (is_holding after.state ≡ is_holding job.state)) now job
-    (λ over running. (refl, sym (running-holds job.state running))) (λ within. (refl, refl))
+timed_out-counted : (now : ℕ) (job : JobRecord) → counted_of (timed_out now job) ≡ counted_of job
+timed_out-counted now job =
+    by_limit (λ after. counted_of after ≡ counted_of job) now job (λ over running. refl) (λ within. refl)
+
+timed_out-holding : (now : ℕ) (job : JobRecord) → is_holding (timed_out now job).state ≡ is_holding job.state
+timed_out-holding now job =
+    by_limit (λ after. is_holding after.state ≡ is_holding job.state) now job
+    (λ over running. sym (running-holds job.state running)) (λ within. refl)
 
 -- the first steps of a pass leave all jobs that hold processors
 pub holding-left : (age now : ℕ) (jobs : List JobRecord)
     → holding (those_left (timed_out now) (is_old age now) jobs) ≡ holding jobs
 unfolding holding
-holding-left age now [] = refl
-holding-left age now (job ∷ jobs) =
-    grind (
-      arith,
-      nat_tests,
-      holding-left age now jobs,
-      timed_out-old age now job,
-      timed_out-counts now job,
-      old-ended age now job,
-      ended-others job.state,
-    )
+holding-left age now jobs =
+    kept-left counted_of (λ (job : JobRecord). is_holding job.state) (is_old age now) (timed_out now) jobs
+    (timed_out-counted now) (timed_out-holding now)
+    (λ job old. (ended-others job.state (old-ended age now job (sym (timed_out-old age now job) ∙ old))).1)
 
 -- the laws of counting that a pass rests on
 abbrev pub SumsShow : Type 0

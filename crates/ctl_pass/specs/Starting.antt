@@ -1,5 +1,5 @@
 -- What comes of a plan: the jobs that are planned at once start, the other placements stay.
-use Rattle.std.specs.Prelude.{◌≡◌, ℕ, Bool, false, ◌&&◌, nat_eq, is_none, if◌then◌else◌, List, [], ◌∷◌, map, take, length, Option, Some, None}
+use Rattle.std.specs.Prelude.{◌≡◌, ℕ, ◌≤◌, Bool, false, ◌&&◌, nat_eq, is_none, if◌then◌else◌, List, [], ◌∷◌, map, fold, take, length, Option, Some, None}
 use Rattle.std.specs.List.{AllZip}
 use Rattle.slurm_text.specs.declared.plain.state.JobState.TheVariants.{Running}
 use Rattle.resource_profile.specs.declared.NodeRoom.{NodeRoom}
@@ -81,6 +81,12 @@ due s now jobs (placed ∷ later) =
     if nat_eq placed.start now && may_start s jobs placed.id
     then placed ∷ due s now (begun_by s.nodes now jobs placed) later
     else due s now jobs later
+
+-- the job with this number reached a limit once some of these starts, the first ones, had come of the jobs
+pub record WasHeldBack (s : State) (now : ℕ) (jobs : List JobRecord) (starts : List JobStart) (id : ℕ) : Type 0 where
+  pub before : ℕ
+  pub some : before ≤ length starts
+  pub reached : may_start s (fold (begun now) jobs (take before starts)) id ≡ false
 
 -- the part has all that the share was planned
 pub record IsAsPlanned (share : Share) (part : Part) : Type 0 where

@@ -60,8 +60,8 @@ pub fn refusal_of(cluster: &Cluster, user: &Name) -> Option<Refusal>
 
 /// What a pass at its raised moment does. Linear in jobs, parts and nodes, and for each candidate that names nodes or
 /// features in the nodes of its partition, beside what its plan costs; the nodes of each partition are sorted, and
-/// where tiers rise the candidates. What holds processors is counted once, in one walk over the jobs; each of
-/// these, each candidate and each start costs the way up to root of its association besides.
+/// where tiers rise the candidates. The jobs that hold processors are counted once, in one walk over all; each of
+/// them, each pending job and each placement that begins now costs its association's way up to root besides.
 /// It counts a step for each job that it plans, and after want of memory at most that many.
 pub fn decide<L>(
     alloc: Global,

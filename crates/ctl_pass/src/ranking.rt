@@ -144,10 +144,10 @@ fn needs_of(
     Ok(ranked)
 }
 
-/// What the jobs need that the pass plans, highest in rank first. Linear in the jobs; the nodes of each partition are
-/// sorted once, and its candidates share them, so that a candidate that says nothing of its nodes costs constant time.
-/// One that does costs the nodes of its partition, and for each of them what it names. Where tiers rise among the
-/// candidates, these are sorted.
+/// What the jobs need that the pass plans, highest in rank first. Linear in the jobs, and for each pending one in its
+/// association's way up to root and the nodes that it must have. The nodes of each partition are sorted once, and its
+/// candidates share them, so that a candidate that says nothing of its nodes costs no more; one that does costs the
+/// nodes of its partition, and for each of them what it names. Where tiers rise among the candidates, these are sorted.
 pub(crate) fn rank(
     alloc: Global,
     cluster: &Cluster,
@@ -173,7 +173,9 @@ fn is_higher(cluster: &Cluster, one: &JobRecord, other: &JobRecord) -> bool
     tier_of(cluster, one) > tier_of(cluster, other)
 }
 
-/// The number of the candidate that is highest in rank, None where there is no candidate. Linear in the jobs.
+/// The number of the candidate that is highest in rank, None where there is no candidate. Linear in the jobs, and for
+/// each pending one that is higher than the candidates before it in its association's way up to root and the nodes that
+/// it must have.
 pub fn highest(cluster: &Cluster, tally: &Tally) -> Option<u32>
     requires { Shows cluster.now.assocs.records tally.now (holding cluster.now.jobs.records) }
     ensures { (now : ℕ) → result

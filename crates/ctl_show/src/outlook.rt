@@ -45,8 +45,8 @@ fn starts_of(alloc: Global, plan: &[Placed]) -> Result<HashMap<u32, Second>, Mem
     Ok(starts)
 }
 
-/// Linear in the jobs and the plan; each job that holds processors, and each candidate that is higher in rank than those
-/// before it, costs its association's way up to root besides.
+/// Linear in the jobs and the plan; each job that holds processors, and each pending one that is higher in rank than the
+/// candidates before it, costs its association's way up to root besides.
 pub(crate) fn outlook_of(alloc: Global, cluster: &Cluster) -> Result<Outlook, Memory>
     requires { IsSound (state_of cluster.now) }
     ensures { IfOk result (IsOutlook (state_of cluster.now)) }
