@@ -1,7 +1,7 @@
 -- The plan of a pass: what is held is within the nodes, what is planned is of candidates and can start, and its jobs
 -- await that.
 use Rattle.std.proofs.lemmas.Bool.Decides.{nat_tests}
-use Rattle.std.proofs.Common.{◌≡◌, ◌≢◌, ℕ, ◌+◌, ◌≤◌, ◌<◌, Bool, ◌&&◌, cond, leb, List, [], ◌∷◌, ◌++◌, length, map, filter, flat_map, get_or, sum_by, unwrap_or, All, AllPairs, Contains, Option, Some, None, IfSome, refl, ap, sym, ◌∙◌, arith}
+use Rattle.std.proofs.Common.{◌≡◌, ◌≢◌, ℕ, ◌+◌, ◌≤◌, ◌<◌, ◌&&◌, cond, List, [], ◌∷◌, ◌++◌, length, map, filter, flat_map, get_or, sum_by, unwrap_or, All, AllPairs, Contains, Option, IfSome, refl, ap, sym, ◌∙◌, arith}
 use Rattle.std.specs.Prelude.{filter_map, is_none}
 use Rattle.std.proofs.lemmas.List.{length-map}
 use Rattle.std.proofs.lemmas.List.Elements.{All-contains, All-filter, All-map, filter_agree}
@@ -22,13 +22,11 @@ use Rattle.job_table.specs.declared.record.JobRecord.{JobRecord}
 use Rattle.job_table.specs.declared.record.Part.{Part}
 use Rattle.job_table.specs.Changes.{is_on}
 use Rattle.job_table.specs.JobStates.{is_pending}
-use Rattle.job_table.specs.Table.{is_old}
 use Rattle.run_limits.specs.declared.counted.Counted.{Counted}
 use Rattle.run_limits.specs.declared.tally.Tally.{Tally}
 use Rattle.run_limits.specs.Limits.{Beside, first_reason, limits_reached, reason_if}
 use Rattle.run_limits.specs.Tallies.{Shows}
 use Rattle.ctl_state.specs.Counted.{counted_of, holding}
-use Rattle.ctl_state.specs.Events.{those_left}
 use Rattle.ctl_state.specs.Holding.{parts_of, mem_held, IsPartOf}
 use Rattle.ctl_state.specs.Laws.{JobNodes, OrderMoves, OrderKeepsApart}
 use Rattle.ctl_state.specs.Ordered.{ordered_by}
@@ -36,7 +34,7 @@ use Rattle.ctl_state.specs.Planning.{room_of, seconds_of, plan_job}
 use Rattle.ctl_state.specs.Soundness.{IsSound, IsKept, IsLimit, pending_ids}
 use Rattle.ctl_state.specs.State.{State, partition_of, last_moment, last_job_id}
 use Rattle.ctl_pass.specs.Awaiting.{Awaits, CanBegin}
-use Rattle.ctl_pass.specs.Limits.{timed_out, holds_of_job, hold_end}
+use Rattle.ctl_pass.specs.Limits.{holds_of_job, hold_end}
 use Rattle.ctl_pass.specs.Readiness.{jobs_left, ready, base_of, is_candidate, is_higher, candidates, needs_of, ranked, planned, placements}
 use Rattle.ctl_pass.specs.Taking.{CanStart}
 use Rattle.ctl_pass.specs.Reasons.{exceeds_wall, held_reason, hindrance, hindrances_in, lacks_node, most_tasks}

@@ -1,7 +1,7 @@
 -- The walk over a plan: what is counted while placements start, and that those that start and stay are the
 -- definition's.
 use Rattle.std.proofs.lemmas.Bool.Decides.{nat_tests}
-use Rattle.std.proofs.Common.{◌≡◌, ◌≢◌, ℕ, ◌+◌, ◌<◌, Bool, true, false, ◌&&◌, eqb, List, [], ◌∷◌, ◌++◌, fold, get_or, refl, ap, sym, ◌∙◌, append_assoc, arith}
+use Rattle.std.proofs.Common.{◌≡◌, ◌≢◌, ℕ, ◌<◌, Bool, true, false, ◌&&◌, eqb, List, [], ◌∷◌, ◌++◌, fold, get_or, refl, ap, sym, ◌∙◌, append_assoc, arith}
 use Rattle.std.specs.List.{list_any}
 use Rattle.std.proofs.lemmas.List.Elements.{All-head, All-tail}
 use Rattle.std.proofs.lemmas.List.Sums.{fold_push}
@@ -9,8 +9,6 @@ use Rattle.backfill_planner.specs.declared.Placed.{Placed}
 use Rattle.job_table.specs.declared.record.JobRecord.{JobRecord}
 use Rattle.job_table.specs.declared.record.Part.{Part}
 use Rattle.job_table.specs.Table.{HaveRisingIds, job_with}
-use Rattle.node_state.specs.declared.record.NodeRecord.{NodeRecord}
-use Rattle.accounts_qos.specs.declared.record.AssocRecord.{AssocRecord}
 use Rattle.run_limits.specs.declared.tally.Tally.{Tally}
 use Rattle.run_limits.specs.Tallies.{Shows}
 use Rattle.ctl_state.specs.Counted.{holding}
