@@ -2,6 +2,7 @@
 #![tactic(auto)]
 
 pub mod counted;
+pub mod groups;
 pub mod laws;
 mod limit;
 pub mod reasons;
