@@ -38,7 +38,7 @@ first-of (Some refusal) groups qos = refl
 
 pub submit_first : (beside : Beside) (job : Counted) (new : ℕ) (jobs : Group → ℕ) → ((group : Group) → jobs group ≡ (counts_in beside group).jobs)
     → first_exceeded (submit_limits beside job new)
-      ≡ option_or (own_by jobs beside job new) (option_or (first_exceeded (groups_by jobs beside job new)) (first_exceeded (qos_by jobs beside job new)))
+    ≡ option_or (own_by jobs beside job new) (option_or (first_exceeded (groups_by jobs beside job new)) (first_exceeded (qos_by jobs beside job new)))
 unfolding submit_limits
 submit_first beside job new jobs same =
     ap (λ (count : Group → ℕ). first_exceeded (own_by count beside job new ∷ (groups_by count beside job new ++ qos_by count beside job new))) (sym (fun_ext same))

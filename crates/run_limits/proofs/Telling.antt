@@ -13,7 +13,7 @@ use Rattle.run_limits.specs.declared.counted.Group.{Group}
 use Rattle.run_limits.specs.declared.counted.Group.TheVariants.{Array, Below, InQos, OfUser}
 use Rattle.run_limits.specs.declared.tally.Tally.{Tally}
 use Rattle.run_limits.specs.Counting.{counts_of, is_in, is_number}
-use Rattle.run_limits.specs.Limits.{Beside, is_above, has_jobs_too_many, has_cpus_too_many}
+use Rattle.run_limits.specs.Limits.{is_above, has_jobs_too_many, has_cpus_too_many}
 use Rattle.run_limits.specs.Tallies.{Shows, HaveSameSums, told, told_of_user, kept, with_job_if, is_same_pair}
 use Rattle.run_limits.proofs.Counts.{counts-more, counts-same}
 
@@ -45,12 +45,15 @@ told_more assocs old new job numbers arrays below qos users (OfUser assoc place)
       none : (b : Bool) → kept None ≡ with_job_if (b && false) job.cpus (kept None)
       none true = refl
       none false = refl
+
       never : (b : Bool) (counts : Counts) → counts ≡ with_job_if (b && false) job.cpus counts
       never true counts = refl
       never false counts = refl
+
       turned : (b : Bool) (n m : ℕ) → (nat_eq n m && b) ≡ (b && nat_eq m n)
       turned true n m = grind (arith, nat_tests)
       turned false n m = grind (arith, nat_tests)
+
       at : (one other : Option ℕ) → ((user : ℕ) → kept (get is_same_pair new.users (user, place)) ≡ with_job_if (is_number user other && nat_eq job.qos place) job.cpus (kept (get is_same_pair old.users (user, place))))
           → told_of_user new one place ≡ with_job_if (nat_eq job.qos place && is_same_number one other) job.cpus (told_of_user old one place)
       at None other counts = none (nat_eq job.qos place)
@@ -73,14 +76,14 @@ shows_same assocs tally some others same shows group = shows group ∙ counts-sa
 -- what the tally tells decides whether the job is one too many, or has too many processors, at one of some places
 pub jobs_told : (assocs : List AssocRecord) (qos : List QosRecord) (tally : Tally) (holding : List Counted) (places : List ℕ) → Shows assocs tally holding
     → list_any (λ place. is_above (limits_at assocs place).grp_jobs ((told assocs tally (Below place)).jobs + 1)) places
-      ≡ list_any (has_jobs_too_many (record { assocs = assocs; qos = qos; holding = holding })) places
+    ≡ list_any (has_jobs_too_many (record { assocs = assocs; qos = qos; holding = holding })) places
 unfolding Shows
 jobs_told assocs qos tally holding places shows =
     ap (λ (counts : Group → Counts). list_any (λ place. is_above (limits_at assocs place).grp_jobs ((counts (Below place)).jobs + 1)) places) (fun_ext shows)
 
 pub cpus_told : (assocs : List AssocRecord) (qos : List QosRecord) (tally : Tally) (holding : List Counted) (places : List ℕ) (cpus : ℕ) → Shows assocs tally holding
     → list_any (λ place. is_above (limits_at assocs place).grp_cpus ((told assocs tally (Below place)).cpus + cpus)) places
-      ≡ list_any (has_cpus_too_many (record { assocs = assocs; qos = qos; holding = holding }) cpus) places
+    ≡ list_any (has_cpus_too_many (record { assocs = assocs; qos = qos; holding = holding }) cpus) places
 unfolding Shows
 cpus_told assocs qos tally holding places cpus shows =
     ap (λ (counts : Group → Counts). list_any (λ place. is_above (limits_at assocs place).grp_cpus ((counts (Below place)).cpus + cpus)) places) (fun_ext shows)

@@ -6,7 +6,6 @@ use Rattle.slurm_text.specs.declared.plain.refusal.Which.{Which}
 use Rattle.slurm_text.specs.declared.plain.refusal.Which.TheVariants.{AssocMaxSubmitJobs, AssocGrpSubmitJobs, QosGrpSubmitJobs, QosMaxSubmitJobsPerUser}
 use Rattle.accounts_qos.specs.Accounts.{above, limits_at, qos_limits_at}
 use Rattle.run_limits.specs.declared.counted.Counted.{Counted}
-use Rattle.run_limits.specs.declared.counted.Group.{Group}
 use Rattle.run_limits.specs.declared.counted.Group.TheVariants.{Below, InQos, OfUser}
 use Rattle.run_limits.specs.Limits.{Beside, counts_in, nearest}
 

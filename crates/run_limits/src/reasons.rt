@@ -102,7 +102,12 @@ fn qos_limit_reached(limits: &QosLimits, all: Counts, users: Counts, cpus: u64) 
 
 /// The first limit that the job reaches beside the jobs that are counted, of whose array so many tasks may hold
 /// processors at once; None where it reaches none. Linear in its way up to root. "Resource limits" in slurm.conf(5).
-pub fn limit_reached(assocs: &Assocs, tally: &Tally, job: &Counted, most: Option<u64>) -> Option<Reason>
+pub fn limit_reached(
+    assocs: &Assocs,
+    tally: &Tally,
+    job: &Counted,
+    most: Option<u64>,
+) -> Option<Reason>
     ensures { (holding : List CountedJob) → Shows assocs.now.records tally.now holding
         → result ≡ first_reason (limits_reached
         (record { assocs = assocs.now.records; qos = assocs.now.qos; holding = holding }) job.now most) }

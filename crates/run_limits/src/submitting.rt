@@ -28,7 +28,13 @@ pub trait CountsJobs {
 }
 
 // The limit, where so many jobs and so many new ones exceed it.
-fn exceeded<C: CountsJobs>(which: Which, limit: Option<Limit>, counter: &C, group: Group, new: u64) -> Option<Refusal>
+fn exceeded<C: CountsJobs>(
+    which: Which,
+    limit: Option<Limit>,
+    counter: &C,
+    group: Group,
+    new: u64,
+) -> Option<Refusal>
     ensures { result ≡ exceeded which limit (C.jobs_of counter.now group + new) }
 {
     let limit = limit?;
@@ -56,7 +62,12 @@ fn most_submitted(assocs: &Assocs, places: &[u32]) -> Option<Limit>
 }
 
 // The first limit of these places that the new jobs exceed.
-fn group_exceeded<C: CountsJobs>(assocs: &Assocs, places: &[u32], counter: &C, new: u64) -> Option<Refusal>
+fn group_exceeded<C: CountsJobs>(
+    assocs: &Assocs,
+    places: &[u32],
+    counter: &C,
+    new: u64,
+) -> Option<Refusal>
     ensures { result ≡ first_exceeded (map (λ place. exceeded AssocGrpSubmitJobs
         (limits_at assocs.now.records place).grp_submit (C.jobs_of counter.now (Below place) + new)) places.now) }
 {
@@ -71,7 +82,12 @@ fn group_exceeded<C: CountsJobs>(assocs: &Assocs, places: &[u32], counter: &C, n
 }
 
 // The first limit of the job's quality of service that the new jobs exceed.
-fn qos_exceeded<C: CountsJobs>(assocs: &Assocs, job: &Counted, counter: &C, new: u64) -> Option<Refusal>
+fn qos_exceeded<C: CountsJobs>(
+    assocs: &Assocs,
+    job: &Counted,
+    counter: &C,
+    new: u64,
+) -> Option<Refusal>
     ensures { result ≡ first_exceeded (
         exceeded QosGrpSubmitJobs (qos_limits_at assocs.now.qos job.now.qos).grp_submit
         (C.jobs_of counter.now (InQos job.now.qos) + new)
@@ -81,20 +97,37 @@ fn qos_exceeded<C: CountsJobs>(assocs: &Assocs, job: &Counted, counter: &C, new:
 {
     let limits = assocs.qos_limits(job.qos);
     let all = Group::InQos(job.qos);
-    if let Some(refusal) = exceeded(Which::QosGrpSubmitJobs, limits.grp_submit, counter, all, new) {
+    if let Some(refusal) = exceeded(
+        Which::QosGrpSubmitJobs,
+        limits.grp_submit,
+        counter,
+        all,
+        new,
+    ) {
         return Some(refusal);
     }
     let users = Group::OfUser {
         assoc: job.assoc,
         qos: job.qos,
     };
-    exceeded(Which::QosMaxSubmitJobsPerUser, limits.user_submit, counter, users, new)
+    exceeded(
+        Which::QosMaxSubmitJobsPerUser,
+        limits.user_submit,
+        counter,
+        users,
+        new,
+    )
 }
 
 /// The first limit that so many new jobs like this one exceed beside those that haven't ended, which the counter counts;
 /// None where they exceed none. Linear in its way up to root, but for the counter, which it asks only where a limit
 /// stands. `MaxSubmitJobs` and `GrpSubmitJobs` in sacctmgr(1).
-pub fn submit_limit<C: CountsJobs>(assocs: &Assocs, job: &Counted, new: u64, counter: &C) -> Option<Refusal>
+pub fn submit_limit<C: CountsJobs>(
+    assocs: &Assocs,
+    job: &Counted,
+    new: u64,
+    counter: &C,
+) -> Option<Refusal>
     ensures { (unended : List CountedJob)
         → ((group : GroupOfJobs) → C.jobs_of counter.now group ≡ (counts_of (is_in assocs.now.records group) unended).jobs)
         → result ≡ first_exceeded (submit_limits

@@ -40,7 +40,11 @@ fn with_job(counts: Counts, cpus: u64) -> Result<Counts, Memory>
 }
 
 // One job more counts under a key.
-fn count<K: Eq + Hash + Drop>(counts: &mut HashMap<K, Counts>, key: K, cpus: u64) -> Result<(), Memory>
+fn count<K: Eq + Hash + Drop>(
+    counts: &mut HashMap<K, Counts>,
+    key: K,
+    cpus: u64,
+) -> Result<(), Memory>
     ensures { OnOk result ((other : K)
         → kept (get K.eq counts.new other) ≡ with_job_if (K.eq key other) cpus (kept (get K.eq counts.old other))) }
 {
@@ -72,7 +76,11 @@ fn count_above(below: &mut HashMap<u32, Counts>, places: &[u32], cpus: u64) -> R
 }
 
 // The job counts for its user, who has this number, in its quality of service.
-fn count_user(users: &mut HashMap<(u32, u32), Counts>, user: Option<u32>, job: &Counted) -> Result<(), Memory>
+fn count_user(
+    users: &mut HashMap<(u32, u32), Counts>,
+    user: Option<u32>,
+    job: &Counted,
+) -> Result<(), Memory>
     ensures { OnOk result ((other qos : ℕ) → kept (get is_same_pair users.new (other, qos))
         ≡ with_job_if (is_number other user && nat_eq job.now.qos qos) job.now.cpus
         (kept (get is_same_pair users.old (other, qos)))) }
@@ -111,7 +119,11 @@ impl Tally {
     {
         numbers_tell_users_apart();
         count_array(&mut self.arrays, job)?;
-        count_above(&mut self.below, assocs.above(job.assoc).as_slice(), job.cpus)?;
+        count_above(
+            &mut self.below,
+            assocs.above(job.assoc).as_slice(),
+            job.cpus,
+        )?;
         count(&mut self.qos, job.qos, job.cpus)?;
         count_user(&mut self.users, assocs.user_number(job.assoc), job)?;
         Ok(())

@@ -1,4 +1,4 @@
-use Rattle.std.proofs.Common.{◌≡◌, true, false, Some, None, refl, ap, sym, ◌∙◌}
+use Rattle.std.proofs.Common.{true, false, Some, None, refl, ap, sym, ◌∙◌}
 use Rattle.accounts_qos.specs.Accounts.{qos_limits_at}
 use Rattle.run_limits.specs.declared.counted.Group.TheVariants.{InQos, OfUser}
 use Rattle.run_limits.specs.Limits.{Beside, counts_in, first_reason, qos_limits_reached}
@@ -15,7 +15,7 @@ pub returns-in-Some : goal.returns-in-Some
 returns-in-Some c = λ holding shows.
     let beside : Beside = record { assocs = c.args.assocs.now.records; qos = c.args.assocs.now.qos; holding = holding } in
     sym (all_first beside c.args.job.now c.args.most false (Some c.in-Some.reason) (sym (c.is_full.ensures holding shows) ∙ c.if-is_full.false)
-      (sym (c.assoc_limit_reached.ensures holding shows) ∙ c.in-Some.is))
+    (sym (c.assoc_limit_reached.ensures holding shows) ∙ c.in-Some.is))
 
 pub returns : goal.returns
 returns c = λ holding shows.
@@ -30,4 +30,4 @@ returns c = λ holding shows.
     ∙ ap (λ counts. first_reason (qos_limits_reached limits counts c.counts-users.result job.cpus)) all
     ∙ ap (λ counts. first_reason (qos_limits_reached limits (counts_in beside (InQos job.qos)) counts job.cpus)) users
     ∙ sym (all_first beside job c.args.most false None (sym (c.is_full.ensures holding shows) ∙ c.if-is_full.false)
-      (sym (c.assoc_limit_reached.ensures holding shows) ∙ c.in_default.is))
+    (sym (c.assoc_limit_reached.ensures holding shows) ∙ c.in_default.is))

@@ -1,4 +1,4 @@
-use Rattle.std.proofs.Common.{arith, ◌∙◌}
+use Rattle.std.proofs.Common.{arith}
 use Rattle.accounts_qos.proofs.Way.{rooted_opened}
 use Rattle.accounts_qos.proofs.assocs.Assocs.build.Goals as goal
 
