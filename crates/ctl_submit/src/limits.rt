@@ -20,6 +20,7 @@ use slurm_text::plain::refusal::Refusal;
 use slurm_text::plain::state::JobState;
 
 // The jobs, of which those are counted that haven't ended.
+#[derive(Drop)]
 struct Unended<'a> {
     assocs: &'a Assocs,
     jobs: &'a [JobRecord],
@@ -36,6 +37,7 @@ impl CountsJobs for Unended<'_> {
 
     ghost jobs_of = { λ unended group. jobs_unended unended.assocs.now.records unended.jobs.now group };
 
+    #[tactic(auto, unfolding(crate::specs::Submission::jobs_unended))]
     fn jobs_in(&self, group: Group) -> u64 {
         self.jobs
             .iter()

@@ -9,9 +9,9 @@ use Rattle.run_limits.specs.declared.counted.Counted.{Counted}
 use Rattle.run_limits.specs.declared.counted.Group.{Group}
 use Rattle.run_limits.specs.declared.counted.Group.TheVariants.{Below, InQos, OfUser}
 use Rattle.run_limits.specs.Limits.{Beside, counts_in, nearest}
-use Rattle.run_limits.specs.Submitting.{exceeded, first_exceeded, submit_limits}
+use Rattle.run_limits.specs.Submitting.{exceeded, first_refusal, submit_limits}
 
-first-append : (some others : List (Option Refusal)) → first_exceeded (some ++ others) ≡ option_or (first_exceeded some) (first_exceeded others)
+first-append : (some others : List (Option Refusal)) → first_refusal (some ++ others) ≡ option_or (first_refusal some) (first_refusal others)
 first-append [] others = refl
 first-append (None ∷ some) others = first-append some others
 first-append (Some refusal ∷ some) others = refl
@@ -32,14 +32,14 @@ qos_by jobs beside job new =
     ∷ []
 
 first-of : (own : Option Refusal) (groups qos : List (Option Refusal))
-    → first_exceeded (own ∷ (groups ++ qos)) ≡ option_or own (option_or (first_exceeded groups) (first_exceeded qos))
+    → first_refusal (own ∷ (groups ++ qos)) ≡ option_or own (option_or (first_refusal groups) (first_refusal qos))
 first-of None groups qos = first-append groups qos
 first-of (Some refusal) groups qos = refl
 
 pub submit_first : (beside : Beside) (job : Counted) (new : ℕ) (jobs : Group → ℕ) → ((group : Group) → jobs group ≡ (counts_in beside group).jobs)
-    → first_exceeded (submit_limits beside job new)
-    ≡ option_or (own_by jobs beside job new) (option_or (first_exceeded (groups_by jobs beside job new)) (first_exceeded (qos_by jobs beside job new)))
+    → first_refusal (submit_limits beside job new)
+    ≡ option_or (own_by jobs beside job new) (option_or (first_refusal (groups_by jobs beside job new)) (first_refusal (qos_by jobs beside job new)))
 unfolding submit_limits
 submit_first beside job new jobs same =
-    ap (λ (count : Group → ℕ). first_exceeded (own_by count beside job new ∷ (groups_by count beside job new ++ qos_by count beside job new))) (sym (fun_ext same))
+    ap (λ (count : Group → ℕ). first_refusal (own_by count beside job new ∷ (groups_by count beside job new ++ qos_by count beside job new))) (sym (fun_ext same))
     ∙ first-of (own_by jobs beside job new) (groups_by jobs beside job new) (qos_by jobs beside job new)

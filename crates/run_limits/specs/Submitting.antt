@@ -30,7 +30,7 @@ submit_limits beside job new =
     ∷ [])
 
 -- the first limit that is exceeded
-abbrev pub first_exceeded : List (Option Refusal) → Option Refusal
-first_exceeded [] = None
-first_exceeded (None ∷ later) = first_exceeded later
-first_exceeded (Some refusal ∷ later) = Some refusal
+abbrev pub first_refusal : List (Option Refusal) → Option Refusal
+first_refusal [] = None
+first_refusal (None ∷ later) = first_refusal later
+first_refusal (Some refusal ∷ later) = Some refusal

@@ -8,7 +8,7 @@ ghost use Rattle.run_limits.specs.declared.counted.Group.TheVariants.{Below, InQ
 ghost use Rattle.slurm_text.specs.declared.plain.refusal.Which.TheVariants.{AssocGrpSubmitJobs, QosGrpSubmitJobs, QosMaxSubmitJobsPerUser};
 ghost use Rattle.run_limits.specs.Counting.{counts_of, is_in};
 ghost use Rattle.run_limits.specs.Limits.{nearest};
-ghost use Rattle.run_limits.specs.Submitting.{exceeded, first_exceeded, submit_limits};
+ghost use Rattle.run_limits.specs.Submitting.{exceeded, first_refusal, submit_limits};
 
 use crate::counted::{Counted, Group};
 use crate::limit::{Limit, is_above};
@@ -68,7 +68,7 @@ fn group_exceeded<C: CountsJobs>(
     counter: &C,
     new: u64,
 ) -> Option<Refusal>
-    ensures { result ≡ first_exceeded (map (λ place. exceeded AssocGrpSubmitJobs
+    ensures { result ≡ first_refusal (map (λ place. exceeded AssocGrpSubmitJobs
         (limits_at assocs.now.records place).grp_submit (C.jobs_of counter.now (Below place) + new)) places.now) }
 {
     for place in places {
@@ -88,7 +88,7 @@ fn qos_exceeded<C: CountsJobs>(
     counter: &C,
     new: u64,
 ) -> Option<Refusal>
-    ensures { result ≡ first_exceeded (
+    ensures { result ≡ first_refusal (
         exceeded QosGrpSubmitJobs (qos_limits_at assocs.now.qos job.now.qos).grp_submit
         (C.jobs_of counter.now (InQos job.now.qos) + new)
         ∷ exceeded QosMaxSubmitJobsPerUser (qos_limits_at assocs.now.qos job.now.qos).user_submit
@@ -130,7 +130,7 @@ pub fn submit_limit<C: CountsJobs>(
 ) -> Option<Refusal>
     ensures { (unended : List CountedJob)
         → ((group : GroupOfJobs) → C.jobs_of counter.now group ≡ (counts_of (is_in assocs.now.records group) unended).jobs)
-        → result ≡ first_exceeded (submit_limits
+        → result ≡ first_refusal (submit_limits
         (record { assocs = assocs.now.records; qos = assocs.now.qos; holding = unended }) job.now new) }
 {
     let places = assocs.above(job.assoc);
