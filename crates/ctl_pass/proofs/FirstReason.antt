@@ -36,7 +36,8 @@ reasons-joined first middle last some others =
     (by first (first_reason some) middle (first_reason others) last)
   where
     by : (a b c d e : Option Reason)
-        → option_or (option_or (option_or (option_or a b) c) d) e ≡ option_or a (option_or b (option_or c (option_or d (option_or e None))))
+        → option_or (option_or (option_or (option_or a b) c) d) e
+        ≡ option_or a (option_or b (option_or c (option_or d (option_or e None))))
     by None None None None None = refl
     by None None None None (Some e) = refl
     by None None None (Some d) e = refl

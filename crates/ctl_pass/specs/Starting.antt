@@ -82,7 +82,7 @@ due s now jobs (placed ∷ later) =
     then placed ∷ due s now (begun_by s.nodes now jobs placed) later
     else due s now jobs later
 
--- the job with this number reached a limit once some of these starts, the first ones, had come of the jobs
+-- after so many of these starts, the first ones, the job with this number reached a limit
 pub record WasHeldBack (s : State) (now : ℕ) (jobs : List JobRecord) (starts : List JobStart) (id : ℕ) : Type 0 where
   pub before : ℕ
   pub some : before ≤ length starts
