@@ -120,8 +120,8 @@ fn qos_exceeded<C: CountsJobs>(
 }
 
 /// The first limit that so many new jobs like this one exceed beside those that haven't ended, which the counter
-/// counts; None where they exceed none. Linear in its way up to root, but for the counter, which it asks only where a limit
-/// stands. `MaxSubmitJobs` and `GrpSubmitJobs` in sacctmgr(1).
+/// counts; None where they exceed none. Linear in its way up to root, but for the counter, which it asks only where a
+/// limit stands. `MaxSubmitJobs` and `GrpSubmitJobs` in sacctmgr(1).
 pub fn submit_limit<C: CountsJobs>(
     assocs: &Assocs,
     job: &Counted,
