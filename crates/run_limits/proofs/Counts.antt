@@ -15,24 +15,36 @@ pub counts-more : (test : Counted → Bool) (jobs : List Counted) (job : Counted
     → counts_of test (jobs ++ job ∷ []) ≡ with_job_if (test job) job.cpus (counts_of test jobs)
 unfolding counts_of
 counts-more test jobs job =
-    rw (sum_by_push (λ one. cond (test one) 1 0) jobs job, sum_by_push (λ (one : Counted). cond (test one) one.cpus 0) jobs job)
-    (at (test job) (sum_by (λ one. cond (test one) 1 0) jobs) (sum_by (λ (one : Counted). cond (test one) one.cpus 0) jobs)) where
+    rw (
+      sum_by_push (λ one. cond (test one) 1 0) jobs job,
+      sum_by_push (λ (one : Counted). cond
+          (test one) one.cpus 0) jobs job,
+    )
+    (at (test job) (sum_by (λ one. cond (test one) 1 0) jobs) (sum_by (λ (one : Counted). cond
+    (test one) one.cpus 0) jobs)) where
       counts : ℕ → ℕ → Counts
       counts count cpus = record { jobs = count; cpus = cpus }
 
-      at : (b : Bool) (count cpus : ℕ) → counts (count + cond b 1 0) (cpus + cond b job.cpus 0) ≡ with_job_if b job.cpus (counts count cpus)
+      at : (b : Bool) (count cpus : ℕ) → counts (count + cond b 1 0) (cpus + cond b job.cpus 0)
+          ≡ with_job_if b job.cpus (counts count cpus)
       at true count cpus = refl
       at false count cpus = rw (none count, none cpus) refl where
         none : (n : ℕ) → n + 0 ≡ n
         none n = omega arith
 
 -- the sums decide
-pub counts-same : (test : Counted → Bool) (some others : List Counted) → HaveSameSums some others → counts_of test some ≡ counts_of test others
+pub counts-same : (test : Counted → Bool) (some others : List Counted) → HaveSameSums some others
+    → counts_of test some ≡ counts_of test others
 unfolding counts_of
-counts-same test some others same = rw (same (λ one. cond (test one) 1 0), same (λ (one : Counted). cond (test one) one.cpus 0)) refl
+counts-same test some others same = rw (
+  same (λ one. cond (test one) 1 0),
+  same (λ (one : Counted). cond
+      (test one) one.cpus 0),
+) refl
 
 -- where the places fall, none of the earlier ones is a later one
-not-before : (places : List ℕ) (index place : ℕ) → index < length places → AllPairs (λ lower upper. upper < lower) places
+not-before : (places : List ℕ) (index place : ℕ) → index < length places
+    → AllPairs (λ lower upper. upper < lower) places
     → place ≡ get_or places index 0 → list_any (nat_eq place) (take index places) ≡ false
 not-before places index place inside falling is =
     let count : length (take index places) ≡ index = length-take-le index places (omega (arith, inside)) in
@@ -45,7 +57,8 @@ not-before places index place inside falling is =
       differ later less = grind (arith, nat_tests)
 
 -- a place more of the way up
-pub above-more : (places : List ℕ) (index place other cpus : ℕ) (was : Counts) → index < length places → AllPairs (λ lower upper. upper < lower) places
+pub above-more : (places : List ℕ) (index place other cpus : ℕ) (was : Counts) → index < length places
+    → AllPairs (λ lower upper. upper < lower) places
     → place ≡ get_or places index 0
     → with_job_if (nat_eq place other) cpus (with_job_if (list_any (nat_eq other) (take index places)) cpus was)
     ≡ with_job_if (list_any (nat_eq other) (take (index + 1) places)) cpus was
@@ -60,7 +73,8 @@ above-more places index place other cpus was inside falling is =
           let same : place ≡ other = grind (arith, nat_tests, has) in
           rw (← same) (not-before places index place inside falling is)
 
-      at : (b c e : Bool) → b ≡ e → (b ≡ true → c ≡ false) → with_job_if b cpus (with_job_if c cpus was) ≡ with_job_if (c || e) cpus was
+      at : (b c e : Bool) → b ≡ e → (b ≡ true → c ≡ false) → with_job_if b cpus (with_job_if c cpus was)
+          ≡ with_job_if (c || e) cpus was
       at true true e same once = absurd (never (once refl)) where
         never : true ≡ false → ⊥
         never wrong = cc

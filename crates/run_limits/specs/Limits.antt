@@ -68,7 +68,8 @@ abbrev pub assoc_limits_reached : Beside → Counted → List (Option Reason)
 assoc_limits_reached beside job =
     reason_if (list_any (has_jobs_too_many beside) (above beside.assocs job.assoc)) AssocGrpJobsLimit
     ∷ reason_if (list_any (has_cpus_too_many beside job.cpus) (above beside.assocs job.assoc)) AssocGrpCpuLimit
-    ∷ reason_if (is_above (most_jobs beside job.assoc) ((counts_in beside (Below job.assoc)).jobs + 1)) AssocMaxJobsLimit
+    ∷ reason_if (is_above (most_jobs beside job.assoc) ((counts_in beside
+    (Below job.assoc)).jobs + 1)) AssocMaxJobsLimit
     ∷ []
 
 -- the limits of the job's quality of service that it reaches, with what those in it, and those of its user in it, count

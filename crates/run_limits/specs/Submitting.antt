@@ -24,7 +24,8 @@ submit_limits beside job new =
     (λ place. exceeded AssocGrpSubmitJobs (limits_at beside.assocs place).grp_submit
     ((counts_in beside (Below place)).jobs + new))
     (above beside.assocs job.assoc)
-    ++ exceeded QosGrpSubmitJobs (qos_limits_at beside.qos job.qos).grp_submit ((counts_in beside (InQos job.qos)).jobs + new)
+    ++ exceeded QosGrpSubmitJobs (qos_limits_at beside.qos job.qos).grp_submit ((counts_in beside
+    (InQos job.qos)).jobs + new)
     ∷ exceeded QosMaxSubmitJobsPerUser (qos_limits_at beside.qos job.qos).user_submit
     ((counts_in beside (OfUser job.assoc job.qos)).jobs + new)
     ∷ [])

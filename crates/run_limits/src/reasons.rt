@@ -19,7 +19,8 @@ use slurm_text::plain::state::Reason;
 #[tactic(auto, unfolding(crate::specs::Tallies::Shows))]
 fn is_full(assocs: &Assocs, tally: &Tally, array: Option<u32>, most: Option<u64>) -> bool
     ensures { (holding : List CountedJob) → Shows assocs.now.records tally.now holding
-        → result ≡ is_full (record { assocs = assocs.now.records; qos = assocs.now.qos; holding = holding }) array most }
+        → result ≡ is_full
+        (record { assocs = assocs.now.records; qos = assocs.now.qos; holding = holding }) array most }
 {
     match (array, most) {
         (Some(array), Some(most)) => most <= tally.counts(assocs, Group::Array(array)).jobs,
@@ -82,8 +83,8 @@ fn assoc_limit_reached(assocs: &Assocs, tally: &Tally, job: &Counted) -> Option<
     }
 }
 
-// The first limit of its quality of service that a job reaches, where those in it, and those of its user in it, count so
-// much.
+// The first limit of its quality of service that a job reaches, where those in it, and those of its user in it, count
+// so much.
 fn qos_limit_reached(limits: &QosLimits, all: Counts, users: Counts, cpus: u64) -> Option<Reason>
     ensures { result ≡ first_reason (qos_limits_reached limits.now all users cpus) }
 {

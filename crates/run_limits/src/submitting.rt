@@ -119,9 +119,9 @@ fn qos_exceeded<C: CountsJobs>(
     )
 }
 
-/// The first limit that so many new jobs like this one exceed beside those that haven't ended, which the counter counts;
-/// None where they exceed none. Linear in its way up to root, but for the counter, which it asks only where a limit
-/// stands. `MaxSubmitJobs` and `GrpSubmitJobs` in sacctmgr(1).
+/// The first limit that so many new jobs like this one exceed beside those that haven't ended, which the counter
+/// counts; None where they exceed none. Linear in its way up to root, but for the counter, which it asks only where a
+/// limit stands. `MaxSubmitJobs` and `GrpSubmitJobs` in sacctmgr(1).
 pub fn submit_limit<C: CountsJobs>(
     assocs: &Assocs,
     job: &Counted,
@@ -129,7 +129,8 @@ pub fn submit_limit<C: CountsJobs>(
     counter: &C,
 ) -> Option<Refusal>
     ensures { (unended : List CountedJob)
-        → ((group : GroupOfJobs) → C.jobs_of counter.now group ≡ (counts_of (is_in assocs.now.records group) unended).jobs)
+        → ((group : GroupOfJobs)
+        → C.jobs_of counter.now group ≡ (counts_of (is_in assocs.now.records group) unended).jobs)
         → result ≡ first_refusal (submit_limits
         (record { assocs = assocs.now.records; qos = assocs.now.qos; holding = unended }) job.now new) }
 {

@@ -111,8 +111,8 @@ impl Tally {
         })
     }
 
-    /// One job more is counted: linear in its way up to root, each step in constant time. After want of memory the tally
-    /// is of no use; a sum that 64 bits don't hold is want of memory, too.
+    /// One job more is counted: linear in its way up to root, each step in constant time. After want of memory the
+    /// tally is of no use; a sum that 64 bits don't hold is want of memory, too.
     pub fn add(&mut self, assocs: &Assocs, job: &Counted) -> Result<(), Memory>
         ensures { OnOk result ((jobs : List CountedJob) → Shows assocs.now.records self.old jobs
             → Shows assocs.now.records self.new (jobs ++ job.now ∷ [])) }

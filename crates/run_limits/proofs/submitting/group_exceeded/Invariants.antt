@@ -8,5 +8,7 @@ use Rattle.run_limits.proofs.submitting.group_exceeded.Given as goal
 
 abbrev pub invariant-loop-place : goal.invariant-loop-place
 invariant-loop-place g l =
-    first_refusal (map (λ place. exceeded AssocGrpSubmitJobs (limits_at l.assocs.records place).grp_submit (g.C.CountsJobs.jobs_of l.counter (Below place) + l.new)) (drop l.place-index l.places))
-    ≡ first_refusal (map (λ place. exceeded AssocGrpSubmitJobs (limits_at l.assocs.records place).grp_submit (g.C.CountsJobs.jobs_of l.counter (Below place) + l.new)) l.places)
+    first_refusal (map (λ place. exceeded AssocGrpSubmitJobs (limits_at l.assocs.records place).grp_submit
+    (g.C.CountsJobs.jobs_of l.counter (Below place) + l.new)) (drop l.place-index l.places))
+    ≡ first_refusal (map (λ place. exceeded AssocGrpSubmitJobs (limits_at l.assocs.records place).grp_submit
+    (g.C.CountsJobs.jobs_of l.counter (Below place) + l.new)) l.places)

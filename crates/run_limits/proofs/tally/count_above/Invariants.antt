@@ -7,4 +7,6 @@ use Rattle.run_limits.proofs.tally.count_above.Given as goal
 
 abbrev pub invariant-loop-place : goal.invariant-loop-place
 invariant-loop-place l =
-    (other : ℕ) → kept (get nat_eq l.below other) ≡ with_job_if (list_any (nat_eq other) (take l.place-index l.places)) l.cpus (kept (get nat_eq l.fn.below other))
+    (other : ℕ) → kept (get nat_eq l.below other)
+    ≡ with_job_if (list_any (nat_eq other) (take l.place-index l.places)) l.cpus (kept
+    (get nat_eq l.fn.below other))
