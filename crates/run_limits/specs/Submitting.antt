@@ -30,7 +30,7 @@ submit_limits beside job new =
     ((counts_in beside (OfUser job.assoc job.qos)).jobs + new)
     ∷ [])
 
--- the first limit that is exceeded
+-- the first refusal that stands
 abbrev pub first_refusal : List (Option Refusal) → Option Refusal
 first_refusal [] = None
 first_refusal (None ∷ later) = first_refusal later
