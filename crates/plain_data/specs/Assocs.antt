@@ -1,5 +1,5 @@
 -- What contracts see of the association file, and what is true of every one.
-use Rattle.std.specs.Prelude.{◌≡◌, ◌≢◌, ℕ, zero, suc, ◌<◌, ◌≤◌, Bool, true, false, nat_eq, is_none, List, [], ◌∷◌, length, count_by, slice_get, codes, AllPairs, Any, All, IfSome, Option, Some, None, option_and_then}
+use Rattle.std.specs.Prelude.{◌≡◌, ◌≢◌, ℕ, zero, suc, ◌<◌, ◌≤◌, Bool, true, false, nat_eq, unwrap_or, List, [], ◌∷◌, length, map, count_by, slice_get, codes, AllPairs, Any, All, IfSome, Option, Some, None, option_map}
 use Rattle.plain_data.specs.declared.assoc.AssocConf.{AssocConf}
 use Rattle.plain_data.specs.declared.assoc.QosConf.{QosConf}
 
@@ -9,15 +9,17 @@ pub record AssocView : Type 0 where
   -- in the order of the file
   pub qos : List QosConf
 
--- the place of the account that the association at a place belongs to; None where that is root
-abbrev pub parent_at : List AssocConf → ℕ → Option ℕ
-parent_at assocs place = option_and_then (λ (assoc : AssocConf). assoc.parent) (slice_get assocs place)
+-- the places of the accounts that the associations belong to; None is root
+abbrev pub parents_in : List AssocConf → List (Option ℕ)
+parents_in assocs = map (λ (assoc : AssocConf). assoc.parent) assocs
 
--- The places on the way up to root from a place, which is the first of them: no more than so many.
-abbrev pub way_up : ℕ → List AssocConf → Option ℕ → List ℕ
-way_up zero assocs place = []
-way_up (suc most) assocs None = []
-way_up (suc most) assocs (Some place) = place ∷ way_up most assocs (parent_at assocs place)
+-- The places on the way up to root from a place, which is the first of them: those that there are, and no more than so
+-- many.
+abbrev pub way_up : ℕ → List (Option ℕ) → Option ℕ → List ℕ
+way_up zero parents place = []
+way_up (suc most) parents None = []
+way_up (suc most) parents (Some place) =
+    unwrap_or (option_map (λ parent. place ∷ way_up most parents parent) (slice_get parents place)) []
 
 -- how far up the tree goes from a user to the child of root, both counted
 unfoldable pub greatest_depth : ℕ
@@ -47,7 +49,7 @@ pub record IsAssocFile (assocs : List AssocConf) (qos : List QosConf) : Type 0 w
   pub no_root : All (λ (assoc : AssocConf). assoc.user ≡ false → assoc.name ≢ codes "root") assocs
   pub few_users : count_by (λ (assoc : AssocConf). assoc.user) assocs ≤ 4096
   pub few_children : (parent : Option ℕ) → count_by (λ (assoc : AssocConf). is_same_place assoc.parent parent) assocs ≤ 256
-  pub shallow : (place : ℕ) → length (way_up (suc greatest_depth) assocs (Some place)) ≤ greatest_depth
+  pub shallow : (place : ℕ) → length (way_up (suc greatest_depth) (parents_in assocs) (Some place)) ≤ greatest_depth
   pub few_qos : length qos ≤ 64
   pub qos_once : AllPairs (λ (one other : QosConf). one.name ≢ other.name) qos
   pub has_normal : Any (λ (one : QosConf). one.name ≡ codes "normal") qos
