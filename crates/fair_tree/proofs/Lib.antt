@@ -1,0 +1,4 @@
+pub mod Parts
+pub mod Counting
+pub mod Fractions
+pub mod Ways

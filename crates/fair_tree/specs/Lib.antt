@@ -1,0 +1,4 @@
+pub mod Levels
+pub mod Tree
+pub mod Ranks
+pub mod Paths
