@@ -13,7 +13,7 @@ use Rattle.std.proofs.lemmas.List.Sums.{sum_by-cons}
 use Rattle.std.proofs.lemmas.List.Folds.{Any-from_list_any, list_any_at}
 use Rattle.fair_tree.proofs.Parts.{parts, walk, Leads, parts-flip, Leads-itself, parts-longer, Leads-trans, walk-greater, walk-shorter, walk-earlier}
 
-is_gt-greater : (a : Ordering) → is_gt a ≡ true → a ≡ Greater
+pub is_gt-greater : (a : Ordering) → is_gt a ≡ true → a ≡ Greater
 is_gt-greater Less e = absurd (cc)
 is_gt-greater Equal e = absurd (cc)
 is_gt-greater Greater e = refl

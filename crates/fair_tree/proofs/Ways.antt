@@ -1,6 +1,6 @@
 -- The places on the way up to root.
 use Rattle.std.proofs.Common.{◌≡◌, ℕ, zero, suc, ◌+◌, ◌<◌, ◌≤◌, Bool, true, false, cond, List, [], ◌∷◌, length, refl, sym, ap, ◌∙◌, inl, inr, arith, Option, Some, None}
-use Rattle.std.specs.Prelude.{nat_eq, IfSome}
+use Rattle.std.specs.Prelude.{nat_eq, IfSome, unwrap_or, option_map}
 use Rattle.std.specs.List.{list_any}
 use Rattle.std.proofs.lemmas.Bool.{cases_eq, eq-eqb, ne_eqb}
 use Rattle.fair_tree.specs.declared.tree.TreeNode.{TreeNode}
@@ -10,9 +10,19 @@ use Rattle.fair_tree.specs.Tree.{IsTree, parent_at, way_up, is_same_place}
 abbrev pub IsUnder : ℕ → Option ℕ → Type 0
 IsUnder bound at = IfSome at (λ place. place < bound)
 
-under-less : (low high : ℕ) → low ≤ high → (at : Option ℕ) → IsUnder low at → IsUnder high at
+pub under-less : (low high : ℕ) → low ≤ high → (at : Option ℕ) → IsUnder low at → IsUnder high at
 under-less low high le None under = tt
 under-less low high le (Some place) under = omega (arith, under)
+
+-- what is added at most
+pub added-low : (b : Bool) (n : ℕ) → cond b n 0 ≤ n
+added-low true n = omega arith
+added-low false n = omega arith
+
+-- the way from a parent is shorter
+pub steps-less : (place : ℕ) (at : Option ℕ) → IsUnder place at → unwrap_or (option_map suc at) 0 < suc place
+steps-less place None under = omega arith
+steps-less place (Some parent) under = omega (arith, under)
 
 -- what a place is still owed on a way
 abbrev pub owed : List TreeNode → Option ℕ → Option ℕ → ℕ → ℕ
@@ -63,3 +73,8 @@ module _ (nodes : List TreeNode) (tree : IsTree nodes) where
       none : (f : ℕ) → way_up f nodes None ≡ []
       none zero = refl
       none (suc f) = refl
+
+  -- at a place on the way what it is owed is more than what its parent is
+  pub owed-here : (place by : ℕ) → place < length nodes
+      → owed nodes (Some place) (Some place) by ≡ by + owed nodes (Some place) (parent_at nodes place) by
+  owed-here place by low = owed-step (Some place) place by low ∙ rw (eq-eqb place place refl) refl

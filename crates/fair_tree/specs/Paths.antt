@@ -1,5 +1,5 @@
 -- What the code's sums, levels and paths stand for.
-use Rattle.std.specs.Prelude.{ℕ, ◌≡◌, ◌<◌, ◌^◌, vec_len, Bool, ◌&&◌, nat_le, if◌then◌else◌, List, [], map, length, slice_index, slice_range, Option, Some, None}
+use Rattle.std.specs.Prelude.{ℕ, ◌≡◌, ◌<◌, ◌^◌, vec_len, Bool, ◌&&◌, nat_le, if◌then◌else◌, List, [], map, length, All, slice_index, slice_range, Option, Some, None}
 use Rattle.std.specs.Ordering.{is_lt}
 use Rattle.std.specs.Cmp.Lexicographic.{slice_cmp}
 use Rattle.std.specs.declared.cmp.Ordering.{Ordering}
@@ -50,3 +50,7 @@ walk_cmp one other = slice_cmp level_order one other
 -- of two users the one comes first
 abbrev pub comes_first : List LevelFs → Span → Span → Bool
 comes_first levels one other = is_lt (walk_cmp (levels_in levels one) (levels_in levels other))
+
+-- no two are of one user
+abbrev pub AreApart : List Span → Type 0
+AreApart spans = All (λ (one : Span). All (λ (other : Span). one.user ≡ other.user → one ≡ other) spans) spans

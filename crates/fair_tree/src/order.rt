@@ -1,12 +1,11 @@
 //! The order of the users, and their ranks.
 
-ghost use Rattle.std.specs.Prelude.{◌≡◌, ◌<◌, ◌^◌, map, length, vec_len, All, IfOk, IsPermutation, slice_index};
+ghost use Rattle.std.specs.Prelude.{◌≡◌, ◌<◌, ◌-◌, ◌^◌, ◌&&◌, nat_lt, map, length, vec_len, All, IfOk, IsPermutation, slice_index, slice_index_or};
 ghost use Rattle.std.specs.List.Sorted.{IsSortedBy};
-ghost use Rattle.fair_tree.specs.declared.level.Fraction.{Fraction};
 ghost use Rattle.fair_tree.specs.declared.paths.Span.{Span};
 ghost use Rattle.fair_tree.specs.Levels.{level_cmp};
 ghost use Rattle.fair_tree.specs.Ranks.{parting, is_greater, rank_among};
-ghost use Rattle.fair_tree.specs.Paths.{seen, path_in, walk_cmp, comes_first};
+ghost use Rattle.fair_tree.specs.Paths.{seen, path_in, walk_cmp, comes_first, AreApart};
 
 use crate::level::LevelFs;
 use crate::paths::{Paths, Span, levels_of};
@@ -31,12 +30,15 @@ fn compare_levels(one: LevelFs, other: LevelFs) -> Ordering
 fn part(one: &[LevelFs], other: &[LevelFs]) -> Ordering
     ensures { result ≡ parting (map seen one.now) (map seen other.now) }
 {
-    match (one, other) {
-        ([x, one @ ..], [y, other @ ..]) => match compare_levels(*x, *y) {
-            Ordering::Equal => part(one, other),
-            order => order,
-        },
-        _ => Ordering::Equal,
+    let [x, one @ ..] = one else {
+        return Ordering::Equal;
+    };
+    let [y, other @ ..] = other else {
+        return Ordering::Equal;
+    };
+    match compare_levels(*x, *y) {
+        Ordering::Equal => part(one, other),
+        order => order,
     }
 }
 
@@ -44,12 +46,15 @@ fn part(one: &[LevelFs], other: &[LevelFs]) -> Ordering
 fn compare_paths(one: &[LevelFs], other: &[LevelFs]) -> Ordering
     ensures { result ≡ walk_cmp one.now other.now }
 {
-    match (one, other) {
-        ([x, one @ ..], [y, other @ ..]) => match compare_levels(*y, *x) {
-            Ordering::Equal => compare_paths(one, other),
-            order => order,
-        },
-        _ => one.len().cmp(&other.len()),
+    let [x, one @ ..] = one else {
+        return 0.cmp(&other.len());
+    };
+    let [y, other @ ..] = other else {
+        return Ordering::Greater;
+    };
+    match compare_levels(*y, *x) {
+        Ordering::Equal => compare_paths(one, other),
+        order => order,
     }
 }
 
@@ -67,10 +72,20 @@ pub(crate) fn sort(paths: &mut Paths)
     ));
 }
 
+// A user's path is less than that of the one before him.
+fn falls(levels: &[LevelFs], spans: &[Span], index: usize) -> bool
+    requires { index < length spans.now }
+    ensures { (d : Span) → result ≡ (nat_lt 0 index && is_greater
+        (path_in levels.now (slice_index_or spans.now (index - 1) d)) (path_in levels.now (slice_index_or spans.now index d))) }
+{
+    index > 0 && part(levels_of(levels, &spans[index - 1]), levels_of(levels, &spans[index])).is_gt()
+}
+
 // The ranks of users in that order. A path that doesn't go on from the one before it is where all before it precede.
 pub(crate) fn ranks(alloc: Global, paths: &Paths) -> Result<Vec<u32>, Memory>
     requires small { vec_len paths.now.spans < 2 ^ 32 }
     requires users { All (λ (span : Span). span.user < vec_len paths.now.spans) paths.now.spans.items }
+    requires apart { AreApart paths.now.spans.items }
     requires sorted { IsSortedBy (comes_first paths.now.levels.items) paths.now.spans.items }
     ensures len { IfOk result (λ ranks. vec_len ranks ≡ vec_len paths.now.spans) }
     ensures ranks { IfOk result (λ ranks. All (λ (span : Span). slice_index ranks.items span.user
@@ -82,7 +97,7 @@ pub(crate) fn ranks(alloc: Global, paths: &Paths) -> Result<Vec<u32>, Memory>
     let mut ranks = vec![in alloc; 0; spans.len()]?;
     let mut ahead = 0;
     for (index, span) in spans.iter().enumerate() {
-        if index > 0 && part(levels_of(levels, &spans[index - 1]), levels_of(levels, span)).is_gt() {
+        if falls(levels, spans, index) {
             ahead = index;
         }
         ranks[span.user as usize] = (spans.len() - ahead) as u32;

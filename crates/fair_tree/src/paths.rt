@@ -1,6 +1,6 @@
 //! The levels from root down to each user.
 
-ghost use Rattle.std.specs.Prelude.{◌≡◌, ◌<◌, ◌≤◌, ◌++◌, length, map, All, IfSome, IfOk, OnOk, Some};
+ghost use Rattle.std.specs.Prelude.{◌≡◌, ◌<◌, ◌≤◌, ◌++◌, length, vec_len, map, All, IfSome, IfOk, OnOk, Some};
 ghost use Rattle.fair_tree.specs.declared.paths.Span.{Span};
 ghost use Rattle.std.specs.List.{range_with_len};
 ghost use Rattle.fair_tree.specs.Tree.{level_of, path_of};
@@ -95,6 +95,7 @@ pub(crate) fn user_paths(
     requires sums { AreSums nodes.now used.now shares.now }
     ensures users { IfOk result (λ paths. map (λ (span : Span). span.user) paths.spans.items
         ≡ range_with_len 0 (length users.now)) }
+    ensures len { IfOk result (λ paths. vec_len paths.spans ≡ length users.now) }
     ensures paths { IfOk result (λ paths. map (path_in paths.levels.items) paths.spans.items
         ≡ map (λ place. path_of (sum_at used.now) (sum_at shares.now) nodes.now (Some place)) users.now) }
 {
