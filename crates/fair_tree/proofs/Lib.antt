@@ -10,3 +10,4 @@ pub mod Bounds
 pub mod PathLemmas
 pub mod Slices
 pub mod Ranking
+pub mod UsersRanks

@@ -70,7 +70,12 @@ module _ (levels : List LevelFs) (spans : List Span) where
         inside = rw (length-map spans (levels_in levels)) (omega (arith, low))
 
         greater : falls ≡ is_gt (parts fs_cmp (get_or (paths_in levels spans) place []) (get_or (paths_in levels spans) (place + 1) []))
-        greater = ?
+        greater =
+            let low_before : place < length spans = omega (arith, low) in
+            let low_after : place + 1 < length spans = omega (arith, low) in
+            let e = rw (lt-ltb 0 (suc place) (omega arith), before, after) at (is nowhere) in
+            rw (at-place place nowhere low_before, at-place (place + 1) nowhere low_after)
+            (e ∙ ap is_gt (parting-map (levels_in levels (get_or spans place nowhere)) (levels_in levels (get_or spans (place + 1) nowhere))))
 
         next : (b : Bool) → b ≡ is_gt (parts fs_cmp (get_or (paths_in levels spans) place []) (get_or (paths_in levels spans) (place + 1) []))
             → StandsIn levels spans (suc place) (cond b (suc place) ahead)

@@ -1,10 +1,10 @@
 -- The paths that lie in a list of levels, and stay there as the list grows.
-use Rattle.std.proofs.Common.{◌≡◌, ℕ, zero, suc, inl, inr, add-one, ◌+◌, ◌-◌, ◌≤◌, Bool, true, false, cond, List, [], ◌∷◌, ◌++◌, length, take, drop, map, refl, sym, ap, ◌∙◌, arith, length-append}
+use Rattle.std.proofs.Common.{◌≡◌, ℕ, zero, suc, inl, inr, add-one, ◌+◌, ◌-◌, ◌≤◌, Bool, true, false, cond, List, [], ◌∷◌, ◌++◌, length, take, drop, map, refl, sym, ap, ◌∙◌, arith, zero-add, length-append}
 use Rattle.std.specs.Prelude.{All, ◌&&◌, nat_le, slice_range}
 use Rattle.std.specs.List.{range_with_len}
 use Rattle.std.proofs.lemmas.Bool.{cases_Bool, le-leb}
 use Rattle.std.proofs.lemmas.Bool.Decides.{nat_tests}
-use Rattle.std.proofs.lemmas.List.{length-map, take-map, drop-map, take_all, take-append-le, drop-append-le, length-drop}
+use Rattle.std.proofs.lemmas.List.{map_push, length-map, take-map, drop-map, take_all, take-append-le, drop-append-le, length-drop}
 use Rattle.std.proofs.lemmas.List.Elements.{All-head, All-tail}
 use Rattle.std.proofs.Math.Seq.{drop-append_seam}
 use Rattle.fair_tree.specs.declared.level.LevelFs.{LevelFs}
@@ -71,3 +71,16 @@ range-push a n = rw add-one (push a n)
     push : (a n : ℕ) → range_with_len a (suc n) ≡ range_with_len a n ++ (a + n) ∷ []
     push a zero = ap (λ m. m ∷ []) (omega arith)
     push a (suc n) = ap (λ l. a ∷ l) (push (a + 1) n ∙ ap (λ m. range_with_len (a + 1) n ++ m ∷ []) (omega arith))
+
+-- a number more
+pub range-more : (n : ℕ) → range_with_len 0 n ++ n ∷ [] ≡ range_with_len 0 (n + 1)
+range-more n = ap (λ m. range_with_len 0 n ++ m ∷ []) (sym (zero-add n)) ∙ sym (range-push 0 n)
+
+-- a path more
+pub paths-more : (levels grown : List LevelFs) (more : List Level) → map seen grown ≡ map seen levels ++ more
+    → (spans : List Span) (user : ℕ) (paths : List (List Level)) → All (λ (span : Span). span.end ≤ length levels) spans → map (path_in levels) spans ≡ paths
+    → map (path_in grown) (spans ++ record { user = user; start = length levels; end = length grown } ∷ []) ≡ paths ++ more ∷ []
+paths-more levels grown more e spans user paths ends is =
+    map_push (path_in grown) spans (record { user = user; start = length levels; end = length grown })
+    ∙ ap (λ l. l ++ path_in grown (record { user = user; start = length levels; end = length grown }) ∷ []) (paths-kept levels grown more e spans ends ∙ is)
+    ∙ ap (λ p. paths ++ p ∷ []) (path_in-new levels grown more user e)
