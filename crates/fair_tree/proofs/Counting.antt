@@ -1,12 +1,12 @@
 -- How many come before each in a list that a walk made.
-use Rattle.std.proofs.Common.{◌≡◌, ℕ, zero, suc, ◌+◌, ◌-◌, ◌<◌, ◌≤◌, Bool, true, false, cond, ltb, List, [], ◌∷◌, length, get_or, refl, sym, ap, ◌∙◌, inl, inr, ◌⊎◌, arith}
+use Rattle.std.proofs.Common.{◌≡◌, ℕ, zero, suc, ◌+◌, ◌<◌, ◌≤◌, Bool, true, false, cond, ltb, List, [], ◌∷◌, length, get_or, refl, sym, ap, ◌∙◌, inl, inr, ◌⊎◌, arith}
 use Rattle.std.specs.Prelude.{◌&&◌, ◌||◌, count_by, nat_lt}
 use Rattle.std.specs.Cmp.{IsTotalOrder}
 use Rattle.std.specs.Ordering.{is_lt, is_eq, is_gt, ordering_reverse}
 use Rattle.std.specs.List.{list_any}
 use Rattle.std.specs.declared.cmp.Ordering.{Ordering}
 use Rattle.std.specs.declared.cmp.Ordering.TheVariants.{Less, Equal, Greater}
-use Rattle.std.proofs.lemmas.Bool.{cases_lt, cases_Bool, lt-ltb, le-ltb, both_ways}
+use Rattle.std.proofs.lemmas.Bool.{cases_lt, cases_Bool, lt-ltb, le-ltb}
 use Rattle.std.proofs.lemmas.Bool.Decides.{nat_tests}
 use Rattle.std.proofs.lemmas.List.{get_or_default}
 use Rattle.std.proofs.lemmas.List.Sums.{sum_by-cons}
@@ -111,7 +111,7 @@ module _ {X : Type 0} (c : X → X → Ordering) (o : IsTotalOrder c) where
             absurd (cc ((Leads-trans c o other one third leads_back leads_third).same, parts-flip c o third other ∙ ap ordering_reverse greater))
       ] in
       let witness : (is_proper one (get_or all m []) && is_gt (parts c (get_or all m []) other)) ≡ true =
-          rw (at, proper one third same longer, greater) refl in
+      rw (at, proper one third same longer, greater) refl in
       let any = list_any_at (λ third. is_proper one third && is_gt (parts c third other)) all m [] low witness in
       rw (proper one other leads.same lower) (or-second (is_gt (parts c one other)) _ any)
     where
@@ -132,7 +132,7 @@ module _ {X : Type 0} (c : X → X → Ordering) (o : IsTotalOrder c) where
             let pair = and-both (is_proper one found.1) _ found.4 in
             let low = found.2 in
             let witness : (is_proper one (get_or all found.0 found.1) && is_gt (parts c (get_or all found.0 found.1) third)) ≡ true =
-                rw (found.3, pair.0) (greater-on found.1 pair.1) in
+            rw (found.3, pair.0) (greater-on found.1 pair.1) in
             let any = list_any_at (λ fourth. is_proper one fourth && is_gt (parts c fourth third)) all found.0 found.1 low witness in
             rw (proper one third longer.same (omega (arith, is.1, leads.short))) (or-second (is_gt (parts c one third)) _ any)
       ]
@@ -177,10 +177,10 @@ module _ {X : Type 0} (c : X → X → Ordering) (o : IsTotalOrder c) where
         → is_gt (parts c (get_or all place []) (get_or all (place + 1) [])) ≡ false → Stands all (place + 1) ahead
     Stands-alike place ahead in_range stands not_greater =
         let next : Leads c (get_or all place []) (get_or all (place + 1) []) =
-            elim (walk-earlier c o (get_or all place []) (get_or all (place + 1) []) (λ less. cc (ap is_lt less, sorted place (place + 1) (omega arith) in_range))) [
-              | inl e ↦ absurd (cc (ap is_gt e, not_greater))
-              | inr leads ↦ leads
-            ] in
+        elim (walk-earlier c o (get_or all place []) (get_or all (place + 1) []) (λ less. cc (ap is_lt less, sorted place (place + 1) (omega arith) in_range))) [
+          | inl e ↦ absurd (cc (ap is_gt e, not_greater))
+          | inr leads ↦ leads
+        ] in
         record {
           low = omega (arith, stands.low);
           leads = λ k low high. elim (cases_lt place k) [

@@ -1,13 +1,12 @@
 -- What stands at a place of the list, and how large sums are.
-use Rattle.std.proofs.Common.{◌≡◌, ℕ, suc, ◌+◌, ◌*◌, ◌<◌, ◌≤◌, ◌^◌, Bool, true, false, cond, List, [], ◌∷◌, length, get_or, refl, sym, ap, ◌∙◌, inl, inr, arith, Option, Some, None}
-use Rattle.std.specs.Prelude.{All, count_by, slice_get, option_map, option_and_then, unwrap_or}
-use Rattle.slurm_num.specs.declared.ratios.Ratio.{Ratio}
+use Rattle.std.proofs.Common.{◌≡◌, ℕ, ◌*◌, ◌<◌, ◌≤◌, ◌^◌, Bool, true, false, cond, List, [], ◌∷◌, length, get_or, refl, sym, ap, arith, Option, Some, None}
+use Rattle.std.specs.Prelude.{All, count_by, option_map, option_and_then, unwrap_or}
 use Rattle.std.proofs.lemmas.Bool.{eq-eqb, ne_eqb}
 use Rattle.std.proofs.lemmas.Option.{slice_get-get_or}
 use Rattle.std.proofs.lemmas.List.Elements.{All-head, All-tail}
 use Rattle.std.proofs.lemmas.List.Sums.{sum_by-cons, get_or-le-sum_by}
 use Rattle.fair_tree.specs.declared.tree.TreeNode.{TreeNode}
-use Rattle.fair_tree.specs.Levels.{Level, Least, Fraction, Top}
+use Rattle.fair_tree.specs.Levels.{Least, Fraction, Top}
 use Rattle.fair_tree.specs.Tree.{IsTree, parent_at, shares_at, children_shares, is_same_place, level_of}
 
 -- what stands at no place
@@ -29,7 +28,7 @@ module _ (nodes : List TreeNode) (place : ℕ) (low : place < length nodes) wher
   pub shares-within : shares_at nodes place ≤ children_shares nodes (parent_at nodes place)
   shares-within =
       let own : cond (is_same_place (parent_at nodes place) (get_or nodes place void).parent) (get_or nodes place void).shares 0 ≡ shares_at nodes place =
-          rw (sym parent_at-node, is_same_place-itself (parent_at nodes place)) (sym shares_at-node) in
+      rw (sym parent_at-node, is_same_place-itself (parent_at nodes place)) (sym shares_at-node) in
       omega (arith, own, get_or-le-sum_by (λ (node : TreeNode). cond (is_same_place (parent_at nodes place) node.parent) node.shares 0) nodes place void low)
 
   pub shares_at-small : IsTree nodes → shares_at nodes place ≤ 65535

@@ -1,5 +1,5 @@
 -- Two lists compared at their first difference, and in the order of a walk.
-use Rattle.std.proofs.Common.{◌≡◌, ℕ, suc, ◌<◌, ◌≤◌, List, [], ◌∷◌, length, refl, sym, ap, ◌∙◌, inl, inr, ◌⊎◌, arith}
+use Rattle.std.proofs.Common.{◌≡◌, suc, ◌<◌, ◌≤◌, List, [], ◌∷◌, length, refl, ◌∙◌, inl, inr, ◌⊎◌, arith}
 use Rattle.std.specs.Cmp.{IsTotalOrder, then_flip}
 use Rattle.std.specs.Cmp.Lexicographic.{slice_cmp}
 use Rattle.std.specs.Ordering.{ordering_then, ordering_reverse}

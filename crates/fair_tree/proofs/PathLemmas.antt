@@ -2,7 +2,6 @@
 use Rattle.std.proofs.Common.{◌≡◌, ℕ, zero, suc, ◌<◌, List, [], ◌∷◌, ◌++◌, length, map, reverse, refl, ap, ◌∙◌, Option, Some, None}
 use Rattle.std.proofs.lemmas.List.{reverse-append}
 use Rattle.fair_tree.specs.declared.tree.TreeNode.{TreeNode}
-use Rattle.fair_tree.specs.Levels.{Level}
 use Rattle.fair_tree.specs.Tree.{IsTree, parent_at, way_up, level_of, path_of}
 use Rattle.fair_tree.proofs.Ways.{way-step}
 

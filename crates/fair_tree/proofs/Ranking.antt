@@ -1,6 +1,6 @@
 -- The ranks that a walk over sorted users gives.
 use Rattle.std.proofs.Common.{◌≡◌, ℕ, zero, suc, ◌+◌, ◌-◌, ◌<◌, ◌≤◌, Bool, true, false, cond, List, [], ◌∷◌, length, map, get_or, set, refl, sym, ap, ◌∙◌, inl, inr, arith, get_or-set_same, get_or-set_other}
-use Rattle.std.specs.Prelude.{◌&&◌, nat_lt, All, count_by}
+use Rattle.std.specs.Prelude.{◌&&◌, nat_lt}
 use Rattle.std.specs.List.Sorted.{IsSortedBy}
 use Rattle.std.specs.Ordering.{is_lt, is_gt}
 use Rattle.std.proofs.lemmas.Bool.{cases_eq, cases_lt, lt-ltb}
@@ -9,10 +9,10 @@ use Rattle.std.proofs.lemmas.List.Sorted.{sorted_far}
 use Rattle.std.proofs.Math.ListN.{get_or-map}
 use Rattle.fair_tree.specs.declared.level.LevelFs.{LevelFs}
 use Rattle.fair_tree.specs.declared.paths.Span.{Span}
-use Rattle.fair_tree.specs.Ranks.{parting, is_greater, rank_among}
+use Rattle.fair_tree.specs.Ranks.{is_greater, rank_among}
 use Rattle.fair_tree.specs.Paths.{seen, levels_in, path_in, comes_first, AreApart}
 use Rattle.fair_tree.proofs.Parts.{parts, walk}
-use Rattle.fair_tree.proofs.Counting.{Stands, Stands-first, Stands-less, Stands-alike, Stands-count, precedes_by, is_gt-greater}
+use Rattle.fair_tree.proofs.Counting.{Stands, Stands-first, Stands-less, Stands-alike, Stands-count, is_gt-greater}
 use Rattle.fair_tree.proofs.LevelOrder.{fs_cmp, fs_cmp-total, parting-map, rank_among-map}
 use Rattle.fair_tree.proofs.Turned.{comes_first-order}
 

@@ -1,5 +1,5 @@
 -- The paths that lie in a list of levels, and stay there as the list grows.
-use Rattle.std.proofs.Common.{◌≡◌, ℕ, zero, suc, inl, inr, add-one, ◌+◌, ◌-◌, ◌≤◌, Bool, true, false, cond, List, [], ◌∷◌, ◌++◌, length, take, drop, map, refl, sym, ap, ◌∙◌, arith, zero-add, length-append}
+use Rattle.std.proofs.Common.{◌≡◌, ℕ, zero, suc, inl, inr, add-one, ◌+◌, ◌-◌, ◌≤◌, Bool, true, false, cond, List, [], ◌∷◌, ◌++◌, length, drop, map, refl, sym, ap, ◌∙◌, arith, zero-add, length-append}
 use Rattle.std.specs.Prelude.{All, ◌&&◌, nat_le, slice_range}
 use Rattle.std.specs.List.{range_with_len}
 use Rattle.std.proofs.lemmas.Bool.{cases_Bool, le-leb}
@@ -10,7 +10,7 @@ use Rattle.std.proofs.Math.Seq.{drop-append_seam}
 use Rattle.fair_tree.specs.declared.level.LevelFs.{LevelFs}
 use Rattle.fair_tree.specs.declared.paths.Span.{Span}
 use Rattle.fair_tree.specs.Levels.{Level}
-use Rattle.fair_tree.specs.Paths.{seen, levels_in, path_in}
+use Rattle.fair_tree.specs.Paths.{seen, path_in}
 
 -- the part of a list from one place to another, if it has both
 abbrev part_of : {X : Type 0} → List X → ℕ → ℕ → List X
@@ -50,7 +50,7 @@ paths-kept levels grown more e [] ends = refl
 paths-kept levels grown more e (span ∷ spans) ends =
     let short : span.end ≤ length (map seen levels) = rw (length-map levels seen) (All-head (λ (span : Span). span.end ≤ length levels) span spans ends) in
     let here : path_in grown span ≡ path_in levels span =
-        path_in-seen grown span ∙ rw e (part_of-front (map seen levels) more span.start span.end short) ∙ sym (path_in-seen levels span) in
+    path_in-seen grown span ∙ rw e (part_of-front (map seen levels) more span.start span.end short) ∙ sym (path_in-seen levels span) in
     let rest = paths-kept levels grown more e spans (All-tail (λ (span : Span). span.end ≤ length levels) span spans ends) in
     ap (λ p. p ∷ map (path_in grown) spans) here ∙ ap (λ l. path_in levels span ∷ l) rest
 

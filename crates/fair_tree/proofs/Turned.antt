@@ -1,12 +1,12 @@
 -- The order in which a walk meets users.
-use Rattle.std.proofs.Common.{◌≡◌, List, ap, sym, ◌∙◌}
+use Rattle.std.proofs.Common.{List, ap, sym, ◌∙◌}
 use Rattle.std.specs.Cmp.{IsTotalOrder, IsStrictWeakOrder}
 use Rattle.std.specs.Ordering.{ordering_reverse}
 use Rattle.std.proofs.lemmas.Cmp.{lists_total}
 use Rattle.std.proofs.lemmas.List.Sorted.{ranks_by}
 use Rattle.fair_tree.specs.declared.level.LevelFs.{LevelFs}
-use Rattle.fair_tree.specs.Paths.{level_order, walk_cmp, levels_in, comes_first}
-use Rattle.fair_tree.proofs.LevelOrder.{fs_cmp, fs_cmp-total}
+use Rattle.fair_tree.specs.Paths.{level_order, levels_in, comes_first}
+use Rattle.fair_tree.proofs.LevelOrder.{fs_cmp-total}
 
 level_order-total : IsTotalOrder level_order
 level_order-total = record {

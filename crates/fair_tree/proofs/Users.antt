@@ -1,5 +1,5 @@
 -- The places of the users.
-use Rattle.std.proofs.Common.{◌≡◌, ℕ, ◌+◌, ◌<◌, ◌≤◌, Bool, true, false, cond, List, [], ◌∷◌, ◌++◌, length, take, get_or, map, filter, refl, sym, ap, ◌∙◌, arith}
+use Rattle.std.proofs.Common.{◌≡◌, ℕ, ◌+◌, ◌<◌, ◌≤◌, Bool, true, false, cond, List, [], ◌∷◌, ◌++◌, length, take, get_or, map, filter, refl, sym, ap, arith}
 use Rattle.std.specs.Prelude.{All}
 use Rattle.std.specs.List.{enumerate_from}
 use Rattle.std.proofs.lemmas.List.{take_more, length-take}
@@ -47,4 +47,3 @@ users-under nodes =
     under n [] low = All-nil (λ (one : ℕ × TreeNode). one.0 < length nodes)
     under n (first ∷ some) low =
         All-cons (λ (one : ℕ × TreeNode). one.0 < length nodes) (n, first) (enumerate_from (n + 1) some) (omega (arith, low)) (under (n + 1) some (omega (arith, low)))
-

@@ -2,3 +2,4 @@ pub mod Levels
 pub mod Tree
 pub mod Ranks
 pub mod Paths
+pub mod Rows

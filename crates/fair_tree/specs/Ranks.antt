@@ -1,5 +1,5 @@
 -- Which user comes before which, and the rank that follows.
-use Rattle.std.specs.Prelude.{ℕ, ◌-◌, ◌≡◌, ◌&&◌, ◌||◌, Bool, nat_lt, List, [], ◌∷◌, length, map, count_by, Option, Some}
+use Rattle.std.specs.Prelude.{ℕ, ◌-◌, ◌&&◌, ◌||◌, Bool, nat_lt, List, [], ◌∷◌, length, map, count_by, Some}
 use Rattle.std.specs.List.{list_any}
 use Rattle.std.specs.Ordering.{ordering_then, is_eq, is_gt}
 use Rattle.std.specs.declared.cmp.Ordering.{Ordering}

@@ -1,7 +1,6 @@
 -- The tree of associations, what each has used, and the path of levels down to it.
-use Rattle.std.specs.Prelude.{ℕ, zero, suc, ◌≡◌, ◌≤◌, ◌<◌, ◌+◌, ◌*◌, ◌^◌, ◌==◌, Bool, true, false, nat_eq, if◌then◌else◌, List, [], ◌∷◌, length, map, filter, reverse, sum_by, count_by, slice_get, All, IfSome, Option, None, Some, option_map, option_and_then, unwrap_or}
+use Rattle.std.specs.Prelude.{ℕ, zero, suc, ◌≤◌, ◌<◌, ◌*◌, ◌^◌, ◌==◌, Bool, true, false, nat_eq, if◌then◌else◌, List, [], ◌∷◌, length, map, filter, reverse, sum_by, count_by, slice_get, All, IfSome, Option, None, Some, option_map, option_and_then, unwrap_or}
 use Rattle.std.specs.List.{enumerate_from, zip, list_any}
-use Rattle.slurm_num.specs.declared.ratios.Ratio.{Ratio}
 use Rattle.fair_tree.specs.declared.tree.TreeNode.{TreeNode}
 use Rattle.fair_tree.specs.Levels.{Level, Least, Fraction, Top}
 
@@ -54,7 +53,7 @@ level_of usage shares nodes place =
     else (if usage (Some place) == 0 then Top
     else Fraction (record {
       num = shares_at nodes place * usage (parent_at nodes place);
-      den = shares (parent_at nodes place) * usage (Some place)
+      den = shares (parent_at nodes place) * usage (Some place);
     }))
 
 -- the levels from root's child down to the association at a place

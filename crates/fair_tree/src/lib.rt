@@ -13,6 +13,7 @@ use std::alloc::Global;
 mod level;
 mod order;
 mod paths;
+pub mod rows;
 mod sums;
 mod tree;
 

@@ -78,7 +78,12 @@ fn falls(levels: &[LevelFs], spans: &[Span], index: usize) -> bool
     ensures { (d : Span) → result ≡ (nat_lt 0 index && is_greater
         (path_in levels.now (slice_index_or spans.now (index - 1) d)) (path_in levels.now (slice_index_or spans.now index d))) }
 {
-    index > 0 && part(levels_of(levels, &spans[index - 1]), levels_of(levels, &spans[index])).is_gt()
+    index > 0
+        && part(
+            levels_of(levels, &spans[index - 1]),
+            levels_of(levels, &spans[index]),
+        )
+        .is_gt()
 }
 
 // The ranks of users in that order. A path that doesn't go on from the one before it is where all before it precede.

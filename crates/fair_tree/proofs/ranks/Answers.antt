@@ -1,4 +1,4 @@
-use Rattle.std.proofs.Common.{◌≡◌, ℕ, ◌<◌, length, map, sym, ap, ◌∙◌, arith, Vec, Global, Some, vec_len, get_or}
+use Rattle.std.proofs.Common.{◌≡◌, ℕ, length, map, sym, ap, ◌∙◌, arith, Vec, Global, Some, vec_len, get_or}
 use Rattle.std.specs.Prelude.{All}
 use Rattle.std.specs.List.{range_with_len}
 use Rattle.std.proofs.lemmas.List.Sorted.{length_permutation}
@@ -24,8 +24,18 @@ user_paths-requires-clause-few c =
 
 pub ranks-requires-clause-small : goal.ranks-requires-clause-small
 ranks-requires-clause-small c =
-    omega (arith, c.requires.users, c.requires.few, length-users c.args.tree.now, ap length c.in_ok-users.ensures, ap length c.deref-2.ensures.value,
-    c.in_ok-paths.ensures.len, c.in_ok-paths.paths.spans.ok.0, c.sort.new.paths.spans.ok.0, length_permutation _ _ c.sort.ensures.users)
+    omega (
+      arith,
+      c.requires.users,
+      c.requires.few,
+      length-users c.args.tree.now,
+      ap length c.in_ok-users.ensures,
+      ap length c.deref-2.ensures.value,
+      c.in_ok-paths.ensures.len,
+      c.in_ok-paths.paths.spans.ok.0,
+      c.sort.new.paths.spans.ok.0,
+      length_permutation _ _ c.sort.ensures.users,
+    )
 
 pub ranks-requires-clause-users : goal.ranks-requires-clause-users
 ranks-requires-clause-users c =
@@ -46,8 +56,8 @@ returns c =
     let sorted = c.sort.new.paths.spans in
     let numbered = c.in_ok-paths.ensures.users ∙ ap (range_with_len 0) (sym c.in_ok-paths.ensures.len ∙ c.in_ok-paths.paths.spans.ok.0) in
     let paths = c.in_ok-paths.ensures.paths
-        ∙ ap (map (λ place. path_of (sum_at c.in_ok-used.used) (sum_at c.in_ok-shares.shares) nodes (Some place))) (c.deref-2.ensures.value ∙ c.in_ok-users.ensures)
-        ∙ paths_of-is nodes usage (sum_at c.in_ok-used.used) (sum_at c.in_ok-shares.shares) c.in_ok-used.ensures.sums c.in_ok-shares.ensures.sums in
+    ∙ ap (map (λ place. path_of (sum_at c.in_ok-used.used) (sum_at c.in_ok-shares.shares) nodes (Some place))) (c.deref-2.ensures.value ∙ c.in_ok-users.ensures)
+    ∙ paths_of-is nodes usage (sum_at c.in_ok-used.used) (sum_at c.in_ok-shares.shares) c.in_ok-used.ensures.sums c.in_ok-shares.ensures.sums in
     let each = rw c.sort.ensures.levels at c.ranks.ensures.ranks in
     IfOk-both c.ranks.result (λ (ranks : Vec ℕ Global). vec_len ranks ≡ vec_len sorted)
     (λ (ranks : Vec ℕ Global). All (λ (span : Span). get_or ranks.items span.user 0 ≡ rank_among (map (path_in levels) sorted.items) (path_in levels span)) sorted.items)

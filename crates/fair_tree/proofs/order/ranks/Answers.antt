@@ -1,4 +1,4 @@
-use Rattle.std.proofs.Common.{◌≡◌, ℕ, ◌+◌, ◌-◌, ◌<◌, ◌≤◌, length, get_or, sym, arith}
+use Rattle.std.proofs.Common.{◌≡◌, ◌+◌, ◌-◌, ◌<◌, length, get_or, sym, arith}
 use Rattle.fair_tree.proofs.Ranking.{nowhere, StandsIn, StandsIn-next, ranks-next}
 use Rattle.fair_tree.proofs.order.ranks.Goals as goal
 use Rattle.fair_tree.proofs.order.ranks.Goals.{then-falls, else-falls}
@@ -18,7 +18,7 @@ loop-index-preserved c =
       | else-falls w ↦ rw w.ahead-is (rw w.if-falls.false at next)
     ] in
     let user : (get_or spans index nowhere).user < length c.loop-index.ranks.items =
-        omega (arith, users index nowhere low, c.as_slice-spans.ensures.len, c.loop-index.invariant.len, c.loop-index.ranks.ok.0) in
+    omega (arith, users index nowhere low, c.as_slice-spans.ensures.len, c.loop-index.invariant.len, c.loop-index.ranks.ok.0) in
     let back : index + 1 - 1 ≡ index = omega arith in
     record {
       len = c.loop-index.invariant.len;

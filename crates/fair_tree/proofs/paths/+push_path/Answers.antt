@@ -1,6 +1,5 @@
-use Rattle.std.proofs.Common.{◌≡◌, ◌<◌, ◌∷◌, [], ◌++◌, length, map, refl, sym, ap, ◌∙◌, append_assoc}
+use Rattle.std.proofs.Common.{◌<◌, length, map, refl, sym, ap, ◌∙◌, append_assoc}
 use Rattle.std.proofs.lemmas.List.{map_push, append-nil}
-use Rattle.fair_tree.specs.Tree.{level_of, path_of}
 use Rattle.fair_tree.specs.Paths.{seen, sum_at}
 use Rattle.fair_tree.proofs.Nodes.{parent_at-node}
 use Rattle.fair_tree.proofs.PathLemmas.{path_of-none, path_of-step}

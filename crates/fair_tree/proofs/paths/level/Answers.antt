@@ -14,9 +14,9 @@ invariant_of-result c =
     let small = children-small c.args.nodes.now (parent_at c.args.nodes.now c.args.place) c.requires.sums.tree in
     let children = c.requires.sums.children (parent_at c.args.nodes.now c.args.place) in
     let shares : c.from-else-usage-eq0-2.result ≡ sum_at c.args.shares.now (parent_at c.args.nodes.now c.args.place) =
-        c.from-else-usage-eq0-2.ensures ∙ c.at-else-usage-eq0.ensures ∙ ap (sum_at c.args.shares.now) (sym parent) in
+    c.from-else-usage-eq0-2.ensures ∙ c.at-else-usage-eq0.ensures ∙ ap (sum_at c.args.shares.now) (sym parent) in
     let used : c.from-else-usage-eq0.result ≡ sum_at c.args.used.now (get_or c.args.nodes.now c.args.place void).parent =
-        c.from-else-usage-eq0.ensures ∙ c.at.ensures in
+    c.from-else-usage-eq0.ensures ∙ c.at.ensures in
     let usage_low = c.requires.sums.small (Some c.args.place) in
     let used_low = c.requires.sums.small (get_or c.args.nodes.now c.args.place void).parent in
     let low : c.from.result ≤ 65535 = omega (arith, own, few, c.from.ensures) in

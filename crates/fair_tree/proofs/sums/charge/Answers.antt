@@ -1,9 +1,7 @@
-use Rattle.std.proofs.Common.{◌≡◌, ◌<◌, ℕ, suc, length, Option, Some, sym, ap, ◌∙◌, arith}
-use Rattle.std.specs.Prelude.{nat_eq, option_map, unwrap_or}
-use Rattle.std.specs.List.{list_any}
-use Rattle.fair_tree.specs.Tree.{parent_at, is_within, is_same_place, way_up}
+use Rattle.std.proofs.Common.{◌<◌, length, Some, arith}
+use Rattle.fair_tree.specs.Tree.{is_within}
 use Rattle.fair_tree.proofs.Nodes.{parent_at-node}
-use Rattle.fair_tree.proofs.Ways.{IsUnder, under-less, added-low, steps-less, owed, owed-step, owed-here, owed-end}
+use Rattle.fair_tree.proofs.Ways.{under-less, added-low, steps-less, owed-step, owed-here, owed-end}
 use Rattle.fair_tree.proofs.sums.charge.Goals as goal
 
 pub add-requires-in-Some-clause-room : goal.add-requires-in-Some-clause-room

@@ -1,4 +1,4 @@
-use Rattle.std.proofs.Common.{ℕ, suc, ◌≡◌, ◌+◌, cond, length, vec_len, Option, None, Some}
+use Rattle.std.proofs.Common.{ℕ, suc, ◌≡◌, ◌+◌, cond, length, vec_len, Option}
 use Rattle.std.specs.Prelude.{option_map, unwrap_or}
 use Rattle.fair_tree.specs.Tree.{is_within}
 use Rattle.fair_tree.specs.Paths.{sum_at}

@@ -1,4 +1,4 @@
-use Rattle.std.proofs.Common.{◌≡◌, ℕ, cond, Option, arith, get_or}
+use Rattle.std.proofs.Common.{cond, arith, get_or}
 use Rattle.std.proofs.lemmas.List.Sums.{sum_by_more}
 use Rattle.fair_tree.specs.declared.tree.TreeNode.{TreeNode}
 use Rattle.fair_tree.specs.Tree.{is_same_place}

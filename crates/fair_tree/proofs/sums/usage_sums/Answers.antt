@@ -1,9 +1,9 @@
-use Rattle.std.proofs.Common.{◌≡◌, ◌<◌, ◌≤◌, ℕ, cond, Option, arith, get_or, length, sym, ap, ◌∙◌}
+use Rattle.std.proofs.Common.{◌<◌, ℕ, cond, arith, get_or, length, sym, ap, ◌∙◌}
 use Rattle.std.specs.List.{zip}
 use Rattle.std.proofs.lemmas.List.{take_all}
 use Rattle.std.proofs.lemmas.List.Sums.{sum_by_more}
 use Rattle.std.proofs.lemmas.Slice.Zip.{length-zip, get_or-zip}
-use Rattle.fair_tree.specs.Tree.{is_within, usage_of, users}
+use Rattle.fair_tree.specs.Tree.{is_within, usage_of}
 use Rattle.fair_tree.proofs.Users.{users-under}
 use Rattle.fair_tree.proofs.Ways.{added-low}
 use Rattle.fair_tree.proofs.sums.usage_sums.Goals as goal

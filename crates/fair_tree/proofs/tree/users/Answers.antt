@@ -1,4 +1,4 @@
-use Rattle.std.proofs.Common.{◌≡◌, sym, ◌∙◌, ap, append_assoc}
+use Rattle.std.proofs.Common.{sym, ◌∙◌}
 use Rattle.std.proofs.lemmas.List.{append-nil}
 use Rattle.fair_tree.proofs.Users.{users_more}
 use Rattle.fair_tree.proofs.tree.users.Goals as goal
