@@ -1,5 +1,5 @@
 -- Accounts, their users and qualities of service: what names mean, and the way up from a user to root.
-use Rattle.std.specs.Prelude.{ℕ, Bool, true, false, ◌&&◌, if◌then◌else◌, unwrap_or, List, map, filter_map, position, slice_get, bytes_eq, codes, Option, Some, None, option_map, option_and_then}
+use Rattle.std.specs.Prelude.{ℕ, ◌<◌, IfSome, Bool, true, false, ◌&&◌, if◌then◌else◌, nat_eq, unwrap_or, List, map, filter_map, position, slice_get, bytes_eq, codes, Option, Some, None, option_map, option_and_then}
 use Rattle.std.specs.Option.{option_or}
 use Rattle.slurm_text.specs.Assocs.{AssocView, greatest_depth, way_up}
 use Rattle.slurm_text.specs.declared.plain.assoc.AssocConf.{AssocConf}
@@ -15,6 +15,12 @@ pub record AssocsView : Type 0 where
   pub records : List AssocRecord
   -- in the order of the file
   pub qos : List QosRecord
+
+-- each association belongs to root, or to one that stands before it
+abbrev pub AreRooted : List AssocRecord → Type 0
+AreRooted assocs =
+    (place : ℕ)
+    → IfSome (slice_get assocs place) (λ (assoc : AssocRecord). IfSome assoc.conf.parent (λ parent. parent < place))
 
 -- an association, and a quality of service, before any request
 abbrev pub opened : AssocConf → AssocRecord
@@ -99,3 +105,20 @@ is_same_user one other = false
 -- the associations at two places are of one user
 unfoldable pub are_of_one_user : List AssocRecord → ℕ → ℕ → Bool
 are_of_one_user assocs one other = is_same_user (user_at assocs one) (user_at assocs other)
+
+-- the association, of an account or of a user, has this name
+abbrev pub is_named : List ℕ → AssocRecord → Bool
+is_named name assoc = bytes_eq assoc.conf.name name
+
+-- the number by which the user of an association is told from others: the place of the first association of the name
+abbrev pub number_in : List AssocRecord → AssocRecord → ℕ
+number_in assocs assoc = unwrap_or (position (is_named assoc.conf.name) assocs) 0
+
+-- the number of the user of the association at a place
+abbrev pub user_number : List AssocRecord → ℕ → Option ℕ
+user_number assocs place = option_map (number_in assocs) (slice_get assocs place)
+
+-- two numbers are there, and are one
+abbrev pub is_same_number : Option ℕ → Option ℕ → Bool
+is_same_number (Some one) (Some other) = nat_eq one other
+is_same_number one other = false

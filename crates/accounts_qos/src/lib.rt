@@ -2,4 +2,7 @@
 #![tactic(auto)]
 
 pub mod assocs;
+pub mod laws;
+mod meant;
 pub mod record;
+mod way_up;

@@ -1,22 +1,21 @@
 -- What is decided of a submission under its terms is decided of it.
-use Rattle.std.proofs.Common.{◌≡◌, ℕ, ◌<◌, ◌≤◌, ◌∙◌, List, [], ◌∷◌, All, IfOk, Option, Some, None, Result, Ok, Err, refl, sym, ap, subst, arith}
+use Rattle.std.proofs.Common.{◌≡◌, ℕ, ◌<◌, ◌≤◌, ◌∙◌, false, List, [], ◌∷◌, All, IfOk, Option, Some, None, Result, Ok, Err, refl, sym, ap, subst, arith}
 use Rattle.std.specs.Prelude.{is_none, option_and_then, slice_get}
 use Rattle.std.proofs.lemmas.Option.{get_or_from_slice_get, slice_get_within}
 use Rattle.slurm_text.specs.declared.memory_error.Memory.{Memory}
 use Rattle.slurm_text.specs.declared.plain.job.JobDesc.{JobDesc}
 use Rattle.slurm_text.specs.declared.plain.refusal.Refusal.{Refusal}
-use Rattle.slurm_text.specs.declared.plain.refusal.Refusal.TheVariants.{InvalidAccount, InvalidPartition}
+use Rattle.slurm_text.specs.declared.plain.refusal.Refusal.TheVariants.{InvalidAccount, InvalidPartition, InvalidQos, PartitionClosed}
 use Rattle.slurm_text.specs.declared.plain.reply.Reply.TheVariants.{Submitted}
 use Rattle.partitions.specs.declared.record.PartRecord.{PartRecord}
 use Rattle.job_table.specs.declared.record.JobRecord.{JobRecord}
-use Rattle.ctl_state.specs.declared.record.AssocRecord.{AssocRecord}
 use Rattle.ctl_state.specs.State.{State}
 use Rattle.ctl_state.specs.Refusals.{first_refusal, refused_if}
 use Rattle.ctl_state.specs.Verdicts.{Makes}
 use Rattle.ctl_submit.specs.declared.draft.Draft.{Draft}
 use Rattle.ctl_submit.specs.declared.handed.Handed.{Handed}
 use Rattle.ctl_submit.specs.Drafts.{IsDecidedIn, terms_in}
-use Rattle.ctl_submit.specs.Submission.{CanAdd, IsDecided, Terms, account_of, assoc_for, made_under, new_arrays, new_jobs, partition_for, place_for, refusals_by, refusals_under, submit_after, terms_by, terms_of}
+use Rattle.ctl_submit.specs.Submission.{CanAdd, IsDecided, Terms, account_at, assoc_for, is_closed, made_under, new_arrays, new_jobs, partition_for, place_for, qos_for, refusals_by, refusals_under, submit_after, submit_refusals, takes_none, terms_by, terms_of}
 use Rattle.ctl_submit.proofs.Made.{All-new_jobs, AllPairs-new_jobs, length-new_jobs}
 use Rattle.ctl_submit.proofs.Refused.{rooms}
 
@@ -25,20 +24,22 @@ pub All-at : {X : Type 0} (P : X → Type 0) (xs : List X) (k : ℕ) (x : X) →
 All-at P xs k x all there = subst P (get_or_from_slice_get xs k x x there) (all k x (slice_get_within xs k x there))
 
 -- the terms, where all of them are there
-terms-there : (s : State) (assoc : Option AssocRecord) (place : Option ℕ) (partition : Option PartRecord)
-    (one : AssocRecord) (at : ℕ) (its : PartRecord) → assoc ≡ Some one → place ≡ Some at → partition ≡ Some its
-    → terms_by s assoc place partition
-    ≡ Some (record { account = account_of s.assocs one; place = at; partition = its })
-terms-there s assoc place partition one at its known named there = rw (known, named, there) refl
+terms-there : (s : State) (assoc qos place : Option ℕ) (partition : Option PartRecord)
+    (by of at : ℕ) (its : PartRecord) → assoc ≡ Some by → qos ≡ Some of → place ≡ Some at → partition ≡ Some its
+    → terms_by s assoc qos place partition
+    ≡ Some (record { account = account_at s.assocs by; assoc = by; qos = of; place = at; partition = its })
+terms-there s assoc qos place partition by of at its known good named there = rw (known, good, named, there) refl
 
 -- the first refusal under them is the first of all
-first-under : (s : State) (moment : ℕ) (user : List ℕ) (desc : JobDesc) (assoc : Option AssocRecord)
-    (partition : Option PartRecord) (by : Option Terms) (one : AssocRecord) (its : PartRecord) (terms : Terms)
-    → assoc ≡ Some one → partition ≡ Some its → by ≡ Some terms
+first-under : (s : State) (moment : ℕ) (user : List ℕ) (desc : JobDesc) (assoc qos : Option ℕ)
+    (partition : Option PartRecord) (found : Option Terms) (by of : ℕ) (its : PartRecord) (terms : Terms)
+    → assoc ≡ Some by → partition ≡ Some its → is_closed its.state ≡ false → qos ≡ Some of → found ≡ Some terms
     → first_refusal (refused_if (is_none assoc) InvalidAccount
-    ∷ refused_if (is_none partition) InvalidPartition ∷ refusals_by s moment user desc by)
+    ∷ refused_if (is_none partition) InvalidPartition ∷ refused_if (takes_none partition) PartitionClosed
+    ∷ refused_if (is_none qos) InvalidQos ∷ refusals_by s moment user desc found)
     ≡ first_refusal (refusals_under s moment user desc terms)
-first-under s moment user desc assoc partition by one its terms known there under = rw (known, there, under) refl
+first-under s moment user desc assoc qos partition found by of its terms known there open good under =
+    rw (known, there, open, good, under) refl
 
 made-there : (s : State) (moment : ℕ) (user : List ℕ) (desc : JobDesc) (by : Option Terms) (terms : Terms)
     → by ≡ Some terms
@@ -64,44 +65,60 @@ can-add s moment user desc terms none =
       numbers = omega (arith, room.1, count);
     }
 
-terms-of : (s : State) (draft : Draft) (assoc : AssocRecord)
-    → assoc_for s draft.user.now draft.desc.now ≡ Some assoc → place_for s draft.desc.now ≡ Some draft.place
-    → partition_for s draft.desc.now ≡ Some draft.partition.now → draft.account ≡ account_of s.assocs assoc
+-- what was found for a draft
+pub record IsFound (s : State) (draft : Draft) : Type 0 where
+  pub assoc : assoc_for s draft.user.now draft.desc.now ≡ Some draft.assoc
+  pub qos : qos_for s draft.desc.now ≡ Some draft.qos
+  pub place : place_for s draft.desc.now ≡ Some draft.place
+  pub partition : slice_get s.partitions draft.place ≡ Some draft.partition.now
+  pub open : is_closed draft.partition.now.state ≡ false
+  pub account : draft.account ≡ account_at s.assocs draft.assoc
+
+partition-of : (s : State) (draft : Draft) → IsFound s draft
+    → partition_for s draft.desc.now ≡ Some draft.partition.now
+partition-of s draft found = ap (option_and_then (slice_get s.partitions)) found.place ∙ found.partition
+
+terms-of : (s : State) (draft : Draft) → IsFound s draft
     → terms_of s draft.user.now draft.desc.now ≡ Some (terms_in draft)
 unfolding terms_of
-terms-of s draft assoc known named there account =
+terms-of s draft found =
     let its : PartRecord = draft.partition.now in
-    terms-there s (assoc_for s draft.user.now draft.desc.now) (place_for s draft.desc.now)
-    (partition_for s draft.desc.now) assoc draft.place its known named there
-    ∙ ap (λ (name : List ℕ). Some (with-account name)) (sym account)
+    terms-there s (assoc_for s draft.user.now draft.desc.now) (qos_for s draft.desc.now) (place_for s draft.desc.now)
+    (partition_for s draft.desc.now) draft.assoc draft.qos draft.place its found.assoc found.qos found.place
+    (partition-of s draft found)
+    ∙ ap (λ (name : List ℕ). Some (with-account name)) (sym found.account)
   where
     with-account : List ℕ → Terms
-    with-account name = record { account = name; place = draft.place; partition = draft.partition.now }
+    with-account name = record {
+      account = name;
+      assoc = draft.assoc;
+      qos = draft.qos;
+      place = draft.place;
+      partition = draft.partition.now;
+    }
+
+under-draft : (s : State) (draft : Draft) → IsFound s draft
+    → first_refusal (submit_refusals s draft.moment draft.user.now draft.desc.now)
+    ≡ first_refusal (refusals_under s draft.moment draft.user.now draft.desc.now (terms_in draft))
+under-draft s draft found =
+    first-under s draft.moment draft.user.now draft.desc.now (assoc_for s draft.user.now draft.desc.now)
+    (qos_for s draft.desc.now) (partition_for s draft.desc.now) (terms_of s draft.user.now draft.desc.now) draft.assoc
+    draft.qos draft.partition.now (terms_in draft) found.assoc (partition-of s draft found) found.open found.qos
+    (terms-of s draft found)
 
 -- what is decided of a draft is decided of what the user handed in
-pub decided : (s : State) (draft : Draft) (assoc : AssocRecord) (decision : Result Handed Refusal)
-    → assoc_for s draft.user.now draft.desc.now ≡ Some assoc → place_for s draft.desc.now ≡ Some draft.place
-    → partition_for s draft.desc.now ≡ Some draft.partition.now → draft.account ≡ account_of s.assocs assoc
+pub decided : (s : State) (draft : Draft) (decision : Result Handed Refusal) → IsFound s draft
     → IsDecidedIn s draft decision → IsDecided s draft.moment draft.user.now draft.desc.now decision
-decided s draft assoc (Err refusal) known named there account is =
-    first-under s draft.moment draft.user.now draft.desc.now (assoc_for s draft.user.now draft.desc.now)
-    (partition_for s draft.desc.now) (terms_of s draft.user.now draft.desc.now) assoc draft.partition.now
-    (terms_in draft) known there (terms-of s draft assoc known named there account) ∙ is
-decided s draft assoc (Ok handed) known named there account is =
-    let under = terms-of s draft assoc known named there account in (
-      first-under s draft.moment draft.user.now draft.desc.now (assoc_for s draft.user.now draft.desc.now)
-          (partition_for s draft.desc.now) (terms_of s draft.user.now draft.desc.now) assoc draft.partition.now
-          (terms_in draft) known there under ∙ is.0,
-      rw (is.1.jobs, is.1.arrays) (made-there s draft.moment draft.user.now draft.desc.now
-          (terms_of s draft.user.now draft.desc.now) (terms_in draft) under),
-      rw is.1.jobs (can-add s draft.moment draft.user.now draft.desc.now (terms_in draft) is.0),
-    )
+decided s draft (Err refusal) found is = under-draft s draft found ∙ is
+decided s draft (Ok handed) found is = (
+  under-draft s draft found ∙ is.0,
+  rw (is.1.jobs, is.1.arrays) (made-there s draft.moment draft.user.now draft.desc.now
+      (terms_of s draft.user.now draft.desc.now) (terms_in draft) (terms-of s draft found)),
+  rw is.1.jobs (can-add s draft.moment draft.user.now draft.desc.now (terms_in draft) is.0),
+)
 
-pub decided-if : (s : State) (draft : Draft) (assoc : AssocRecord) (outcome : Result (Result Handed Refusal) Memory)
-    → assoc_for s draft.user.now draft.desc.now ≡ Some assoc → place_for s draft.desc.now ≡ Some draft.place
-    → slice_get s.partitions draft.place ≡ Some draft.partition.now → draft.account ≡ account_of s.assocs assoc
+pub decided-if : (s : State) (draft : Draft) (outcome : Result (Result Handed Refusal) Memory) → IsFound s draft
     → IfOk outcome (IsDecidedIn s draft)
     → IfOk outcome (IsDecided s draft.moment draft.user.now draft.desc.now)
-decided-if s draft assoc (Ok decision) known named there account is =
-    decided s draft assoc decision known named (ap (option_and_then (slice_get s.partitions)) named ∙ there) account is
-decided-if s draft assoc (Err memory) known named there account is = tt
+decided-if s draft (Ok decision) found is = decided s draft decision found is
+decided-if s draft (Err memory) found is = tt

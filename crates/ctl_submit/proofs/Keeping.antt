@@ -1,25 +1,26 @@
 -- An accepted submission keeps all sound, and makes another state.
 use Rattle.std.proofs.Common.{◌≡◌, ◌≢◌, ℕ, ◌+◌, ◌<◌, ◌≤◌, ◌∙◌, true, List, [], ◌∷◌, ◌++◌, length, Option, Some, None, refl, ap, subst, arith, rules, tests, length-append}
-use Rattle.std.specs.Prelude.{IfSome, is_none, option_and_then, slice_get, unwrap_or}
+use Rattle.std.specs.Prelude.{IfSome, is_none, option_and_then, option_map, slice_get, unwrap_or}
 use Rattle.std.specs.Option.{option_or}
 use Rattle.std.proofs.lemmas.Option.{slice_get_within}
 use Rattle.slurm_text.specs.declared.plain.array.ArraySpec.{ArraySpec}
 use Rattle.slurm_text.specs.declared.plain.job.JobDesc.{JobDesc}
 use Rattle.slurm_text.specs.declared.plain.limit.Limit.{Limit}
-use Rattle.slurm_text.specs.declared.plain.refusal.Refusal.TheVariants.{InvalidAccount, InvalidPartition}
+use Rattle.slurm_text.specs.declared.plain.refusal.Refusal.TheVariants.{InvalidAccount, InvalidPartition, InvalidQos, PartitionClosed}
 use Rattle.slurm_text.specs.declared.plain.reply.Reply.{Reply}
 use Rattle.partitions.specs.declared.record.PartRecord.{PartRecord}
+use Rattle.accounts_qos.specs.Accounts.{is_of_user}
 use Rattle.job_table.specs.declared.record.JobRecord.{JobRecord}
 use Rattle.job_table.specs.JobStates.{is_pending}
 use Rattle.ctl_state.specs.declared.record.ArrayRecord.{ArrayRecord}
-use Rattle.ctl_state.specs.declared.record.AssocRecord.{AssocRecord}
 use Rattle.ctl_state.specs.State.{State, last_moment}
 use Rattle.ctl_state.specs.Laws.{Adding}
 use Rattle.ctl_state.specs.Refusals.{first_refusal, refused_if}
-use Rattle.ctl_state.specs.Soundness.{HasLimits, IsAsked, IsKept, IsLimit, IsSound}
+use Rattle.ctl_state.specs.Soundness.{HasLimits, IsOfAccounts, IsAsked, IsKept, IsLimit, IsSound}
 use Rattle.ctl_state.specs.Verdicts.{Makes, stamped}
-use Rattle.ctl_submit.specs.Submission.{Terms, account_of, made_under, new_arrays, new_job, new_jobs, refusals_by, refusals_under, submit_after, terms_by}
+use Rattle.ctl_submit.specs.Submission.{Terms, account_at, is_closed, made_under, new_arrays, new_job, new_jobs, refusals_by, refusals_under, submit_after, takes_none, terms_by}
 use Rattle.ctl_submit.proofs.Deciding.{All-at, can-add}
+use Rattle.ctl_submit.proofs.Refused.{none-first}
 use Rattle.ctl_submit.proofs.Made.{All-new_jobs, AllPairs-new_jobs, length-new_jobs}
 
 -- the limit in force is in its range
@@ -54,10 +55,11 @@ array-from (Some array) next first = omega (arith, first)
 -- a submission that isn't refused, under its terms
 submitted : Adding → (s : State) (now : ℕ) (user : List ℕ) (desc : JobDesc) (terms : Terms) → IsSound s → s.moment ≤ now
     → now ≤ last_moment → IsAsked desc → IfSome desc.limit IsLimit
+    → option_map (is_of_user user) (slice_get s.assocs terms.assoc) ≡ Some true → terms.qos < length s.qos
     → slice_get s.partitions terms.place ≡ Some terms.partition
     → first_refusal (refusals_under s now user desc terms) ≡ None
     → IsSound (stamped now (submit_after s (new_jobs s now user desc terms desc.array) (new_arrays s desc.array)))
-submitted adding s now user desc terms sound later in_time asked range there none =
+submitted adding s now user desc terms sound later in_time asked range his good there none =
     let limits = All-at HasLimits s.partitions terms.place terms.partition sound.limits there in
     let within = slice_get_within s.partitions terms.place terms.partition there in
     let added = can-add s now user desc terms none in
@@ -66,6 +68,8 @@ submitted adding s now user desc terms sound later in_time asked range there non
     adding s now next (new_jobs s now user desc terms desc.array) _ sound later in_time
     (All-new_jobs (λ (job : JobRecord). job.partition < length s.partitions) s now user desc terms desc.array
     (λ id of own least below first. within))
+    (All-new_jobs (IsOfAccounts s.assocs s.qos) s now user desc terms desc.array
+    (λ id of own least below first. record { assoc = his; qos = good }))
     (All-new_jobs (IsKept now) s now user desc terms desc.array
     (λ id of own least below first. kept-new_job s now user desc terms id of own limits asked range))
     (All-new_jobs (λ (job : JobRecord). is_pending job.state ≡ true) s now user desc terms desc.array
@@ -90,24 +94,37 @@ made-after {reply} {other} {after} {left} same = cc
 
 -- An accepted submission keeps all sound.
 pub sound-made : Adding → (s after : State) (now : ℕ) (user : List ℕ) (desc : JobDesc) (reply : Reply)
-    (assoc : Option AssocRecord) (place : Option ℕ) (partition : Option PartRecord) → IsSound s → s.moment ≤ now
+    (assoc qos place : Option ℕ) (partition : Option PartRecord) → IsSound s → s.moment ≤ now
     → now ≤ last_moment → IsAsked desc → IfSome desc.limit IsLimit
+    → IfSome assoc (λ by. option_map (is_of_user user) (slice_get s.assocs by) ≡ Some true)
+    → IfSome qos (λ of. of < length s.qos)
     → option_and_then (slice_get s.partitions) place ≡ partition
     → first_refusal (refused_if (is_none assoc) InvalidAccount
-    ∷ refused_if (is_none partition) InvalidPartition ∷ refusals_by s now user desc (terms_by s assoc place partition))
+    ∷ refused_if (is_none partition) InvalidPartition ∷ refused_if (takes_none partition) PartitionClosed
+    ∷ refused_if (is_none qos) InvalidQos ∷ refusals_by s now user desc (terms_by s assoc qos place partition))
     ≡ None
-    → made_under s now user desc (terms_by s assoc place partition) ≡ Makes reply after → IsSound (stamped now after)
-sound-made adding s after now user desc reply None place its sound later in_time asked range there none made =
-    absurd (cc)
-sound-made adding s after now user desc reply (Some one) None its sound later in_time asked range there none made =
-    absurd (cc)
-sound-made adding s after now user desc reply (Some one) (Some place) None sound later in_time asked range there none
+    → made_under s now user desc (terms_by s assoc qos place partition) ≡ Makes reply after
+    → IsSound (stamped now after)
+sound-made adding s after now user desc reply None qos place its sound later in_time asked range his good there none
     made = absurd (cc)
-sound-made adding s after now user desc reply (Some one) (Some place) (Some its) sound later in_time asked range there
-    none made =
-    let terms : Terms = record { account = account_of s.assocs one; place = place; partition = its } in
+sound-made adding s after now user desc reply (Some by) None place its sound later in_time asked range his good there
+    none made = absurd (cc)
+sound-made adding s after now user desc reply (Some by) (Some of) None its sound later in_time asked range his good
+    there none made = absurd (cc)
+sound-made adding s after now user desc reply (Some by) (Some of) (Some place) None sound later in_time asked range his
+    good there none made = absurd (cc)
+sound-made adding s after now user desc reply (Some by) (Some of) (Some place) (Some its) sound later in_time asked
+    range his good there none made =
+    let terms : Terms = record {
+      account = account_at s.assocs by;
+      assoc = by;
+      qos = of;
+      place = place;
+      partition = its;
+    } in
+    let closed = none-first PartitionClosed (is_closed its.state) _ none in
     subst (λ (left : State). IsSound (stamped now left)) (made-after made)
-    (submitted adding s now user desc terms sound later in_time asked range there none)
+    (submitted adding s now user desc terms sound later in_time asked range his good there closed.1)
 
 -- one member more is another list
 more-arrays : (arrays : List ArrayRecord) (array : ArrayRecord) → arrays ++ array ∷ [] ≢ arrays

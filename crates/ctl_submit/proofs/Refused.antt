@@ -1,13 +1,15 @@
 -- A submission that isn't refused.
-use Rattle.std.proofs.Common.{◌≡◌, ℕ, ◌+◌, ◌≤◌, Bool, true, false, List, ◌∷◌, length, Option, None, refl}
+use Rattle.std.proofs.Common.{◌≡◌, ℕ, ◌+◌, ◌≤◌, Bool, true, false, List, [], ◌∷◌, ◌++◌, length, Option, Some, None, refl}
 use Rattle.std.specs.Prelude.{nat_lt, not}
 use Rattle.std.proofs.lemmas.Bool.{ltb-false}
 use Rattle.slurm_text.specs.declared.plain.job.JobDesc.{JobDesc}
 use Rattle.slurm_text.specs.declared.plain.refusal.Refusal.{Refusal}
-use Rattle.slurm_text.specs.declared.plain.refusal.Refusal.TheVariants.{PartitionClosed, NodesNotAvailable, NotAllowedHere, JobTableFull, ArrayTooLarge, UnknownNode, JobIdsSpent}
+use Rattle.slurm_text.specs.declared.plain.refusal.Refusal.TheVariants.{NodesNotAvailable, NotAllowedHere, JobTableFull, ArrayTooLarge, UnknownNode, JobIdsSpent}
+use Rattle.run_limits.specs.Submitting.{submit_limits}
+use Rattle.ctl_state.specs.Counted.{counted_of}
 use Rattle.ctl_state.specs.State.{State, last_job_id}
 use Rattle.ctl_state.specs.Refusals.{first_refusal, refused_if}
-use Rattle.ctl_submit.specs.Submission.{Terms, count_of_jobs, is_closed, is_placeable, is_too_large, lone_job, names_unknown, refusals_under, takes_account}
+use Rattle.ctl_submit.specs.Submission.{Terms, beside_unended, count_of_jobs, is_placeable, is_too_large, lone_job, names_unknown, quality_of, refusals_under, takes_jobs_of}
 
 -- the first of refusals that come to none: it doesn't stand, and the others come to none
 pub none-first : (refusal : Refusal) (stands : Bool) (later : List (Option Refusal))
@@ -15,21 +17,28 @@ pub none-first : (refusal : Refusal) (stands : Bool) (later : List (Option Refus
 none-first refusal true later none = absurd (cc)
 none-first refusal false later none = (refl, none)
 
+-- where the first of refusals and of further ones come to none, the further ones do
+pub none-later : (some later : List (Option Refusal)) → first_refusal (some ++ later) ≡ None
+    → first_refusal later ≡ None
+none-later [] later none = none
+none-later (None ∷ some) later none = none-later some later none
+none-later (Some refusal ∷ some) later none = absurd (let never = none in cc)
+
 -- there is room for its jobs, and there are numbers for them
 pub rooms : (s : State) (moment : ℕ) (user : List ℕ) (desc : JobDesc) (terms : Terms)
     → first_refusal (refusals_under s moment user desc terms) ≡ None
     → (length s.jobs + count_of_jobs desc.array ≤ s.settings.max_job_count)
     × (s.next_id + count_of_jobs desc.array ≤ last_job_id + 1)
 rooms s moment user desc terms none =
-    let closed = none-first PartitionClosed (is_closed terms.partition.state) _ none in
+    let lone = lone_job s moment user desc terms in
     let taken = none-first NotAllowedHere
-    (not (takes_account terms.partition.conf.accounts terms.account)) _ closed.1 in
+    (not (takes_jobs_of terms.partition terms.account (quality_of desc))) _ none in
     let known = none-first UnknownNode (names_unknown s desc) _ taken.1 in
-    let placed = none-first NodesNotAvailable
-    (not (is_placeable s terms.partition (lone_job s moment user desc terms))) _ known.1 in
+    let placed = none-first NodesNotAvailable (not (is_placeable s terms.partition lone)) _ known.1 in
     let small = none-first ArrayTooLarge (is_too_large s desc.array) _ placed.1 in
+    let within = none-later (submit_limits (beside_unended s) (counted_of lone) (count_of_jobs desc.array)) _ small.1 in
     let few = none-first JobTableFull
-    (nat_lt s.settings.max_job_count (length s.jobs + count_of_jobs desc.array)) _ small.1 in
+    (nat_lt s.settings.max_job_count (length s.jobs + count_of_jobs desc.array)) _ within in
     let left = none-first JobIdsSpent
     (nat_lt (last_job_id + 1) (s.next_id + count_of_jobs desc.array)) _ few.1 in
     (ltb-false _ _ few.0, ltb-false _ _ left.0)

@@ -12,7 +12,13 @@ use Rattle.ctl_submit.specs.Submission.{Terms, lone_job, new_arrays, new_job, ne
 
 -- the terms of a draft
 abbrev pub terms_in : Draft → Terms
-terms_in draft = record { account = draft.account; place = draft.place; partition = draft.partition.now }
+terms_in draft = record {
+  account = draft.account;
+  assoc = draft.assoc;
+  qos = draft.qos;
+  place = draft.place;
+  partition = draft.partition.now;
+}
 
 -- a job that it makes, a task of the array with that number
 abbrev pub job_in : State → Draft → ℕ → Option ℕ → Option ArraySpec → JobRecord

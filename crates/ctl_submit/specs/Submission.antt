@@ -1,5 +1,5 @@
 -- A submission: its refusals, and the jobs that it makes.
-use Rattle.std.specs.Prelude.{◌≡◌, ◌≤◌, ℕ, ◌+◌, min, max, Bool, true, false, ◌&&◌, not, is_none, is_some, nat_le, nat_lt, if◌then◌else◌, unwrap_or, List, [], ◌∷◌, ◌++◌, length, map, find, slice_get, bytes_eq, codes, All, Option, Some, None, option_map, option_and_then, Result, Ok, Err}
+use Rattle.std.specs.Prelude.{◌≡◌, ◌≤◌, ℕ, ◌+◌, min, max, Bool, true, false, ◌&&◌, not, is_none, is_some, nat_le, nat_lt, if◌then◌else◌, unwrap_or, List, [], ◌∷◌, ◌++◌, length, map, filter, slice_get, bytes_eq, codes, All, Option, Some, None, option_map, option_and_then, Result, Ok, Err}
 use Rattle.std.specs.List.{list_any, enumerate_from}
 use Rattle.std.specs.Option.{option_or, option_to_list}
 use Rattle.slurm_text.specs.declared.plain.array.ArraySpec.{ArraySpec}
@@ -13,45 +13,46 @@ use Rattle.slurm_text.specs.declared.plain.state.HeldBy.{HeldBy}
 use Rattle.slurm_text.specs.declared.plain.state.HeldBy.TheVariants.{Nobody, User}
 use Rattle.slurm_text.specs.declared.plain.state.JobState.TheVariants.{Pending}
 use Rattle.slurm_text.specs.declared.plain.refusal.Refusal.{Refusal}
-use Rattle.slurm_text.specs.declared.plain.refusal.Refusal.TheVariants.{PartitionClosed, InvalidAccount, InvalidPartition, NodesNotAvailable, NotAllowedHere, JobTableFull, ArrayTooLarge, UnknownNode, JobIdsSpent}
+use Rattle.slurm_text.specs.declared.plain.refusal.Refusal.TheVariants.{PartitionClosed, InvalidAccount, InvalidPartition, InvalidQos, NodesNotAvailable, NotAllowedHere, JobTableFull, ArrayTooLarge, UnknownNode, JobIdsSpent}
 use Rattle.slurm_text.specs.declared.plain.reply.Reply.TheVariants.{Submitted}
 use Rattle.backfill_planner.specs.Plans.{placed_of}
 use Rattle.node_state.specs.Nodes.{place_named}
 use Rattle.partitions.specs.declared.record.PartRecord.{PartRecord}
-use Rattle.partitions.specs.Partitions.{place_meant}
+use Rattle.partitions.specs.Partitions
+use Rattle.accounts_qos.specs.declared.record.AssocRecord.{AssocRecord}
+use Rattle.accounts_qos.specs.Accounts.{account_of, place_meant, qos_meant}
+use Rattle.run_limits.specs.declared.counted.Counted.{Counted}
+use Rattle.run_limits.specs.Limits.{Beside}
+use Rattle.run_limits.specs.Submitting.{submit_limits}
 use Rattle.job_table.specs.declared.record.JobRecord.{JobRecord}
+use Rattle.job_table.specs.JobStates.{is_ended}
 use Rattle.job_table.specs.Table.{HaveRisingIds}
 use Rattle.ctl_state.specs.declared.record.ArrayRecord.{ArrayRecord}
-use Rattle.ctl_state.specs.declared.record.AssocRecord.{AssocRecord}
+use Rattle.ctl_state.specs.Counted.{counted_of}
 use Rattle.ctl_state.specs.Planning.{open_room, plan_job}
 use Rattle.ctl_state.specs.Refusals.{first_refusal, refused_if}
 use Rattle.ctl_state.specs.State.{State, last_job_id}
 use Rattle.ctl_state.specs.Verdicts.{Verdict, Refuses, Makes}
 use Rattle.ctl_submit.specs.declared.handed.Handed.{Handed}
 
--- the account that an association belongs to; there is one, root, that no association stands for
-abbrev pub account_of : List AssocRecord → AssocRecord → List ℕ
-account_of assocs assoc =
-    unwrap_or
-    (option_map (λ (parent : AssocRecord). parent.conf.name) (option_and_then (slice_get assocs) assoc.conf.parent))
-    (codes "root")
+-- the place of the association that a submission counts for, and that of its quality of service
+abbrev pub assoc_for : State → List ℕ → JobDesc → Option ℕ
+assoc_for s user desc = place_meant s.assocs user desc.account
 
--- an association is the user's, of the account that is asked for, if one is
-abbrev pub is_of_account : List AssocRecord → Option (List ℕ) → AssocRecord → Bool
-is_of_account assocs None assoc = true
-is_of_account assocs (Some account) assoc = bytes_eq (account_of assocs assoc) account
+abbrev pub qos_for : State → JobDesc → Option ℕ
+qos_for s desc = qos_meant s.qos desc.qos
 
-abbrev pub is_users : List AssocRecord → List ℕ → Option (List ℕ) → AssocRecord → Bool
-is_users assocs user account assoc =
-    assoc.conf.user && (bytes_eq assoc.conf.name user && is_of_account assocs account assoc)
+-- the name of its quality of service
+abbrev pub quality_of : JobDesc → List ℕ
+quality_of desc = unwrap_or desc.qos (codes "normal")
 
--- the association that a submission counts for: the first one
-abbrev pub assoc_for : State → List ℕ → JobDesc → Option AssocRecord
-assoc_for s user desc = find (is_users s.assocs user desc.account) s.assocs
+-- the account of the association at a place
+abbrev pub account_at : List AssocRecord → ℕ → List ℕ
+account_at assocs place = unwrap_or (option_map (account_of assocs) (slice_get assocs place)) (codes "root")
 
 -- the place of the partition that a submission means, and the partition
 abbrev pub place_for : State → JobDesc → Option ℕ
-place_for s desc = place_meant desc.partition s.partitions
+place_for s desc = Partitions.place_meant desc.partition s.partitions
 
 abbrev pub partition_for : State → JobDesc → Option PartRecord
 partition_for s desc = option_and_then (slice_get s.partitions) (place_for s desc)
@@ -63,10 +64,19 @@ is_closed Down = false
 is_closed Drain = true
 is_closed Inactive = true
 
--- the partition takes jobs of this account
-abbrev pub takes_account : Option (List (List ℕ)) → List ℕ → Bool
-takes_account None account = true
-takes_account (Some accounts) account = list_any (bytes_eq account) accounts
+-- the partition that is meant takes no jobs
+abbrev pub takes_none : Option PartRecord → Bool
+takes_none None = false
+takes_none (Some partition) = is_closed partition.state
+
+-- a partition takes jobs of this name, as one of these that it takes
+abbrev pub takes : Option (List (List ℕ)) → List ℕ → Bool
+takes None name = true
+takes (Some names) name = list_any (bytes_eq name) names
+
+-- the partition takes jobs of the account and of the quality of service
+abbrev pub takes_jobs_of : PartRecord → List ℕ → List ℕ → Bool
+takes_jobs_of partition account quality = takes partition.conf.accounts account && takes partition.conf.qos quality
 
 -- the limit in force: the one asked for, or the partition's default, or its longest
 abbrev pub limit_in : PartRecord → JobDesc → Limit
@@ -77,9 +87,12 @@ abbrev pub memory_in : State → PartRecord → JobDesc → MemAsk
 memory_in s partition desc =
     unwrap_or (option_or (option_or desc.mem_ask partition.conf.mem_default) s.settings.mem_default) memory.All
 
--- what a submission is settled with: its account, the place of its partition, and the partition
+-- What a submission is settled with: its account, the places of its association, its quality of service and its
+-- partition, and the partition.
 pub record Terms : Type 0 where
   pub account : List ℕ
+  pub assoc : ℕ
+  pub qos : ℕ
   pub place : ℕ
   pub partition : PartRecord
 
@@ -88,7 +101,7 @@ abbrev pub settled : State → Terms → JobDesc → Option ArraySpec → JobDes
 settled s terms desc array = record desc {
   account = Some terms.account;
   partition = Some terms.partition.conf.name;
-  qos = Some (unwrap_or desc.qos (codes "normal"));
+  qos = Some (quality_of desc);
   mem_ask = Some (memory_in s terms.partition desc);
   limit = Some (limit_in terms.partition desc);
   held = false;
@@ -108,6 +121,8 @@ new_job s moment user desc terms id array task = record {
   array = array;
   user = user;
   desc = settled s terms desc task;
+  assoc = terms.assoc;
+  qos = terms.qos;
   partition = terms.place;
   submit = moment;
   eligible = max moment (unwrap_or desc.begin 0);
@@ -166,31 +181,44 @@ abbrev pub is_too_large : State → Option ArraySpec → Bool
 is_too_large s None = false
 is_too_large s (Some array) = list_any (nat_le s.settings.max_array_size) array.indices
 
--- why as many jobs may be refused, in their order
-abbrev pub refusals_of_count : State → Option ArraySpec → List (Option Refusal)
-refusals_of_count s array =
+-- the jobs that haven't ended, as limits count them
+unfoldable pub unended : List JobRecord → List Counted
+unended jobs = map counted_of (filter (λ (job : JobRecord). not (is_ended job.state)) jobs)
+
+-- what a submission is counted beside
+abbrev pub beside_unended : State → Beside
+beside_unended s = record { assocs = s.assocs; qos = s.qos; holding = unended s.jobs }
+
+-- why as many jobs of which this is one may be refused, in their order
+abbrev pub refusals_of_count : State → JobRecord → Option ArraySpec → List (Option Refusal)
+refusals_of_count s job array =
     refused_if (is_too_large s array) ArrayTooLarge
-    ∷ refused_if (nat_lt s.settings.max_job_count (length s.jobs + count_of_jobs array)) JobTableFull
+    ∷ (submit_limits (beside_unended s) (counted_of job) (count_of_jobs array)
+    ++ refused_if (nat_lt s.settings.max_job_count (length s.jobs + count_of_jobs array)) JobTableFull
     ∷ refused_if (nat_lt (last_job_id + 1) (s.next_id + count_of_jobs array)) JobIdsSpent
-    ∷ []
+    ∷ [])
 
 -- why a submission may be refused under its terms, in their order
 abbrev pub refusals_under : State → ℕ → List ℕ → JobDesc → Terms → List (Option Refusal)
 refusals_under s moment user desc terms =
-    refused_if (is_closed terms.partition.state) PartitionClosed
-    ∷ refused_if (not (takes_account terms.partition.conf.accounts terms.account)) NotAllowedHere
+    refused_if (not (takes_jobs_of terms.partition terms.account (quality_of desc))) NotAllowedHere
     ∷ refused_if (names_unknown s desc) UnknownNode
     ∷ refused_if (not (is_placeable s terms.partition (lone_job s moment user desc terms))) NodesNotAvailable
-    ∷ refusals_of_count s desc.array
+    ∷ refusals_of_count s (lone_job s moment user desc terms) desc.array
 
--- the terms of a submission, for an association, to the partition at a place
-abbrev pub terms_by : State → Option AssocRecord → Option ℕ → Option PartRecord → Option Terms
-terms_by s (Some assoc) (Some place) (Some partition) =
-    Some (record { account = account_of s.assocs assoc; place = place; partition = partition })
-terms_by s assoc place partition = None
+-- the terms of a submission, for the association at a place, in the quality of service at one, to the partition at one
+abbrev pub terms_by : State → Option ℕ → Option ℕ → Option ℕ → Option PartRecord → Option Terms
+terms_by s (Some assoc) (Some qos) (Some place) (Some partition) = Some (record {
+  account = account_at s.assocs assoc;
+  assoc = assoc;
+  qos = qos;
+  place = place;
+  partition = partition;
+})
+terms_by s assoc qos place partition = None
 
 unfoldable pub terms_of : State → List ℕ → JobDesc → Option Terms
-terms_of s user desc = terms_by s (assoc_for s user desc) (place_for s desc) (partition_for s desc)
+terms_of s user desc = terms_by s (assoc_for s user desc) (qos_for s desc) (place_for s desc) (partition_for s desc)
 
 abbrev pub refusals_by : State → ℕ → List ℕ → JobDesc → Option Terms → List (Option Refusal)
 refusals_by s moment user desc None = []
@@ -201,6 +229,8 @@ abbrev pub submit_refusals : State → ℕ → List ℕ → JobDesc → List (Op
 submit_refusals s moment user desc =
     refused_if (is_none (assoc_for s user desc)) InvalidAccount
     ∷ refused_if (is_none (partition_for s desc)) InvalidPartition
+    ∷ refused_if (takes_none (partition_for s desc)) PartitionClosed
+    ∷ refused_if (is_none (qos_for s desc)) InvalidQos
     ∷ refusals_by s moment user desc (terms_of s user desc)
 
 -- the state with these jobs

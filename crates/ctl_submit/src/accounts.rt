@@ -1,91 +1,75 @@
-//! Accounts: the one that a submission counts for, and those whose jobs a partition takes.
+//! Accounts and qualities of service: those that a submission counts for, and those whose jobs a partition takes.
 
-ghost use Rattle.std.specs.Prelude.{◌≡◌, IfOk, bytes_eq, option_copied};
+ghost use Rattle.std.specs.Prelude.{◌≡◌, IfOk, bytes_eq};
 ghost use Rattle.std.specs.List.{list_any};
 ghost use Rattle.ctl_state.specs.State.{state_of};
 ghost use Rattle.ctl_submit.specs.Submission;
 
+use accounts_qos::assocs::Assocs;
 use ctl_state::cluster::Cluster;
-use ctl_state::record::AssocRecord;
+use partitions::record::PartRecord;
 use slurm_text::items::Items;
 use slurm_text::memory_error::Memory;
 use slurm_text::name::Name;
 use slurm_text::plain::job::JobDesc;
 use std::alloc::Global;
 
-// The account that the association belongs to.
-fn account_of<'a>(assocs: &'a [AssocRecord], assoc: &AssocRecord) -> &'a [u8]
-    ensures { result.now ≡ Submission.account_of assocs.now assoc.now }
+/// The place of the association that a submission counts for. Linear in the associations.
+pub(crate) fn assoc_for(cluster: &Cluster, user: &Name, desc: &JobDesc) -> Option<u32>
+    ensures { result ≡ Submission.assoc_for (state_of cluster.now) user.now desc.now }
 {
-    let Some(parent) = assoc.conf.parent else {
-        return b"root";
-    };
-    match assocs.get(parent as usize) {
-        Some(parent) => parent.conf.name.as_bytes(),
+    cluster.assocs.find(user, desc.account.as_ref())
+}
+
+/// The place of its quality of service, which is `normal` where it names none.
+pub(crate) fn qos_for(cluster: &Cluster, desc: &JobDesc) -> Option<u32>
+    ensures { result ≡ Submission.qos_for (state_of cluster.now) desc.now }
+{
+    cluster.assocs.find_qos(desc.qos.as_ref())
+}
+
+// The account of the association at a place.
+fn account_at(assocs: &Assocs, place: u32) -> &[u8]
+    ensures { result.now ≡ Submission.account_at assocs.now.records place }
+{
+    match assocs.records().get(place as usize) {
+        Some(assoc) => assocs.account(assoc),
         None => b"root",
     }
 }
 
-/// The name of the account that the association belongs to.
-pub(crate) fn account_name(
-    alloc: Global,
-    cluster: &Cluster,
-    assoc: &AssocRecord,
-) -> Result<Name, Memory>
-    ensures { IfOk result (λ name. name ≡ Submission.account_of (state_of cluster.now).assocs assoc.now) }
+/// The name of the account of the association at a place.
+pub(crate) fn account_name(alloc: Global, cluster: &Cluster, place: u32) -> Result<Name, Memory>
+    ensures { IfOk result (λ name. name ≡ Submission.account_at (state_of cluster.now).assocs place) }
 {
-    let account = account_of(cluster.assocs.as_slice(), assoc);
+    let account = account_at(&cluster.assocs, place);
     Name::read(alloc, account).map_err(|_| Memory)
 }
 
-fn is_of_account(assocs: &[AssocRecord], account: &Option<Name>, assoc: &AssocRecord) -> bool
-    ensures { result ≡ Submission.is_of_account assocs.now account.now assoc.now }
+// The name of the quality of service of a submission.
+fn quality_of(desc: &JobDesc) -> &[u8]
+    ensures { result.now ≡ Submission.quality_of desc.now }
 {
-    match account {
-        Some(account) => account_of(assocs, assoc) == account.as_bytes(),
+    match &desc.qos {
+        Some(qos) => qos.as_bytes(),
+        None => b"normal",
+    }
+}
+
+// Whether the name is one of these that a partition takes; None takes all.
+fn takes(names: &Option<Items<Name>>, name: &[u8]) -> bool
+    ensures { result ≡ Submission.takes names.now name.now }
+{
+    match names {
+        Some(names) => names.iter().any(|one| one.as_bytes() == name),
         None => true,
     }
 }
 
-fn is_users(
-    assocs: &[AssocRecord],
-    user: &Name,
-    account: &Option<Name>,
-    assoc: &AssocRecord,
-) -> bool
-    ensures { result ≡ Submission.is_users assocs.now user.now account.now assoc.now }
+/// Whether the partition takes jobs of the account in the submission's quality of service. `AllowAccounts` and
+/// `AllowQos` in slurm.conf(5).
+pub(crate) fn takes_jobs_of(partition: &PartRecord, account: &Name, desc: &JobDesc) -> bool
+    ensures { result ≡ Submission.takes_jobs_of partition.now account.now (Submission.quality_of desc.now) }
 {
-    assoc.conf.user && (assoc.conf.name.is(user) && is_of_account(assocs, account, assoc))
-}
-
-/// The association that a submission counts for. Linear in the associations.
-pub(crate) fn assoc_for<'a>(
-    cluster: &'a Cluster,
-    user: &Name,
-    desc: &JobDesc,
-) -> Option<&'a AssocRecord>
-    ensures { option_copied result ≡ Submission.assoc_for (state_of cluster.now) user.now desc.now }
-{
-    let assocs = cluster.assocs.as_slice();
-    assocs
-        .iter()
-        .find(|assoc| is_users(assocs, user, &desc.account, assoc))
-}
-
-// Whether the account is among these.
-fn has(accounts: &Items<Name>, account: &Name) -> bool
-    ensures { result ≡ list_any (bytes_eq account.now) accounts.now }
-{
-    accounts.iter().any(|name| account.is(name))
-}
-
-/// Whether a partition that takes jobs of these accounts takes those of this one; None takes all. `AllowAccounts` in
-/// slurm.conf(5).
-pub(crate) fn takes_account(accounts: &Option<Items<Name>>, account: &Name) -> bool
-    ensures { result ≡ Submission.takes_account accounts.now account.now }
-{
-    match accounts {
-        Some(accounts) => has(accounts, account),
-        None => true,
-    }
+    takes(&partition.conf.accounts, account.as_bytes()) && takes(&partition.conf.qos, quality_of(desc))
 }

@@ -4,13 +4,17 @@ use partitions::record::PartRecord;
 use slurm_text::name::Name;
 use slurm_text::plain::job::JobDesc;
 
-/// What a user hands in at a moment, with its terms: the account that it counts for, and its partition (own).
+/// What a user hands in at a moment, with its terms: what it counts for, and its partition (own).
 #[derive(Drop)]
 pub(crate) struct Draft<'a> {
     pub moment: u64,
     pub user: &'a Name,
     pub desc: &'a JobDesc,
     pub account: Name,
+    /// The association's place in the list of associations.
+    pub assoc: u32,
+    /// The place of its quality of service in the list of these.
+    pub qos: u32,
     /// The partition's place in the list of partitions.
     pub place: u32,
     pub partition: &'a PartRecord,

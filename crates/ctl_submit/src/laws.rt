@@ -9,6 +9,7 @@ ghost use Rattle.ctl_state.specs.Refusals.{first_refusal};
 ghost use Rattle.ctl_state.specs.Verdicts.{Makes, stamped};
 ghost use Rattle.ctl_submit.specs.Submission.{submit_refusals, submit_made};
 
+use accounts_qos::laws::what_is_meant_is_there;
 use ctl_state::laws::added_jobs_keep_all_sound;
 
 /// An accepted submission keeps all sound.
@@ -19,6 +20,7 @@ pub fn a_submission_keeps_all_sound()
         → IsSound (stamped now after) }
 {
     added_jobs_keep_all_sound();
+    what_is_meant_is_there();
 }
 
 /// An accepted submission makes another state, since it makes a job at least, or keeps an index list.

@@ -5,6 +5,7 @@ mod accounts;
 mod draft;
 pub mod handed;
 pub mod laws;
+mod limits;
 mod placeable;
 mod refusals;
 mod settled;

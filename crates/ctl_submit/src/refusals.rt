@@ -9,8 +9,9 @@ ghost use Rattle.ctl_state.specs.Refusals.{first_refusal};
 ghost use Rattle.ctl_submit.specs.Drafts.{lone_in, refusals_in};
 ghost use Rattle.ctl_submit.specs.Submission;
 
-use crate::accounts::takes_account;
+use crate::accounts::takes_jobs_of;
 use crate::draft::Draft;
+use crate::limits::limit_exceeded;
 use crate::placeable::is_placeable;
 use ctl_state::cluster::Cluster;
 use job_table::record::JobRecord;
@@ -24,8 +25,8 @@ use std::alloc::Global;
 // The last number that a job can have. `MaxJobId` in slurm.conf(5).
 const LAST_JOB_ID: u64 = 67_043_328;
 
-// Whether a partition in this state takes no jobs. `State` of a partition in slurm.conf(5).
-fn is_closed(state: PartState) -> bool
+/// Whether a partition in this state takes no jobs. `State` of a partition in slurm.conf(5).
+pub(crate) fn is_closed(state: PartState) -> bool
     ensures { result ≡ Submission.is_closed state }
 {
     matches!(state, PartState::Drain | PartState::Inactive)
@@ -69,14 +70,17 @@ fn count_of_jobs(array: &Option<ArraySpec>) -> u64
     }
 }
 
-// Why as many jobs are refused. `MaxArraySize` and `MaxJobCount` in slurm.conf(5).
-fn refusal_of_count(cluster: &Cluster, array: &Option<ArraySpec>) -> Option<Refusal>
-    ensures { result ≡ first_refusal (Submission.refusals_of_count (state_of cluster.now) array.now) }
+// Why as many jobs, of which this is one, are refused. `MaxArraySize` and `MaxJobCount` in slurm.conf(5).
+fn refusal_of_count(cluster: &Cluster, job: &JobRecord, array: &Option<ArraySpec>) -> Option<Refusal>
+    ensures { result ≡ first_refusal (Submission.refusals_of_count (state_of cluster.now) job.now array.now) }
 {
     if is_too_large(cluster, array) {
         return Some(Refusal::ArrayTooLarge);
     }
     let count = count_of_jobs(array);
+    if let Some(refusal) = limit_exceeded(cluster, job, count) {
+        return Some(refusal);
+    }
     if cluster.settings.max_job_count.get() < cluster.jobs.len() as u64 + count {
         return Some(Refusal::JobTableFull);
     }
@@ -100,10 +104,7 @@ pub(crate) fn refusal_of(
     ensures { IfOk result (λ refusal. refusal ≡ first_refusal (refusals_in (state_of cluster.now) draft.now)) }
 {
     let partition = draft.partition;
-    if is_closed(partition.state) {
-        return Ok(Some(Refusal::PartitionClosed));
-    }
-    if !takes_account(&partition.conf.accounts, &draft.account) {
+    if !takes_jobs_of(partition, &draft.account, draft.desc) {
         return Ok(Some(Refusal::NotAllowedHere));
     }
     if names_unknown(cluster, draft.desc) {
@@ -112,5 +113,5 @@ pub(crate) fn refusal_of(
     if !is_placeable(alloc, cluster, partition, lone)? {
         return Ok(Some(Refusal::NodesNotAvailable));
     }
-    Ok(refusal_of_count(cluster, &draft.desc.array))
+    Ok(refusal_of_count(cluster, lone, &draft.desc.array))
 }

@@ -10,10 +10,10 @@ ghost use Rattle.ctl_state.specs.Soundness.{IsSound};
 ghost use Rattle.ctl_submit.specs.Drafts.{IsDecidedIn};
 ghost use Rattle.ctl_submit.specs.Submission.{CanAdd, IsDecided, submit_after};
 
-use crate::accounts::{account_name, assoc_for};
+use crate::accounts::{account_name, assoc_for, qos_for};
 use crate::draft::Draft;
 use crate::handed::Handed;
-use crate::refusals::refusal_of;
+use crate::refusals::{is_closed, refusal_of};
 use crate::tasks::{hand_in, lone_job};
 use ctl_state::cluster::Cluster;
 use ctl_state::laws::parts_stay;
@@ -62,11 +62,19 @@ pub fn decide(
     let Some(partition) = cluster.partitions.at(place) else {
         return Ok(Err(Refusal::InvalidPartition));
     };
+    if is_closed(partition.state) {
+        return Ok(Err(Refusal::PartitionClosed));
+    }
+    let Some(qos) = qos_for(cluster, desc) else {
+        return Ok(Err(Refusal::InvalidQos));
+    };
     let draft = Draft {
         moment,
         user,
         desc,
         account: account_name(alloc, cluster, assoc)?,
+        assoc,
+        qos,
         place,
         partition,
     };

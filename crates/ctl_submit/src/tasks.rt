@@ -55,6 +55,8 @@ fn new_job(
         array,
         user: draft.user.copy()?,
         desc: settled(alloc, cluster, draft, task)?,
+        assoc: draft.assoc,
+        qos: draft.qos,
         partition: draft.place,
         submit: draft.moment,
         eligible: eligible_from(draft.moment, desc),
