@@ -1,0 +1,7 @@
+use Rattle.std.proofs.Common.{◌≡◌, drop}
+use Rattle.slurm_text.specs.Hosts.{has}
+use Rattle.assoc_reader.specs.Qos.{qos_names}
+use Rattle.assoc_reader.proofs.qos_table.has_qos.Given as goal
+
+abbrev pub invariant-loop-one : goal.invariant-loop-one
+invariant-loop-one l = has l.name (qos_names (drop l.one-index l.qos)) ≡ has l.name (qos_names l.qos)

@@ -1,0 +1,14 @@
+use Rattle.std.proofs.Common.{◌≡◌, ◌+◌, ◌≤◌, length}
+use Rattle.std.specs.Option.{option_copied}
+use Rattle.slurm_text.specs.Fields.{fields, fields_of_rest}
+use Rattle.assoc_reader.specs.Options.{text_left}
+use Rattle.assoc_reader.specs.Reader.{after_lines, nothing_said}
+use Rattle.assoc_reader.proofs.reader.read_lines.Given as goal
+
+abbrev pub decreases-loop-rest : goal.decreases-loop-rest
+decreases-loop-rest l = text_left (option_copied l.rest)
+
+abbrev pub invariant-loop-rest : goal.invariant-loop-rest
+invariant-loop-rest l =
+    (after_lines l.draft l.number (fields_of_rest 10 (option_copied l.rest)) ≡ after_lines nothing_said 1 (fields 10 l.file))
+    × (l.number + text_left (option_copied l.rest) ≤ 2 + length l.file)

@@ -1,0 +1,38 @@
+-- The form of a line, which begins with a word, a dash and a name in single quotes.
+use Rattle.std.specs.Prelude.{ℕ, ◌+◌, Bool, true, ◌==◌, nat_lt, if◌then◌else◌, List, [], ◌∷◌, take, drop, position, Option, Some, None, option_map}
+use Rattle.std.specs.List.{list_all}
+use Rattle.slurm_text.specs.Name.{is_name}
+use Rattle.slurm_text.specs.Options.{◌>>=◌}
+use Rattle.assoc_reader.specs.Keys.{line_kind}
+use Rattle.assoc_reader.specs.declared.keys.LineKind.{LineKind}
+use Rattle.assoc_reader.specs.declared.lines.LineForm.{LineForm}
+
+-- an empty line and a comment, which begins with `#` (35), say nothing, whatever their bytes
+abbrev pub is_skipped : List ℕ → Bool
+is_skipped [] = true
+is_skipped (b ∷ text) = b == 35
+
+abbrev pub is_ascii : List ℕ → Bool
+is_ascii text = list_all (λ b. nat_lt b 128) text
+
+-- what stands before the first such byte of a text, and what follows it
+abbrev pub cut_at : ℕ → List ℕ → Option (List ℕ × List ℕ)
+cut_at byte text = option_map (λ at. (take at text, drop (at + 1) text)) (position (λ b. b == byte) text)
+
+-- what a line speaks of, its name, and what follows the quote behind the name
+pub record Form : Type 0 where
+  pub kind : LineKind
+  pub name : List ℕ
+  pub rest : List ℕ
+
+-- the form of a line; 39 is a single quote
+unfoldable pub form_in : List ℕ → Option Form
+form_in text = do
+  beginning ← cut_at 39 text
+  kind ← line_kind beginning.0
+  quoted ← cut_at 39 beginning.1
+  if is_name quoted.0 then Some (record { kind = kind; name = quoted.0; rest = quoted.1 }) else None
+
+-- the form that the reader gives
+abbrev pub form_of : LineForm → Form
+form_of form = record { kind = form.kind; name = form.name.now; rest = form.rest.now }

@@ -1,0 +1,18 @@
+//! What an association file sacctmgr(1) says, or the first line of it that is bad.
+#![tactic(auto)]
+
+mod assoc_tree;
+mod assoc_words;
+mod counts;
+mod draft;
+mod keys;
+mod lines;
+mod name_index;
+mod options;
+mod qos_table;
+mod qos_words;
+mod reader;
+pub mod refusal;
+mod values;
+
+pub use reader::read_assocs;

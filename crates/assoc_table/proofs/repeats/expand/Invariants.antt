@@ -1,0 +1,7 @@
+use Rattle.std.proofs.Common.{◌+◌, length}
+use Rattle.std.specs.Option.{option_copied}
+use Rattle.assoc_reader.specs.Options.{text_left}
+use Rattle.assoc_table.proofs.repeats.expand.Given as goal
+
+abbrev pub decreases-loop-rest : goal.decreases-loop-rest
+decreases-loop-rest l = text_left (option_copied l.rest)
