@@ -9,9 +9,9 @@ ghost use Rattle.ctl_core.specs.Step.{reply_of, state_after, is_entered, raised,
 
 use crate::answering::{ask, ask_pass};
 use crate::reply::Decided;
+use accounts_qos::assocs::Assocs;
 use backfill_planner::Planned;
 use ctl_state::cluster::Cluster;
-use ctl_state::record::AssocRecord;
 use job_table::jobs::Jobs;
 use node_state::nodes::Nodes;
 use node_state::record::NodeRecord;
@@ -20,7 +20,8 @@ use partitions::record::PartRecord;
 use resource_profile::Steps;
 use slurm_text::memory_error::Memory;
 use slurm_text::name::Name;
-use slurm_text::plain::conf::{AssocConf, AssocFile, Conf, Settings};
+use slurm_text::plain::assoc::AssocFile;
+use slurm_text::plain::conf::{Conf, Settings};
 use slurm_text::plain::limit::Limit;
 use slurm_text::plain::request::Request;
 use std::alloc::Global;
@@ -62,7 +63,7 @@ impl Ctl {
             settings: conf.settings,
             partitions,
             nodes,
-            assocs: assoc_records(alloc, assocs.assocs.into_vec())?,
+            assocs: Assocs::build(alloc, assocs)?,
             jobs: Jobs::new(alloc),
             arrays: Vec::new(alloc),
             plan: Vec::new(alloc),
@@ -74,7 +75,7 @@ impl Ctl {
 
     /// Decides one request, and changes the state where it is accepted. A submission is linear in associations,
     /// partitions and nodes, sorts the nodes of its partition, costs for each of these what it names of nodes and
-    /// features, and is linear in its tasks. Cancelling is for each target logarithmic in the jobs and linear in the
+    /// features, is linear in its tasks, and for each limit of submitted jobs that it counts towards in the jobs. Cancelling is for each target logarithmic in the jobs and linear in the
     /// tasks of its array, of a user's jobs linear in all, and then linear in the plan; it takes no memory. A report is
     /// linear in the jobs, and for each job of the node in what it tells. A pass costs what its plan costs. A query of
     /// jobs is linear in these, the parts of those that are shown and the plan, and for each job in the targets and
@@ -158,15 +159,4 @@ fn settings_in_range(settings: &Settings)
 {
     let _ = settings.bf_window.get();
     let _ = settings.min_job_age.get();
-}
-
-fn assoc_records(alloc: Global, confs: Vec<AssocConf>) -> Result<Vec<AssocRecord>, Memory>
-    ensures { IfOk result (λ records. records.items ≡ map (λ assoc. record { conf = assoc }) confs.items) }
-{
-    Ok(
-        confs
-            .into_iter()
-            .map(|conf| AssocRecord { conf })
-            .collect(alloc)?,
-    )
 }

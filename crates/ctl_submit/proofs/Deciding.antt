@@ -38,8 +38,8 @@ first-under : (s : State) (moment : ℕ) (user : List ℕ) (desc : JobDesc) (ass
     ∷ refused_if (is_none partition) InvalidPartition ∷ refused_if (takes_none partition) PartitionClosed
     ∷ refused_if (is_none qos) InvalidQos ∷ refusals_by s moment user desc found)
     ≡ first_refusal (refusals_under s moment user desc terms)
-first-under s moment user desc assoc qos partition found by of its terms known there open good under =
-    rw (known, there, open, good, under) refl
+first-under s moment user desc assoc qos partition found by of its terms known there takes good under =
+    rw (known, there, takes, good, under) refl
 
 made-there : (s : State) (moment : ℕ) (user : List ℕ) (desc : JobDesc) (by : Option Terms) (terms : Terms)
     → by ≡ Some terms
@@ -71,7 +71,7 @@ pub record IsFound (s : State) (draft : Draft) : Type 0 where
   pub qos : qos_for s draft.desc.now ≡ Some draft.qos
   pub place : place_for s draft.desc.now ≡ Some draft.place
   pub partition : slice_get s.partitions draft.place ≡ Some draft.partition.now
-  pub open : is_closed draft.partition.now.state ≡ false
+  pub takes_jobs : is_closed draft.partition.now.state ≡ false
   pub account : draft.account ≡ account_at s.assocs draft.assoc
 
 partition-of : (s : State) (draft : Draft) → IsFound s draft
@@ -103,7 +103,7 @@ under-draft : (s : State) (draft : Draft) → IsFound s draft
 under-draft s draft found =
     first-under s draft.moment draft.user.now draft.desc.now (assoc_for s draft.user.now draft.desc.now)
     (qos_for s draft.desc.now) (partition_for s draft.desc.now) (terms_of s draft.user.now draft.desc.now) draft.assoc
-    draft.qos draft.partition.now (terms_in draft) found.assoc (partition-of s draft found) found.open found.qos
+    draft.qos draft.partition.now (terms_in draft) found.assoc (partition-of s draft found) found.takes_jobs found.qos
     (terms-of s draft found)
 
 -- what is decided of a draft is decided of what the user handed in

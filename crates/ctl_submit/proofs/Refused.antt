@@ -1,6 +1,7 @@
 -- A submission that isn't refused.
 use Rattle.std.proofs.Common.{◌≡◌, ℕ, ◌+◌, ◌≤◌, Bool, true, false, List, [], ◌∷◌, ◌++◌, length, Option, Some, None, refl}
 use Rattle.std.specs.Prelude.{nat_lt, not}
+use Rattle.std.specs.Option.{option_or}
 use Rattle.std.proofs.lemmas.Bool.{ltb-false}
 use Rattle.slurm_text.specs.declared.plain.job.JobDesc.{JobDesc}
 use Rattle.slurm_text.specs.declared.plain.refusal.Refusal.{Refusal}
@@ -23,6 +24,13 @@ pub none-later : (some later : List (Option Refusal)) → first_refusal (some ++
 none-later [] later none = none
 none-later (None ∷ some) later none = none-later some later none
 none-later (Some refusal ∷ some) later none = absurd (let never = none in cc)
+
+-- the first of refusals and of further ones is the first of the former, or else of the latter
+pub first_joined : (some later : List (Option Refusal))
+    → first_refusal (some ++ later) ≡ option_or (first_refusal some) (first_refusal later)
+first_joined [] later = refl
+first_joined (None ∷ some) later = first_joined some later
+first_joined (Some refusal ∷ some) later = refl
 
 -- there is room for its jobs, and there are numbers for them
 pub rooms : (s : State) (moment : ℕ) (user : List ℕ) (desc : JobDesc) (terms : Terms)

@@ -189,14 +189,19 @@ unended jobs = map counted_of (filter (λ (job : JobRecord). not (is_ended job.s
 abbrev pub beside_unended : State → Beside
 beside_unended s = record { assocs = s.assocs; qos = s.qos; holding = unended s.jobs }
 
+-- why there may be no room for so many jobs, in their order
+abbrev pub refusals_of_room : State → ℕ → List (Option Refusal)
+refusals_of_room s count =
+    refused_if (nat_lt s.settings.max_job_count (length s.jobs + count)) JobTableFull
+    ∷ refused_if (nat_lt (last_job_id + 1) (s.next_id + count)) JobIdsSpent
+    ∷ []
+
 -- why as many jobs of which this is one may be refused, in their order
 abbrev pub refusals_of_count : State → JobRecord → Option ArraySpec → List (Option Refusal)
 refusals_of_count s job array =
     refused_if (is_too_large s array) ArrayTooLarge
     ∷ (submit_limits (beside_unended s) (counted_of job) (count_of_jobs array)
-    ++ refused_if (nat_lt s.settings.max_job_count (length s.jobs + count_of_jobs array)) JobTableFull
-    ∷ refused_if (nat_lt (last_job_id + 1) (s.next_id + count_of_jobs array)) JobIdsSpent
-    ∷ [])
+    ++ refusals_of_room s (count_of_jobs array))
 
 -- why a submission may be refused under its terms, in their order
 abbrev pub refusals_under : State → ℕ → List ℕ → JobDesc → Terms → List (Option Refusal)

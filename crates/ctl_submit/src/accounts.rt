@@ -56,12 +56,19 @@ fn quality_of(desc: &JobDesc) -> &[u8]
     }
 }
 
-// Whether the name is one of these that a partition takes; None takes all.
+// Whether the name is one of these.
+fn has(names: &Items<Name>, name: &[u8]) -> bool
+    ensures { result ≡ list_any (bytes_eq name.now) names.now }
+{
+    names.iter().any(|one| name == one.as_bytes())
+}
+
+// Whether a partition that takes jobs of these names takes those of this one; None takes all.
 fn takes(names: &Option<Items<Name>>, name: &[u8]) -> bool
     ensures { result ≡ Submission.takes names.now name.now }
 {
     match names {
-        Some(names) => names.iter().any(|one| one.as_bytes() == name),
+        Some(names) => has(names, name),
         None => true,
     }
 }

@@ -70,17 +70,11 @@ fn count_of_jobs(array: &Option<ArraySpec>) -> u64
     }
 }
 
-// Why as many jobs, of which this is one, are refused. `MaxArraySize` and `MaxJobCount` in slurm.conf(5).
-fn refusal_of_count(cluster: &Cluster, job: &JobRecord, array: &Option<ArraySpec>) -> Option<Refusal>
-    ensures { result ≡ first_refusal (Submission.refusals_of_count (state_of cluster.now) job.now array.now) }
+// Why there is no room for so many jobs. `MaxJobCount` in slurm.conf(5).
+fn no_room(cluster: &Cluster, count: u64) -> Option<Refusal>
+    requires { count ≤ 10001 }
+    ensures { result ≡ first_refusal (Submission.refusals_of_room (state_of cluster.now) count) }
 {
-    if is_too_large(cluster, array) {
-        return Some(Refusal::ArrayTooLarge);
-    }
-    let count = count_of_jobs(array);
-    if let Some(refusal) = limit_exceeded(cluster, job, count) {
-        return Some(refusal);
-    }
     if cluster.settings.max_job_count.get() < cluster.jobs.len() as u64 + count {
         return Some(Refusal::JobTableFull);
     }
@@ -89,6 +83,22 @@ fn refusal_of_count(cluster: &Cluster, job: &JobRecord, array: &Option<ArraySpec
         return Some(Refusal::JobIdsSpent);
     }
     None
+}
+
+// Why as many jobs, of which this is one, are refused. `MaxArraySize` in slurm.conf(5).
+#[tactic(auto, using(crate::proofs::Refused::first_joined))]
+fn refusal_of_count(
+    cluster: &Cluster,
+    job: &JobRecord,
+    array: &Option<ArraySpec>,
+) -> Option<Refusal>
+    ensures { result ≡ first_refusal (Submission.refusals_of_count (state_of cluster.now) job.now array.now) }
+{
+    if is_too_large(cluster, array) {
+        return Some(Refusal::ArrayTooLarge);
+    }
+    let count = count_of_jobs(array);
+    limit_exceeded(cluster, job, count).or(no_room(cluster, count))
 }
 
 /// Why the draft is refused, of which `lone` is the one job where it is no array.

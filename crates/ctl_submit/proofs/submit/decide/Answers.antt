@@ -17,10 +17,19 @@ returns c =
       user = c.args.user;
       desc = c.args.desc;
       account = c.in_ok-account_name.field-0;
+      assoc = c.in-Some.assoc;
+      qos = c.in-Some-qos_for.qos;
       place = c.in-Some-find.place;
       partition = c.in-Some-at.partition;
     } in
-    decided-if (state_of c.args.cluster.now) draft c.in-Some.assoc.now c.decide_in.result (sym c.in-Some.ensures)
-    (ap (λ name. place_meant name c.args.cluster.now.partitions) (sym c.as_ref.ensures.value)
-    ∙ sym c.in-Some-find.ensures.value)
-    (sym c.in-Some-at.ensures) c.in_ok-account_name.ensures c.decide_in.ensures
+    decided-if (state_of c.args.cluster.now) draft c.decide_in.result
+    (record {
+      assoc = sym c.in-Some.ensures;
+      qos = sym c.in-Some-qos_for.ensures;
+      place = ap (λ name. place_meant name c.args.cluster.now.partitions) (sym c.as_ref.ensures.value)
+          ∙ sym c.in-Some-find.ensures.value;
+      partition = sym c.in-Some-at.ensures;
+      takes_jobs = sym c.is_closed.ensures ∙ c.if-is_closed.false;
+      account = c.in_ok-account_name.ensures;
+    })
+    c.decide_in.ensures
