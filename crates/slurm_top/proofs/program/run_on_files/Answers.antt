@@ -1,5 +1,5 @@
 use Rattle.std.proofs.Common.{Err, ap, refl}
-use Rattle.slurm_top.proofs.Files.{opens_as_read}
+use Rattle.slurm_top.proofs.FileTexts.{opens_as_read}
 use Rattle.slurm_top.proofs.program.run_on_files.Goals as goal
 
 pub returns-in-Ok-run_script : goal.returns-in-Ok-run_script
