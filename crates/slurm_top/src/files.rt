@@ -35,11 +35,11 @@ pub(crate) struct Files {
 pub(crate) fn read_files<Q: Shelf>(
     alloc: Global,
     shelf: &mut Q,
-    names: FileNames<'_>,
+    names: &FileNames<'_>,
 ) -> Result<Files, ShelfRefusal>
-    ensures conf { IfOk result (λ files. IsFrontOf (Q.files shelf.old) names.conf.now 1_048_577 files.conf.items) }
+    ensures conf { IfOk result (λ files. IsFrontOf (Q.files shelf.old) names.now.conf.now 1_048_577 files.conf.items) }
     ensures assocs { IfOk result (λ files.
-        IsFrontOf (Q.files shelf.old) names.assocs.now 4_194_305 files.assocs.items) }
+        IsFrontOf (Q.files shelf.old) names.now.assocs.now 4_194_305 files.assocs.items) }
     ensures faults { CountsReading (Q.shelf_faults shelf.old) (Q.shelf_faults shelf.new) result }
     ensures kept { Q.files shelf.new ≡ Q.files shelf.old }
 {

@@ -65,11 +65,11 @@ fn whole_inputs_are_answered()
 // Reads the two files of these names, and runs the script on their cluster.
 fn run_on_files<Q: Shelf, L: Link>(
     alloc: Global,
-    names: FileNames<'_>,
+    names: &FileNames<'_>,
     shelf: &mut Q,
     link: &mut L,
 ) -> End
-    ensures { IsEndOn (named_by names)
+    ensures { IsEndOn (named_by names.now)
         (record { files = Q.files shelf.old; faults = Q.shelf_faults shelf.old; wire = L.wire link.old })
         (record { files = Q.files shelf.new; faults = Q.shelf_faults shelf.new; wire = L.wire link.new }) result }
 {
@@ -93,7 +93,7 @@ fn run_words<Q: Shelf, L: Link>(alloc: Global, words: &[String], shelf: &mut Q, 
         (record { files = Q.files shelf.new; faults = Q.shelf_faults shelf.new; wire = L.wire link.new }) result }
 {
     match files_named(words) {
-        Some(names) => run_on_files(alloc, names, shelf, link),
+        Some(names) => run_on_files(alloc, &names, shelf, link),
         None => End::Usage,
     }
 }
