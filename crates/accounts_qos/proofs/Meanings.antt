@@ -1,5 +1,5 @@
 -- What is meant by names is there.
-use Rattle.std.proofs.Common.{◌≡◌, ℕ, zero, ◌<◌, ◌≤◌, Bool, true, false, ◌&&◌, cond, List, [], ◌∷◌, length, get_or, unwrap_or, Option, Some, None, refl, sym, ◌∙◌, ap, subst, arith, inl, inr}
+use Rattle.std.proofs.Common.{◌≡◌, ℕ, ◌<◌, Bool, true, List, [], ◌∷◌, length, unwrap_or, Option, Some, None, refl, ◌∙◌, ap, subst, arith, inl, inr}
 use Rattle.std.specs.Prelude.{bytes_eq, codes, filter_map, option_and_then, option_map, position, slice_get}
 use Rattle.std.specs.List.{cons_option}
 use Rattle.std.specs.Option.{option_or}

@@ -1,5 +1,5 @@
 -- The way up to root.
-use Rattle.std.proofs.Common.{true, false, ltb, ◌≡◌, ℕ, zero, suc, ◌+◌, ◌-◌, ◌<◌, ◌≤◌, List, [], ◌∷◌, ◌++◌, length, map, get_or, slice_get, unwrap_or, IfSome, All, AllPairs, Option, Some, None, option_map, refl, sym, ap, ◌∙◌, arith, add-one}
+use Rattle.std.proofs.Common.{true, false, ltb, ◌≡◌, ℕ, zero, suc, ◌+◌, ◌<◌, List, [], ◌∷◌, length, map, get_or, slice_get, unwrap_or, IfSome, All, AllPairs, Option, Some, None, option_map, refl, sym, ap, ◌∙◌, arith, add-one}
 use Rattle.std.proofs.lemmas.Bool.Decides.{nat_tests}
 use Rattle.std.proofs.lemmas.Option.{slice_get-map, slice_get-get_or, slice_get_past}
 use Rattle.std.proofs.lemmas.List.Elements.{All-nil, All-cons}
@@ -13,7 +13,8 @@ use Rattle.accounts_qos.specs.Accounts.{AreRooted, above, opened}
 abbrev pub parents_of : List AssocRecord → List (Option ℕ)
 parents_of assocs = map (λ (assoc : AssocRecord). assoc.conf.parent) assocs
 
-parent-at : (assocs : List AssocRecord) (place : ℕ) → slice_get (parents_of assocs) place ≡ option_map (λ (assoc : AssocRecord). assoc.conf.parent) (slice_get assocs place)
+parent-at : (assocs : List AssocRecord) (place : ℕ) → slice_get (parents_of assocs) place
+    ≡ option_map (λ (assoc : AssocRecord). assoc.conf.parent) (slice_get assocs place)
 parent-at assocs place = slice_get-map (λ (assoc : AssocRecord). assoc.conf.parent) assocs place
 
 -- the places from a place on, or none, so many at most
@@ -31,7 +32,8 @@ pub way_step : (most more : ℕ) (assocs : List AssocRecord) (place : ℕ) (asso
     → onwards more assocs (Some place) ≡ place ∷ onwards most assocs assoc.conf.parent
 unfolding onwards
 way_step most more assocs place assoc one inside is =
-    let there : slice_get assocs place ≡ Some assoc = slice_get-get_or assocs place assoc (grind (arith, nat_tests, inside)) ∙ ap Some (sym is) in
+    let there : slice_get assocs place ≡ Some assoc
+    = slice_get-get_or assocs place assoc (grind (arith, nat_tests, inside)) ∙ ap Some (sym is) in
     rw (one, add-one, parent-at assocs place, there) refl
 
 -- where the association isn't there, it ends
@@ -55,7 +57,8 @@ unfolding onwards
 way_zero assocs next = refl
 
 -- Where each stands before those that belong to it, the way up goes down in places.
-below : (most : ℕ) (assocs : List AssocRecord) → AreRooted assocs → (bound : ℕ) (next : Option ℕ) → IfSome next (λ place. place < bound)
+below : (most : ℕ) (assocs : List AssocRecord) → AreRooted assocs → (bound : ℕ) (next : Option ℕ)
+    → IfSome next (λ place. place < bound)
     → All (λ other. other < bound) (way_up most (parents_of assocs) next)
 below zero assocs rooted bound next fine = All-nil (λ other. other < bound)
 below (suc most) assocs rooted bound None fine = All-nil (λ other. other < bound)
@@ -64,12 +67,17 @@ below (suc most) assocs rooted bound (Some place) fine =
       weaker : (parent : Option ℕ) → IfSome parent (λ other. other < place) → IfSome parent (λ other. other < bound)
       weaker None less = less
       weaker (Some other) less = omega (arith, less, fine)
-      at : (found : Option AssocRecord) → IfSome found (λ (assoc : AssocRecord). IfSome assoc.conf.parent (λ parent. parent < place))
-          → ((parent : Option ℕ) → IfSome parent (λ other. other < bound) → All (λ other. other < bound) (way_up most (parents_of assocs) parent))
-          → All (λ other. other < bound) (unwrap_or (option_map (λ parent. place ∷ way_up most (parents_of assocs) parent) (option_map (λ (assoc : AssocRecord). assoc.conf.parent) found)) [])
+
+      at : (found : Option AssocRecord) → IfSome found (λ (assoc : AssocRecord). IfSome assoc.conf.parent
+          (λ parent. parent < place))
+          → ((parent : Option ℕ) → IfSome parent (λ other. other < bound)
+          → All (λ other. other < bound) (way_up most (parents_of assocs) parent))
+          → All (λ other. other < bound) (unwrap_or (option_map (λ parent. place ∷ way_up most
+          (parents_of assocs) parent) (option_map (λ (assoc : AssocRecord). assoc.conf.parent) found)) [])
       at None under again = All-nil (λ other. other < bound)
       at (Some assoc) under again =
-          All-cons (λ other. other < bound) place (way_up most (parents_of assocs) assoc.conf.parent) fine (again assoc.conf.parent (weaker assoc.conf.parent under))
+          All-cons (λ other. other < bound) place (way_up most (parents_of assocs) assoc.conf.parent) fine
+          (again assoc.conf.parent (weaker assoc.conf.parent under))
 
 pairs-nil : AllPairs (λ (lower upper : ℕ). upper < lower) []
 pairs-nil i j d before inside = absurd (omega (arith, inside))
@@ -80,20 +88,27 @@ falls zero assocs rooted next = pairs-nil
 falls (suc most) assocs rooted None = pairs-nil
 falls (suc most) assocs rooted (Some place) =
     rw (parent-at assocs place) (at (slice_get assocs place) (rooted place) (falls most assocs rooted)) where
-      at : (found : Option AssocRecord) → IfSome found (λ (assoc : AssocRecord). IfSome assoc.conf.parent (λ parent. parent < place))
+      at : (found : Option AssocRecord) → IfSome found (λ (assoc : AssocRecord). IfSome assoc.conf.parent
+          (λ parent. parent < place))
           → ((parent : Option ℕ) → AllPairs (λ lower upper. upper < lower) (way_up most (parents_of assocs) parent))
-          → AllPairs (λ lower upper. upper < lower) (unwrap_or (option_map (λ parent. place ∷ way_up most (parents_of assocs) parent) (option_map (λ (assoc : AssocRecord). assoc.conf.parent) found)) [])
+          → AllPairs (λ lower upper. upper < lower) (unwrap_or (option_map (λ parent. place ∷ way_up most
+          (parents_of assocs) parent) (option_map (λ (assoc : AssocRecord). assoc.conf.parent) found)) [])
       at None under again = pairs-nil
       at (Some assoc) under again =
-          AllPairs-cons (λ lower upper. upper < lower) place (way_up most (parents_of assocs) assoc.conf.parent) (below most assocs rooted place assoc.conf.parent under) (again assoc.conf.parent)
+          AllPairs-cons (λ lower upper. upper < lower) place (way_up most (parents_of assocs) assoc.conf.parent)
+          (below most assocs rooted place assoc.conf.parent under) (again assoc.conf.parent)
 
-pub above_falls : (assocs : List AssocRecord) → AreRooted assocs → (place : ℕ) → AllPairs (λ lower upper. upper < lower) (above assocs place)
+pub above_falls : (assocs : List AssocRecord) → AreRooted assocs → (place : ℕ)
+    → AllPairs (λ lower upper. upper < lower) (above assocs place)
 unfolding above
 above_falls assocs rooted place = falls greatest_depth assocs rooted (Some place)
 
 -- each association of a file belongs to root, or to one before it
-pub rooted_opened : (assocs : List AssocConf) → ((place : ℕ) → IfSome (slice_get assocs place) (StandsUnder assocs place)) → AreRooted (map opened assocs)
-rooted_opened assocs under place = rw (slice_get-map opened assocs place) (at (slice_get assocs place) (under place)) where
-  at : (found : Option AssocConf) → IfSome found (StandsUnder assocs place) → IfSome (option_map opened found) (λ (assoc : AssocRecord). IfSome assoc.conf.parent (λ parent. parent < place))
-  at None stands = tt
-  at (Some assoc) stands = stands.before
+pub rooted_opened : (assocs : List AssocConf) → ((place : ℕ)
+    → IfSome (slice_get assocs place) (StandsUnder assocs place)) → AreRooted (map opened assocs)
+rooted_opened assocs under place = rw (slice_get-map opened assocs place) (at (slice_get assocs place)
+    (under place)) where
+      at : (found : Option AssocConf) → IfSome found (StandsUnder assocs place)
+          → IfSome (option_map opened found) (λ (assoc : AssocRecord). IfSome assoc.conf.parent (λ parent. parent < place))
+      at None stands = tt
+      at (Some assoc) stands = stands.before

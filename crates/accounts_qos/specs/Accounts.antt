@@ -1,7 +1,7 @@
 -- Accounts, their users and qualities of service: what names mean, and the way up from a user to root.
-use Rattle.std.specs.Prelude.{ℕ, ◌<◌, IfSome, Bool, true, false, ◌&&◌, if◌then◌else◌, nat_eq, unwrap_or, List, map, filter_map, position, slice_get, bytes_eq, codes, Option, Some, None, option_map, option_and_then}
+use Rattle.std.specs.Prelude.{ℕ, ◌<◌, IfSome, Bool, false, ◌&&◌, if◌then◌else◌, nat_eq, unwrap_or, List, map, filter_map, position, slice_get, bytes_eq, codes, Option, Some, None, option_map, option_and_then}
 use Rattle.std.specs.Option.{option_or}
-use Rattle.slurm_text.specs.Assocs.{AssocView, greatest_depth, way_up}
+use Rattle.slurm_text.specs.Assocs.{greatest_depth, way_up}
 use Rattle.slurm_text.specs.declared.plain.assoc.AssocConf.{AssocConf}
 use Rattle.slurm_text.specs.declared.plain.assoc.AssocLimits.{AssocLimits}
 use Rattle.slurm_text.specs.declared.plain.assoc.QosConf.{QosConf}

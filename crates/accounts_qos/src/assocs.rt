@@ -87,7 +87,10 @@ fn firsts_of(alloc: Global, records: &[AssocRecord]) -> Result<HashMap<Name, u32
 {
     let mut firsts = HashMap::with_capacity(alloc, records.len())?;
     for (place, assoc) in records.iter().enumerate() {
-        let first = firsts.get(&assoc.conf.name).copied().unwrap_or(place as u32);
+        let first = firsts
+            .get(&assoc.conf.name)
+            .copied()
+            .unwrap_or(place as u32);
         firsts.insert(assoc.conf.name.copy()?, first)?;
     }
     Ok(firsts)
@@ -146,14 +149,16 @@ impl Assocs {
     /// in the associations, for each default account of his that he has no part in once more; it takes no memory.
     /// sacctmgr(1), DefaultAccount.
     pub fn find(&self, user: &Name, account: Option<&Name>) -> Option<u32>
-        ensures { result ≡ spec.place_meant self.now.records user.now (option_copied account.entry) }
+        ensures value { result ≡ spec.place_meant self.now.records user.now (option_copied account.entry) }
+        ensures there { IfSome result (λ place. place < length self.now.records) }
     {
         meant::place_meant(self.records.as_slice(), user, account).map(|place| place as u32)
     }
 
     /// The place of the quality of service with this name, or of `normal` where none is named. Linear in them.
     pub fn find_qos(&self, name: Option<&Name>) -> Option<u32>
-        ensures { result ≡ spec.qos_meant self.now.qos (option_copied name.entry) }
+        ensures value { result ≡ spec.qos_meant self.now.qos (option_copied name.entry) }
+        ensures there { IfSome result (λ place. place < length self.now.qos) }
     {
         meant::qos_meant(self.qos.as_slice(), name).map(|place| place as u32)
     }

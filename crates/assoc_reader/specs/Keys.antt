@@ -9,15 +9,19 @@ use Rattle.assoc_reader.specs.declared.keys.QosKey.{QosKey}
 abbrev pub named : {K : Type 0} → List (List ℕ × K) → List ℕ → Option K
 named table text = option_map (λ row. row.1) (find (λ row. bytes_eq text row.0) table)
 
+-- what a line speaks of, by what stands before its first quote
 unfoldable pub line_kind : List ℕ → Option LineKind
 line_kind text = named (map (λ row. (row.0.now, row.1)) LINE_WORDS) text
 
+-- the key of an option of an account
 unfoldable pub account_key : List ℕ → Option AssocKey
 account_key text = named (map (λ row. (row.0.now, row.1)) ACCOUNT_KEYS) text
 
+-- the key of an option of a user
 unfoldable pub user_key : List ℕ → Option AssocKey
 user_key text = named (map (λ row. (row.0.now, row.1)) USER_KEYS) text
 
+-- the key of an option of a quality of service
 unfoldable pub qos_key : List ℕ → Option QosKey
 qos_key text = named (map (λ row. (row.0.now, row.1)) QOS_KEYS) text
 

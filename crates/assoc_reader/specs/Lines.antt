@@ -12,6 +12,7 @@ abbrev pub is_skipped : List ℕ → Bool
 is_skipped [] = true
 is_skipped (b ∷ text) = b == 35
 
+-- bytes of ASCII are below 128
 abbrev pub is_ascii : List ℕ → Bool
 is_ascii text = list_all (λ b. nat_lt b 128) text
 

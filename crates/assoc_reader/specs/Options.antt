@@ -41,6 +41,7 @@ abbrev pub options_in : List ℕ → Option (List (List ℕ))
 options_in [] = Some []
 options_in (b ∷ text) = if b == 58 then Some (options_from false text) else None
 
+-- whether a text has a single quote
 abbrev pub has_quote : List ℕ → Bool
 has_quote text = list_any (λ b. b == 39) text
 
@@ -68,6 +69,7 @@ is_key text = nat_lt 0 (length text) && not (has_quote text)
 unfoldable pub pair_of_parts : List ℕ → List ℕ → Option (List ℕ × List ℕ)
 pair_of_parts key text = if is_key key then option_map (λ value. (key, value)) (unquoted text) else None
 
+-- the pair of an option that is cut at its equals sign; one without a sign is none
 abbrev pub pair_of_cut : Option (List ℕ × List ℕ) → Option (List ℕ × List ℕ)
 pair_of_cut None = None
 pair_of_cut (Some parts) = pair_of_parts parts.0 parts.1

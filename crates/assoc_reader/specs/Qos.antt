@@ -7,6 +7,7 @@ use Rattle.assoc_reader.specs.declared.qos_words.QosWords.{QosWords}
 use Rattle.assoc_reader.specs.declared.refusal.AssocKind.{AssocKind}
 use Rattle.assoc_reader.specs.declared.refusal.AssocKind.TheVariants.{TwiceNamed, OverLimit}
 
+-- their names
 abbrev pub qos_names : List QosConf → List (List ℕ)
 qos_names qos = map (λ (one : QosConf). one.name) qos
 

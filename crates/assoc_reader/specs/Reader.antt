@@ -29,17 +29,19 @@ alone (b ∷ rest) x = Err BadLine
 unfoldable pub after_cluster : Draft → Form → Result Draft AssocKind
 after_cluster draft form = assoc_said false form.rest >>= λ words. Ok (record draft { has_cluster = true })
 
+-- a quality of service, behind the others
 unfoldable pub after_qos : Draft → Form → Result Draft AssocKind
 after_qos draft form =
     unless (qos_fault (qos_names draft.qos) form.name) (qos_said form.rest)
     >>= λ words. Ok (record draft { qos = draft.qos ++ qos_conf form.name words ∷ [] })
 
+-- the account of the lines that follow
 unfoldable pub after_parent : Draft → Form → Result Draft AssocKind
 after_parent draft form =
     ok_or (parent_named form.name draft.tree.assocs) UnknownParent
     >>= λ parent. alone form.rest (record draft { tree = record draft.tree { parent = parent } })
 
--- a user, or an account
+-- a user or an account, under the account at hand
 unfoldable pub after_assoc : Bool → Draft → Form → Result Draft AssocKind
 after_assoc user draft form =
     unless (name_fault draft.tree user form.name) (assoc_said user form.rest)
@@ -61,6 +63,7 @@ behind_cluster Parent draft form = after_parent draft form
 behind_cluster Account draft form = after_assoc false draft form
 behind_cluster User draft form = after_assoc true draft form
 
+-- a line of one of the forms, by what it speaks of
 unfoldable pub after_form : Draft → Form → Result Draft AssocKind
 after_form draft form =
     if draft.has_cluster then behind_cluster form.kind draft form else before_cluster form.kind draft form

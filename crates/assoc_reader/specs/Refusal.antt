@@ -25,6 +25,7 @@ abbrev pub refusal_message : AssocRefusal → List ℕ
 refusal_message (At line kind) = codes "assoc line " ++ decimal line ++ codes ": " ++ kind_text kind
 refusal_message FileMemory = codes "out of memory"
 
+-- a value that wasn't read, as a fault of its line
 abbrev pub of_value : ValueRefusal → Fault
 of_value BadText = Refused BadValue
 of_value ValueMemory = Memory

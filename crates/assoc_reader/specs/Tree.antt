@@ -17,12 +17,15 @@ pub record TreeView : Type 0 where
 unfoldable pub no_assocs : TreeView
 no_assocs = record { assocs = []; parent = None }
 
+-- `root` is an account that no line names
 abbrev pub is_root : List ℕ → Bool
 is_root name = bytes_eq name (codes "root")
 
+-- an account of this name
 abbrev pub is_account : List ℕ → AssocConf → Bool
 is_account name assoc = not assoc.user && bytes_eq assoc.name name
 
+-- a user of this name under an account, None being root
 abbrev pub is_user_of : Option ℕ → List ℕ → AssocConf → Bool
 is_user_of parent name assoc = assoc.user && (is_same_place assoc.parent parent && bytes_eq assoc.name name)
 
@@ -75,6 +78,7 @@ assoc_conf parent user name words = record {
   limits = words.limits;
 }
 
+-- with one more association behind the others, under the account at hand
 unfoldable pub with_assoc : TreeView → Bool → List ℕ → AssocWords → TreeView
 with_assoc tree user name words =
     record tree { assocs = tree.assocs ++ assoc_conf tree.parent user name words ∷ [] }

@@ -89,5 +89,6 @@ no_qos_words = record {
   };
 }
 
+-- what the options of a quality of service say
 unfoldable pub qos_said : List ℕ → Result QosWords AssocKind
 qos_said rest = said_by (with_option qos_key with_qos_value) no_qos_words rest

@@ -31,7 +31,7 @@ each-goes : (s : State) (now : ℕ) (jobs : List JobRecord) (plan : List Placed)
     → length (started s now jobs plan).starts + length (started s now jobs plan).stays ≡ length plan
 unfolding started
 each-goes s now jobs [] = refl
-each-goes s now jobs (placed ∷ later) = elim (cases_Bool (eqb placed.start now && may_start jobs placed.id)) [
+each-goes s now jobs (placed ∷ later) = elim (cases_Bool (eqb placed.start now && may_start s jobs placed.id)) [
   | inl goes ↦ rw goes (omega (arith, each-goes s now (begun now jobs (start_of s.nodes jobs placed)) later))
   | inr stays ↦ rw stays (omega (arith, each-goes s now jobs later))
 ]

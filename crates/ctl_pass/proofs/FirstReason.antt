@@ -2,7 +2,7 @@
 use Rattle.std.proofs.Common.{◌≡◌, List, [], ◌∷◌, ◌++◌, Option, Some, None, refl}
 use Rattle.std.specs.Option.{MatchOption, option_or}
 use Rattle.slurm_text.specs.declared.plain.state.Reason.{Reason}
-use Rattle.ctl_pass.specs.Reasons.{first_reason}
+use Rattle.run_limits.specs.Limits.{first_reason}
 
 -- what stands where the first doesn't, where this follows from what is known then
 pub or-else : (P : Type 0) (first result other : Option Reason) → (P → result ≡ other)
@@ -10,17 +10,37 @@ pub or-else : (P : Type 0) (first result other : Option Reason) → (P → resul
 or-else P None result other says has = says has
 or-else P (Some reason) result other says has = has
 
-behind : (reasons : List (Option Reason)) (last : Option Reason)
-    → option_or (first_reason reasons) last ≡ first_reason (reasons ++ last ∷ [])
-behind [] None = refl
-behind [] (Some reason) = refl
-behind (None ∷ later) last = behind later last
-behind (Some reason ∷ later) last = refl
+behind : (some later : List (Option Reason))
+    → option_or (first_reason some) (first_reason later) ≡ first_reason (some ++ later)
+behind [] later = refl
+behind (None ∷ some) later = behind some later
+behind (Some reason ∷ some) later = refl
 
-pub reasons-joined : (first last : Option Reason) (some others : List (Option Reason))
-    → option_or (option_or (option_or first (first_reason some)) (first_reason others)) last
-    ≡ first_reason (first ∷ (some ++ (others ++ last ∷ [])))
-reasons-joined (Some reason) last some others = refl
-reasons-joined None last [] others = behind others last
-reasons-joined None last (None ∷ later) others = reasons-joined None last later others
-reasons-joined None last (Some reason ∷ later) others = refl
+first-of : (first : Option Reason) (later : List (Option Reason))
+    → option_or first (first_reason later) ≡ first_reason (first ∷ later)
+first-of None later = refl
+first-of (Some reason) later = refl
+
+pub reasons-joined : (first middle last : Option Reason) (some others : List (Option Reason))
+    → option_or (option_or (option_or (option_or first (first_reason some)) middle) (first_reason others)) last
+    ≡ first_reason (first ∷ (some ++ (middle ∷ (others ++ last ∷ []))))
+reasons-joined first middle last some others =
+    let end = behind others (last ∷ []) in
+    rw (
+      ← first-of first (some ++ (middle ∷ (others ++ last ∷ []))),
+      ← behind some (middle ∷ (others ++ last ∷ [])),
+      ← first-of middle (others ++ last ∷ []),
+      ← end,
+      ← first-of last [],
+    )
+    (by first (first_reason some) middle (first_reason others) last)
+  where
+    by : (a b c d e : Option Reason)
+        → option_or (option_or (option_or (option_or a b) c) d) e
+        ≡ option_or a (option_or b (option_or c (option_or d (option_or e None))))
+    by None None None None None = refl
+    by None None None None (Some e) = refl
+    by None None None (Some d) e = refl
+    by None None (Some c) d e = refl
+    by None (Some b) c d e = refl
+    by (Some a) b c d e = refl

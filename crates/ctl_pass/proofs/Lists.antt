@@ -2,7 +2,7 @@
 use Rattle.std.proofs.lemmas.List.Concat.{get_or-flat_map}
 use Rattle.std.proofs.lemmas.Bool.Decides.{nat_tests}
 use Rattle.std.proofs.Common.{◌≡◌, ℕ, zero, suc, ◌+◌, ◌≤◌, ◌<◌, Bool, true, false, cond, eqb, List, [], ◌∷◌, length, map, filter, flat_map, sum_by, take, get_or, All, AllPairs, Any, Contains, arith, refl}
-use Rattle.std.proofs.Common.{◌&&◌, ◌++◌, drop, ap, sym, ◌∙◌, inl, inr}
+use Rattle.std.proofs.Common.{◌&&◌, ◌++◌, not, drop, ap, sym, ◌∙◌, inl, inr}
 use Rattle.std.specs.List.{cons_option, list_any, range_with_len, list_all, zip}
 use Rattle.std.proofs.lemmas.Bool.{cases_Bool, ne_eqb}
 use Rattle.std.proofs.lemmas.List.{get_or-map, length-map, get_or-take, length-take, take-map, take_more, drop_more, map-append, get_or_default}
@@ -47,6 +47,22 @@ Any-kept f p y xs has =
     All-contains Found (map f (filter p xs)) y (All-map Found f (filter p xs)
     (λ k d below. All-filter p (λ x. p x ≡ true → Found (f x)) xs each k d below (filter_passes p xs k d below)))
     has
+
+-- What is kept of a list and mapped stays the same where a change goes unseen, and only elements go that aren't kept.
+pub kept-left : {X Y : Type 0} (f : X → Y) (keep goes : X → Bool) (change : X → X) (xs : List X)
+    → ((x : X) → f (change x) ≡ f x) → ((x : X) → keep (change x) ≡ keep x)
+    → ((x : X) → goes (change x) ≡ true → keep x ≡ false)
+    → map f (filter keep (filter (λ x. not (goes x)) (map change xs))) ≡ map f (filter keep xs)
+kept-left f keep goes change [] same kept idle = refl
+kept-left f keep goes change (x ∷ xs) same kept idle =
+    let next = kept-left f keep goes change xs same kept idle in
+    elim (cases_Bool (goes (change x))) [
+      | inl gone ↦ rw (gone, idle x gone) next
+      | inr stays ↦ elim (cases_Bool (keep x)) [
+        | inl holds ↦ rw (stays, kept x, holds, same x, next) refl
+        | inr other ↦ rw (stays, kept x, other) next
+      ]
+    ]
 
 -- larger terms have larger sums, and one more at one place a larger one
 pub sum_by-larger : {X : Type 0} (f g : X → ℕ) (xs : List X) → All (λ x. f x ≤ g x) xs → sum_by f xs ≤ sum_by g xs

@@ -196,7 +196,7 @@ fewer s now jobs (placed ∷ later) each =
     let most = started-keeps (λ some. sum_by waits some ≤ sum_by waits begun_jobs) s now begun_jobs later
     (λ k d below due some parts names few. omega (arith, few, waits-begun now (get_or later k d).id parts names some))
     (omega arith) in
-    elim (cases_Bool (eqb placed.start now && may_start jobs placed.id)) [
+    elim (cases_Bool (eqb placed.start now && may_start s jobs placed.id)) [
       | inr stays ↦ rw stays (fewer s now jobs later (All-tail named placed later each))
       | inl goes ↦ rw goes (inr (omega (arith, most, sum_by-map waits change jobs, less)))
     ]
@@ -266,23 +266,29 @@ origins s now =
 pub can-start_due : ReadyLaws → PlanLaws → (s : State) (now : ℕ) → IsSound s → s.moment ≤ now → now ≤ last_moment
     → CanStart (readied s now) (placements_due s now)
 can-start_due readies plans s now sound raised in_time =
-    can-due (readied s now) (placements s now) (can-start_ready readies plans s now sound raised in_time)
+    can-due (readied s now) s (placements s now) (can-start_ready readies plans s now sound raised in_time)
 
 -- A pass keeps all sound.
 pub sound-passed : ReadyLaws → PlanLaws → StartLaws → (s : State) (now : ℕ) → IsSound s → s.moment ≤ now
     → now ≤ last_moment → IsSound (stamped now (pass_after s now))
 sound-passed readies plans starts s now sound raised in_time =
     let left = readied s now in
-    rw (← started-same left s now (jobs_left s now) (placements s now) refl)
+    rw (← started-same s now now left.jobs left.jobs left.arrays [] (placements s now))
     (sound-started starts left (jobs_left s now) (placements s now)
     (can-start_ready readies plans s now sound raised in_time))
 
--- Each placement that is due is of a job that has started with all that was planned for it, or it stays.
+-- Each placement that is due is of a job that has started with all that was planned for it; or it stays, and was held
+-- back.
 pub given-passed : ReadyLaws → PlanLaws → StartLaws → (s : State) (now : ℕ) → IsSound s → s.moment ≤ now
-    → now ≤ last_moment
-    → All (IsGiven now (pass_after s now).jobs (pass_after s now).plan) (placements s now)
+    → now ≤ last_moment → All (IsGiven s now (jobs_left s now) (outcome s now)) (placements s now)
+unfolding may_start
 given-passed readies plans starts s now sound raised in_time =
     let left = readied s now in
-    rw (← started-same left s now (jobs_left s now) (placements s now) refl)
-    (all-given starts left (jobs_left s now) (placements s now)
-    (can-start_ready readies plans s now sound raised in_time))
+    let given : All (IsGiven s now left.jobs (started left now left.jobs (placements s now))) (placements s now) =
+    λ k d below due. elim (all-given starts left left.jobs (placements s now)
+    (can-start_ready readies plans s now sound raised in_time) k d below due) [
+      | inl has ↦ inl has
+      | inr (stands, held) ↦
+          inr (stands, record { before = held.before; some = held.some; reached = held.reached })
+    ] in
+    rw (← started-same s now now left.jobs left.jobs left.arrays [] (placements s now)) given

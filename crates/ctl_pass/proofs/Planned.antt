@@ -1,7 +1,7 @@
 -- The plan of a pass: what is held is within the nodes, what is planned is of candidates and can start, and its jobs
 -- await that.
 use Rattle.std.proofs.lemmas.Bool.Decides.{nat_tests}
-use Rattle.std.proofs.Common.{◌≡◌, ◌≢◌, ℕ, ◌+◌, ◌≤◌, ◌<◌, Bool, ◌&&◌, cond, leb, List, [], ◌∷◌, ◌++◌, length, map, filter, flat_map, get_or, sum_by, unwrap_or, All, AllPairs, Contains, Option, Some, None, IfSome, refl, ap, sym, ◌∙◌, arith}
+use Rattle.std.proofs.Common.{◌≡◌, ◌≢◌, ℕ, ◌+◌, ◌≤◌, ◌<◌, ◌&&◌, cond, List, [], ◌∷◌, ◌++◌, length, map, filter, flat_map, get_or, sum_by, unwrap_or, All, AllPairs, Contains, Option, IfSome, refl, ap, sym, ◌∙◌, arith}
 use Rattle.std.specs.Prelude.{filter_map, is_none}
 use Rattle.std.proofs.lemmas.List.{length-map}
 use Rattle.std.proofs.lemmas.List.Elements.{All-contains, All-filter, All-map, filter_agree}
@@ -11,7 +11,7 @@ use Rattle.resource_profile.specs.Profiles.{AreWithin}
 use Rattle.slurm_text.specs.declared.plain.limit.Limit.{Limit}
 use Rattle.slurm_text.specs.declared.plain.limit.Limit.TheVariants.{Minutes, Unlimited}
 use Rattle.slurm_text.specs.declared.plain.state.Reason.{Reason}
-use Rattle.slurm_text.specs.declared.plain.state.Reason.TheVariants.{JobArrayTaskLimit, ReqNodeNotAvail}
+use Rattle.slurm_text.specs.declared.plain.state.Reason.TheVariants.{QosMaxWallDurationPerJobLimit, ReqNodeNotAvail}
 use Rattle.backfill_planner.specs.declared.Placed.{Placed}
 use Rattle.backfill_planner.specs.declared.job.PlanJob.{PlanJob}
 use Rattle.backfill_planner.specs.Bases.{BaseView}
@@ -22,10 +22,11 @@ use Rattle.job_table.specs.declared.record.JobRecord.{JobRecord}
 use Rattle.job_table.specs.declared.record.Part.{Part}
 use Rattle.job_table.specs.Changes.{is_on}
 use Rattle.job_table.specs.JobStates.{is_pending}
-use Rattle.job_table.specs.Table.{is_old}
-use Rattle.ctl_state.specs.declared.array_counts.ArrayCounts.{ArrayCounts}
-use Rattle.ctl_state.specs.ArrayCounts.{CountsTasks}
-use Rattle.ctl_state.specs.Events.{those_left}
+use Rattle.run_limits.specs.declared.counted.Counted.{Counted}
+use Rattle.run_limits.specs.declared.tally.Tally.{Tally}
+use Rattle.run_limits.specs.Limits.{Beside, first_reason, limits_reached, reason_if}
+use Rattle.run_limits.specs.Tallies.{Shows}
+use Rattle.ctl_state.specs.Counted.{counted_of, holding}
 use Rattle.ctl_state.specs.Holding.{parts_of, mem_held, IsPartOf}
 use Rattle.ctl_state.specs.Laws.{JobNodes, OrderMoves, OrderKeepsApart}
 use Rattle.ctl_state.specs.Ordered.{ordered_by}
@@ -33,10 +34,10 @@ use Rattle.ctl_state.specs.Planning.{room_of, seconds_of, plan_job}
 use Rattle.ctl_state.specs.Soundness.{IsSound, IsKept, IsLimit, pending_ids}
 use Rattle.ctl_state.specs.State.{State, partition_of, last_moment, last_job_id}
 use Rattle.ctl_pass.specs.Awaiting.{Awaits, CanBegin}
-use Rattle.ctl_pass.specs.Limits.{timed_out, holds_of_job, hold_end}
+use Rattle.ctl_pass.specs.Limits.{holds_of_job, hold_end}
 use Rattle.ctl_pass.specs.Readiness.{jobs_left, ready, base_of, is_candidate, is_higher, candidates, needs_of, ranked, planned, placements}
 use Rattle.ctl_pass.specs.Taking.{CanStart}
-use Rattle.ctl_pass.specs.Reasons.{first_reason, held_reason, hindrance, hindrances_in, is_full, lacks_node, most_tasks, reason_if}
+use Rattle.ctl_pass.specs.Reasons.{exceeds_wall, held_reason, hindrance, hindrances_in, lacks_node, most_tasks}
 use Rattle.ctl_pass.proofs.Held.{held-counted, free-counted}
 use Rattle.ctl_pass.proofs.Lists.{sum_by-larger, sum_by-map, joined-larger, length-rising, at-place, All-joins, All-joined}
 use Rattle.ctl_pass.proofs.Ranks.{IsOfCandidate, waiting, candidates-wait, ranked-all, ranked-candidates, ranked-waits, ranked-apart}
@@ -233,22 +234,19 @@ pub base-rooms : (s : State) (now : ℕ) (base : BaseView) → base ≡ base_of 
 unfolding base_of
 base-rooms s now base is = ap (λ (one : BaseView). one.rooms) is
 
--- what hinders a job, by whether its array is full
-abbrev hindered : State → JobRecord → Bool → Option Reason
-hindered s job full =
+-- what hinders a job beside what is counted
+abbrev hindered : State → JobRecord → List Counted → Option Reason
+hindered s job counted =
+    let beside : Beside = record { assocs = s.assocs; qos = s.qos; holding = counted } in
     first_reason (held_reason job.held_by ∷ (hindrances_in (partition_of s job)
-    job ++ (reason_if full JobArrayTaskLimit ∷ reason_if (lacks_node s job) ReqNodeNotAvail ∷ [])))
-
-full-left : (age now : ℕ) (jobs : List JobRecord) (array most : Option ℕ)
-    → is_full (those_left (timed_out now) (is_old age now) jobs) array most ≡ is_full jobs array most
-full-left age now jobs None most = refl
-full-left age now jobs (Some array) None = refl
-full-left age now jobs (Some array) (Some most) = ap (λ holding. leb most holding) (holding-left age now array jobs)
+    job ++ (reason_if (exceeds_wall s job)
+    QosMaxWallDurationPerJobLimit ∷ (limits_reached beside (counted_of job) (most_tasks job)
+    ++ reason_if (lacks_node s job) ReqNodeNotAvail ∷ []))))
 
 -- the same hinders a job before the first steps
 hindrance-ready : (s : State) (now : ℕ) (job : JobRecord) → hindrance (ready s now) job ≡ hindrance s job
 unfolding hindrance
-hindrance-ready s now job = ap (hindered s job) (full-left s.settings.min_job_age now s.jobs job.array (most_tasks job))
+hindrance-ready s now job = ap (hindered s job) (holding-left s.settings.min_job_age now s.jobs)
 
 -- so the candidates are those of the state before
 pub ranked_is : (s : State) (now : ℕ) → ranked (ready s now) now ≡ filter_map (needs_of s) (candidates s now)
@@ -291,22 +289,19 @@ awaited s now placed sound ready_sound waits =
       same = with-left age now placed.id s.jobs before;
     }
 
--- so all placements of a pass can begin, beside counts of the tasks
+-- so all placements of a pass can begin, beside what is counted
 pub can-begin-ready : OrderMoves JobRecord → OrderKeepsApart JobRecord → PlanIds → PlanApart
-    → (s : State) (now : ℕ) (counts : ArrayCounts) (plan : List Placed)
-    → IsSound s → IsSound (readied s now) → plan ≡ placements s now → CountsTasks s.jobs counts
-    → CanBegin s.jobs (jobs_left s now) counts plan
+    → (s : State) (now : ℕ) (tally : Tally) (plan : List Placed)
+    → IsSound s → IsSound (readied s now) → plan ≡ placements s now → Shows s.assocs tally (holding s.jobs)
+    → CanBegin s.assocs s.jobs (jobs_left s now) tally plan
 unfolding planned
-can-begin-ready moves keeps ids apart s now counts plan sound ready_sound is counted =
+can-begin-ready moves keeps ids apart s now tally plan sound ready_sound is counted =
     let left = ready s now in
     let waits : All (λ (placed : Placed). Contains (pending_ids left.jobs) placed.id) plan =
     rw is (plan-waits moves ids left now) in
     record {
       rising = ready_sound.rising;
-      counted = record {
-        each =
-            λ array. counted.each array ∙ sym (holding-left s.settings.min_job_age now array s.jobs);
-      };
+      counted = rw (holding-left s.settings.min_job_age now s.jobs) counted;
       awaits = λ k d below. awaited s now (get_or plan k d) sound ready_sound (waits k d below);
       once = rw is (apart (base_of left now) (ranked left now) now (ranked-apart keeps left now ready_sound.rising));
     }

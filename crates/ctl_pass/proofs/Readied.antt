@@ -76,8 +76,8 @@ pub running-not_ended : (state : JobState) → is_running state ≡ true
     → (is_ended state ≡ false) × (is_pending state ≡ false)
 running-not_ended state running = search (rules, tests)
 
-pub pending-holds_not : (state : JobState) → is_pending state ≡ true → is_holding state ≡ false
-pending-holds_not state pending = search (rules, tests)
+pub running-holds : (state : JobState) → is_running state ≡ true → is_holding state ≡ true
+running-holds state running = search (rules, tests)
 
 no_members : {X : Type 0} (xs : List X) → has_members xs ≡ false → xs ≡ []
 no_members xs none = search (rules, tests)

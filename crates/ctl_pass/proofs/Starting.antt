@@ -1,7 +1,7 @@
 -- The starts of a plan: what each takes, that all stays sound, that each job gets what was planned, and that none
 -- reaches a limit.
 use Rattle.std.proofs.lemmas.Bool.Decides.{nat_tests}
-use Rattle.std.proofs.Common.{◌≡◌, ◌≢◌, ◌⊎◌, ℕ, zero, suc, ◌+◌, ◌≤◌, ◌<◌, true, ◌&&◌, not, cond, eqb, List, [], ◌∷◌, length, map, fold, take, get_or, sum_by, All, Any, Contains, refl, ap, sym, ◌∙◌, arith, inl, inr}
+use Rattle.std.proofs.Common.{◌≡◌, ◌≢◌, ◌⊎◌, ℕ, zero, suc, ◌+◌, ◌≤◌, ◌<◌, true, false, ◌&&◌, not, cond, eqb, List, [], ◌∷◌, length, map, fold, take, get_or, sum_by, All, Any, Contains, refl, ap, sym, ◌∙◌, arith, inl, inr}
 use Rattle.std.specs.List.{AllZip}
 use Rattle.std.proofs.lemmas.Bool.{cases_Bool, and_parts, eq-eqb, eqb-true, ne_eqb}
 use Rattle.std.proofs.lemmas.List.{length-take, length-take-le, length-map, get_or-map}
@@ -18,28 +18,30 @@ use Rattle.job_table.specs.declared.record.Part.{Part}
 use Rattle.job_table.specs.JobStates.{is_pending}
 use Rattle.node_state.specs.declared.record.NodeRecord.{NodeRecord}
 use Rattle.node_state.specs.Nodes.{is_up}
+use Rattle.ctl_state.specs.declared.record.ArrayRecord.{ArrayRecord}
 use Rattle.ctl_state.specs.Events.{started_as, MayTake}
 use Rattle.ctl_state.specs.Holding.{cpus_of, times_held, free_ids, IsPartOf, parts_of, mem_of, mem_in, mem_held, has_members}
 use Rattle.ctl_state.specs.Laws.{Taking, TakenTimes, TakenMem, OthersWait, Planning}
 use Rattle.ctl_state.specs.Planning.{names_of, room_of}
 use Rattle.ctl_state.specs.Soundness.{IsSound, PlansPending, is_up_at, pending_ids}
 use Rattle.ctl_state.specs.State.{State}
-use Rattle.ctl_pass.specs.Starting.{JobStart, part_of, start_of, begun, started, may_start, IsAsPlanned, HasStarted}
+use Rattle.ctl_pass.specs.Starting.{JobStart, Started, WasHeldBack, part_of, start_of, begun, started, may_start, IsAsPlanned, HasStarted}
 use Rattle.ctl_pass.specs.Taking.{CanStart, IsReady}
 use Rattle.ctl_pass.proofs.Held.{cpus_in, held-counted, held-grown, free-counted, free-are}
 use Rattle.ctl_pass.proofs.Lists.{sum_by-map, pairs-take, pairs-head, pairs-tail, pairs-map, Any-kept}
 use Rattle.ctl_pass.proofs.Readied.{no-plan}
 
--- only the nodes matter of the state beside which placements start
-pub started-same : (one other : State) (now : ℕ) (jobs : List JobRecord) (plan : List Placed) → one.nodes ≡ other.nodes
-    → started one now jobs plan ≡ started other now jobs plan
-unfolding started
-started-same one other now jobs [] same = refl
-started-same one other now jobs (placed ∷ later) same =
+-- only the nodes and the accounts matter of the state beside which placements start
+pub started-same : (s : State) (now moment : ℕ) (table jobs : List JobRecord) (arrays : List ArrayRecord)
+    (left plan : List Placed)
+    → started (record s { jobs = table; arrays = arrays; plan = left; moment = moment }) now jobs plan
+    ≡ started s now jobs plan
+unfolding started may_start
+started-same s now moment table jobs arrays left [] = refl
+started-same s now moment table jobs arrays left (placed ∷ later) =
     rw (
-      same,
-      started-same one other now (begun now jobs (start_of other.nodes jobs placed)) later same,
-      started-same one other now jobs later same,
+      started-same s now moment table (begun now jobs (start_of s.nodes jobs placed)) arrays left later,
+      started-same s now moment table jobs arrays left later,
     ) refl
 
 -- what each start keeps of the jobs, all of them keep
@@ -55,10 +57,10 @@ started-keeps P s now jobs (placed ∷ later) keeps has =
     → P (map (started_as now one.id parts names) some) in
     let rest = All-tail Keeps placed later keeps in
     let start = start_of s.nodes jobs placed in
-    elim (cases_Bool (eqb placed.start now && may_start jobs placed.id)) [
+    elim (cases_Bool (eqb placed.start now && may_start s jobs placed.id)) [
       | inr stays ↦ rw stays (started-keeps P s now jobs later rest has)
       | inl goes ↦
-          let due = eqb-true placed.start now (and_parts (eqb placed.start now) (may_start jobs placed.id) goes).0 in
+          let due = eqb-true placed.start now (and_parts (eqb placed.start now) (may_start s jobs placed.id) goes).0 in
           rw goes (started-keeps P s now (begun now jobs start) later rest
           (All-head Keeps placed later keeps due jobs start.parts start.nodes has))
     ]
@@ -68,7 +70,7 @@ all-stay : (P : Placed → Type 0) (s : State) (now : ℕ) (jobs : List JobRecor
     → All P (started s now jobs plan).stays
 unfolding started
 all-stay P s now jobs [] all = All-nil P
-all-stay P s now jobs (placed ∷ later) all = elim (cases_Bool (eqb placed.start now && may_start jobs placed.id)) [
+all-stay P s now jobs (placed ∷ later) all = elim (cases_Bool (eqb placed.start now && may_start s jobs placed.id)) [
   | inl goes ↦ rw goes (all-stay P s now (begun now jobs (start_of s.nodes jobs placed)) later
       (All-tail P placed later all))
   | inr stays ↦ rw stays (All-cons P placed (started s now jobs later).stays (All-head P placed later all)
@@ -228,9 +230,9 @@ module _ (laws : StartLaws) where
   unfolding started
   sound-started s jobs [] can = can.sound
   sound-started s jobs (placed ∷ later) can =
-      elim (cases_Bool (eqb placed.start s.moment && may_start jobs placed.id)) [
+      elim (cases_Bool (eqb placed.start s.moment && may_start s jobs placed.id)) [
         | inl goes ↦
-            let due = (and_parts (eqb placed.start s.moment) (may_start jobs placed.id) goes).0 in
+            let due = (and_parts (eqb placed.start s.moment) (may_start s jobs placed.id) goes).0 in
             rw goes (sound-started s (begun s.moment jobs (start_of s.nodes jobs placed)) later
             (can-begun (beside s jobs) placed later can due))
         | inr stays ↦
@@ -346,54 +348,76 @@ stays-given s now jobs placed plan differ =
           has,
         )
 
--- a placement that is due has started with all that was planned for it, or stays
-abbrev pub IsGiven : ℕ → List JobRecord → List Placed → Placed → Type 0
-IsGiven now jobs stays placed = placed.start ≡ now → Any (HasStarted now placed) jobs ⊎ Contains stays placed
+-- a placement that is due has started with all that was planned for it; or it stays, and was held back
+abbrev pub IsGiven : State → ℕ → List JobRecord → Started → Placed → Type 0
+IsGiven s now before after placed =
+    placed.start ≡ now
+    → Any (HasStarted now placed) after.jobs
+    ⊎ (Contains after.stays placed × WasHeldBack s now before after.starts placed.id)
 
-given-behind : (now : ℕ) (jobs : List JobRecord) (first : Placed) (stays : List Placed) (placed : Placed)
-    → IsGiven now jobs stays placed → IsGiven now jobs (first ∷ stays) placed
-given-behind now jobs first stays placed given due = elim (given due) [
+given-behind : (s : State) (now : ℕ) (before : List JobRecord) (after : Started) (first placed : Placed)
+    → IsGiven s now before after placed
+    → IsGiven s now before (record after { stays = first ∷ after.stays }) placed
+given-behind s now before after first placed given due = elim (given due) [
   | inl has ↦ inl has
-  | inr stands ↦ inr (suc stands.0, omega (arith, stands.1), stands.2)
+  | inr (stands, held) ↦ inr ((suc stands.0, omega (arith, stands.1), stands.2), held)
 ]
 
--- So each placement that is due is of a job that has started with all that was planned for it, or it stays.
-pub all-given : StartLaws → (s : State) (jobs : List JobRecord) (plan : List Placed) → CanStart (beside s jobs) plan
-    → All (IsGiven s.moment (started s s.moment jobs plan).jobs (started s s.moment jobs plan).stays) plan
-unfolding started
-all-given laws s jobs [] can = All-nil (IsGiven s.moment jobs [])
-all-given laws s jobs (placed ∷ later) can = elim (cases_Bool (eqb placed.start s.moment && may_start jobs placed.id)) [
-  | inr stays ↦
-      let rest = started s s.moment jobs later in
-      let others = all-given laws s jobs later (can-later (beside s jobs) placed later can) in
-      rw stays (All-cons (IsGiven s.moment rest.jobs (placed ∷ rest.stays)) placed later
-      (λ due. inr (zero, omega arith, refl))
-      (λ k d below. given-behind s.moment rest.jobs placed rest.stays (get_or later k d) (others k d below)))
-  | inl goes ↦
-      let due = (and_parts (eqb placed.start s.moment) (may_start jobs placed.id) goes).0 in
-      let next = begun s.moment jobs (start_of s.nodes jobs placed) in
-      let rest = started s s.moment next later in
-      let apart = pairs-head (λ (one other : Placed). one.id ≢ other.id) placed later can.apart in
-      rw goes (All-cons (IsGiven s.moment rest.jobs rest.stays) placed later
-      (λ now. inl (stays-given s s.moment next placed later apart
-      (given-first (beside s jobs) placed later can due)))
-      (all-given laws s next later (can-begun laws (beside s jobs) placed later can due)))
+given-after : (s : State) (now : ℕ) (before : List JobRecord) (after : Started) (start : JobStart) (placed : Placed)
+    → IsGiven s now (begun now before start) after placed
+    → IsGiven s now before (record after { starts = start ∷ after.starts }) placed
+given-after s now before after start placed given due = elim (given due) [
+  | inl has ↦ inl has
+  | inr (stands, held) ↦
+      inr (
+        stands,
+        record { before = suc held.before; some = omega (arith, held.some); reached = held.reached },
+      )
 ]
+
+-- So each placement that is due is of a job that has started with all that was planned for it; or it stays, and was held
+-- back.
+pub all-given : StartLaws → (s : State) (jobs : List JobRecord) (plan : List Placed) → CanStart (beside s jobs) plan
+    → All (IsGiven s s.moment jobs (started s s.moment jobs plan)) plan
+unfolding started
+all-given laws s jobs [] can =
+    All-nil (IsGiven s s.moment jobs (record { jobs = jobs; starts = []; stays = [] }))
+all-given laws s jobs (placed ∷ later) can =
+    elim (cases_Bool (eqb placed.start s.moment && may_start s jobs placed.id)) [
+      | inr stays ↦
+          let rest = started s s.moment jobs later in
+          let others = all-given laws s jobs later (can-later (beside s jobs) placed later can) in
+          rw stays (All-cons (IsGiven s s.moment jobs (record rest { stays = placed ∷ rest.stays })) placed later
+          (λ due. let held : may_start s jobs placed.id ≡ false = rw (eq-eqb placed.start s.moment due) at stays in
+          inr ((zero, omega arith, refl), record { before = 0; some = omega arith; reached = held }))
+          (λ k d below. given-behind s s.moment jobs rest placed (get_or later k d) (others k d below)))
+      | inl goes ↦
+          let due = (and_parts (eqb placed.start s.moment) (may_start s jobs placed.id) goes).0 in
+          let start = start_of s.nodes jobs placed in
+          let next = begun s.moment jobs start in
+          let rest = started s s.moment next later in
+          let apart = pairs-head (λ (one other : Placed). one.id ≢ other.id) placed later can.apart in
+          let others = all-given laws s next later (can-begun laws (beside s jobs) placed later can due) in
+          rw goes (All-cons (IsGiven s s.moment jobs (record rest { starts = start ∷ rest.starts })) placed later
+          (λ now. inl (stays-given s s.moment next placed later apart
+          (given-first (beside s jobs) placed later can due)))
+          (λ k d below. given-after s s.moment jobs rest start (get_or later k d) (others k d below)))
+    ]
 
 -- each job that starts reached no limit beside what the jobs held just before
 pub within-limits : (s : State) (now : ℕ) (jobs : List JobRecord) (plan : List Placed) (k : ℕ) (d : JobStart)
     → k < length (started s now jobs plan).starts
-    → may_start (fold (begun now) jobs (take k (started s now jobs plan).starts))
+    → may_start s (fold (begun now) jobs (take k (started s now jobs plan).starts))
     (get_or (started s now jobs plan).starts k d).id ≡ true
 unfolding started
 within-limits s now jobs [] k d below = absurd (omega (arith, below))
 within-limits s now jobs (placed ∷ later) zero d below =
-    elim (cases_Bool (eqb placed.start now && may_start jobs placed.id)) [
-      | inl goes ↦ rw goes (and_parts (eqb placed.start now) (may_start jobs placed.id) goes).1
+    elim (cases_Bool (eqb placed.start now && may_start s jobs placed.id)) [
+      | inl goes ↦ rw goes (and_parts (eqb placed.start now) (may_start s jobs placed.id) goes).1
       | inr stays ↦ rw stays (within-limits s now jobs later zero d (rw stays at below))
     ]
 within-limits s now jobs (placed ∷ later) (suc k) d below =
-    elim (cases_Bool (eqb placed.start now && may_start jobs placed.id)) [
+    elim (cases_Bool (eqb placed.start now && may_start s jobs placed.id)) [
       | inl goes ↦
           let inside = rw goes at below in
           rw goes (within-limits s now (begun now jobs (start_of s.nodes jobs placed)) later k d

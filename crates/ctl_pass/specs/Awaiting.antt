@@ -1,12 +1,15 @@
 -- What placements and jobs are like that are to start.
-use Rattle.std.specs.Prelude.{◌≡◌, ◌≢◌, ℕ, ◌≤◌, true, List, [], length, map, filter_map, slice_get, vec_capacity, All, AllPairs, Option, option_map, option_and_then}
+use Rattle.std.specs.Prelude.{◌≡◌, ◌≢◌, ℕ, ◌≤◌, true, List, [], length, map, filter_map, slice_get, vec_capacity, All, AllPairs, Option, option_map, IfSome, ◌∷◌, ◌++◌}
 use Rattle.backfill_planner.specs.declared.Placed.{Placed}
 use Rattle.backfill_planner.specs.declared.Share.{Share}
 use Rattle.job_table.specs.declared.record.JobRecord.{JobRecord}
 use Rattle.job_table.specs.Table.{HaveRisingIds, job_with}
 use Rattle.node_state.specs.declared.record.NodeRecord.{NodeRecord}
-use Rattle.ctl_state.specs.declared.array_counts.ArrayCounts.{ArrayCounts}
-use Rattle.ctl_state.specs.ArrayCounts.{CountsTasks}
+use Rattle.accounts_qos.specs.declared.record.AssocRecord.{AssocRecord}
+use Rattle.run_limits.specs.declared.counted.Counted.{Counted}
+use Rattle.run_limits.specs.declared.tally.Tally.{Tally}
+use Rattle.run_limits.specs.Tallies.{Shows}
+use Rattle.ctl_state.specs.Counted.{counted_of, holding}
 use Rattle.ctl_state.specs.Events.{waits}
 use Rattle.ctl_pass.specs.declared.starts.DueStart.{DueStart}
 
@@ -27,18 +30,22 @@ pub record IsPrepared (nodes : List NodeRecord) (start : DueStart) : Type 0 wher
 abbrev pub placements_of : List DueStart → List Placed
 placements_of starts = map (λ (start : DueStart). start.placed) starts
 
--- the array of which the job is a task
-abbrev pub array_of : Option JobRecord → Option ℕ
-array_of found = option_and_then (λ (job : JobRecord). job.array) found
+-- the tally shows one job more than before: this one, if there is one
+abbrev pub CountsOneMore : List AssocRecord → Option JobRecord → Tally → Tally → Type 0
+CountsOneMore assocs found before after =
+    IfSome found
+    (λ (job : JobRecord). (some : List Counted) → Shows assocs before some
+    → Shows assocs after (some ++ counted_of job ∷ []))
 
 -- the placement's job is among the jobs just as it is in the table, and waits
 pub record Awaits (table jobs : List JobRecord) (placed : Placed) : Type 0 where
   pub waits : waits (job_with placed.id jobs) ≡ true
   pub same : job_with placed.id jobs ≡ job_with placed.id table
 
--- the tasks of the jobs' arrays are counted, and each placement is of another job that waits
-pub record CanBegin (table jobs : List JobRecord) (counts : ArrayCounts) (placements : List Placed) : Type 0 where
+-- those of the jobs that hold processors are counted, and each placement is of another job that waits
+pub record CanBegin (assocs : List AssocRecord) (table jobs : List JobRecord) (tally : Tally)
+    (placements : List Placed) : Type 0 where
   pub rising : HaveRisingIds jobs
-  pub counted : CountsTasks jobs counts
+  pub counted : Shows assocs tally (holding jobs)
   pub awaits : All (Awaits table jobs) placements
   pub once : AllPairs (λ (one other : Placed). one.id ≢ other.id) placements

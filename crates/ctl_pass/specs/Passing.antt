@@ -25,7 +25,7 @@ outcome s now = started s now (jobs_left s now) (placements s now)
 
 -- the placements that start
 abbrev pub placements_due : State → ℕ → List Placed
-placements_due s now = due s.nodes now (jobs_left s now) (placements s now)
+placements_due s now = due s now (jobs_left s now) (placements s now)
 
 -- the state after a pass
 abbrev pub pass_after : State → ℕ → State

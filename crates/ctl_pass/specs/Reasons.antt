@@ -1,5 +1,5 @@
 -- Why a pending job can't be planned.
-use Rattle.std.specs.Prelude.{ℕ, Bool, true, false, not, nat_lt, nat_le, is_none, if◌then◌else◌, unwrap_or, List, [], ◌∷◌, ◌++◌, Option, Some, None, option_map, option_and_then}
+use Rattle.std.specs.Prelude.{ℕ, Bool, true, false, not, nat_lt, is_none, unwrap_or, List, [], ◌∷◌, ◌++◌, Option, Some, None, option_map, option_and_then}
 use Rattle.std.specs.List.{list_any}
 use Rattle.slurm_text.specs.declared.plain.array.ArraySpec.{ArraySpec}
 use Rattle.slurm_text.specs.declared.plain.conf.PartState.{PartState}
@@ -7,7 +7,7 @@ use Rattle.slurm_text.specs.declared.plain.conf.PartState.TheVariants.{Up, Down,
 use Rattle.slurm_text.specs.declared.plain.limit.Limit.{Limit}
 use Rattle.slurm_text.specs.declared.plain.limit.Limit.TheVariants.{Minutes, Unlimited}
 use Rattle.slurm_text.specs.declared.plain.state.Reason.{Reason}
-use Rattle.slurm_text.specs.declared.plain.state.Reason.TheVariants.{JobHeldAdmin, JobHeldUser, PartitionInactive, PartitionDown, PartitionTimeLimit, PartitionNodeLimit, JobArrayTaskLimit, ReqNodeNotAvail}
+use Rattle.slurm_text.specs.declared.plain.state.Reason.TheVariants.{JobHeldAdmin, JobHeldUser, PartitionInactive, PartitionDown, PartitionTimeLimit, PartitionNodeLimit, QosMaxWallDurationPerJobLimit, ReqNodeNotAvail}
 use Rattle.slurm_text.specs.declared.plain.state.HeldBy.{HeldBy}
 use Rattle.slurm_text.specs.declared.plain.state.HeldBy.TheVariants as held
 use Rattle.partitions.specs.declared.record.PartRecord.{PartRecord}
@@ -15,19 +15,11 @@ use Rattle.partitions.specs.Partitions.{bounds_of}
 use Rattle.job_table.specs.declared.record.JobRecord.{JobRecord}
 use Rattle.node_state.specs.declared.record.NodeRecord.{NodeRecord}
 use Rattle.node_state.specs.Nodes.{is_available, place_named}
-use Rattle.ctl_state.specs.Events.{tasks_holding}
+use Rattle.accounts_qos.specs.Accounts.{qos_limits_at}
+use Rattle.run_limits.specs.Limits.{first_reason, limits_reached, reason_if}
+use Rattle.ctl_state.specs.Counted.{beside, counted_of}
 use Rattle.ctl_state.specs.Planning.{is_at}
 use Rattle.ctl_state.specs.State.{State, partition_of}
-
--- a reason that stands where this is so
-abbrev pub reason_if : Bool → Reason → Option Reason
-reason_if stands reason = if stands then Some reason else None
-
--- the first reason that stands
-abbrev pub first_reason : List (Option Reason) → Option Reason
-first_reason [] = None
-first_reason (None ∷ later) = first_reason later
-first_reason (Some reason ∷ later) = Some reason
 
 abbrev pub is_inactive : PartState → Bool
 is_inactive Up = false
@@ -46,6 +38,11 @@ abbrev pub exceeds : Limit → Limit → Bool
 exceeds (Minutes minutes) (Minutes longest) = nat_lt longest minutes
 exceeds Unlimited (Minutes longest) = true
 exceeds limit Unlimited = false
+
+-- the limit is above the longest one, if there is a longest one
+abbrev pub exceeds_longest : Limit → Option Limit → Bool
+exceeds_longest limit None = false
+exceeds_longest limit (Some longest) = exceeds limit longest
 
 -- who holds a job back
 abbrev pub held_reason : HeldBy → Option Reason
@@ -67,14 +64,13 @@ hindrances_in (Some partition) job =
 abbrev pub most_tasks : JobRecord → Option ℕ
 most_tasks job = option_and_then (λ (array : ArraySpec). array.most) job.desc.array
 
--- as many tasks of the array hold processors as may at once
-abbrev pub is_full : List JobRecord → Option ℕ → Option ℕ → Bool
-is_full jobs (Some array) (Some most) = nat_le most (tasks_holding jobs array)
-is_full jobs array most = false
+-- the limits that the job reaches beside those of these jobs that hold processors, in their order
+abbrev pub reached_beside : State → List JobRecord → JobRecord → List (Option Reason)
+reached_beside s jobs job = limits_reached (beside s jobs) (counted_of job) (most_tasks job)
 
--- the limits that the job reaches beside what these jobs hold, in their order
-abbrev pub limits_reached : List JobRecord → JobRecord → List (Option Reason)
-limits_reached jobs job = reason_if (is_full jobs job.array (most_tasks job)) JobArrayTaskLimit ∷ []
+-- the job's limit is above the longest one of its quality of service
+abbrev pub exceeds_wall : State → JobRecord → Bool
+exceeds_wall s job = exceeds_longest job.limit (qos_limits_at s.qos job.qos).max_wall
 
 -- the node with this name is there, and not available
 abbrev pub is_unavailable : List NodeRecord → List ℕ → Bool
@@ -90,8 +86,9 @@ abbrev pub hindrances : State → JobRecord → List (Option Reason)
 hindrances s job =
     held_reason job.held_by
     ∷ (hindrances_in (partition_of s job) job
-    ++ (limits_reached s.jobs job
-    ++ reason_if (lacks_node s job) ReqNodeNotAvail ∷ []))
+    ++ (reason_if (exceeds_wall s job) QosMaxWallDurationPerJobLimit
+    ∷ (reached_beside s s.jobs job
+    ++ reason_if (lacks_node s job) ReqNodeNotAvail ∷ [])))
 
 -- what hinders the job, or nothing
 unfoldable pub hindrance : State → JobRecord → Option Reason

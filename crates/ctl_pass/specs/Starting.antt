@@ -1,5 +1,5 @@
 -- What comes of a plan: the jobs that are planned at once start, the other placements stay.
-use Rattle.std.specs.Prelude.{◌≡◌, ℕ, Bool, false, ◌&&◌, nat_eq, is_none, if◌then◌else◌, List, [], ◌∷◌, map, take, length, Option, Some, None}
+use Rattle.std.specs.Prelude.{◌≡◌, ℕ, ◌≤◌, Bool, false, ◌&&◌, nat_eq, is_none, if◌then◌else◌, List, [], ◌∷◌, map, fold, take, length, Option, Some, None}
 use Rattle.std.specs.List.{AllZip}
 use Rattle.slurm_text.specs.declared.plain.state.JobState.TheVariants.{Running}
 use Rattle.resource_profile.specs.declared.NodeRoom.{NodeRoom}
@@ -12,7 +12,8 @@ use Rattle.job_table.specs.Table.{job_with}
 use Rattle.ctl_state.specs.Events.{started_as}
 use Rattle.ctl_state.specs.Planning.{names_of, room_of}
 use Rattle.ctl_state.specs.State.{State}
-use Rattle.ctl_pass.specs.Reasons.{first_reason, limits_reached}
+use Rattle.run_limits.specs.Limits.{first_reason}
+use Rattle.ctl_pass.specs.Reasons.{reached_beside}
 use Rattle.ctl_state.specs.Holding.{free_ids, parts_of}
 
 -- the start of a job
@@ -45,14 +46,14 @@ begun now jobs start = map (started_as now start.id start.parts start.nodes) job
 abbrev pub begun_by : List NodeRecord → ℕ → List JobRecord → Placed → List JobRecord
 begun_by nodes now jobs placed = begun now jobs (start_of nodes jobs placed)
 
--- the job reaches no limit beside what these jobs hold
-abbrev pub is_free : List JobRecord → Option JobRecord → Bool
-is_free jobs None = false
-is_free jobs (Some job) = is_none (first_reason (limits_reached jobs job))
+-- the job reaches no limit beside those of these jobs that hold processors
+abbrev pub is_free : State → List JobRecord → Option JobRecord → Bool
+is_free s jobs None = false
+is_free s jobs (Some job) = is_none (first_reason (reached_beside s jobs job))
 
 -- the job with this number, one of these, may start
-unfoldable pub may_start : List JobRecord → ℕ → Bool
-may_start jobs id = is_free jobs (job_with id jobs)
+unfoldable pub may_start : State → List JobRecord → ℕ → Bool
+may_start s jobs id = is_free s jobs (job_with id jobs)
 
 -- the jobs once those have started, these starts, and the placements that stay
 pub record Started : Type 0 where
@@ -65,7 +66,7 @@ pub record Started : Type 0 where
 unfoldable pub started : State → ℕ → List JobRecord → List Placed → Started
 started s now jobs [] = record { jobs = jobs; starts = []; stays = [] }
 started s now jobs (placed ∷ later) =
-    if nat_eq placed.start now && may_start jobs placed.id
+    if nat_eq placed.start now && may_start s jobs placed.id
     then (
     let start = start_of s.nodes jobs placed in
     let rest = started s now (begun now jobs start) later in
@@ -74,12 +75,18 @@ started s now jobs (placed ∷ later) =
     else (let rest = started s now jobs later in record rest { stays = placed ∷ rest.stays })
 
 -- the placements that start, in this order
-unfoldable pub due : List NodeRecord → ℕ → List JobRecord → List Placed → List Placed
-due nodes now jobs [] = []
-due nodes now jobs (placed ∷ later) =
-    if nat_eq placed.start now && may_start jobs placed.id
-    then placed ∷ due nodes now (begun_by nodes now jobs placed) later
-    else due nodes now jobs later
+unfoldable pub due : State → ℕ → List JobRecord → List Placed → List Placed
+due s now jobs [] = []
+due s now jobs (placed ∷ later) =
+    if nat_eq placed.start now && may_start s jobs placed.id
+    then placed ∷ due s now (begun_by s.nodes now jobs placed) later
+    else due s now jobs later
+
+-- after so many of these starts, the first ones, the job with this number reached a limit
+pub record WasHeldBack (s : State) (now : ℕ) (jobs : List JobRecord) (starts : List JobStart) (id : ℕ) : Type 0 where
+  pub before : ℕ
+  pub some : before ≤ length starts
+  pub reached : may_start s (fold (begun now) jobs (take before starts)) id ≡ false
 
 -- the part has all that the share was planned
 pub record IsAsPlanned (share : Share) (part : Part) : Type 0 where

@@ -9,7 +9,7 @@ ghost use Rattle.job_table.specs.JobStates.{is_running};
 ghost use Rattle.ctl_state.specs.Soundness.{IsSound};
 ghost use Rattle.ctl_state.specs.Verdicts.{stamped};
 ghost use Rattle.ctl_pass.specs.Readiness.{is_candidate, jobs_left, ready, placements};
-ghost use Rattle.ctl_pass.specs.Starting.{HasStarted, JobStart, begun, may_start};
+ghost use Rattle.ctl_pass.specs.Starting.{HasStarted, JobStart, WasHeldBack, begun, may_start};
 ghost use Rattle.ctl_pass.specs.Taking.{CanStart, unplanned};
 ghost use Rattle.ctl_pass.specs.Passing.{outcome, pass_after, placements_due, is_idle};
 
@@ -49,12 +49,14 @@ pub fn an_idle_pass_changes_nothing()
     placements_are_of_ranked_jobs();
 }
 
-/// Each placement that begins now is of a job that runs after the pass, since now, with all that was planned for it, or
-/// it stays in the plan.
+/// Each placement that begins now is of a job that runs after the pass, since now, with all that was planned for it; or
+/// it stays in the plan, and its job reached a limit at its turn, beside the jobs that held processors then.
 pub fn starts_get_all_they_planned()
     ensures { (s : State) (now : ℕ) → IsSound s → s.moment ≤ now → now ≤ last_moment
         → All (λ (placed : Placed). placed.start ≡ now
-        → Any (HasStarted now placed) (pass_after s now).jobs ⊎ Contains (pass_after s now).plan placed)
+        → Any (HasStarted now placed) (pass_after s now).jobs
+        ⊎ (Contains (pass_after s now).plan placed
+        × WasHeldBack s now (jobs_left s now) (outcome s now).starts placed.id))
         (placements s now) }
 {
     every_change_but_a_start_lets_go();
@@ -71,11 +73,11 @@ pub fn starts_get_all_they_planned()
     plans_keep_all_sound();
 }
 
-/// No start exceeds a limit: just before each, its job reached none beside what the jobs held then, those started
-/// before it in the pass among them.
+/// No start exceeds a limit: just before each, its job reached none of its array, its association, those above it and
+/// its quality of service, beside the jobs that held processors then, those started before it in the pass among them.
 pub fn no_start_exceeds_a_limit()
     ensures { (s : State) (now k : ℕ) (d : JobStart) → k < length (outcome s now).starts
-        → may_start (fold (begun now) (jobs_left s now) (take k (outcome s now).starts))
+        → may_start s (fold (begun now) (jobs_left s now) (take k (outcome s now).starts))
         (slice_index_or (outcome s now).starts k d).id ≡ true }
 {}
 

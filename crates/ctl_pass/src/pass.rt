@@ -24,8 +24,8 @@ use crate::same_plans::are_same;
 use crate::split::split;
 use crate::starts::DueStart;
 use backfill_planner::{Placed, plan};
-use ctl_state::array_counts::count_arrays;
 use ctl_state::cluster::Cluster;
+use ctl_state::counting::count_holding;
 use ctl_state::laws::parts_stay;
 use ctl_state::record::ArrayRecord;
 use resource_profile::Steps;
@@ -60,7 +60,8 @@ pub fn refusal_of(cluster: &Cluster, user: &Name) -> Option<Refusal>
 
 /// What a pass at its raised moment does. Linear in jobs, parts and nodes, and for each candidate that names nodes or
 /// features in the nodes of its partition, beside what its plan costs; the nodes of each partition are sorted, and
-/// where tiers rise the candidates. The tasks of arrays are counted once, in one walk over the jobs.
+/// where tiers rise the candidates. The jobs that hold processors are counted once, in one walk over all; each of
+/// them, each pending job and each placement that begins now costs its association's way up to root besides.
 /// It counts a step for each job that it plans, and after want of memory at most that many.
 pub fn decide<L>(
     alloc: Global,
@@ -77,12 +78,12 @@ pub fn decide<L>(
         (Passing.jobs_planned (state_of cluster.now) now) steps.old steps.new) }
 {
     let base = base_of(alloc, cluster, now)?;
-    let counts = count_arrays(alloc, cluster.jobs.records())?;
-    let ranked = rank(alloc, cluster, &counts, now)?;
+    let tally = count_holding(alloc, &cluster.assocs, cluster.jobs.records())?;
+    let ranked = rank(alloc, cluster, &tally, now)?;
     let Ok(planned) = plan(alloc, base, ranked, now, steps) else {
         return Err(Memory);
     };
-    let (starts, stays) = split(alloc, cluster, now, counts, planned.into_placements())?;
+    let (starts, stays) = split(alloc, cluster, now, tally, planned.into_placements())?;
     let age = cluster.settings.min_job_age.get();
     Ok(Decided {
         ended: count_over(now, cluster.jobs.records()) as u32,

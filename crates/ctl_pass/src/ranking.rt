@@ -3,7 +3,8 @@
 ghost use Rattle.std.specs.Prelude.{◌≡◌, ◌≤◌, ◌<◌, All, IfOk, IfSome, OnOk, length, map, filter, filter_map, option_map, slice_get, List, ℕ};
 ghost use Rattle.backfill_planner.specs.declared.job.PlanJob.{PlanJob};
 ghost use Rattle.job_table.specs.declared.record.JobRecord.{JobRecord};
-ghost use Rattle.ctl_state.specs.ArrayCounts.{CountsTasks};
+ghost use Rattle.run_limits.specs.Tallies.{Shows};
+ghost use Rattle.ctl_state.specs.Counted.{holding};
 ghost use Rattle.ctl_state.specs.Planning;
 ghost use Rattle.ctl_state.specs.Soundness.{IsSound};
 ghost use Rattle.ctl_state.specs.State.{state_of};
@@ -12,7 +13,6 @@ ghost use Rattle.ctl_pass.specs.Readiness;
 
 use crate::reasons::hindrance;
 use backfill_planner::{NodeList, PlanJob};
-use ctl_state::array_counts::ArrayCounts;
 use ctl_state::cluster::Cluster;
 use ctl_state::jobs::is_pending;
 use ctl_state::laws::a_stable_sort_makes_the_order;
@@ -21,6 +21,7 @@ use job_table::record::JobRecord;
 use node_state::record::NodeRecord;
 use partitions::bounds::bounds_of;
 use partitions::record::PartRecord;
+use run_limits::tally::Tally;
 use slurm_text::memory_error::Memory;
 use std::alloc::Global;
 
@@ -34,20 +35,20 @@ fn tier_of(cluster: &Cluster, job: &JobRecord) -> u64
 }
 
 // Whether the job waits, and nothing hinders it.
-fn is_candidate(cluster: &Cluster, counts: &ArrayCounts, job: &JobRecord) -> bool
-    requires { CountsTasks cluster.now.jobs.records counts.now }
+fn is_candidate(cluster: &Cluster, tally: &Tally, job: &JobRecord) -> bool
+    requires { Shows cluster.now.assocs.records tally.now (holding cluster.now.jobs.records) }
     ensures { result ≡ Readiness.is_candidate (state_of cluster.now) job.now }
 {
-    is_pending(job) && hindrance(cluster, counts, job).is_none()
+    is_pending(job) && hindrance(cluster, tally, job).is_none()
 }
 
 // The candidates in the order of their numbers.
 fn candidates_of<'a>(
     alloc: Global,
     cluster: &'a Cluster,
-    counts: &ArrayCounts,
+    tally: &Tally,
 ) -> Result<Vec<&'a JobRecord>, Memory>
-    requires { CountsTasks cluster.now.jobs.records counts.now }
+    requires { Shows cluster.now.assocs.records tally.now (holding cluster.now.jobs.records) }
     ensures { IfOk result (λ jobs. map (λ job. job.now) jobs.items
         ≡ filter (Readiness.is_candidate (state_of cluster.now)) cluster.now.jobs.records) }
 {
@@ -56,7 +57,7 @@ fn candidates_of<'a>(
             .jobs
             .records()
             .iter()
-            .filter(|job| is_candidate(cluster, counts, job))
+            .filter(|job| is_candidate(cluster, tally, job))
             .collect(alloc)?,
     )
 }
@@ -65,13 +66,13 @@ fn candidates_of<'a>(
 fn by_rank<'a>(
     alloc: Global,
     cluster: &'a Cluster,
-    counts: &ArrayCounts,
+    tally: &Tally,
 ) -> Result<Vec<&'a JobRecord>, Memory>
-    requires { CountsTasks cluster.now.jobs.records counts.now }
+    requires { Shows cluster.now.assocs.records tally.now (holding cluster.now.jobs.records) }
     ensures { IfOk result (λ jobs. (now : ℕ) → map (λ job. job.now) jobs.items
         ≡ Readiness.candidates (state_of cluster.now) now) }
 {
-    let mut jobs = candidates_of(alloc, cluster, counts)?;
+    let mut jobs = candidates_of(alloc, cluster, tally)?;
     a_stable_sort_makes_the_order::<&JobRecord>();
     jobs.sort_by(|one, other| tier_of(cluster, other).cmp(&tier_of(cluster, one)))?;
     Ok(jobs)
@@ -143,25 +144,25 @@ fn needs_of(
     Ok(ranked)
 }
 
-/// What the jobs need that the pass plans, highest in rank first. Linear in the jobs; the nodes of each partition are
-/// sorted once, and its candidates share them, so that a candidate that says nothing of its nodes costs constant time.
-/// One that does costs the nodes of its partition, and for each of them what it names. Where tiers rise among the
-/// candidates, these are sorted.
+/// What the jobs need that the pass plans, highest in rank first. Linear in the jobs, and for each pending one in its
+/// association's way up to root and the nodes that it must have. The nodes of each partition are sorted once, and its
+/// candidates share them, so that a candidate that says nothing of its nodes costs no more; one that does costs the
+/// nodes of its partition, and for each of them what it names. Where tiers rise among the candidates, these are sorted.
 pub(crate) fn rank(
     alloc: Global,
     cluster: &Cluster,
-    counts: &ArrayCounts,
+    tally: &Tally,
     now: u64,
 ) -> Result<Vec<PlanJob>, Memory>
     requires sound { IsSound (state_of cluster.now) }
-    requires counted { CountsTasks cluster.now.jobs.records counts.now }
+    requires counted { Shows cluster.now.assocs.records tally.now (holding cluster.now.jobs.records) }
     ensures ranked { IfOk result (λ ranked.
         ranked.items ≡ Readiness.ranked (Readiness.ready (state_of cluster.now) now) now) }
     ensures nodes { IfOk result (λ ranked.
         All (λ (job : PlanJob). All (λ node. node < length cluster.now.nodes.records) job.nodes) ranked.items) }
     ensures tasks { IfOk result (λ ranked. All (λ (job : PlanJob). 1 ≤ job.need.tasks) ranked.items) }
 {
-    let jobs = by_rank(alloc, cluster, counts)?;
+    let jobs = by_rank(alloc, cluster, tally)?;
     let orders = node_orders(alloc, cluster.nodes.records(), cluster.partitions.records())?;
     needs_of(alloc, cluster, orders.as_slice(), jobs.as_slice())
 }
@@ -172,9 +173,11 @@ fn is_higher(cluster: &Cluster, one: &JobRecord, other: &JobRecord) -> bool
     tier_of(cluster, one) > tier_of(cluster, other)
 }
 
-/// The number of the candidate that is highest in rank, None where there is no candidate. Linear in the jobs.
-pub fn highest(cluster: &Cluster, counts: &ArrayCounts) -> Option<u32>
-    requires { CountsTasks cluster.now.jobs.records counts.now }
+/// The number of the candidate that is highest in rank, None where there is no candidate. Linear in the jobs, and for
+/// each pending one that is higher than the candidates before it in its association's way up to root and the nodes that
+/// it must have.
+pub fn highest(cluster: &Cluster, tally: &Tally) -> Option<u32>
+    requires { Shows cluster.now.assocs.records tally.now (holding cluster.now.jobs.records) }
     ensures { (now : ℕ) → result
         ≡ option_map (λ (job : JobRecord). job.id) (slice_get (Readiness.candidates (state_of cluster.now) now) 0) }
 {
@@ -184,7 +187,7 @@ pub fn highest(cluster: &Cluster, counts: &ArrayCounts) -> Option<u32>
             Some(first) => is_higher(cluster, job, first),
             None => true,
         };
-        if comes_first && is_candidate(cluster, counts, job) {
+        if comes_first && is_candidate(cluster, tally, job) {
             highest = Some(job);
         }
     }

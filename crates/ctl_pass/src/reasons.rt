@@ -2,16 +2,20 @@
 
 ghost use Rattle.std.specs.Prelude.{◌≡◌, List};
 ghost use Rattle.job_table.specs.declared.record.JobRecord.{JobRecord};
-ghost use Rattle.ctl_state.specs.ArrayCounts.{CountsTasks};
+ghost use Rattle.run_limits.specs.Limits.{first_reason, reason_if};
+ghost use Rattle.run_limits.specs.Tallies.{Shows};
+ghost use Rattle.ctl_state.specs.Counted.{holding};
 ghost use Rattle.ctl_state.specs.State.{partition_of, state_of};
 ghost use Rattle.ctl_pass.specs.Reasons;
 
-use ctl_state::array_counts::ArrayCounts;
 use ctl_state::cluster::Cluster;
+use ctl_state::counting::counted_of;
 use job_table::record::JobRecord;
 use node_state::nodes::Nodes;
 use partitions::bounds::bounds_of;
 use partitions::record::PartRecord;
+use run_limits::reasons::limit_reached as first_limit_reached;
+use run_limits::tally::Tally;
 use slurm_text::name::Name;
 use slurm_text::plain::conf::PartState;
 use slurm_text::plain::limit::Limit;
@@ -43,7 +47,7 @@ fn held_reason(held_by: HeldBy) -> Option<Reason>
 
 // What hinders the job in this partition.
 fn hindrance_in(partition: &PartRecord, job: &JobRecord) -> Option<Reason>
-    ensures { result ≡ Reasons.first_reason (Reasons.hindrances_in (Some partition.now) job.now) }
+    ensures { result ≡ first_reason (Reasons.hindrances_in (Some partition.now) job.now) }
 {
     if partition.state == PartState::Inactive {
         Some(Reason::PartitionInactive)
@@ -58,30 +62,32 @@ fn hindrance_in(partition: &PartRecord, job: &JobRecord) -> Option<Reason>
     }
 }
 
-// Whether as many tasks of the job's array hold processors as may at once.
-fn is_full(counts: &ArrayCounts, job: &JobRecord) -> bool
-    ensures { (jobs : List JobRecord) → CountsTasks jobs counts.now
-        → result ≡ Reasons.is_full jobs job.now.array (Reasons.most_tasks job.now) }
+// How many tasks of the job's array may hold processors at once.
+fn most_tasks(job: &JobRecord) -> Option<u64>
+    ensures { result ≡ Reasons.most_tasks job.now }
 {
-    let Some(array) = job.array else {
-        return false;
-    };
-    let Some(spec) = &job.desc.array else {
-        return false;
-    };
-    spec.most
-        .is_some_and(|most| counts.count(array) >= most.get())
+    Some(job.desc.array.as_ref()?.most?.get())
 }
 
-/// The limit that the job reaches beside the tasks that are counted; None where it reaches none. In constant time.
-pub(crate) fn limit_reached(counts: &ArrayCounts, job: &JobRecord) -> Option<Reason>
-    ensures { (jobs : List JobRecord) → CountsTasks jobs counts.now
-        → result ≡ Reasons.first_reason (Reasons.limits_reached jobs job.now) }
+/// The limit that the job reaches beside the jobs that are counted; None where it reaches none. Linear in its
+/// association's way up to root.
+pub(crate) fn limit_reached(cluster: &Cluster, tally: &Tally, job: &JobRecord) -> Option<Reason>
+    ensures { (jobs : List JobRecord) → Shows cluster.now.assocs.records tally.now (holding jobs)
+        → result ≡ first_reason (Reasons.reached_beside (state_of cluster.now) jobs job.now) }
 {
-    if is_full(counts, job) {
-        Some(Reason::JobArrayTaskLimit)
-    } else {
-        None
+    first_limit_reached(&cluster.assocs, tally, &counted_of(job), most_tasks(job))
+}
+
+// Whether the job's limit is above the longest one of its quality of service.
+fn exceeds_wall(cluster: &Cluster, job: &JobRecord) -> bool
+    ensures { result ≡ Reasons.exceeds_wall (state_of cluster.now) job.now }
+{
+    let Some(one) = cluster.assocs.qos().get(job.qos as usize) else {
+        return false;
+    };
+    match &one.conf.limits.max_wall {
+        Some(longest) => exceeds(&job.limit, longest),
+        None => false,
     }
 }
 
@@ -108,14 +114,26 @@ fn lacks_node(cluster: &Cluster, job: &JobRecord) -> bool
 // What hinders the job in its partition.
 fn partition_hindrance(cluster: &Cluster, job: &JobRecord) -> Option<Reason>
     ensures { result
-        ≡ Reasons.first_reason (Reasons.hindrances_in (partition_of (state_of cluster.now) job.now) job.now) }
+        ≡ first_reason (Reasons.hindrances_in (partition_of (state_of cluster.now) job.now) job.now) }
 {
     hindrance_in(cluster.partitions.at(job.partition)?, job)
 }
 
+// What hinders the job by its limit, in its quality of service.
+fn wall_hindrance(cluster: &Cluster, job: &JobRecord) -> Option<Reason>
+    ensures { result ≡ reason_if (Reasons.exceeds_wall (state_of cluster.now) job.now)
+        Reason.QosMaxWallDurationPerJobLimit }
+{
+    if exceeds_wall(cluster, job) {
+        Some(Reason::QosMaxWallDurationPerJobLimit)
+    } else {
+        None
+    }
+}
+
 // What hinders the job by a node that it must have.
 fn node_hindrance(cluster: &Cluster, job: &JobRecord) -> Option<Reason>
-    ensures { result ≡ Reasons.reason_if (Reasons.lacks_node (state_of cluster.now) job.now) Reason.ReqNodeNotAvail }
+    ensures { result ≡ reason_if (Reasons.lacks_node (state_of cluster.now) job.now) Reason.ReqNodeNotAvail }
 {
     if lacks_node(cluster, job) {
         Some(Reason::ReqNodeNotAvail)
@@ -124,14 +142,15 @@ fn node_hindrance(cluster: &Cluster, job: &JobRecord) -> Option<Reason>
     }
 }
 
-/// Why a pending job can't be planned; None where nothing hinders it. In constant time beside the nodes that it must
-/// have.
-pub fn hindrance(cluster: &Cluster, counts: &ArrayCounts, job: &JobRecord) -> Option<Reason>
-    requires { CountsTasks cluster.now.jobs.records counts.now }
+/// Why a pending job can't be planned; None where nothing hinders it. Linear in its association's way up to root and in
+/// the nodes that it must have. "JOB REASON CODES" in squeue(1).
+pub fn hindrance(cluster: &Cluster, tally: &Tally, job: &JobRecord) -> Option<Reason>
+    requires { Shows cluster.now.assocs.records tally.now (holding cluster.now.jobs.records) }
     ensures { result ≡ Reasons.hindrance (state_of cluster.now) job.now }
 {
     held_reason(job.held_by)
         .or_else(|| partition_hindrance(cluster, job))
-        .or_else(|| limit_reached(counts, job))
+        .or_else(|| wall_hindrance(cluster, job))
+        .or_else(|| limit_reached(cluster, tally, job))
         .or_else(|| node_hindrance(cluster, job))
 }

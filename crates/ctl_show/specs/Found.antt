@@ -3,7 +3,8 @@ use Rattle.std.specs.Prelude.{◌≡◌, ℕ, ◌^◌, ◌-◌, ◌<◌, min, na
 use Rattle.std.specs.HashMap.{get}
 use Rattle.slurm_text.specs.declared.plain.view.NodeGroup.{NodeGroup}
 use Rattle.job_table.specs.declared.record.Part.{Part}
-use Rattle.ctl_state.specs.ArrayCounts.{CountsTasks}
+use Rattle.run_limits.specs.Tallies.{Shows}
+use Rattle.ctl_state.specs.Counted.{holding}
 use Rattle.ctl_state.specs.State.{State}
 use Rattle.ctl_show.specs.declared.outlook.Outlook.{Outlook}
 use Rattle.ctl_show.specs.Standing.{cpus_held, group_at}
@@ -21,9 +22,9 @@ pub record CountsParts (parts : List Part) (counts : List ℕ) : Type 0 where
 pub record GroupsNodes (s : State) (groups : List NodeGroup) : Type 0 where
   pub each : (place : ℕ) → slice_get groups place ≡ group_at s place
 
--- How many tasks of each array hold processors, the job that is highest in rank, and the second that the plan gives
--- each job.
+-- What the jobs count that hold processors, the job that is highest in rank, and the second that the plan gives each
+-- job.
 pub record IsOutlook (s : State) (outlook : Outlook) : Type 0 where
-  pub counts : CountsTasks s.jobs outlook.counts
+  pub tally : Shows s.assocs outlook.tally (holding s.jobs)
   pub highest : (now : ℕ) → outlook.highest ≡ highest s now
   pub starts : (id : ℕ) → get nat_eq outlook.starts id ≡ planned_start s.plan id

@@ -10,8 +10,9 @@ ghost use Rattle.ctl_show.specs.Showing;
 
 use backfill_planner::Placed;
 use ctl_pass::highest;
-use ctl_state::array_counts::{ArrayCounts, count_arrays};
 use ctl_state::cluster::Cluster;
+use ctl_state::counting::count_holding;
+use run_limits::tally::Tally;
 use slurm_text::memory_error::Memory;
 use slurm_text::ranged::Ranged;
 use std::alloc::Global;
@@ -27,8 +28,8 @@ pub(crate) struct Outlook {
     pub(crate) highest: Option<u32>,
     /// The seconds that the plan gives, by the numbers of the jobs.
     pub(crate) starts: HashMap<u32, Second>,
-    /// How many tasks of each array hold processors.
-    pub(crate) counts: ArrayCounts,
+    /// What the jobs count that hold processors.
+    pub(crate) tally: Tally,
 }
 
 // The seconds that the plan gives, by the numbers of the jobs. Linear in the plan.
@@ -44,15 +45,16 @@ fn starts_of(alloc: Global, plan: &[Placed]) -> Result<HashMap<u32, Second>, Mem
     Ok(starts)
 }
 
-/// Linear in the jobs and the plan.
+/// Linear in the jobs and the plan; each job that holds processors, and each pending one that is higher in rank than the
+/// candidates before it, costs its association's way up to root besides.
 pub(crate) fn outlook_of(alloc: Global, cluster: &Cluster) -> Result<Outlook, Memory>
     requires { IsSound (state_of cluster.now) }
     ensures { IfOk result (IsOutlook (state_of cluster.now)) }
 {
-    let counts = count_arrays(alloc, cluster.jobs.records())?;
+    let tally = count_holding(alloc, &cluster.assocs, cluster.jobs.records())?;
     Ok(Outlook {
-        highest: highest(cluster, &counts),
+        highest: highest(cluster, &tally),
         starts: starts_of(alloc, &cluster.plan)?,
-        counts,
+        tally,
     })
 }

@@ -52,8 +52,9 @@ pub fn refusal_of(cluster: &Cluster, query: &Query) -> Option<Refusal>
 }
 
 /// What a user's query shows, at its raised moment. A query of jobs is linear in these, in the parts of those that are
-/// shown, and in the plan, and for each job in the targets and states that it names; one of partitions in the nodes,
-/// the jobs' parts and the nodes of the partitions that it shows.
+/// shown, and in the plan, and for each job in the targets and states that it names; each job that holds processors and
+/// each pending one costs its association's way up to root besides. One of partitions is linear in the nodes, the jobs'
+/// parts and the nodes of the partitions that it shows.
 #[tactic(auto, unfolding(crate::specs::Showing::view_of))]
 pub fn view_of(
     alloc: Global,

@@ -1,19 +1,14 @@
 -- Why a request is refused: the first of its refusals that stands.
-use Rattle.std.specs.Prelude.{ℕ, Bool, ◌||◌, if◌then◌else◌, List, [], ◌∷◌, Option, Some, None, codes}
+use Rattle.std.specs.Prelude.{ℕ, Bool, ◌||◌, if◌then◌else◌, List, Option, Some, None, codes}
 use Rattle.std.specs.Str.{bytes_eq}
 use Rattle.slurm_text.specs.declared.plain.refusal.Refusal.{Refusal}
 use Rattle.ctl_state.specs.State.{State}
 use Rattle.ctl_state.specs.Verdicts.{Verdict, Refuses}
+pub use Rattle.run_limits.specs.Submitting.{first_refusal}
 
 -- a refusal that stands where this is so
 abbrev pub refused_if : Bool → Refusal → Option Refusal
 refused_if stands refusal = if stands then Some refusal else None
-
--- the first refusal that stands
-abbrev pub first_refusal : List (Option Refusal) → Option Refusal
-first_refusal [] = None
-first_refusal (None ∷ later) = first_refusal later
-first_refusal (Some refusal ∷ later) = Some refusal
 
 -- what comes of a request where no refusal stands, or the refusal
 abbrev pub unless_refused : Option Refusal → Verdict → Verdict

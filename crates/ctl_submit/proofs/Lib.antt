@@ -2,3 +2,4 @@ pub mod Made
 pub mod Refused
 pub mod Deciding
 pub mod Keeping
+mod Unended

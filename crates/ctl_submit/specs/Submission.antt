@@ -1,5 +1,5 @@
 -- A submission: its refusals, and the jobs that it makes.
-use Rattle.std.specs.Prelude.{◌≡◌, ◌≤◌, ℕ, ◌+◌, min, max, Bool, true, false, ◌&&◌, not, is_none, is_some, nat_le, nat_lt, if◌then◌else◌, unwrap_or, List, [], ◌∷◌, ◌++◌, length, map, filter, slice_get, bytes_eq, codes, All, Option, Some, None, option_map, option_and_then, Result, Ok, Err}
+use Rattle.std.specs.Prelude.{◌≡◌, ◌≤◌, ℕ, ◌+◌, min, max, Bool, true, false, ◌&&◌, not, is_none, is_some, nat_le, nat_lt, if◌then◌else◌, unwrap_or, List, [], ◌∷◌, ◌++◌, length, map, filter, count_by, slice_get, bytes_eq, codes, All, Option, Some, None, option_map, option_and_then, Result, Ok, Err}
 use Rattle.std.specs.List.{list_any, enumerate_from}
 use Rattle.std.specs.Option.{option_or, option_to_list}
 use Rattle.slurm_text.specs.declared.plain.array.ArraySpec.{ArraySpec}
@@ -22,6 +22,8 @@ use Rattle.partitions.specs.Partitions
 use Rattle.accounts_qos.specs.declared.record.AssocRecord.{AssocRecord}
 use Rattle.accounts_qos.specs.Accounts.{account_of, place_meant, qos_meant}
 use Rattle.run_limits.specs.declared.counted.Counted.{Counted}
+use Rattle.run_limits.specs.declared.counted.Group.{Group}
+use Rattle.run_limits.specs.Counting.{is_in}
 use Rattle.run_limits.specs.Limits.{Beside}
 use Rattle.run_limits.specs.Submitting.{submit_limits}
 use Rattle.job_table.specs.declared.record.JobRecord.{JobRecord}
@@ -184,6 +186,11 @@ is_too_large s (Some array) = list_any (nat_le s.settings.max_array_size) array.
 -- the jobs that haven't ended, as limits count them
 unfoldable pub unended : List JobRecord → List Counted
 unended jobs = map counted_of (filter (λ (job : JobRecord). not (is_ended job.state)) jobs)
+
+-- how many of the jobs of a group haven't ended
+unfoldable pub jobs_unended : List AssocRecord → List JobRecord → Group → ℕ
+jobs_unended assocs jobs group =
+    count_by (λ (job : JobRecord). not (is_ended job.state) && is_in assocs group (counted_of job)) jobs
 
 -- what a submission is counted beside
 abbrev pub beside_unended : State → Beside

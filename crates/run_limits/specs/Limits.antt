@@ -1,7 +1,6 @@
 -- Which limits a job reaches beside jobs that hold processors.
-use Rattle.std.specs.Prelude.{ℕ, ◌+◌, Bool, true, false, nat_lt, nat_le, if◌then◌else◌, List, [], ◌∷◌, map, Option, Some, None}
+use Rattle.std.specs.Prelude.{ℕ, ◌+◌, Bool, false, nat_lt, nat_le, if◌then◌else◌, List, [], ◌∷◌, ◌++◌, map, Option, Some, None}
 use Rattle.std.specs.List.{list_any}
-use Rattle.slurm_text.specs.declared.plain.assoc.AssocLimits.{AssocLimits}
 use Rattle.slurm_text.specs.declared.plain.assoc.QosLimits.{QosLimits}
 use Rattle.slurm_text.specs.declared.plain.state.Reason.{Reason}
 use Rattle.slurm_text.specs.declared.plain.state.Reason.TheVariants.{JobArrayTaskLimit, AssocGrpJobsLimit, AssocGrpCpuLimit, AssocMaxJobsLimit, QosGrpJobsLimit, QosGrpCpuLimit, QosMaxJobsPerUserLimit, QosMaxCpuPerUserLimit}
@@ -64,6 +63,15 @@ abbrev pub most_jobs : Beside → ℕ → Option ℕ
 most_jobs beside assoc =
     nearest (map (λ place. (limits_at beside.assocs place).max_jobs) (above beside.assocs assoc))
 
+-- the limits of the job's association, and of those above it, that it reaches
+abbrev pub assoc_limits_reached : Beside → Counted → List (Option Reason)
+assoc_limits_reached beside job =
+    reason_if (list_any (has_jobs_too_many beside) (above beside.assocs job.assoc)) AssocGrpJobsLimit
+    ∷ reason_if (list_any (has_cpus_too_many beside job.cpus) (above beside.assocs job.assoc)) AssocGrpCpuLimit
+    ∷ reason_if (is_above (most_jobs beside job.assoc) ((counts_in beside
+    (Below job.assoc)).jobs + 1)) AssocMaxJobsLimit
+    ∷ []
+
 -- the limits of the job's quality of service that it reaches, with what those in it, and those of its user in it, count
 abbrev pub qos_limits_reached : QosLimits → Counts → Counts → ℕ → List (Option Reason)
 qos_limits_reached limits all users cpus =
@@ -77,8 +85,6 @@ qos_limits_reached limits all users cpus =
 unfoldable pub limits_reached : Beside → Counted → Option ℕ → List (Option Reason)
 limits_reached beside job most =
     reason_if (is_full beside job.array most) JobArrayTaskLimit
-    ∷ reason_if (list_any (has_jobs_too_many beside) (above beside.assocs job.assoc)) AssocGrpJobsLimit
-    ∷ reason_if (list_any (has_cpus_too_many beside job.cpus) (above beside.assocs job.assoc)) AssocGrpCpuLimit
-    ∷ reason_if (is_above (most_jobs beside job.assoc) ((counts_in beside (Below job.assoc)).jobs + 1)) AssocMaxJobsLimit
-    ∷ qos_limits_reached (qos_limits_at beside.qos job.qos) (counts_in beside (InQos job.qos))
-      (counts_in beside (OfUser job.assoc job.qos)) job.cpus
+    ∷ (assoc_limits_reached beside job
+    ++ qos_limits_reached (qos_limits_at beside.qos job.qos) (counts_in beside (InQos job.qos))
+    (counts_in beside (OfUser job.assoc job.qos)) job.cpus)

@@ -6,7 +6,6 @@ use Rattle.slurm_text.specs.declared.plain.refusal.Which.{Which}
 use Rattle.slurm_text.specs.declared.plain.refusal.Which.TheVariants.{AssocMaxSubmitJobs, AssocGrpSubmitJobs, QosGrpSubmitJobs, QosMaxSubmitJobsPerUser}
 use Rattle.accounts_qos.specs.Accounts.{above, limits_at, qos_limits_at}
 use Rattle.run_limits.specs.declared.counted.Counted.{Counted}
-use Rattle.run_limits.specs.declared.counted.Group.{Group}
 use Rattle.run_limits.specs.declared.counted.Group.TheVariants.{Below, InQos, OfUser}
 use Rattle.run_limits.specs.Limits.{Beside, counts_in, nearest}
 
@@ -25,7 +24,14 @@ submit_limits beside job new =
     (λ place. exceeded AssocGrpSubmitJobs (limits_at beside.assocs place).grp_submit
     ((counts_in beside (Below place)).jobs + new))
     (above beside.assocs job.assoc)
-    ++ exceeded QosGrpSubmitJobs (qos_limits_at beside.qos job.qos).grp_submit ((counts_in beside (InQos job.qos)).jobs + new)
+    ++ exceeded QosGrpSubmitJobs (qos_limits_at beside.qos job.qos).grp_submit ((counts_in beside
+    (InQos job.qos)).jobs + new)
     ∷ exceeded QosMaxSubmitJobsPerUser (qos_limits_at beside.qos job.qos).user_submit
     ((counts_in beside (OfUser job.assoc job.qos)).jobs + new)
     ∷ [])
+
+-- the first refusal that stands
+abbrev pub first_refusal : List (Option Refusal) → Option Refusal
+first_refusal [] = None
+first_refusal (None ∷ later) = first_refusal later
+first_refusal (Some refusal ∷ later) = Some refusal

@@ -2,6 +2,9 @@
 #![tactic(auto)]
 
 pub mod counted;
+pub mod groups;
 pub mod laws;
+mod limit;
 pub mod reasons;
+pub mod submitting;
 pub mod tally;

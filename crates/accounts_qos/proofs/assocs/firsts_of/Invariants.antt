@@ -5,4 +5,5 @@ use Rattle.accounts_qos.specs.Accounts.{is_named}
 use Rattle.accounts_qos.proofs.assocs.firsts_of.Given as goal
 
 abbrev pub invariant-loop-place : goal.invariant-loop-place
-invariant-loop-place l = (name : List ℕ) → get bytes_eq l.firsts name ≡ position (is_named name) (take l.place l.records)
+invariant-loop-place l = (name : List ℕ) → get bytes_eq l.firsts name
+    ≡ position (is_named name) (take l.place l.records)

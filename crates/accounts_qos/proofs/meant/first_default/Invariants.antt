@@ -5,4 +5,5 @@ use Rattle.accounts_qos.proofs.meant.first_default.Given as goal
 
 abbrev pub invariant-loop-assoc : goal.invariant-loop-assoc
 invariant-loop-assoc l =
-    filter_map (default_by l.records l.user) (drop l.assoc-index l.records) ≡ filter_map (default_by l.records l.user) l.records
+    filter_map (default_by l.records l.user) (drop l.assoc-index l.records)
+    ≡ filter_map (default_by l.records l.user) l.records

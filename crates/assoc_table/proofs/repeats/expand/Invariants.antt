@@ -1,4 +1,3 @@
-use Rattle.std.proofs.Common.{◌+◌, length}
 use Rattle.std.specs.Option.{option_copied}
 use Rattle.assoc_reader.specs.Options.{text_left}
 use Rattle.assoc_table.proofs.repeats.expand.Given as goal

@@ -20,7 +20,7 @@ begin-requires-clause-due c =
     let due : AreDue (unplanned now (ready s now)) c.args.decided.starts.items =
     record {
       prepared = decided.prepared;
-      due = rw decided.starts (due-now s.nodes now (jobs_left s now) (placements s now));
+      due = rw decided.starts (due-now s now (jobs_left s now) (placements s now));
       can = rw decided.starts can;
     } in
     let AreAll : State → Type 0 = λ one. AreDue (unplanned now one) c.args.decided.starts.items in

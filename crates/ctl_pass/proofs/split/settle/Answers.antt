@@ -1,6 +1,5 @@
-use Rattle.std.proofs.Common.{◌≡◌, ◌+◌, true, false, ◌&&◌, eqb, [], ◌∷◌, length, drop, sym, ◌∙◌, refl, arith}
+use Rattle.std.proofs.Common.{◌≡◌, ◌+◌, true, false, ◌&&◌, eqb, [], ◌∷◌, length, drop, sym, ◌∙◌, refl, arith, rules}
 use Rattle.std.proofs.lemmas.Bool.{eq-eqb, ne_eqb}
-use Rattle.std.proofs.lemmas.Bool.Decides.{nat_tests}
 use Rattle.std.proofs.lemmas.Iterator.Adapters.{YieldsList-from_vec}
 use Rattle.std.proofs.lemmas.Iterator.Consumers.{YieldsList-end, YieldsList-turn}
 use Rattle.std.proofs.lemmas.List.{append-nil, drop_all, length_push, map-append}
@@ -27,20 +26,13 @@ loop-placed-preserved-then-may_start c =
     let here = YieldsList-turn chain c.loop-placed.yielded c.loop-placed.placed-iterator c.loop-placed.yielded_by
     c.next.result c.next.new.self c.in-Some.placed c.in-Some.is c.next.ensures.steps in
     record {
-      room = λ array. grind (
-        arith,
-        nat_tests,
-        c.in_ok-count_start.ensures array,
-        c.loop-placed.invariant.room array,
-        length_push c.loop-placed.yielded placed,
-      );
       prepared = rw c.in_ok-push.ensures.items (All-push (IsPrepared s.nodes) c.loop-placed.starts.items
           c.in_ok-prepare.field-0 c.loop-placed.invariant.prepared
           (rw c.records.ensures.value at c.in_ok-prepare.ensures.prepared));
       first = λ jobs can.
           let so_far = rw (next all count placed here.0 here.1) at (c.loop-placed.invariant.first jobs can) in
           let middle = begun_all s now jobs (placements_of c.loop-placed.starts.items) in
-          let due : (eqb placed.start now && may_start middle placed.id) ≡ true =
+          let due : (eqb placed.start now && may_start s middle placed.id) ≡ true =
           rw (eq-eqb placed.start now c.if-placed-now.true)
           (may-as-said so_far c.may_start.result c.may_start.ensures ∙ c.if-may_start.true) in
           rw (
@@ -49,7 +41,8 @@ loop-placed-preserved-then-may_start c =
             map-append (λ (start : DueStart). start.placed) c.loop-placed.starts.items (c.in_ok-prepare.field-0 ∷ []),
             c.in_ok-prepare.ensures.placed,
           )
-          (first-begun s now c.args.cluster.now.jobs.records jobs c.loop-placed.counts c.count_start.new.counts placed
+          (first-begun (search rules) s now c.args.cluster.now.jobs.records jobs c.loop-placed.tally
+          c.count_start.new.tally placed
           (drop (count + 1) all) (placements_of c.loop-placed.starts.items) c.loop-placed.stays.items all due
           c.in_ok-count_start.ensures so_far);
       next = tt;
@@ -69,19 +62,18 @@ loop-placed-preserved c =
     let here = YieldsList-turn chain c.loop-placed.yielded c.loop-placed.placed-iterator c.loop-placed.yielded_by
     c.next.result c.next.new.self c.in-Some.placed c.in-Some.is c.next.ensures.steps in
     record {
-      room = λ array. omega (arith, c.loop-placed.invariant.room array, length_push c.loop-placed.yielded placed);
       prepared = c.loop-placed.invariant.prepared;
       first = λ jobs can.
           let so_far = rw (next all count placed here.0 here.1) at (c.loop-placed.invariant.first jobs can) in
           let middle = begun_all s now jobs (placements_of c.loop-placed.starts.items) in
-          let other : (eqb placed.start now && may_start middle placed.id) ≡ false = elim c.else-placed-now.branch [
+          let other : (eqb placed.start now && may_start s middle placed.id) ≡ false = elim c.else-placed-now.branch [
             | else-placed-now-via-then-placed-now+else-may_start w ↦
                 rw (eq-eqb placed.start now w.if-placed-now.true)
                 (may-as-said so_far w.may_start.result w.may_start.ensures ∙ w.if-may_start.false)
             | else-placed-now-via-else-placed-now w ↦ rw (ne_eqb placed.start now w.if-placed-now.false) refl
           ] in
           rw (length_push c.loop-placed.yielded placed, c.in_ok-push-2.ensures.items)
-          (first-passed s now c.args.cluster.now.jobs.records jobs c.loop-placed.counts placed (drop (count + 1) all)
+          (first-passed s now c.args.cluster.now.jobs.records jobs c.loop-placed.tally placed (drop (count + 1) all)
           (placements_of c.loop-placed.starts.items) c.loop-placed.stays.items all other so_far);
       next = tt;
       finite = tt;

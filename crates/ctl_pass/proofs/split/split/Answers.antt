@@ -1,13 +1,11 @@
-use Rattle.std.proofs.Common.{length, ap, sym, ◌∙◌, arith}
+use Rattle.std.proofs.Common.{ap, sym, ◌∙◌}
 use Rattle.std.proofs.lemmas.Result.{IfOk-weaker}
 use Rattle.ctl_state.specs.State.{state_of}
-use Rattle.ctl_pass.specs.Awaiting.{CanBegin, placements_of}
+use Rattle.ctl_pass.specs.Awaiting.{placements_of}
 use Rattle.ctl_pass.specs.Readiness.{jobs_left, placements}
 use Rattle.ctl_pass.specs.Starting.{due, started}
-use Rattle.ctl_pass.proofs.Few.{few-planned}
-use Rattle.ctl_pass.proofs.Planned.{can-begin-ready, few-jobs}
+use Rattle.ctl_pass.proofs.Planned.{can-begin-ready}
 use Rattle.ctl_pass.proofs.Splits.{none-starts}
-use Rattle.ctl_pass.proofs.Tasks.{holding-few}
 use Rattle.ctl_pass.proofs.split.split.Goals as goal
 
 pub returns-then-not-any_begins-clause-starts : goal.returns-then-not-any_begins-clause-starts
@@ -23,41 +21,26 @@ returns-then-not-any_begins-clause-stays c =
     let none = rw (c.deref.ensures.value, c.requires.plan) at (sym c.any_begins.ensures ∙ c.if-not-any_begins.true) in
     c.requires.plan ∙ sym (none-starts s c.args.now (jobs_left s c.args.now) (placements s c.args.now) none).1
 
-pub settle-requires : goal.settle-requires
-settle-requires c = λ array.
-    let s = state_of c.args.cluster.now in
-    let plan = few-planned c.a_stable_sort_makes_the_order.ensures.moves s c.args.now c.requires.sound in
-    omega (
-      arith,
-      c.requires.counted.each array,
-      holding-few s.jobs array,
-      few-jobs s c.requires.sound,
-      plan,
-      ap length c.requires.plan,
-    )
-
--- the placements can begin beside the counts
-can : (c : goal.After-drop-counts-2)
-    → CanBegin c.args.cluster.now.jobs.records (jobs_left (state_of c.args.cluster.now) c.args.now) c.args.counts
-    c.args.placements.items
-can c =
-    let s = state_of c.args.cluster.now in
-    let sound = c.what_a_pass_plans_is_sound.ensures s c.args.now c.requires.sound c.requires.raised
-    c.requires.in_time in
-    can-begin-ready c.a_stable_sort_makes_the_order.ensures.moves c.a_stable_sort_makes_the_order.ensures.apart
-    c.placements_are_of_ranked_jobs.ensures.ids c.placements_are_of_ranked_jobs.ensures.apart s c.args.now c.args.counts
-    c.args.placements.items c.requires.sound sound c.requires.plan c.requires.counted
-
 pub returns-clause-starts : goal.returns-clause-starts
 returns-clause-starts c =
     let s = state_of c.args.cluster.now in
     let left = jobs_left s c.args.now in
-    IfOk-weaker c.settle.result _ _ (λ both has. has left (can c)
-    ∙ ap (λ plan. due s.nodes c.args.now left plan) c.requires.plan) c.settle.ensures.starts
+    let sound = c.what_a_pass_plans_is_sound.ensures s c.args.now c.requires.sound c.requires.raised
+    c.requires.in_time in
+    let can = can-begin-ready c.a_stable_sort_makes_the_order.ensures.moves c.a_stable_sort_makes_the_order.ensures.apart
+    c.placements_are_of_ranked_jobs.ensures.ids c.placements_are_of_ranked_jobs.ensures.apart s c.args.now c.args.tally
+    c.args.placements.items c.requires.sound sound c.requires.plan c.requires.counted in
+    IfOk-weaker c.settle.result _ _ (λ both has. has left can
+    ∙ ap (λ plan. due s c.args.now left plan) c.requires.plan) c.settle.ensures.starts
 
 pub returns-clause-stays : goal.returns-clause-stays
 returns-clause-stays c =
     let s = state_of c.args.cluster.now in
     let left = jobs_left s c.args.now in
-    IfOk-weaker c.settle.result _ _ (λ both has. has left (can c)
+    let sound = c.what_a_pass_plans_is_sound.ensures s c.args.now c.requires.sound c.requires.raised
+    c.requires.in_time in
+    let can = can-begin-ready c.a_stable_sort_makes_the_order.ensures.moves c.a_stable_sort_makes_the_order.ensures.apart
+    c.placements_are_of_ranked_jobs.ensures.ids c.placements_are_of_ranked_jobs.ensures.apart s c.args.now c.args.tally
+    c.args.placements.items c.requires.sound sound c.requires.plan c.requires.counted in
+    IfOk-weaker c.settle.result _ _ (λ both has. has left can
     ∙ ap (λ plan. (started s c.args.now left plan).stays) c.requires.plan) c.settle.ensures.stays

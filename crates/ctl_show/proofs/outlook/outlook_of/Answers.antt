@@ -5,7 +5,7 @@ use Rattle.ctl_show.proofs.outlook.outlook_of.Goals as goal
 pub returns : goal.returns
 unfolding highest
 returns c = record {
-  counts = rw c.records.ensures.value at c.in_ok-counts.ensures;
+  tally = rw c.records.ensures.value at c.in_ok-tally.ensures;
   highest = c.highest.ensures;
   starts = λ id. c.in_ok-starts_of.ensures id ∙ ap (λ plan. planned_start plan id) c.deref.ensures.value;
 }

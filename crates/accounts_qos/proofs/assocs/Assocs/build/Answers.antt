@@ -1,10 +1,11 @@
-use Rattle.std.proofs.Common.{arith, ◌∙◌}
+use Rattle.std.proofs.Common.{arith}
 use Rattle.accounts_qos.proofs.Way.{rooted_opened}
 use Rattle.accounts_qos.proofs.assocs.Assocs.build.Goals as goal
 
 pub invariant_of-result : goal.invariant_of-result
-invariant_of-result c =
-    (rw (c.in_ok-records.ensures, c.into_vec.ensures) (rooted_opened c.file.inside.assocs c.file.invariant.under),
-      omega (arith, c.if-len.false, c.len.ensures),
-      omega (arith, c.if-len-2.false, c.len-else-len.ensures),
-      rw (← c.as_slice.ensures.value) c.in_ok-users.ensures)
+invariant_of-result c = (
+  rw (c.in_ok-records.ensures, c.into_vec.ensures) (rooted_opened c.file.inside.assocs c.file.invariant.under),
+  omega (arith, c.if-len.false, c.len.ensures),
+  omega (arith, c.if-len-2.false, c.len-else-len.ensures),
+  rw (← c.as_slice.ensures.value) c.in_ok-users.ensures,
+)

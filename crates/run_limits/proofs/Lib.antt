@@ -1,0 +1,4 @@
+pub mod Counts
+pub mod Reached
+pub mod Submits
+pub mod Telling

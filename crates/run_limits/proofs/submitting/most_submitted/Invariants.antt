@@ -1,0 +1,10 @@
+-- None stands at the places so far.
+use Rattle.std.proofs.Common.{◌≡◌, map, drop}
+use Rattle.accounts_qos.specs.Accounts.{limits_at}
+use Rattle.run_limits.specs.Limits.{nearest}
+use Rattle.run_limits.proofs.submitting.most_submitted.Given as goal
+
+abbrev pub invariant-loop-place : goal.invariant-loop-place
+invariant-loop-place l =
+    nearest (map (λ place. (limits_at l.assocs.records place).max_submit) (drop l.place-index l.places))
+    ≡ nearest (map (λ place. (limits_at l.assocs.records place).max_submit) l.places)
