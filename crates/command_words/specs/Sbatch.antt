@@ -18,8 +18,7 @@ has_usual_nice (Raise number) = false
 -- whether the controller can do for a job all that it asks for
 unfoldable pub is_built : JobDesc → Bool
 is_built job =
-    is_none job.account && is_none job.qos && is_none job.reservation && is_none job.begin
-    && has_usual_nice job.nice && is_none job.dependency
+    is_none job.reservation && is_none job.begin && has_usual_nice job.nice && is_none job.dependency
 
 abbrev pub wanted_job : JobDesc → Wanted
 wanted_job job = if is_built job then Request (Submit job) else NotBuilt

@@ -28,9 +28,7 @@ fn has_usual_nice(nice: Nice) -> bool
 fn is_built(job: &JobDesc) -> bool
     ensures { result ≡ is_built job.now }
 {
-    job.account.is_none()
-        && job.qos.is_none()
-        && job.reservation.is_none()
+    job.reservation.is_none()
         && job.begin.is_none()
         && has_usual_nice(job.nice)
         && job.dependency.is_none()

@@ -7,6 +7,10 @@ use std::alloc::{AllocError, Global};
 const USUAL_CONF: &[u8] = b"ClusterName=c\nSlurmdTimeout=0\nDefMemPerCPU=1000\n\
     NodeName=n1 CPUs=4 RealMemory=4000\nPartitionName=main Nodes=ALL Default=YES\n";
 
+/// The association file of a case that has none of its own.
+const USUAL_ASSOCS: &[u8] = b"Cluster - 'c'\nParent - 'root'\nAccount - 'acct'\nParent - 'acct'\n\
+    User - 'alice'\nUser - 'bob'\n";
+
 /// The lines of a case that were read so far. Lists are numbers with a blank between two.
 #[derive(Drop)]
 pub struct Case<'a> {
@@ -22,6 +26,8 @@ pub struct Case<'a> {
     pub failing_writes: &'a str,
     /// The file slurm.conf(5), where the case has one of its own.
     pub conf: Option<Vec<u8>>,
+    /// The association file, where the case has one of its own.
+    pub assocs: Option<Vec<u8>>,
     /// The bytes that the program reads.
     pub input: Vec<u8>,
 }
@@ -30,12 +36,13 @@ impl<'a> Case<'a> {
     /// An empty script that is answered in pieces of one byte and of many.
     pub fn new(alloc: Global) -> Self {
         Case {
-            words: "slurmctld --script -f slurm.conf",
+            words: "slurmctld --script -f slurm.conf -a site.assoc",
             pieces: "4096 1",
             failing_files: "",
             failing_reads: "",
             failing_writes: "",
             conf: None,
+            assocs: None,
             input: Vec::new(alloc),
         }
     }
@@ -48,8 +55,17 @@ impl<'a> Case<'a> {
         }
     }
 
+    /// The bytes of its association file.
+    pub fn assocs(&self) -> &[u8] {
+        match &self.assocs {
+            Some(assocs) => assocs.as_slice(),
+            None => USUAL_ASSOCS,
+        }
+    }
+
     /// Takes a line of the case that begins with this key. False where no line does.
     pub fn take(&mut self, key: &str, text: &'a str) -> Result<bool, AllocError> {
+        let alloc = *self.input.allocator();
         match key {
             "words" => self.words = text,
             "pieces" => self.pieces = text,
@@ -57,21 +73,28 @@ impl<'a> Case<'a> {
             "reads" => self.failing_reads = text,
             "writes" => self.failing_writes = text,
             "<" | "<!" | "<*" => push_text(&mut self.input, key, text)?,
-            "=" | "=!" | "=*" => self.take_conf(key, text)?,
+            "=" | "=!" | "=*" => push_to(alloc, &mut self.conf, key, text)?,
+            "@" | "@!" | "@*" => push_to(alloc, &mut self.assocs, key, text)?,
             _ => return Ok(false),
         }
         Ok(true)
     }
+}
 
-    fn take_conf(&mut self, key: &str, text: &str) -> Result<(), AllocError> {
-        let mut conf = match self.conf.take() {
-            Some(conf) => conf,
-            None => Vec::new(*self.input.allocator()),
-        };
-        push_text(&mut conf, key, text)?;
-        self.conf = Some(conf);
-        Ok(())
-    }
+// Adds a line to a file, which begins with it where there was none.
+fn push_to(
+    alloc: Global,
+    file: &mut Option<Vec<u8>>,
+    key: &str,
+    text: &str,
+) -> Result<(), AllocError> {
+    let mut bytes = match file.take() {
+        Some(bytes) => bytes,
+        None => Vec::new(alloc),
+    };
+    push_text(&mut bytes, key, text)?;
+    *file = Some(bytes);
+    Ok(())
 }
 
 // A line of a text; with `!` behind its key one without an end, with `*` a text so many times.

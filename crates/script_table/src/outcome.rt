@@ -42,12 +42,15 @@ fn numbers_of(alloc: Global, text: &str) -> Result<Vec<u64>, AllocError> {
     Ok(numbers)
 }
 
-// The shelf of the case, with its file slurm.conf(5).
+// The shelf of the case, with its two files.
 fn shelf_of(alloc: Global, case: &Case<'_>) -> Result<MemShelf, AllocError> {
-    let name = String::from_str(alloc, "slurm.conf")?;
+    let conf_name = String::from_str(alloc, "slurm.conf")?;
     let conf = Vec::from_slice(alloc, case.conf())?;
+    let assocs_name = String::from_str(alloc, "site.assoc")?;
+    let assocs = Vec::from_slice(alloc, case.assocs())?;
     let failing = numbers_of(alloc, case.failing_files)?;
-    Ok(MemShelf::new(vec![in alloc; (name, conf)]?, failing))
+    let files = vec![in alloc; (conf_name, conf), (assocs_name, assocs)]?;
+    Ok(MemShelf::new(files, failing))
 }
 
 /// Runs the case with at most so many bytes a call.

@@ -1,14 +1,18 @@
 -- The text of a refusal.
 use Rattle.std.specs.Prelude.{ℕ, List, [], ◌++◌, codes, decimal}
 use Rattle.slurm_text.specs.declared.plain.refusal.Refusal.{Refusal}
-use Rattle.slurm_text.specs.declared.plain.refusal.Refusal.TheVariants.{PartitionClosed, InvalidAccount, InvalidPartition, NodesNotAvailable, NotAllowedHere, JobTableFull, ArrayTooLarge, InvalidJobId, AccessDenied, AlreadyDone, UnknownNode, StaleReport, HistoryFull, JobIdsSpent, MomentTooLarge}
+use Rattle.slurm_text.specs.declared.plain.refusal.Refusal.TheVariants.{PartitionClosed, InvalidAccount, InvalidPartition, InvalidQos, NodesNotAvailable, NotAllowedHere, SubmitLimit, JobTableFull, ArrayTooLarge, InvalidJobId, AccessDenied, AlreadyDone, UnknownNode, StaleReport, HistoryFull, JobIdsSpent, MomentTooLarge}
+use Rattle.slurm_text.specs.declared.plain.refusal.Which.{Which}
+use Rattle.slurm_text.specs.declared.plain.refusal.Which.TheVariants.{AssocMaxSubmitJobs, AssocGrpSubmitJobs, QosGrpSubmitJobs, QosMaxSubmitJobsPerUser}
 
 abbrev pub refusal_name : Refusal → List ℕ
 refusal_name PartitionClosed = codes "PartitionClosed"
 refusal_name InvalidAccount = codes "InvalidAccount"
 refusal_name InvalidPartition = codes "InvalidPartition"
+refusal_name InvalidQos = codes "InvalidQos"
 refusal_name NodesNotAvailable = codes "NodesNotAvailable"
 refusal_name NotAllowedHere = codes "NotAllowedHere"
+refusal_name (SubmitLimit which limit) = codes "SubmitLimit"
 refusal_name JobTableFull = codes "JobTableFull"
 refusal_name ArrayTooLarge = codes "ArrayTooLarge"
 refusal_name InvalidJobId = codes "InvalidJobId"
@@ -24,8 +28,10 @@ abbrev pub refusal_number : Refusal → ℕ
 refusal_number PartitionClosed = 1
 refusal_number InvalidAccount = 2
 refusal_number InvalidPartition = 3
+refusal_number InvalidQos = 4
 refusal_number NodesNotAvailable = 5
 refusal_number NotAllowedHere = 6
+refusal_number (SubmitLimit which limit) = 7
 refusal_number JobTableFull = 8
 refusal_number ArrayTooLarge = 9
 refusal_number InvalidJobId = 10
@@ -37,8 +43,17 @@ refusal_number HistoryFull = 18
 refusal_number JobIdsSpent = 19
 refusal_number MomentTooLarge = 20
 
--- what stands behind the number: the last accepted report of the node, where this one isn't after it
+-- a limit of submitted jobs, as squeue(1) names such limits in "JOB REASON CODES"
+abbrev pub which_name : Which → List ℕ
+which_name AssocMaxSubmitJobs = codes "AssocMaxSubmitJobs"
+which_name AssocGrpSubmitJobs = codes "AssocGrpSubmitJobs"
+which_name QosGrpSubmitJobs = codes "QOSGrpSubmitJobs"
+which_name QosMaxSubmitJobsPerUser = codes "QOSMaxSubmitJobsPerUser"
+
+-- what stands behind the number: the limit that would be exceeded, or the last accepted report of the node, where this
+-- one isn't after it
 abbrev pub refusal_details : Refusal → List ℕ
+refusal_details (SubmitLimit which limit) = codes " " ++ which_name which ++ codes " " ++ decimal limit
 refusal_details (StaleReport boot number) = codes " " ++ decimal boot ++ codes " " ++ decimal number
 refusal_details refusal = []
 

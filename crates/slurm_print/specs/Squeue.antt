@@ -14,7 +14,7 @@ use Rattle.slurm_text.specs.declared.plain.state.JobState.{JobState}
 use Rattle.slurm_text.specs.declared.plain.state.JobState.TheVariants.{Pending, Running, Completing, Ended}
 use Rattle.slurm_text.specs.declared.plain.state.Final.TheVariants.{Completed, Cancelled, Failed, Timeout, NodeFail, Requeue}
 use Rattle.slurm_text.specs.declared.plain.state.Reason.{Reason}
-use Rattle.slurm_text.specs.declared.plain.state.Reason.TheVariants.{JobHeldAdmin, JobHeldUser, PartitionInactive, PartitionDown, PartitionTimeLimit, PartitionNodeLimit, JobArrayTaskLimit, ReqNodeNotAvail, Resources, Priority}
+use Rattle.slurm_text.specs.declared.plain.state.Reason.TheVariants.{JobHeldAdmin, JobHeldUser, PartitionInactive, PartitionDown, PartitionTimeLimit, PartitionNodeLimit, QosMaxWallDurationPerJobLimit, JobArrayTaskLimit, AssocGrpJobsLimit, AssocGrpCpuLimit, AssocMaxJobsLimit, QosGrpJobsLimit, QosGrpCpuLimit, QosMaxJobsPerUserLimit, QosMaxCpuPerUserLimit, ReqNodeNotAvail, Resources, Priority}
 use Rattle.slurm_text.specs.declared.plain.view.JobRow.{JobRow}
 use Rattle.slurm_text.specs.declared.plain.view.Row.{Row}
 use Rattle.slurm_text.specs.declared.plain.view.Row.TheVariants.{Job, States}
@@ -52,7 +52,15 @@ reason_name PartitionInactive = codes "PartitionInactive"
 reason_name PartitionDown = codes "PartitionDown"
 reason_name PartitionTimeLimit = codes "PartitionTimeLimit"
 reason_name PartitionNodeLimit = codes "PartitionNodeLimit"
+reason_name QosMaxWallDurationPerJobLimit = codes "QOSMaxWallDurationPerJobLimit"
 reason_name JobArrayTaskLimit = codes "JobArrayTaskLimit"
+reason_name AssocGrpJobsLimit = codes "AssocGrpJobsLimit"
+reason_name AssocGrpCpuLimit = codes "AssocGrpCpuLimit"
+reason_name AssocMaxJobsLimit = codes "AssocMaxJobsLimit"
+reason_name QosGrpJobsLimit = codes "QOSGrpJobsLimit"
+reason_name QosGrpCpuLimit = codes "QOSGrpCpuLimit"
+reason_name QosMaxJobsPerUserLimit = codes "QOSMaxJobsPerUserLimit"
+reason_name QosMaxCpuPerUserLimit = codes "QOSMaxCpuPerUserLimit"
 reason_name ReqNodeNotAvail = codes "ReqNodeNotAvail"
 reason_name Resources = codes "Resources"
 reason_name Priority = codes "Priority"

@@ -1,11 +1,11 @@
 //! The text of a refusal.
 
 ghost use Rattle.std.specs.Prelude.{◌≡◌, ◌++◌, OnOk};
-ghost use Rattle.slurm_print.specs.Refusal.{refusal_line, refusal_name, refusal_number, refusal_details};
+ghost use Rattle.slurm_print.specs.Refusal.{refusal_line, refusal_name, refusal_number, refusal_details, which_name};
 
 use crate::line::{push_labelled, push_text};
 use slurm_text::memory_error::Memory;
-use slurm_text::plain::refusal::Refusal;
+use slurm_text::plain::refusal::{Refusal, Which};
 
 /// Writes the line of a refusal, which begins with the command.
 pub(crate) fn push_refusal(
@@ -32,8 +32,10 @@ fn name(refusal: &Refusal) -> &'static [u8]
         Refusal::PartitionClosed => b"PartitionClosed",
         Refusal::InvalidAccount => b"InvalidAccount",
         Refusal::InvalidPartition => b"InvalidPartition",
+        Refusal::InvalidQos => b"InvalidQos",
         Refusal::NodesNotAvailable => b"NodesNotAvailable",
         Refusal::NotAllowedHere => b"NotAllowedHere",
+        Refusal::SubmitLimit { .. } => b"SubmitLimit",
         Refusal::JobTableFull => b"JobTableFull",
         Refusal::ArrayTooLarge => b"ArrayTooLarge",
         Refusal::InvalidJobId => b"InvalidJobId",
@@ -54,8 +56,10 @@ fn number(refusal: &Refusal) -> u64
         Refusal::PartitionClosed => 1,
         Refusal::InvalidAccount => 2,
         Refusal::InvalidPartition => 3,
+        Refusal::InvalidQos => 4,
         Refusal::NodesNotAvailable => 5,
         Refusal::NotAllowedHere => 6,
+        Refusal::SubmitLimit { .. } => 7,
         Refusal::JobTableFull => 8,
         Refusal::ArrayTooLarge => 9,
         Refusal::InvalidJobId => 10,
@@ -72,9 +76,27 @@ fn number(refusal: &Refusal) -> u64
 fn push_details(out: &mut Vec<u8>, refusal: &Refusal) -> Result<(), Memory>
     ensures { OnOk result (out.new.items ≡ out.old.items ++ refusal_details refusal.now) }
 {
-    if let Refusal::StaleReport { boot, number } = refusal {
-        push_labelled(out, b" ", *boot)?;
-        push_labelled(out, b" ", *number)?;
+    match refusal {
+        Refusal::SubmitLimit { which, limit } => {
+            push_text(out, b" ")?;
+            push_text(out, which_name(*which))?;
+            push_labelled(out, b" ", *limit)
+        }
+        Refusal::StaleReport { boot, number } => {
+            push_labelled(out, b" ", *boot)?;
+            push_labelled(out, b" ", *number)
+        }
+        _ => Ok(()),
     }
-    Ok(())
+}
+
+fn which_name(which: Which) -> &'static [u8]
+    ensures { result.now ≡ which_name which }
+{
+    match which {
+        Which::AssocMaxSubmitJobs => b"AssocMaxSubmitJobs",
+        Which::AssocGrpSubmitJobs => b"AssocGrpSubmitJobs",
+        Which::QosGrpSubmitJobs => b"QOSGrpSubmitJobs",
+        Which::QosMaxSubmitJobsPerUser => b"QOSMaxSubmitJobsPerUser",
+    }
 }

@@ -1,7 +1,7 @@
 pub mod Blocks
 pub mod Completeness
 pub mod Ends
-pub mod Files
+pub mod FileTexts
 pub mod Lines
 pub mod Scripts
 pub mod Telling

@@ -1,4 +1,5 @@
 pub mod Cluster
+pub mod Files
 pub mod Lines
 pub mod Run
 pub mod Script

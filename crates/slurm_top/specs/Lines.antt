@@ -1,12 +1,14 @@
 -- How a run ends: its status, and the line that is written to errors.
 use Rattle.std.specs.Prelude.{◌≡◌, ℕ, ◌-◌, ◌^◌, ◌<◌, Option, List, [], ◌++◌, take, codes, decimal}
 use Rattle.std.specs.Io.KnownBytes.{Appends}
+use Rattle.assoc_reader.specs.Refusal
+use Rattle.assoc_reader.specs.declared.refusal.AssocKind.{AssocKind}
 use Rattle.conf_values.specs.declared.refusal.ConfKind.{ConfKind}
 use Rattle.conf_values.specs.Refusal.{kind_text}
 use Rattle.ctl_session.specs.declared.session.How.{How}
 use Rattle.ctl_session.specs.declared.session.How.TheVariants as how
 use Rattle.slurm_top.specs.declared.end.End.{End}
-use Rattle.slurm_top.specs.declared.end.End.TheVariants.{Usage, NoConf, BadConf, Memory, Script}
+use Rattle.slurm_top.specs.declared.end.End.TheVariants.{Usage, NoFile, BadConf, BadAssocs, Memory, Script}
 
 -- the status of a script's run
 abbrev pub script_status : How → ℕ
@@ -22,7 +24,8 @@ script_status how.Spent = 9
 abbrev pub status_of : End → ℕ
 status_of Usage = 2
 status_of (BadConf line kind) = 3
-status_of NoConf = 5
+status_of (BadAssocs line kind) = 4
+status_of NoFile = 5
 status_of Memory = 8
 status_of (Script how) = script_status how
 
@@ -34,6 +37,11 @@ place_line place = codes "slurm: error: block at byte " ++ decimal place ++ code
 abbrev pub conf_line : ℕ → ConfKind → List ℕ
 conf_line line kind =
     codes "slurmctld: error: conf line " ++ decimal line ++ codes ": " ++ kind_text kind ++ codes "\n"
+
+-- the line that tells which line of the association file is bad, and why
+abbrev pub assocs_line : ℕ → AssocKind → List ℕ
+assocs_line line kind =
+    codes "slurmctld: error: assoc line " ++ decimal line ++ codes ": " ++ Refusal.kind_text kind ++ codes "\n"
 
 -- the line of a script's run; there is none where the input was answered to its end
 abbrev pub script_line : How → List ℕ
@@ -49,7 +57,8 @@ script_line how.Spent = codes "slurm: error: spent\n"
 abbrev pub line_of : End → List ℕ
 line_of Usage = codes "slurm: error: usage\n"
 line_of (BadConf line kind) = conf_line line kind
-line_of NoConf = codes "slurm: error: read\n"
+line_of (BadAssocs line kind) = assocs_line line kind
+line_of NoFile = codes "slurm: error: read\n"
 line_of Memory = codes "slurm: error: memory\n"
 line_of (Script how) = script_line how
 

@@ -1,10 +1,6 @@
 -- What the program's words ask, and what a run leaves.
-use Rattle.std.specs.Prelude.{◌≡◌, ◌⊎◌, ℕ, ◌≤◌, Bool, ◌&&◌, if◌then◌else◌, Option, Some, None, IfSome, IfNone, IsSomeAnd, option_map, List, [], ◌∷◌, length, codes, Result, Ok, Err}
+use Rattle.std.specs.Prelude.{◌≡◌, ◌⊎◌, ℕ, ◌≤◌, Bool, ◌&&◌, if◌then◌else◌, Option, Some, None, IfSome, IfNone, IsSomeAnd, List, [], ◌∷◌, length, codes, Result, Ok, Err}
 use Rattle.std.specs.Str.{bytes_eq}
-use Rattle.slurm_text.specs.Confs.{ConfView}
-use Rattle.conf_reader.specs.Reader.{conf_in}
-use Rattle.conf_values.specs.declared.refusal.ConfRefusal.{ConfRefusal}
-use Rattle.conf_values.specs.declared.refusal.ConfRefusal.TheVariants.{At}
 use Rattle.slurm_io.specs.Faults.{CountsOne}
 use Rattle.slurm_io.specs.Shelf.{ShelfFile, bytes_named}
 use Rattle.slurm_io.specs.Wire.{Wire}
@@ -13,23 +9,32 @@ use Rattle.block_frame.specs.Grammar.{blocks_of, rest_of}
 use Rattle.ctl_state.specs.State.{State}
 use Rattle.ctl_session.specs.declared.session.How.{How}
 use Rattle.ctl_session.specs.Session.{most_blocks}
+use Rattle.slurm_top.specs.declared.cluster.ClusterRefusal.{ClusterRefusal}
+use Rattle.slurm_top.specs.declared.cluster.ClusterRefusal.TheVariants as cluster
 use Rattle.slurm_top.specs.declared.end.End.{End}
-use Rattle.slurm_top.specs.declared.end.End.TheVariants.{Usage, NoConf, BadConf, Memory, Script}
+use Rattle.slurm_top.specs.declared.end.End.TheVariants.{Usage, NoFile, BadConf, BadAssocs, Memory, Script}
 use Rattle.slurm_top.specs.declared.program.WordsFault.{WordsFault}
 use Rattle.slurm_top.specs.declared.program.WordsFault.TheVariants.{NotText}
 use Rattle.slurm_top.specs.declared.program.WordsFault.TheVariants as words
 use Rattle.slurm_top.specs.Cluster.{opening_in}
 use Rattle.slurm_top.specs.Script.{IsScript}
 
--- whether these three words ask for a script to be run by the file that follows
-abbrev pub is_script_call : List ℕ → List ℕ → List ℕ → Bool
-is_script_call command mode option =
-    bytes_eq command (codes "slurmctld") && bytes_eq mode (codes "--script") && bytes_eq option (codes "-f")
+-- the files that the words name
+pub record Named : Type 0 where
+  pub conf : List ℕ
+  pub assocs : List ℕ
 
--- the file that the words name: they are `slurmctld --script -f NAME`, and nothing else
-abbrev pub conf_named : List (List ℕ) → Option (List ℕ)
-conf_named (command ∷ mode ∷ option ∷ name ∷ []) = if is_script_call command mode option then Some name else None
-conf_named words = None
+-- whether these words, which stand before the names of the files, ask for a script to be run by them
+abbrev pub is_script_call : List ℕ → List ℕ → List ℕ → List ℕ → Bool
+is_script_call command mode for_conf for_assocs =
+    bytes_eq command (codes "slurmctld") && bytes_eq mode (codes "--script")
+    && bytes_eq for_conf (codes "-f") && bytes_eq for_assocs (codes "-a")
+
+-- the files that the words name: they are `slurmctld --script -f NAME -a NAME`, and nothing else
+abbrev pub files_named : List (List ℕ) → Option Named
+files_named (command ∷ mode ∷ for_conf ∷ conf ∷ for_assocs ∷ assocs ∷ []) =
+    if is_script_call command mode for_conf for_assocs then Some (record { conf = conf; assocs = assocs }) else None
+files_named words = None
 
 -- The outside of a run, but for errors: the files of its shelf, where it tells them, how many reads of these failed,
 -- and its link.
@@ -42,48 +47,58 @@ pub record Outside : Type 0 where
 abbrev pub IsTextOf : Option (List ShelfFile) → List ℕ → List ℕ → Type 0
 IsTextOf told name text = IfSome told (λ files. bytes_named files name ≡ Some text)
 
--- the file of this name says this: a text says it, which is the file's where the files are told
-pub record Says (told : Option (List ShelfFile)) (name : List ℕ) (said : Result ConfView ConfRefusal) : Type 0 where
-  pub text : List ℕ
-  pub is_text : IsTextOf told name text
-  pub is_said : conf_in text ≡ said
+-- the files of these names open a run so: two texts do, which are those of the files where the files are told
+pub record Opens (told : Option (List ShelfFile)) (named : Named) (opened : Result State ClusterRefusal) : Type 0 where
+  pub conf : List ℕ
+  pub assocs : List ℕ
+  pub is_conf : IsTextOf told named.conf conf
+  pub is_assocs : IsTextOf told named.assocs assocs
+  pub is_opened : opening_in conf assocs ≡ opened
 
--- a script was run on the cluster of the file of this name, and ended so
-pub record Ran (old new : Outside) (name : List ℕ) (how : How) : Type 0 where
-  pub text : List ℕ
-  pub is_text : IsTextOf old.files name text
+-- a script was run on the cluster of the files of these names, and ended so
+pub record Ran (old new : Outside) (named : Named) (how : How) : Type 0 where
   pub opening : State
-  pub opens : opening_in text ≡ Ok opening
+  pub opens : Opens old.files named (Ok opening)
   pub script : IsScript opening old.wire new.wire how
   pub alone : new ≡ record old { wire = new.wire }
 
--- What a run leaves that has this end, where the words name this file.
-abbrev pub IsEndOn : List ℕ → Outside → Outside → End → Type 0
-IsEndOn name old new Usage = ⊥
--- a read of the file failed, and nothing else was read or written
-IsEndOn name old new NoConf = CountsOne old.faults new.faults × (new ≡ record old { faults = new.faults })
--- the file is refused, and nothing else was read or written
-IsEndOn name old new (BadConf line kind) = Says old.files name (Err (At line kind)) × (new ≡ old)
+-- What a run leaves that has this end, where the words name these files.
+abbrev pub IsEndOn : Named → Outside → Outside → End → Type 0
+IsEndOn named old new Usage = ⊥
+-- a read of one of the files failed, and nothing but files was read or written
+IsEndOn named old new NoFile = CountsOne old.faults new.faults × (new ≡ record old { faults = new.faults })
+-- slurm.conf is refused, and nothing but both files was read or written
+IsEndOn named old new (BadConf line kind) =
+    Opens old.files named (Err (cluster.BadConf line kind)) × (new ≡ old)
+-- slurm.conf is good and the association file is refused, and nothing but both files was read or written
+IsEndOn named old new (BadAssocs line kind) =
+    Opens old.files named (Err (cluster.BadAssocs line kind)) × (new ≡ old)
 -- memory was wanting before the script
-IsEndOn name old new Memory = new ≡ old
+IsEndOn named old new Memory = new ≡ old
 -- the script was run
-IsEndOn name old new (Script how) = Ran old new name how
+IsEndOn named old new (Script how) = Ran old new named how
 
 -- What a run with these words leaves that has this end. Where the words are off, exactly there, the end is that, and
 -- nothing was read or written.
 pub record IsEnd (words : List (List ℕ)) (old new : Outside) (end : End) : Type 0 where
-  pub off : IfNone (conf_named words) ((end ≡ Usage) × (new ≡ old))
-  pub on : IfSome (conf_named words) (λ name. IsEndOn name old new end)
+  pub off : IfNone (files_named words) ((end ≡ Usage) × (new ≡ old))
+  pub on : IfSome (files_named words) (λ named. IsEndOn named old new end)
 
 -- how a run ends where its words are not at hand
 abbrev pub end_without_words : WordsFault → End
 end_without_words NotText = Usage
 end_without_words words.Memory = Memory
 
--- the words name a file, the shelf tells its files, and the file says this: None is that there is no such file
-abbrev pub Finds : List (List ℕ) → Option (List ShelfFile) → Option (Result ConfView ConfRefusal) → Type 0
-Finds words told said =
-    IsSomeAnd (conf_named words) (λ name. IsSomeAnd told (λ files. option_map conf_in (bytes_named files name) ≡ said))
+-- how two texts open a run; None where one of them isn't there
+abbrev pub opened_by : Option (List ℕ) → Option (List ℕ) → Option (Result State ClusterRefusal)
+opened_by (Some conf) (Some assocs) = Some (opening_in conf assocs)
+opened_by conf assocs = None
+
+-- the words name files, the shelf tells its files, and these open a run so: None is that one of them isn't there
+abbrev pub Finds : List (List ℕ) → Option (List ShelfFile) → Option (Result State ClusterRefusal) → Type 0
+Finds words told opened =
+    IsSomeAnd (files_named words) (λ named. IsSomeAnd told (λ files.
+    opened_by (bytes_named files named.conf) (bytes_named files named.assocs) ≡ opened))
 
 -- what is left is told, and is whole blocks, no more than one session answers
 abbrev pub IsWholeScript : Option (List ℕ) → Type 0

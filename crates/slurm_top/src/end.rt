@@ -1,9 +1,10 @@
 //! How a run ends, and what is told of it.
 
 ghost use Rattle.std.specs.Prelude.{◌≡◌, ◌≤◌, ◌++◌, length, codes};
-ghost use Rattle.slurm_top.specs.Lines.{Tells, status_of, line_of, place_line, conf_line};
+ghost use Rattle.slurm_top.specs.Lines.{Tells, status_of, line_of, place_line, conf_line, assocs_line};
 
 use arrayvec::ArrayString;
+use assoc_reader::refusal::AssocKind;
 use conf_reader::refusal::ConfKind;
 use ctl_session::How;
 use itoa::Buffer;
@@ -17,10 +18,12 @@ const LINE_LEN: usize = 128;
 pub enum End {
     /// The words are off.
     Usage,
-    /// A read of slurm.conf(5) failed.
-    NoConf,
+    /// A read of one of the files failed.
+    NoFile,
     /// A line of slurm.conf(5) is bad.
     BadConf { line: u32, kind: ConfKind },
+    /// A line of the association file is bad.
+    BadAssocs { line: u32, kind: AssocKind },
     /// Memory was wanting before the script.
     Memory,
     /// The script was run, and ended so.
@@ -36,7 +39,8 @@ impl End {
             End::Script(How::Closed) => 0,
             End::Usage => 2,
             End::BadConf { .. } => 3,
-            End::NoConf | End::Script(How::ReadFault) => 5,
+            End::BadAssocs { .. } => 4,
+            End::NoFile | End::Script(How::ReadFault) => 5,
             End::Script(How::WriteFault) => 6,
             End::Script(How::Truncated { .. } | How::Bad { .. }) => 7,
             End::Memory | End::Script(How::Memory) => 8,
@@ -81,6 +85,19 @@ fn conf_line(number: u32, kind: ConfKind) -> ArrayString<LINE_LEN>
     line
 }
 
+fn assocs_line(number: u32, kind: AssocKind) -> ArrayString<LINE_LEN>
+    ensures { result.bytes ≡ assocs_line number kind }
+{
+    let mut line = ArrayString::new();
+    let mut buffer = Buffer::new();
+    line.push_str("slurmctld: error: assoc line ");
+    line.push_str(buffer.format(number));
+    line.push_str(": ");
+    line.push_str(kind.name());
+    line.push_str("\n");
+    line
+}
+
 // The line of a run that ended so. It takes no memory.
 fn line_of(end: End) -> ArrayString<LINE_LEN>
     ensures { result.bytes ≡ line_of end }
@@ -89,7 +106,8 @@ fn line_of(end: End) -> ArrayString<LINE_LEN>
         End::Script(How::Closed) => ArrayString::new(),
         End::Usage => cause_line("usage"),
         End::BadConf { line, kind } => conf_line(line, kind),
-        End::NoConf | End::Script(How::ReadFault) => cause_line("read"),
+        End::BadAssocs { line, kind } => assocs_line(line, kind),
+        End::NoFile | End::Script(How::ReadFault) => cause_line("read"),
         End::Script(How::WriteFault) => cause_line("write"),
         End::Script(How::Truncated { place } | How::Bad { place }) => place_line(place),
         End::Memory | End::Script(How::Memory) => cause_line("memory"),

@@ -3,6 +3,7 @@
 
 mod cluster;
 mod end;
+mod files;
 mod program;
 mod script;
 

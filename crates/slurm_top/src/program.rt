@@ -1,6 +1,7 @@
 //! The program, over objects of the outside.
 
-ghost use Rattle.std.specs.Prelude.{◌≡◌, ◌⊎◌, ◌↔◌, ◌≤◌, ℕ, List, Some, None, Err, Ok, [], length, map, string_bytes, option_copied};
+ghost use Rattle.std.specs.Prelude.{◌≡◌, ◌⊎◌, ◌↔◌, ◌≤◌, ℕ, List, Some, None, Err, Ok, [], length, map, string_bytes, option_map};
+ghost use Rattle.assoc_reader.specs.declared.refusal.AssocKind.{AssocKind};
 ghost use Rattle.block_frame.specs.declared.form.Form.TheVariants.{Plain};
 ghost use Rattle.block_frame.specs.Grammar.{blocks_of, rest_of};
 ghost use Rattle.conf_values.specs.declared.refusal.ConfKind.{ConfKind};
@@ -8,33 +9,39 @@ ghost use Rattle.ctl_state.specs.State.{State};
 ghost use Rattle.ctl_session.specs.declared.session.How.{How};
 ghost use Rattle.ctl_session.specs.Session.{most_blocks};
 ghost use Rattle.slurm_io.specs.Wire.{Wire};
-ghost use Rattle.slurm_text.specs.Confs.{ConfView};
 ghost use Rattle.slurm_top.specs.Lines.{CountsNone, Tells, status_of, line_of};
-ghost use Rattle.slurm_top.specs.Run.{conf_named, end_without_words, IsEnd, IsEndOn, Finds, IsWholeScript};
+ghost use Rattle.slurm_top.specs.Run.{files_named, end_without_words, IsEnd, IsEndOn, Finds, IsWholeScript};
 ghost use Rattle.slurm_top.specs.Script.{IsScript};
+ghost use Rattle.slurm_top.specs.Files.{named_by};
+ghost use Rattle.slurm_top.specs.declared.cluster.ClusterRefusal.{ClusterRefusal};
 
+use crate::cluster::ClusterRefusal;
 use crate::end::{End, tell};
+use crate::files::{FileNames, read_files};
 use crate::script::run_script;
 use block_frame::{
     bad_texts_stay, blocks_are_cut_once, blocks_go_first, kinds_are_apart, nothing_is_partial,
     texts_are_cut,
 };
-use conf_reader::refusal::ConfRefusal;
-use slurm_io::{Link, Shelf, ShelfRefusal, Sink, read_file};
+use slurm_io::{Link, Shelf, ShelfRefusal, Sink};
 use std::alloc::Global;
 
-/// The most bytes of slurm.conf(5) that are read, but for one that tells a longer file.
-const LONGEST_CONF: u64 = 1_048_576;
-
-// The name of the file slurm.conf(5), where the words ask for a script to be run.
-fn conf_named(words: &[String]) -> Option<&str>
-    ensures { option_copied result ≡ conf_named (map string_bytes words.now) }
+// The names of the two files, where the words ask for a script to be run.
+fn files_named(words: &[String]) -> Option<FileNames<'_>>
+    ensures { option_map named_by result ≡ files_named (map string_bytes words.now) }
 {
     match words {
-        [command, mode, option, name]
+        [command, mode, for_conf, conf, for_assocs, assocs]
             if command.as_str() == "slurmctld"
                 && mode.as_str() == "--script"
-                && option.as_str() == "-f" => { Some(name.as_str()) }
+                && for_conf.as_str() == "-f"
+                && for_assocs.as_str() == "-a" =>
+        {
+            Some(FileNames {
+                conf: conf.as_str(),
+                assocs: assocs.as_str(),
+            })
+        }
         _ => None,
     }
 }
@@ -55,21 +62,27 @@ fn whole_inputs_are_answered()
     nothing_is_partial();
 }
 
-// Reads the file slurm.conf(5) of this name, and runs the script on its cluster.
-fn run_on_file<Q: Shelf, L: Link>(alloc: Global, name: &str, shelf: &mut Q, link: &mut L) -> End
-    ensures { IsEndOn name.now
+// Reads the two files of these names, and runs the script on their cluster.
+fn run_on_files<Q: Shelf, L: Link>(
+    alloc: Global,
+    names: &FileNames<'_>,
+    shelf: &mut Q,
+    link: &mut L,
+) -> End
+    ensures { IsEndOn (named_by names.now)
         (record { files = Q.files shelf.old; faults = Q.shelf_faults shelf.old; wire = L.wire link.old })
         (record { files = Q.files shelf.new; faults = Q.shelf_faults shelf.new; wire = L.wire link.new }) result }
 {
-    let file = match read_file(alloc, shelf, name, LONGEST_CONF) {
-        Ok(file) => file,
-        Err(ShelfRefusal::Failed) => return End::NoConf,
+    let files = match read_files(alloc, shelf, names) {
+        Ok(files) => files,
+        Err(ShelfRefusal::Failed) => return End::NoFile,
         Err(ShelfRefusal::Memory) => return End::Memory,
     };
-    match run_script(alloc, file.as_slice(), link) {
+    match run_script(alloc, files.conf.as_slice(), files.assocs.as_slice(), link) {
         Ok(how) => End::Script(how),
-        Err(ConfRefusal::At { line, kind }) => End::BadConf { line, kind },
-        Err(ConfRefusal::Memory) => End::Memory,
+        Err(ClusterRefusal::BadConf { line, kind }) => End::BadConf { line, kind },
+        Err(ClusterRefusal::BadAssocs { line, kind }) => End::BadAssocs { line, kind },
+        Err(ClusterRefusal::Memory) => End::Memory,
     }
 }
 
@@ -79,8 +92,8 @@ fn run_words<Q: Shelf, L: Link>(alloc: Global, words: &[String], shelf: &mut Q, 
         (record { files = Q.files shelf.old; faults = Q.shelf_faults shelf.old; wire = L.wire link.old })
         (record { files = Q.files shelf.new; faults = Q.shelf_faults shelf.new; wire = L.wire link.new }) result }
 {
-    match conf_named(words) {
-        Some(name) => run_on_file(alloc, name, shelf, link),
+    match files_named(words) {
+        Some(names) => run_on_files(alloc, &names, shelf, link),
         None => End::Usage,
     }
 }
@@ -109,8 +122,8 @@ pub fn run_without_words<E: Sink>(errors: &mut E, fault: WordsFault) -> u8
 }
 
 /// What the program does with the words behind its name, and the status that it ends with. With `--script` it reads the
-/// file slurm.conf(5) that `-f` names, and answers the blocks of the link's input on its output by a controller of that
-/// cluster.
+/// file slurm.conf(5) that `-f` names and the association file, sacctmgr(1), that `-a` names, and answers the blocks of
+/// the link's input on its output by a controller of that cluster.
 pub fn run<Q: Shelf, L: Link, E: Sink>(
     alloc: Global,
     words: &[String],
@@ -128,19 +141,22 @@ pub fn run<Q: Shelf, L: Link, E: Sink>(
         (record { files = Q.files shelf.new; faults = Q.shelf_faults shelf.new; wire = L.wire link.new }) end }
 
     // The words are off exactly where the status says so.
-    ensures usage { (result ≡ 2) ↔ (conf_named (map string_bytes words.now) ≡ None) }
+    ensures usage { (result ≡ 2) ↔ (files_named (map string_bytes words.now) ≡ None) }
 
-    // Where the shelf tells its files: a missing file is told by 5, a bad one by 3 unless its reading fails, but for
-    // want of memory.
+    // Where the shelf tells its files: where one of the two is missing this is told by 5, and a bad slurm.conf by 3 and
+    // a bad association file by 4 unless a read fails, but for want of memory.
     ensures missing { Finds (map string_bytes words.now) (Q.files shelf.old) None → (result ≡ 5) ⊎ (result ≡ 8) }
-    ensures refused { (line : ℕ) → (kind : ConfKind)
-        → Finds (map string_bytes words.now) (Q.files shelf.old) (Some (Err (ConfRefusal.At line kind)))
+    ensures bad_conf { (line : ℕ) → (kind : ConfKind)
+        → Finds (map string_bytes words.now) (Q.files shelf.old) (Some (Err (ClusterRefusal.BadConf line kind)))
         → CountsNone (Q.shelf_faults shelf.old) (Q.shelf_faults shelf.new) → (result ≡ 3) ⊎ (result ≡ 8) }
+    ensures bad_assocs { (line : ℕ) → (kind : AssocKind)
+        → Finds (map string_bytes words.now) (Q.files shelf.old) (Some (Err (ClusterRefusal.BadAssocs line kind)))
+        → CountsNone (Q.shelf_faults shelf.old) (Q.shelf_faults shelf.new) → (result ≡ 4) ⊎ (result ≡ 8) }
 
-    // A good file and an input of whole blocks, no more than one session answers, are answered to the end, unless a
+    // Good files and an input of whole blocks, no more than one session answers, are answered to the end, unless a
     // count of faults rises or memory is wanting.
-    ensures complete { (conf : ConfView)
-        → Finds (map string_bytes words.now) (Q.files shelf.old) (Some (Ok conf))
+    ensures complete { (opening : State)
+        → Finds (map string_bytes words.now) (Q.files shelf.old) (Some (Ok opening))
         → IsWholeScript (L.wire link.old).left
         → CountsNone (Q.shelf_faults shelf.old) (Q.shelf_faults shelf.new)
         → CountsNone (L.wire link.old).reads (L.wire link.new).reads

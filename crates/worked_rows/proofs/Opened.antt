@@ -20,8 +20,12 @@ use Rattle.slurm_text.specs.Digits.{number_within}
 use Rattle.slurm_text.specs.Name.{is_name, is_job_name}
 use Rattle.slurm_text.specs.Memory.{in_megabytes, megabytes_of}
 use Rattle.slurm_text.specs.Hosts.{numbers_of, range_names, made_behind, made_by, few, host_items, first_bad_item, hosts_in}
-use Rattle.worked_rows.specs.Clusters.{usual_settings, usual_partition, one_node, on_one_node, small_node, four_nodes, on_four_nodes}
-use Rattle.slurm_top.specs.Cluster.{built_in_assocs}
+use Rattle.worked_rows.specs.Clusters.{usual_settings, usual_partition, usual_account, user_named, usual_assocs, one_node, on_one_node, small_node, four_nodes, on_four_nodes}
+use Rattle.slurm_text.specs.Assocs.{greatest_depth}
+use Rattle.accounts_qos.specs.Accounts.{above, are_of_one_user, place_meant}
+use Rattle.run_limits.specs.Counting.{counts_of, is_in}
+use Rattle.run_limits.specs.Limits.{limits_reached}
+use Rattle.run_limits.specs.Submitting.{submit_limits}
 use Rattle.slurm_top.specs.Script.{script_of}
 use Rattle.ctl_session.specs.Session.{most_blocks}
 use Rattle.block_frame.specs.Grammar.{first_block, blocks_within, blocks_of}
@@ -50,14 +54,14 @@ use Rattle.backfill_planner.specs.Giving.{capacities}
 use Rattle.backfill_planner.specs.Plans.{placement_at, first_second, placed_of, plan_beside, plan_of}
 use Rattle.partitions.specs.Partitions.{bounds_of}
 use Rattle.ctl_state.specs.Ordered.{ordered_by}
-use Rattle.ctl_state.specs.Events.{tasks_holding}
+use Rattle.ctl_state.specs.Counted.{holding}
 use Rattle.ctl_state.specs.Planning.{names_of, node_order, plan_job}
 use Rattle.ctl_state.specs.Holding.{times_held, free_ids}
 use Rattle.ctl_pass.specs.Reasons.{hindrance}
 use Rattle.ctl_pass.specs.Readiness.{arrays_left, base_of, candidates, needs_of, ranked, planned}
 use Rattle.ctl_pass.specs.Starting.{may_start, started}
 use Rattle.ctl_pass.specs.Passing.{is_idle}
-use Rattle.ctl_submit.specs.Submission.{is_placeable, new_jobs, terms_of}
+use Rattle.ctl_submit.specs.Submission.{is_placeable, new_jobs, terms_of, unended}
 use Rattle.ctl_cancel.specs.Cancelling.{job_refusal, target_refusal}
 use Rattle.ctl_report.specs.Ordering.{in_order, orders_of}
 use Rattle.slurm_print.specs.Ranges.{run_text}
@@ -82,8 +86,9 @@ files = tt
 
 -- the clusters, and scripts on them
 unfoldable pub clusters : Unit {0}
-unfolding digits usual_settings usual_partition one_node on_one_node small_node four_nodes on_four_nodes
-    built_in_assocs script_of most_blocks
+unfolding digits usual_settings usual_partition usual_account user_named usual_assocs one_node on_one_node small_node
+    four_nodes on_four_nodes script_of most_blocks greatest_depth above are_of_one_user place_meant counts_of is_in
+    submit_limits unended
 clusters = tt
 
 -- blocks, and what their words ask
@@ -106,7 +111,7 @@ told = tt
 unfoldable pub plans : Unit {0}
 unfolding numbers_from filled_sets sets fits chosen least_after capacities placement_at first_second placed_of
     plan_beside plan_of bounds_of ordered_by node_order plan_job times_held free_ids hindrance base_of candidates
-    needs_of ranked planned arrays_left tasks_holding names_of may_start started is_idle is_placeable new_jobs
+    needs_of ranked planned arrays_left holding limits_reached names_of may_start started is_idle is_placeable new_jobs
     terms_of job_refusal target_refusal
 plans = tt
 

@@ -1,5 +1,5 @@
 -- The clusters of the rows.
-use Rattle.std.specs.Prelude.{true, false, [], ◌∷◌, Some, None, codes}
+use Rattle.std.specs.Prelude.{ℕ, true, false, List, [], ◌∷◌, Option, Some, None, codes}
 use Rattle.slurm_text.specs.declared.plain.conf.Settings.{Settings}
 use Rattle.slurm_text.specs.declared.plain.conf.NodeConf.{NodeConf}
 use Rattle.slurm_text.specs.declared.plain.conf.PartConf.{PartConf}
@@ -7,9 +7,12 @@ use Rattle.slurm_text.specs.declared.plain.conf.NodeStart.TheVariants.{Unknown, 
 use Rattle.slurm_text.specs.declared.plain.conf.PartState.TheVariants.{Up}
 use Rattle.slurm_text.specs.declared.plain.limit.Limit.TheVariants.{Minutes, Unlimited}
 use Rattle.slurm_text.specs.declared.plain.mem_ask.MemAsk.TheVariants.{PerCpu}
+use Rattle.slurm_text.specs.declared.plain.assoc.AssocConf.{AssocConf}
+use Rattle.slurm_text.specs.declared.plain.assoc.QosConf.{QosConf}
+use Rattle.slurm_text.specs.Assocs.{AssocView}
 use Rattle.slurm_text.specs.Confs.{ConfView}
+use Rattle.accounts_qos.specs.Accounts.{no_limits, no_qos_limits}
 use Rattle.ctl_state.specs.State.{State, opening}
-use Rattle.slurm_top.specs.Cluster.{built_in_assocs}
 
 -- the settings of a file that gives none
 unfoldable pub usual_settings : Settings
@@ -51,6 +54,27 @@ usual_partition = record {
   mem_default = None;
 }
 
+-- an account without limits, and one user of it
+unfoldable pub usual_account : AssocConf
+usual_account = record {
+  parent = None;
+  name = codes "acct";
+  user = false;
+  shares = 1;
+  default_account = None;
+  limits = no_limits;
+}
+
+unfoldable pub user_named : List ℕ → AssocConf
+user_named name = record usual_account { parent = Some 0; name = name; user = true }
+
+-- the account acct with the users alice and bob, and no quality of service but the one that there always is
+unfoldable pub usual_assocs : AssocView
+usual_assocs = record {
+  assocs = usual_account ∷ user_named (codes "alice") ∷ user_named (codes "bob") ∷ [];
+  qos = record { name = codes "normal"; priority = 0; limits = no_qos_limits } ∷ [];
+}
+
 -- one node of four processors; a processor comes with 1,000 megabytes
 unfoldable pub one_node : ConfView
 one_node = record {
@@ -61,7 +85,7 @@ one_node = record {
 
 -- the state before any request there
 unfoldable pub on_one_node : State
-on_one_node = opening one_node built_in_assocs
+on_one_node = opening one_node usual_assocs
 
 -- a node of two processors
 unfoldable pub small_node : NodeConf
@@ -80,4 +104,4 @@ four_nodes = record {
 }
 
 unfoldable pub on_four_nodes : State
-on_four_nodes = opening four_nodes built_in_assocs
+on_four_nodes = opening four_nodes usual_assocs

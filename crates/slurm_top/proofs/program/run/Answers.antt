@@ -1,12 +1,20 @@
-use Rattle.slurm_top.proofs.Ends.{complete, refused}
+use Rattle.slurm_top.proofs.Ends.{bad_assocs, bad_conf, complete, missing}
 use Rattle.slurm_top.proofs.program.run.Goals as goal
 
-pub returns-clause-refused : goal.returns-clause-refused
-returns-clause-refused g c = λ line kind finds none.
-    rw c.status.ensures (refused _ _ _ c.run_words-end.result line kind c.run_words-end.ensures finds none)
+pub returns-clause-missing : goal.returns-clause-missing
+returns-clause-missing g c = λ finds.
+    rw c.status.ensures (missing _ _ _ c.run_words-end.result c.run_words-end.ensures finds)
+
+pub returns-clause-bad_conf : goal.returns-clause-bad_conf
+returns-clause-bad_conf g c = λ line kind finds none.
+    rw c.status.ensures (bad_conf _ _ _ c.run_words-end.result line kind c.run_words-end.ensures finds none)
+
+pub returns-clause-bad_assocs : goal.returns-clause-bad_assocs
+returns-clause-bad_assocs g c = λ line kind finds none.
+    rw c.status.ensures (bad_assocs _ _ _ c.run_words-end.result line kind c.run_words-end.ensures finds none)
 
 pub returns-clause-complete : goal.returns-clause-complete
-returns-clause-complete g c = λ conf finds whole none reads writes.
+returns-clause-complete g c = λ opening finds whole none reads writes.
     rw c.status.ensures
-    (complete c.whole_inputs_are_answered.ensures _ _ _ c.run_words-end.result conf c.run_words-end.ensures finds
+    (complete c.whole_inputs_are_answered.ensures _ _ _ c.run_words-end.result opening c.run_words-end.ensures finds
     whole none reads writes)
