@@ -18,7 +18,8 @@ use Rattle.ctl_session.specs.declared.session.Ended.{Ended}
 use Rattle.ctl_session.specs.Answers.{Answered, Answers, entries, meanings, replies}
 use Rattle.ctl_session.specs.Meaning.{meaning_of, told, state_behind}
 use Rattle.ctl_session.specs.Session.{Ending, IsServed, IsWhole, IsCause, most_blocks}
-use Rattle.slurm_top.specs.Script.{told_all, state_behind_all, script_of, IsWritten, IsEndOf, IsScript}
+use Rattle.ctl_pass.specs.Freedom.{StartsAreFree}
+use Rattle.slurm_top.specs.Script.{asked_first, told_all, state_behind_all, script_of, IsWritten, IsEndOf, IsScript}
 use Rattle.slurm_top.proofs.Blocks.{Laws, read_by, OneMore, worked_first, asked_up_to, asked_all}
 use Rattle.slurm_top.proofs.Telling.{RaisedAlike, Alone, told_first, leads_soundly}
 
@@ -239,9 +240,14 @@ sent_of old new e how.ReadFault cause = (0, omega arith, rw append-nil cause.0.s
 sent_of old new e how.WriteFault cause = (cause.2.0, omega (arith, cause.2.1), cause.2.2)
 sent_of old new e how.Memory cause = (0, omega arith, rw append-nil cause.2)
 
-script_of_session : (opening : State) (old new : Wire) (seat : Seat) (ended : Ended) (e : Ending) → RaisedAlike → Laws
+-- the law that every pass starts jobs alone that nothing hinders
+abbrev pub AllFree : Type 0
+AllFree = (s : State) (now : ℕ) → StartsAreFree s now
+
+script_of_session : (opening : State) (old new : Wire) (seat : Seat) (ended : Ended) (e : Ending) → RaisedAlike
+    → AllFree → Laws
     → IsServed Plain old new (sight_of (fresh opening)) (sight_of seat) ended e → IsScript opening old new ended.how
-script_of_session opening old new seat ended e alike laws served =
+script_of_session opening old new seat ended e alike free laws served =
     let told = told_of old new opening seat ended e alike served in
     let begun = worked_first laws e served.blocks served.one_more in
     let worked = e.blocks ++ e.worked in
@@ -264,13 +270,15 @@ script_of_session opening old new seat ended e alike laws served =
         asked_up_to (n + 1) (read_by e) worked begun.0 begun.1 (omega (arith, below)),
         ← map_take meaning_of (n + 1) worked,
       ) (told.sound (n + 1));
+      starts = λ n now. free (state_behind_all opening (asked_first n (read_by e))) now;
     }
 
 -- A session at a desk of its own, which no one asked before, is a script.
-pub script_at_seat : (opening : State) (old new : Wire) (seat seat' : Seat) (ended : Ended) → RaisedAlike → Laws
+pub script_at_seat : (opening : State) (old new : Wire) (seat seat' : Seat) (ended : Ended) → RaisedAlike → AllFree
+    → Laws
     → seat ≡ fresh opening
     → ((e : Ending) × IsServed Plain old new (sight_of seat) (sight_of seat') ended e)
     → IsScript opening old new ended.how
-script_at_seat opening old new seat seat' ended alike laws is_fresh (e, served) =
-    script_of_session opening old new seat' ended e alike laws
+script_at_seat opening old new seat seat' ended alike free laws is_fresh (e, served) =
+    script_of_session opening old new seat' ended e alike free laws
     (subst (λ (s : Seat). IsServed Plain old new (sight_of s) (sight_of seat') ended e) is_fresh served)

@@ -7,6 +7,7 @@ use Rattle.block_frame.specs.declared.form.Form.TheVariants.{Plain}
 use Rattle.block_frame.specs.Grammar.{IsPartial, IsBad, spelled_all, blocks_of, rest_of}
 use Rattle.ctl_state.specs.State.{State}
 use Rattle.ctl_state.specs.Soundness.{IsSound}
+use Rattle.ctl_pass.specs.Freedom.{StartsAreFree}
 use Rattle.command_words.specs.declared.header.Meaning.{Meaning}
 use Rattle.ctl_session.specs.declared.session.How.{How}
 use Rattle.ctl_session.specs.declared.session.How.TheVariants.{Closed, Truncated, Bad, Spent, ReadFault, WriteFault, Memory}
@@ -69,7 +70,8 @@ IsEndOf s old new read Memory =
 
 -- The run of a script from a state on: what was read is no longer left, and the end is one of these. So many of its
 -- blocks were worked; what was written is a beginning of what they are told, and each state that they led to is sound:
--- in none is a processor held twice, or more memory held than there is.
+-- in none is a processor held twice, or more memory held than there is. A pass in any of these states, at whatever
+-- moment, starts jobs alone that nothing hinders and that reach no limit just before.
 pub record IsScript (s : State) (old new : Wire) (how : How) : Type 0 where
   pub read : List ℕ
   pub worked : ℕ
@@ -77,3 +79,4 @@ pub record IsScript (s : State) (old new : Wire) (how : How) : Type 0 where
   pub end : IsEndOf s old new read how
   pub written : (n : ℕ) × Appends old.taken new.taken (take n (told_all s (asked_first worked read)))
   pub sound : (n : ℕ) → n < worked → IsSound (state_behind_all s (asked_first (n + 1) read))
+  pub starts : (n now : ℕ) → StartsAreFree (state_behind_all s (asked_first n read)) now
