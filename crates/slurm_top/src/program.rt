@@ -35,8 +35,7 @@ fn files_named(words: &[String]) -> Option<FileNames<'_>>
             if command.as_str() == "slurmctld"
                 && mode.as_str() == "--script"
                 && for_conf.as_str() == "-f"
-                && for_assocs.as_str() == "-a" =>
-        {
+                && for_assocs.as_str() == "-a" => {
             Some(FileNames {
                 conf: conf.as_str(),
                 assocs: assocs.as_str(),
