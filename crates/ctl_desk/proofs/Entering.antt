@@ -1,8 +1,11 @@
 -- What one more entry does to a history.
-use Rattle.std.proofs.Common.{◌≡◌, ℕ, List, [], ◌∷◌, ◌++◌, length, refl, sym, ap, ◌∙◌, subst, arith, length-append, inl, inr, Bool, true, false, if◌then◌else◌}
+use Rattle.std.proofs.Common.{◌≡◌, ℕ, List, [], ◌∷◌, ◌++◌, length, take, Option, None, Some, refl, sym, ap, ◌∙◌, subst, arith, length-append, inl, inr, Bool, true, false, if◌then◌else◌}
+use Rattle.std.specs.Prelude.{IfSome, slice_get}
 use Rattle.std.proofs.lemmas.Bool.{cases_lt, cases_Bool, true≢false, false≢true}
 use Rattle.std.proofs.lemmas.List.{take-append-le, take_all}
 use Rattle.slurm_text.specs.declared.plain.request.Request.{Request}
+use Rattle.slurm_text.specs.declared.plain.request.Request.TheVariants.{Pass}
+use Rattle.ctl_pass.specs.Freedom.{StartsAreFree}
 use Rattle.ctl_state.specs.State.{State}
 use Rattle.ctl_state.specs.Soundness.{IsSound}
 use Rattle.ctl_state.specs.Verdicts.{left_by}
@@ -10,7 +13,7 @@ use Rattle.ctl_core.specs.Sizes.{size_of}
 use Rattle.ctl_core.specs.Step.{state_after, verdict_of, reply_of, raised, is_entered, entered}
 use Rattle.ctl_core.specs.declared.reply.Decided.{Decided}
 use Rattle.ctl_desk.specs.declared.entry.Entry.{Entry}
-use Rattle.ctl_desk.specs.History.{after_all, IsStep, IsLegal, StaysSound, History, IsHistory, entry_of}
+use Rattle.ctl_desk.specs.History.{after_all, IsStep, IsLegal, StartsFree, StaysSound, History, IsHistory, entry_of}
 
 -- the last entry acts last
 pub after_all-push : (s : State) (es : List Entry) (e : Entry)
@@ -35,8 +38,20 @@ StaysSound-push s es e sound last n =
       | inr h ↦ rw (take-append-le n es (e ∷ []) h) (sound n)
     ]
 
+-- the law that every pass starts jobs alone that nothing hinders
+abbrev pub AllFree : Type 0
+AllFree = (s : State) (now : ℕ) → StartsAreFree s now
+
+pub all-free : AllFree → (opening : State) (entries : List Entry) → StartsFree opening entries
+all-free free opening entries n = by (slice_get entries n)
+  where
+    by : (found : Option Entry)
+        → IfSome found (λ (e : Entry). e.request ≡ Pass → StartsAreFree (after_all opening (take n entries)) e.moment)
+    by None = tt
+    by (Some e) pass = free (after_all opening (take n entries)) e.moment
+
 -- the entry that a decision makes
-pub IsHistory-entered : (h : History) (session now : ℕ) (user : List ℕ) (request : Request) (t : State) → IsHistory h
+pub IsHistory-entered : AllFree → (h : History) (session now : ℕ) (user : List ℕ) (request : Request) (t : State) → IsHistory h
     → let s = after_all h.opening h.entries in
     is_entered (reply_of s now user request) ≡ true
     → reply_of s (raised s now) user request ≡ reply_of s now user request
@@ -44,7 +59,7 @@ pub IsHistory-entered : (h : History) (session now : ℕ) (user : List ℕ) (req
     → IsSound t
     → IsHistory (record { opening = h.opening; entries = h.entries ++ entry_of s session now user request ∷ [] })
     × (t ≡ after_all h.opening (h.entries ++ entry_of s session now user request ∷ []))
-IsHistory-entered h session now user request t history accepted same_reply same_state sound =
+IsHistory-entered free h session now user request t history accepted same_reply same_state sound =
     let s = after_all h.opening h.entries in
     let e = entry_of s session now user request in
     let reached : t ≡ after_all h.opening (h.entries ++ e ∷ []) =
@@ -53,6 +68,7 @@ IsHistory-entered h session now user request t history accepted same_reply same_
         legal = IsLegal-push h.opening h.entries e history.legal
             (record { moment = omega arith; reply = sym same_reply; accepted = accepted });
         sound = StaysSound-push h.opening h.entries e history.sound (subst IsSound reached sound);
+        starts = all-free free h.opening (h.entries ++ e ∷ []);
       },
       reached,
     )
@@ -80,7 +96,7 @@ pub record IsDecided (s t : State) (now : ℕ) (user : List ℕ) (request : Requ
   pub sound : IsSound s × IsSound t
 
 -- What a decision makes of a history: one entry more where it is accepted, and else nothing.
-pub IsHistory-decided : (h : History) (session now : ℕ) (user : List ℕ) (request : Request) (decided : Decided)
+pub IsHistory-decided : AllFree → (h : History) (session now : ℕ) (user : List ℕ) (request : Request) (decided : Decided)
     (s t : State) (entries : List Entry)
     → DecidesAlike → IsHistory h → s ≡ after_all h.opening h.entries → IsDecided s t now user request decided
     → entries ≡ (if is_entered decided.reply then h.entries ++ record {
@@ -92,7 +108,7 @@ pub IsHistory-decided : (h : History) (session now : ℕ) (user : List ℕ) (req
       reply = decided.reply;
     } ∷ [] else h.entries)
     → IsHistory (record { opening = h.opening; entries = entries }) × (t ≡ after_all h.opening entries)
-IsHistory-decided h session now user request decided s t entries alike history present made enters =
+IsHistory-decided free h session now user request decided s t entries alike history present made enters =
     let entry : Entry = record {
       session = session;
       moment = decided.moment;
@@ -111,7 +127,7 @@ IsHistory-decided h session now user request decided s t entries alike history p
           (h.entries ++ entry ∷ []) h.entries entries enters accepts
           ∙ ap (λ (e : Entry). h.entries ++ e ∷ []) entry_is in
           subst keeps (sym (all ∙ ap more present))
-          (IsHistory-entered h session now user request t history
+          (IsHistory-entered free h session now user request t history
           (subst (λ (at : State). is_entered (reply_of at now user request) ≡ true) present
           (sym (ap is_entered made.reply) ∙ accepts))
           (subst (λ (at : State). reply_of at (raised at now) user request ≡ reply_of at now user request) present

@@ -1,8 +1,10 @@
 -- The history: the accepted requests, in order.
-use Rattle.std.specs.Prelude.{◌≡◌, ℕ, ◌≤◌, true, ◌==◌, List, [], ◌∷◌, take, filter}
+use Rattle.std.specs.Prelude.{◌≡◌, ℕ, ◌≤◌, true, ◌==◌, List, [], ◌∷◌, take, filter, slice_get, IfSome}
 use Rattle.slurm_text.specs.declared.plain.request.Request.{Request}
+use Rattle.slurm_text.specs.declared.plain.request.Request.TheVariants.{Pass}
 use Rattle.ctl_state.specs.State.{State}
 use Rattle.ctl_state.specs.Soundness.{IsSound}
+use Rattle.ctl_pass.specs.Freedom.{StartsAreFree}
 use Rattle.ctl_core.specs.Step.{reply_of, state_after, is_entered, raised}
 use Rattle.ctl_desk.specs.declared.entry.Entry.{Entry}
 
@@ -25,6 +27,11 @@ IsLegal s (e ∷ es) = IsStep s e × IsLegal (state_after s e.moment e.user e.re
 -- after each of the first entries, how many ever, the state is sound
 abbrev pub StaysSound : State → List Entry → Type 0
 StaysSound opening entries = (n : ℕ) → IsSound (after_all opening (take n entries))
+
+-- a pass that is entered starts jobs alone that nothing hinders, and that reach no limit just before
+abbrev pub StartsFree : State → List Entry → Type 0
+StartsFree opening entries = (n : ℕ) → IfSome (slice_get entries n)
+    (λ (e : Entry). e.request ≡ Pass → StartsAreFree (after_all opening (take n entries)) e.moment)
 
 -- the entry that a session's request makes in a state
 abbrev pub entry_of : State → ℕ → ℕ → List ℕ → Request → Entry
@@ -53,3 +60,4 @@ present h = after_all h.opening h.entries
 pub record IsHistory (h : History) : Type 0 where
   pub legal : IsLegal h.opening h.entries
   pub sound : StaysSound h.opening h.entries
+  pub starts : StartsFree h.opening h.entries

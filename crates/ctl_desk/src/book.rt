@@ -12,6 +12,7 @@ use backfill_planner::Planned;
 use ctl_core::controller::Ctl;
 use ctl_core::laws::raised_moments_decide_alike;
 use ctl_core::reply::Decided;
+use ctl_pass::laws::starts_are_free;
 use resource_profile::Steps;
 use slurm_text::memory_error::Memory;
 use slurm_text::name::Name;
@@ -79,6 +80,7 @@ impl Book {
         ensures err { OnErr result (self.new ≡ self.old) }
     {
         raised_moments_decide_alike();
+        starts_are_free();
         self.entries.reserve(1)?;
         let name = user.copy()?;
         let decided = self.ctl.ask(now, user, &request)?;
@@ -106,6 +108,7 @@ impl Book {
         ensures steps_err { OnErr result (IsTickedUpTo (steps_of (present self.old) now user.now) steps.old steps.new) }
     {
         raised_moments_decide_alike();
+        starts_are_free();
         self.entries.reserve(1)?;
         let name = user.copy()?;
         let decided = self.ctl.pass(now, user, hint, steps)?;

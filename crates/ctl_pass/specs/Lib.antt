@@ -7,3 +7,4 @@ pub mod Passing
 pub mod Awaiting
 pub mod Live
 pub mod Taking
+pub mod Freedom

@@ -10,6 +10,7 @@ ghost use Rattle.ctl_state.specs.Soundness.{IsSound};
 ghost use Rattle.ctl_state.specs.Verdicts.{stamped};
 ghost use Rattle.ctl_pass.specs.Readiness.{is_candidate, jobs_left, ready, placements};
 ghost use Rattle.ctl_pass.specs.Starting.{HasStarted, JobStart, WasHeldBack, begun, may_start};
+ghost use Rattle.ctl_pass.specs.Freedom.{StartsAreFree};
 ghost use Rattle.ctl_pass.specs.Taking.{CanStart, unplanned};
 ghost use Rattle.ctl_pass.specs.Passing.{outcome, pass_after, placements_due, is_idle};
 
@@ -89,6 +90,14 @@ pub fn planned_jobs_are_candidates()
 {
     a_stable_sort_makes_the_order::<JobRecord>();
     placements_are_of_ranked_jobs();
+}
+
+/// Both together: whatever state a pass comes in, it starts jobs alone that nothing hinders.
+pub fn starts_are_free()
+    ensures { (s : State) (now : ℕ) → StartsAreFree s now }
+{
+    no_start_exceeds_a_limit();
+    planned_jobs_are_candidates();
 }
 
 /// A job that runs after a pass ran before it just so, or a placement that begins now is of it.

@@ -78,5 +78,6 @@ fn takes(names: &Option<Items<Name>>, name: &[u8]) -> bool
 pub(crate) fn takes_jobs_of(partition: &PartRecord, account: &Name, desc: &JobDesc) -> bool
     ensures { result ≡ Submission.takes_jobs_of partition.now account.now (Submission.quality_of desc.now) }
 {
-    takes(&partition.conf.accounts, account.as_bytes()) && takes(&partition.conf.qos, quality_of(desc))
+    takes(&partition.conf.accounts, account.as_bytes())
+        && takes(&partition.conf.qos, quality_of(desc))
 }

@@ -5,7 +5,7 @@ use Rattle.ctl_desk.proofs.book.Book.pass.Goals as goal
 pub invariant_of-self-2 : goal.invariant_of-self-2
 invariant_of-self-2 g c =
     let decided = c.in_ok-decided.ensures in
-    IsHistory-decided
+    IsHistory-decided c.starts_are_free.ensures
     (record { opening = c.self.inside.opening.state; entries = c.self.inside.entries.items })
     c.args.session c.args.now c.args.user.now Pass c.in_ok-decided.decided c.self.inside.ctl.state
     c.pass.new.self.state c.enter.new.entries.items

@@ -1,0 +1,5 @@
+pub mod Levels
+pub mod Tree
+pub mod Ranks
+pub mod Paths
+pub mod Rows
