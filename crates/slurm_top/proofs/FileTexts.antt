@@ -54,8 +54,8 @@ text_read says None name n bytes front read = (bytes, tt, refl)
 text_read says (Some files) name n bytes front read = found says (bytes_named files name) n bytes front read
 
 -- an opening is the same where both files say the same
-opening_in-same : (conf conf' assocs assocs' : List ℕ) → conf_in conf ≡ conf_in conf' → assocs_in assocs ≡ assocs_in assocs'
-    → opening_in conf assocs ≡ opening_in conf' assocs'
+opening_in-same : (conf conf' assocs assocs' : List ℕ) → conf_in conf ≡ conf_in conf'
+    → assocs_in assocs ≡ assocs_in assocs' → opening_in conf assocs ≡ opening_in conf' assocs'
 unfolding opening_in
 opening_in-same conf conf' assocs assocs' same same' = rw (same, same') refl
 
