@@ -38,6 +38,7 @@ sound-opening s ranges nodes on_nodes limits no_jobs no_plan next size moment = 
   partitions = on_nodes;
   limits = limits;
   of_partitions = rw no_jobs (λ k d within. absurd (omega (arith, within)));
+  of_accounts = rw no_jobs (λ k d within. absurd (omega (arith, within)));
   rising = rw no_jobs (λ i j d before within. absurd (omega (arith, within)));
   below_next = rw no_jobs (λ k d within. absurd (omega (arith, within)));
   together = rw no_jobs (record {
