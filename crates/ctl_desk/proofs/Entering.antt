@@ -48,7 +48,7 @@ all-free free opening entries n = by (slice_get entries n)
     by : (found : Option Entry)
         → IfSome found (λ (e : Entry). e.request ≡ Pass → StartsAreFree (after_all opening (take n entries)) e.moment)
     by None = tt
-    by (Some e) pass = free (after_all opening (take n entries)) e.moment
+    by (Some e) = λ pass. free (after_all opening (take n entries)) e.moment
 
 -- the entry that a decision makes
 pub IsHistory-entered : AllFree → (h : History) (session now : ℕ) (user : List ℕ) (request : Request) (t : State) → IsHistory h

@@ -1,4 +1,8 @@
+use Rattle.std.proofs.Common.{ap, ◌∙◌}
 use Rattle.slurm_text.specs.declared.plain.request.Request.TheVariants.{Pass}
+use Rattle.ctl_state.specs.State.{State}
+use Rattle.ctl_core.specs.Step.{reply_of}
+use Rattle.ctl_desk.specs.History.{History, present}
 use Rattle.ctl_desk.proofs.Entering.{IsHistory-decided}
 use Rattle.ctl_desk.proofs.book.Book.pass.Goals as goal
 
@@ -18,3 +22,9 @@ invariant_of-self-2 g c =
     c.self.invariant.1
     (record { reply = decided.reply; moment = decided.moment; after = decided.after; sound = decided.sound })
     (rw (c.in_ok-name.ensures, c.reserve.ensures.items) at c.enter.ensures.entries)
+
+pub returns-clause-reply : goal.returns-clause-reply
+returns-clause-reply g c =
+    c.enter.ensures.reply ∙ c.in_ok-decided.ensures.reply
+    ∙ ap (λ (s : State). reply_of s c.args.now c.args.user.now Pass)
+    (c.self.invariant.1 ∙ ap (λ (h : History). present h) c.self.view_is)
