@@ -36,7 +36,9 @@ rank_among paths path = length paths - count_by (λ one. precedes paths one path
 -- the paths of all users
 unfoldable pub paths_of : List TreeNode → List ℕ → List (List Level)
 paths_of nodes usage =
-    map (λ place. path_of (usage_of nodes (charges nodes usage)) (children_shares nodes) nodes (Some place)) (users nodes)
+    map
+    (λ place. path_of (usage_of nodes (charges nodes usage)) (children_shares nodes) nodes (Some place))
+    (users nodes)
 
 -- the ranks of all users, in the order of the list
 unfoldable pub ranks_of : List TreeNode → List ℕ → List ℕ

@@ -76,7 +76,8 @@ pub(crate) fn sort(paths: &mut Paths)
 fn falls(levels: &[LevelFs], spans: &[Span], index: usize) -> bool
     requires { index < length spans.now }
     ensures { (d : Span) → result ≡ (nat_lt 0 index && is_greater
-        (path_in levels.now (slice_index_or spans.now (index - 1) d)) (path_in levels.now (slice_index_or spans.now index d))) }
+        (path_in levels.now (slice_index_or spans.now (index - 1) d))
+        (path_in levels.now (slice_index_or spans.now index d))) }
 {
     index > 0
         && part(

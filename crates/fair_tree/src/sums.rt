@@ -82,7 +82,8 @@ pub(crate) fn usage_sums(
     requires len { length usage.now ≡ length places.now }
     requires few { length usage.now ≤ 4096 }
     requires usage { All (λ used. used ≤ 4_294_967_295) usage.now }
-    ensures sums { IfOk result (λ sums. (at : Option ℕ) → sum_at sums at ≡ usage_of nodes.now (charges nodes.now usage.now) at) }
+    ensures sums { IfOk result (λ sums. (at : Option ℕ)
+        → sum_at sums at ≡ usage_of nodes.now (charges nodes.now usage.now) at) }
     ensures small { IfOk result (λ sums. (at : Option ℕ) → sum_at sums at < 2 ^ 44) }
     ensures len { IfOk result (λ sums. vec_len sums.places ≡ length nodes.now) }
 {

@@ -4,3 +4,4 @@ pub mod Table
 pub mod Targets
 pub mod Walks
 pub mod Refusals
+pub mod Usage

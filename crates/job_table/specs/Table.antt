@@ -9,6 +9,8 @@ use Rattle.job_table.specs.JobStates.{is_ended}
 -- what contracts see of the table
 pub record JobsView : Type 0 where
   pub records : List JobRecord
+  -- what the starts of each association's jobs have used that left Running, in the order of the associations
+  pub usage : List ℕ
 
 -- the numbers rise
 abbrev pub HaveRisingIds : List JobRecord → Type 0

@@ -1,14 +1,16 @@
-//! The table of jobs, in the order of their numbers, with an index of these.
+//! The table of jobs, in the order of their numbers, with an index of these; and what their associations have used.
 
-ghost use Rattle.std.specs.Prelude.{◌≡◌, ◌+◌, ◌^◌, ◌<◌, ◌≤◌, ◌↔◌, ◌++◌, [], ◌∷◌, IsErrOf, IsTrue, OnOk, OnErr, All, length, map, filter, not, option_copied};
+ghost use Rattle.std.specs.Prelude.{◌≡◌, ◌+◌, ◌^◌, ◌<◌, ◌≤◌, ◌↔◌, ◌++◌, [], ◌∷◌, ℕ, IfOk, true, IsErrOf, IsTrue, OnOk, OnErr, All, length, map, filter, not, option_copied};
 ghost use Rattle.indexmap.specs.IndexMap.{spare, values};
 ghost use Rattle.job_table.specs.declared.record.JobRecord.{JobRecord};
 ghost use Rattle.job_table.specs.Changes.{changed};
 ghost use Rattle.job_table.specs.Table.{HaveRisingIds, IsTable, changed_if, entry_of, is_old, job_with};
+ghost use Rattle.job_table.specs.Usage.{Charges, IsNoStart, is_start};
 ghost use Rattle.job_table.specs.Walks.{map_at};
 
 use crate::change::{Change, apply};
 use crate::record::JobRecord;
+use crate::usage::charge;
 use indexmap::IndexMap;
 use slurm_text::plain::state::JobState;
 use std::alloc::{AllocError, AllocFailed, Global};
@@ -62,10 +64,13 @@ impl<T: Drop> From<AllocFailed<T>> for AddRefusal {
     }
 }
 
-/// The jobs. A contract sees their records, in the order of their numbers. slurm.conf(5), MaxJobCount.
+/// The jobs. A contract sees their records, in the order of their numbers, and what the starts of each association's
+/// jobs have used that left Running. slurm.conf(5), MaxJobCount.
 #[derive(Drop)]
 pub struct Jobs {
     by_id: IndexMap<u32, JobRecord>,
+    // In seconds of one processor.
+    usage: Vec<u64>,
 }
 
 impl Model for Jobs {
@@ -74,19 +79,21 @@ impl Model for Jobs {
 
     ghost Value = { JobsView };
 
-    ghost view = { λ jobs. record { records = values jobs.by_id } };
+    ghost view = { λ jobs. record { records = values jobs.by_id; usage = jobs.usage.items } };
 
     ghost invariant = { λ jobs. IsTable jobs.by_id.entries };
 }
 
 impl Jobs {
-    /// No jobs.
-    pub fn new(alloc: Global) -> Jobs
-        ensures { result.records ≡ [] }
+    /// No jobs, of so many associations that have used nothing.
+    pub fn new(alloc: Global, assocs: usize) -> Result<Jobs, AllocError>
+        ensures records { IfOk result (λ jobs. jobs.records ≡ []) }
+        ensures usage { IfOk result (λ jobs. jobs.usage ≡ replicate assocs 0) }
     {
-        Jobs {
+        Ok(Jobs {
             by_id: IndexMap::new(alloc),
-        }
+            usage: vec![in alloc; 0; assocs]?,
+        })
     }
 
     /// The records, in the order of their numbers, in constant time.
@@ -95,6 +102,14 @@ impl Jobs {
         ensures rising { HaveRisingIds self.now.records }
     {
         self.by_id.values().as_slice()
+    }
+
+    /// What the starts of each association's jobs have used that left Running, in seconds of one processor and in the
+    /// order of the associations. In constant time.
+    pub fn usage(&self) -> &[u64]
+        ensures { result.now ≡ self.now.usage }
+    {
+        self.usage.as_slice()
     }
 
     /// How many jobs there are.
@@ -126,6 +141,7 @@ impl Jobs {
         requires above { All (λ (one : JobRecord). All (λ (other : JobRecord). one.id < other.id) more.items)
             self.old.records }
         ensures ok { OnOk result (self.new.records ≡ self.old.records ++ more.items) }
+        ensures usage { self.new.usage ≡ self.old.usage }
         ensures err { OnErr result (self.new ≡ self.old) }
         ensures few { OnOk result (length self.old.records + length more.items ≤ most) }
         ensures full { IsErrOf result AddRefusal.Full ↔ (most < length self.old.records + length more.items) }
@@ -140,26 +156,33 @@ impl Jobs {
 
     /// Changes the job with this number, in constant time beside the job's parts. It takes no memory.
     pub fn change(&mut self, id: u32, change: Change)
-        ensures { self.new.records ≡ map (changed_if id change) self.old.records }
+        ensures records { self.new.records ≡ map (changed_if id change) self.old.records }
+        ensures charges { (now : ℕ) → IsNoStart now change → Charges now self.old self.new }
+        ensures starts { is_start change ≡ true → self.new.usage ≡ self.old.usage }
     {
         if let Some(place) = self.by_id.get_index_of(&id) {
             self.change_at(place, change);
         }
     }
 
-    /// Changes the job at a place, in constant time beside the job's parts. It takes no memory.
+    /// Changes the job at a place, in constant time beside the job's parts. Where it leaves Running its association is
+    /// charged with what it has used. It takes no memory.
     pub fn change_at(&mut self, place: usize, change: Change)
         requires { place < length self.old.records }
-        ensures { self.new.records ≡ map_at place (changed change) self.old.records }
+        ensures records { self.new.records ≡ map_at place (changed change) self.old.records }
+        ensures charges { (now : ℕ) → IsNoStart now change → Charges now self.old self.new }
+        ensures starts { is_start change ≡ true → self.new.usage ≡ self.old.usage }
     {
         let alloc = *self.by_id.allocator();
+        charge(&mut self.usage, &self.by_id[place], &change);
         apply(alloc, &mut self.by_id[place], change);
     }
 
     /// Drops the records of jobs that ended so many seconds ago, all in one walk. It takes no memory. slurm.conf(5),
     /// MinJobAge.
     pub fn purge(&mut self, now: u64, age: u64)
-        ensures { self.new.records ≡ filter (λ job. not (is_old age now job)) self.old.records }
+        ensures usage { self.new.usage ≡ self.old.usage }
+        ensures records { self.new.records ≡ filter (λ job. not (is_old age now job)) self.old.records }
     {
         self.by_id.retain(
             |_id: &u32, job: &mut JobRecord| -> bool

@@ -1,6 +1,7 @@
 //! What holds of lists of which members change one after the other. A law is the contract of a function that does
 //! nothing.
 
+ghost use Rattle.job_table.specs.Usage;
 ghost use Rattle.job_table.specs.Walks;
 
 /// A walk over a list changes each member in turn, and in the end all of them.
@@ -17,4 +18,18 @@ pub fn a_change_is_of_its_place<T>()
     ensures same { Walks.SameAtPlace T }
     ensures nothing { Walks.NothingAtPlace T }
     ensures twice { Walks.TwiceAtPlace T }
+{}
+
+/// Whoever leaves Running is charged to its association, once: no change charges nothing, and one walk after another
+/// charges as one.
+pub fn who_leaves_is_charged()
+    ensures nothing { Usage.NothingCharged }
+    ensures on { Usage.ChargedOn }
+{}
+
+/// A job that doesn't start stays its association's, and while it runs on it has used the same.
+pub fn jobs_run_on()
+    ensures changes { Usage.ChangesRunOn }
+    ensures stays { Usage.StaysOn }
+    ensures twice { Usage.RunsOnTwice }
 {}

@@ -6,3 +6,4 @@ pub mod jobs;
 pub mod laws;
 pub mod record;
 pub mod targets;
+pub mod usage;

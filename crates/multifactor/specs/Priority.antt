@@ -4,7 +4,7 @@ use Rattle.slurm_num.specs.Ratios.{share_of}
 use Rattle.slurm_text.specs.declared.plain.nice.Nice.{Nice}
 use Rattle.slurm_text.specs.declared.plain.nice.Nice.TheVariants.{Lower, Raise}
 use Rattle.multifactor.specs.declared.terms.Term.{Term}
-use Rattle.multifactor.specs.declared.terms.PriorityParts.{PriorityParts}
+use Rattle.slurm_text.specs.declared.plain.priority.PriorityParts.{PriorityParts}
 
 -- what a term adds: its weight's part, rounded down, and nothing of no denominator
 abbrev pub value_of : Term → ℕ

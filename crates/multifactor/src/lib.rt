@@ -6,10 +6,11 @@ ghost use Rattle.multifactor.specs.Priority.{terms_of, priority_of, value_of};
 
 use slurm_num::scaled;
 use slurm_text::plain::nice::Nice;
+use slurm_text::plain::priority::PriorityParts;
 
 mod terms;
 
-pub use terms::{PriorityInput, PriorityParts, Term};
+pub use terms::{PriorityInput, Term};
 
 // The least and the greatest priority of a job.
 const LEAST: u64 = 1;

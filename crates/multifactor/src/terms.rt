@@ -1,4 +1,4 @@
-//! What a job's priority is made of.
+//! What a job's priority is made of, before it is summed.
 
 ghost use Rattle.std.specs.Prelude.{◌≤◌};
 
@@ -21,17 +21,4 @@ pub struct PriorityInput {
     /// Age, fair share, job size, partition and quality of service.
     pub terms: [Term; 5],
     pub nice: Nice,
-}
-
-/// A priority and what it was made of, as sprio(1) prints them.
-#[derive(Clone, Copy, PartialEq, Eq, Debug)]
-pub struct PriorityParts {
-    pub age: u64,
-    pub fair_share: u64,
-    pub job_size: u64,
-    pub partition: u64,
-    pub qos: u64,
-    pub nice: Nice,
-    /// The priority itself.
-    pub sum: u32,
 }

@@ -2,6 +2,7 @@
 #![tactic(auto)]
 
 pub mod orders;
+pub mod priority;
 pub mod refusal;
 pub mod reply;
 pub mod view;

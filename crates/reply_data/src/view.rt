@@ -2,6 +2,7 @@
 
 ghost use Rattle.std.specs.Prelude.{◌≡◌, IfOk};
 
+use crate::priority::PriorityRow;
 use plain_data::Plain;
 use plain_data::conf::PartState;
 use plain_data::items::Items;
@@ -119,6 +120,7 @@ impl StateRow {
 pub enum Row {
     Job(JobRow),
     States(StateRow),
+    Priority(PriorityRow),
 }
 
 impl Plain for Row {
@@ -126,6 +128,7 @@ impl Plain for Row {
         match self {
             Row::Job(row) => Ok(Row::Job(row.copy()?)),
             Row::States(row) => Ok(Row::States(row.copy()?)),
+            Row::Priority(row) => Ok(Row::Priority(row.copy()?)),
         }
     }
 }

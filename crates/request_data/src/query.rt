@@ -110,6 +110,14 @@ pub enum Query {
         /// Whether a line of titles comes first.
         titles: bool,
     },
+    /// What the priorities of pending jobs are made of. sprio(1).
+    Sprio {
+        who: Who,
+        /// Those that these name; None shows all.
+        jobs: Option<Items<Target>>,
+        /// Whether a line of titles comes first.
+        titles: bool,
+    },
 }
 
 impl Plain for StateCode {
@@ -163,6 +171,11 @@ impl Query {
             Query::Squeue(query) => Ok(Query::Squeue(query.copy()?)),
             Query::Sinfo { partition, titles } => Ok(Query::Sinfo {
                 partition: partition.copy()?,
+                titles: *titles,
+            }),
+            Query::Sprio { who, jobs, titles } => Ok(Query::Sprio {
+                who: who.copy()?,
+                jobs: jobs.copy()?,
                 titles: *titles,
             }),
         }

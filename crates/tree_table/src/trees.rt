@@ -11,7 +11,7 @@ use table_lines::fields::{narrow_number, parts};
 // No tree of a table has more associations.
 const MOST: usize = 256;
 
-// `PARENT/SHARES/account` or `PARENT/SHARES/user`, the parent being the number of an association before it, counted from
+// `PARENT/SHARES/account` or `PARENT/SHARES/user`, the parent being the number of an association before it, from
 // 0, or `-` for root.
 fn node(alloc: Global, text: &[u8], place: usize) -> Result<TreeNode, Unanswered>
     ensures parent { IfOk result (λ node. IfSome node.parent (λ parent. parent < place)) }
