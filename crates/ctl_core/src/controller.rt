@@ -58,13 +58,15 @@ impl Ctl {
         nodes_in_range(nodes.records());
         let partitions = Partitions::build(alloc, conf.partitions.into_vec(), &nodes)?;
         partitions_in_range(partitions.records());
+        let assocs = Assocs::build(alloc, assocs)?;
+        let jobs = Jobs::new(alloc, assocs.records().len())?;
         let cluster = Cluster {
             next_id: conf.settings.first_job_id.get() as u32,
             settings: conf.settings,
             partitions,
             nodes,
-            assocs: Assocs::build(alloc, assocs)?,
-            jobs: Jobs::new(alloc),
+            assocs,
+            jobs,
             arrays: Vec::new(alloc),
             plan: Vec::new(alloc),
             size: 0,

@@ -8,8 +8,10 @@ use Rattle.job_table.specs.declared.change.Change.{Change}
 use Rattle.job_table.specs.declared.change.Change.TheVariants.{Start, Leave, CancelPending, CancelRequeue, DropPart, SetHold, SetLimit, SetNice}
 use Rattle.job_table.specs.JobStates.{is_holding, is_pending}
 use Rattle.job_table.specs.Table.{changed_if, job_with}
+use Rattle.job_table.specs.Usage.{charged}
 use Rattle.ctl_state.specs.Holding.{IsPartOf, OnNodesApart, has_members, times_held, mem_held, mem_of, parts_of}
 use Rattle.ctl_state.specs.Planning.{room_of}
+use Rattle.ctl_state.specs.State.{State}
 use Rattle.ctl_state.specs.Soundness.{AreUp, IsAsked, IsLimit, IsWellRun, pending_ids}
 
 -- What an event that starts nothing may make of a job: it keeps its number, its array, its user with his association,
@@ -38,6 +40,10 @@ FitsChange now (DropPart node moment) = moment ≡ now
 FitsChange now (SetHold by) = Unit {0}
 FitsChange now (SetLimit limit) = IsLimit limit
 FitsChange now (SetNice nice) = Unit {0}
+
+-- the state once its jobs have become these: whoever leaves Running is charged to his association
+abbrev pub become : ℕ → List JobRecord → State → State
+become now jobs s = record s { jobs = jobs; usage = charged now s.jobs jobs s.usage }
 
 -- the jobs once each has changed, and those that go are gone
 abbrev pub those_left : (JobRecord → JobRecord) → (JobRecord → Bool) → List JobRecord → List JobRecord

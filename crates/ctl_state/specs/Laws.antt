@@ -101,6 +101,10 @@ Planning = (s : State) (plan : List Placed) → IsSound s → PlansPending s.job
 abbrev pub Sizing : Type 0
 Sizing = (s : State) (size : ℕ) → IsSound s → size ≤ last_size → IsSound (record s { size = size })
 
+-- What associations have used may be anything.
+abbrev pub Charging : Type 0
+Charging = (s : State) (usage : List ℕ) → IsSound s → IsSound (record s { usage = usage })
+
 -- The plan without those that no longer wait is a plan of pending jobs.
 abbrev pub PlansLeft : Type 0
 PlansLeft = (s : State) (now : ℕ) (change : JobRecord → JobRecord)

@@ -1,5 +1,5 @@
 -- The state of the cluster, as plain lists.
-use Rattle.std.specs.Prelude.{ℕ, List, [], map, slice_get, Option}
+use Rattle.std.specs.Prelude.{ℕ, List, [], length, map, replicate, slice_get, Option}
 use Rattle.slurm_text.specs.declared.plain.conf.Settings.{Settings}
 use Rattle.slurm_text.specs.Confs.{ConfView}
 use Rattle.slurm_text.specs.Assocs.{AssocView}
@@ -27,6 +27,8 @@ pub record State : Type 0 where
   pub qos : List QosRecord
   -- in the order of their numbers
   pub jobs : List JobRecord
+  -- what the starts of each association's jobs have used that left Running, in the order of the associations
+  pub usage : List ℕ
   -- the arrays of which there are tasks, in the order of their numbers
   pub arrays : List ArrayRecord
   -- the placements of the last pass that didn't start
@@ -59,6 +61,7 @@ opening conf file = record {
   assocs = map Accounts.opened file.assocs;
   qos = map Accounts.opened_qos file.qos;
   jobs = [];
+  usage = replicate (length file.assocs) 0;
   arrays = [];
   plan = [];
   next_id = conf.settings.first_job_id;
@@ -75,6 +78,7 @@ state_of c = record {
   assocs = c.assocs.records;
   qos = c.assocs.qos;
   jobs = c.jobs.records;
+  usage = c.jobs.usage;
   arrays = c.arrays.items;
   plan = c.plan.items;
   next_id = c.next_id;

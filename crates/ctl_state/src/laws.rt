@@ -49,6 +49,11 @@ pub fn sizes_keep_all_sound()
     ensures { Laws.Sizing }
 {}
 
+/// What associations have used may be anything.
+pub fn charging_keeps_all_sound()
+    ensures { Laws.Charging }
+{}
+
 /// Another plan of pending jobs keeps all sound.
 pub fn plans_keep_all_sound()
     ensures { Laws.Planning }

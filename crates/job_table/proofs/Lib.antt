@@ -2,3 +2,4 @@ pub mod Walks
 pub mod Table
 pub mod Places
 pub mod Entries
+pub mod Charging

@@ -1,5 +1,5 @@
 -- What jobs use of the machine, and what of it counts to their associations.
-use Rattle.std.specs.Prelude.{◌≡◌, ℕ, ◌+◌, ◌-◌, ◌*◌, min, Bool, true, false, ◌&&◌, not, nat_eq, if◌then◌else◌, unwrap_or, List, length, map, sum_by}
+use Rattle.std.specs.Prelude.{◌≡◌, ℕ, ◌+◌, ◌-◌, ◌*◌, min, Bool, true, false, ◌&&◌, not, nat_eq, if◌then◌else◌, unwrap_or, List, length, map, sum_by, Option, None, Some}
 use Rattle.std.specs.List.{AllZip, enumerate_from, zip}
 use Rattle.job_table.specs.declared.record.Part.{Part}
 use Rattle.job_table.specs.declared.record.JobRecord.{JobRecord}
@@ -8,9 +8,10 @@ use Rattle.job_table.specs.declared.change.Change.TheVariants.{Start, Leave, Can
 use Rattle.job_table.specs.JobStates.{is_running}
 use Rattle.job_table.specs.Changes.{changed}
 use Rattle.job_table.specs.Table.{JobsView}
+use Rattle.job_table.specs.Walks.{map_at}
 
 -- the greatest usage that is told apart from more
-unfoldable pub greatest_usage : ℕ
+abbrev pub greatest_usage : ℕ
 greatest_usage = 4_294_967_295
 
 -- how many processors the job holds
@@ -63,6 +64,11 @@ IsNoStart now change = Unit {0}
 unfoldable pub used_by_change : Change → JobRecord → ℕ
 used_by_change (Leave final moment exit) job = if is_running job.state then used_by moment job else 0
 used_by_change change job = 0
+
+-- the totals of the associations once this job, if there is one, has changed
+unfoldable pub charged_by : Change → Option JobRecord → List ℕ → List ℕ
+charged_by change None totals = totals
+charged_by change (Some job) totals = map_at job.assoc (λ total. grown total (used_by_change change job)) totals
 
 -- the change is a start
 abbrev pub is_start : Change → Bool

@@ -1,11 +1,11 @@
 //! The table of jobs, in the order of their numbers, with an index of these; and what their associations have used.
 
-ghost use Rattle.std.specs.Prelude.{◌≡◌, ◌+◌, ◌^◌, ◌<◌, ◌≤◌, ◌↔◌, ◌++◌, [], ◌∷◌, ℕ, IfOk, true, IsErrOf, IsTrue, OnOk, OnErr, All, length, map, filter, not, option_copied};
+ghost use Rattle.std.specs.Prelude.{◌≡◌, ◌+◌, ◌^◌, ◌<◌, ◌≤◌, ◌↔◌, ◌++◌, [], ◌∷◌, ℕ, IfOk, true, IsErrOf, IsTrue, OnOk, OnErr, All, length, map, filter, not, replicate, slice_get, option_copied};
 ghost use Rattle.indexmap.specs.IndexMap.{spare, values};
 ghost use Rattle.job_table.specs.declared.record.JobRecord.{JobRecord};
 ghost use Rattle.job_table.specs.Changes.{changed};
 ghost use Rattle.job_table.specs.Table.{HaveRisingIds, IsTable, changed_if, entry_of, is_old, job_with};
-ghost use Rattle.job_table.specs.Usage.{Charges, IsNoStart, is_start};
+ghost use Rattle.job_table.specs.Usage.{Charges, IsNoStart, charged_by, is_start};
 ghost use Rattle.job_table.specs.Walks.{map_at};
 
 use crate::change::{Change, apply};
@@ -170,6 +170,7 @@ impl Jobs {
     pub fn change_at(&mut self, place: usize, change: Change)
         requires { place < length self.old.records }
         ensures records { self.new.records ≡ map_at place (changed change) self.old.records }
+        ensures usage { self.new.usage ≡ charged_by change (slice_get self.old.records place) self.old.usage }
         ensures charges { (now : ℕ) → IsNoStart now change → Charges now self.old self.new }
         ensures starts { is_start change ≡ true → self.new.usage ≡ self.old.usage }
     {

@@ -1,6 +1,7 @@
 //! What jobs use of the machine.
 
-ghost use Rattle.std.specs.Prelude.{◌≡◌, ◌^◌, ◌-◌, min, if◌then◌else◌, nat_eq, sum_by, length};
+ghost use Rattle.std.specs.Prelude.{◌≡◌, ◌^◌, ◌-◌, min, if◌then◌else◌, nat_eq, sum_by, length, Some};
+ghost use Rattle.job_table.specs.JobStates;
 ghost use Rattle.job_table.specs.Usage as spec;
 ghost use Rattle.job_table.specs.Walks.{map_at};
 
@@ -42,15 +43,28 @@ fn grow(totals: &mut Vec<u64>, place: u32, more: u64)
     }
 }
 
+// What the job has used, where the change takes it out of Running. The number stands still at its type's end.
+#[tactic(auto, unfolding(crate::specs::Usage::used_by_change))]
+fn used_by_change(change: &Change, job: &JobRecord) -> u64
+    ensures { result ≡ min (spec.used_by_change change.now job.now) (2 ^ 64 - 1) }
+{
+    match change {
+        Change::Leave { moment, .. } if is_running(job) => used_by(*moment, job),
+        _ => 0,
+    }
+}
+
+fn is_running(job: &JobRecord) -> bool
+    ensures { result ≡ JobStates.is_running job.now.state }
+{
+    matches!(job.state, JobState::Running)
+}
+
 /// Charges the job's association with what it has used, where the change takes it out of Running. Linear in the job's
 /// parts.
+#[tactic(auto, unfolding(crate::specs::Usage::charged_by))]
 pub(crate) fn charge(totals: &mut Vec<u64>, job: &JobRecord, change: &Change)
-    ensures { totals.new.items ≡ map_at job.now.assoc
-        (λ total. spec.grown total (spec.used_by_change change.now job.now)) totals.old.items }
+    ensures { totals.new.items ≡ spec.charged_by change.now (Some job.now) totals.old.items }
 {
-    if let Change::Leave { moment, .. } = change {
-        if job.state == JobState::Running {
-            grow(totals, job.assoc, used_by(*moment, job));
-        }
-    }
+    grow(totals, job.assoc, used_by_change(change, job));
 }

@@ -19,8 +19,8 @@ invariant_of-self c =
     table-entries c.retain.new.self.entries (filter keep (values_of entries)) are
     (AllPairs-filter (λ (one other : JobRecord). one.id < other.id) keep (values_of entries) c.self.invariant.rising)
 
-pub returns : goal.returns
-returns c =
+pub returns-clause-records : goal.returns-clause-records
+returns-clause-records c =
     let entries = c.self.inside.by_id.entries in
     let keep : JobRecord → Bool = λ job. not (is_old c.args.age c.args.now job) in
     let kept : c.retain.new.self.entries ≡ filter (λ entry. keep entry.1) entries =
