@@ -1,13 +1,15 @@
 -- The way up to root.
-use Rattle.std.proofs.Common.{true, false, ltb, ◌≡◌, ℕ, zero, suc, ◌+◌, ◌<◌, List, [], ◌∷◌, length, map, get_or, slice_get, unwrap_or, IfSome, All, AllPairs, Option, Some, None, option_map, refl, sym, ap, ◌∙◌, arith, add-one}
+use Rattle.std.proofs.Common.{true, false, ltb, ◌≡◌, ℕ, zero, suc, ◌+◌, ◌<◌, ◌≤◌, Bool, cond, List, [], ◌∷◌, length, map, get_or, slice_get, unwrap_or, IfSome, All, AllPairs, Option, Some, None, option_map, refl, sym, ap, ◌∙◌, arith, add-one}
 use Rattle.std.proofs.lemmas.Bool.Decides.{nat_tests}
 use Rattle.std.proofs.lemmas.Option.{slice_get-map, slice_get-get_or, slice_get_past}
 use Rattle.std.proofs.lemmas.List.Elements.{All-nil, All-cons}
 use Rattle.std.proofs.lemmas.List.Kept.{AllPairs-cons}
-use Rattle.slurm_text.specs.Assocs.{way_up, greatest_depth, StandsUnder}
+use Rattle.std.proofs.lemmas.List.Sums.{sum_by-cons}
+use Rattle.std.specs.Prelude.{count_by}
+use Rattle.slurm_text.specs.Assocs.{way_up, greatest_depth, is_same_place, StandsUnder}
 use Rattle.slurm_text.specs.declared.plain.assoc.AssocConf.{AssocConf}
 use Rattle.accounts_qos.specs.declared.record.AssocRecord.{AssocRecord}
-use Rattle.accounts_qos.specs.Accounts.{AreRooted, above, opened}
+use Rattle.accounts_qos.specs.Accounts.{AreFew, AreRooted, above, opened}
 
 -- the associations' parents
 abbrev pub parents_of : List AssocRecord → List (Option ℕ)
@@ -112,3 +114,19 @@ rooted_opened assocs under place = rw (slice_get-map opened assocs place) (at (s
           → IfSome (option_map opened found) (λ (assoc : AssocRecord). IfSome assoc.conf.parent (λ parent. parent < place))
       at None stands = tt
       at (Some assoc) stands = stands.before
+
+-- as many of a file's associations, once they are opened
+count_opened : (p : AssocRecord → Bool) (assocs : List AssocConf) → count_by p (map opened assocs) ≡ count_by (λ assoc. p (opened assoc)) assocs
+count_opened p [] = refl
+count_opened p (assoc ∷ assocs) = sum_by-cons (λ one. cond (p one) 1 0) (opened assoc) (map opened assocs)
+    ∙ ap (λ n. cond (p (opened assoc)) 1 0 + n) (count_opened p assocs)
+    ∙ sym (sum_by-cons (λ one. cond (p (opened one)) 1 0) assoc assocs)
+
+pub few_opened : (assocs : List AssocConf) → count_by (λ (assoc : AssocConf). assoc.user) assocs ≤ 4096
+    → ((parent : Option ℕ) → count_by (λ (assoc : AssocConf). is_same_place assoc.parent parent) assocs ≤ 256)
+    → AreFew (map opened assocs)
+few_opened assocs users children = record {
+  users = omega (arith, count_opened (λ (assoc : AssocRecord). assoc.conf.user) assocs, users);
+  children = λ parent.
+      omega (arith, count_opened (λ (assoc : AssocRecord). is_same_place assoc.conf.parent parent) assocs, children parent);
+}

@@ -1,7 +1,7 @@
 -- Accounts, their users and qualities of service: what names mean, and the way up from a user to root.
-use Rattle.std.specs.Prelude.{ℕ, ◌<◌, IfSome, Bool, false, ◌&&◌, if◌then◌else◌, nat_eq, unwrap_or, List, map, filter_map, position, slice_get, bytes_eq, codes, Option, Some, None, option_map, option_and_then}
+use Rattle.std.specs.Prelude.{ℕ, ◌<◌, ◌≤◌, count_by, IfSome, Bool, false, ◌&&◌, if◌then◌else◌, nat_eq, unwrap_or, List, map, filter_map, position, slice_get, bytes_eq, codes, Option, Some, None, option_map, option_and_then}
 use Rattle.std.specs.Option.{option_or}
-use Rattle.slurm_text.specs.Assocs.{greatest_depth, way_up}
+use Rattle.slurm_text.specs.Assocs.{greatest_depth, is_same_place, way_up}
 use Rattle.slurm_text.specs.declared.plain.assoc.AssocConf.{AssocConf}
 use Rattle.slurm_text.specs.declared.plain.assoc.AssocLimits.{AssocLimits}
 use Rattle.slurm_text.specs.declared.plain.assoc.QosConf.{QosConf}
@@ -21,6 +21,12 @@ abbrev pub AreRooted : List AssocRecord → Type 0
 AreRooted assocs =
     (place : ℕ)
     → IfSome (slice_get assocs place) (λ (assoc : AssocRecord). IfSome assoc.conf.parent (λ parent. parent < place))
+
+-- there are few users, and few associations belong to any one account or to root
+pub record AreFew (assocs : List AssocRecord) : Type 0 where
+  pub users : count_by (λ (assoc : AssocRecord). assoc.conf.user) assocs ≤ 4096
+  pub children : (parent : Option ℕ)
+      → count_by (λ (assoc : AssocRecord). is_same_place assoc.conf.parent parent) assocs ≤ 256
 
 -- an association, and a quality of service, before any request
 abbrev pub opened : AssocConf → AssocRecord

@@ -44,7 +44,7 @@ pub struct Assocs {
 
 impl Model for Assocs {
     ghost use Rattle.std.specs.Prelude.{◌≡◌, ◌<◌, ◌^◌, length, map};
-    ghost use Rattle.accounts_qos.specs.Accounts.{AssocsView, AreRooted, number_in};
+    ghost use Rattle.accounts_qos.specs.Accounts.{AssocsView, AreFew, AreRooted, number_in};
 
     ghost Value = { AssocsView };
 
@@ -52,7 +52,8 @@ impl Model for Assocs {
 
     ghost invariant = { λ assocs. AreRooted assocs.records.items
         × (length assocs.records.items < 2 ^ 32) × (length assocs.qos.items < 2 ^ 32)
-        × (assocs.users.items ≡ map (number_in assocs.records.items) assocs.records.items) };
+        × (assocs.users.items ≡ map (number_in assocs.records.items) assocs.records.items)
+        × AreFew assocs.records.items };
 }
 
 fn opened(conf: AssocConf) -> AssocRecord
@@ -110,7 +111,7 @@ fn users_of(alloc: Global, records: &[AssocRecord]) -> Result<Vec<u32>, Memory>
 }
 
 impl Assocs {
-    ghost use Rattle.std.specs.Prelude.{◌≡◌, ◌<◌, ◌↔◌, ℕ, map, length, IfOk, Err, true, slice_get, bytes_eq, AllPairs, IfSome, IsSome, Some, option_copied, option_map};
+    ghost use Rattle.std.specs.Prelude.{◌≡◌, ◌<◌, ◌^◌, ◌↔◌, ℕ, map, length, IfOk, Err, true, slice_get, bytes_eq, AllPairs, IfSome, IsSome, Some, option_copied, option_map};
     ghost use Rattle.accounts_qos.specs.Accounts as spec;
 
     /// The accounts of the association file, before any request. Linear in them.
@@ -133,7 +134,10 @@ impl Assocs {
 
     /// The associations, in the order of the file.
     pub fn records(&self) -> &[AssocRecord]
-        ensures { result.now ≡ self.now.records }
+        ensures value { result.now ≡ self.now.records }
+        ensures rooted { spec.AreRooted self.now.records }
+        ensures few { spec.AreFew self.now.records }
+        ensures small { length self.now.records < 2 ^ 32 }
     {
         self.records.as_slice()
     }

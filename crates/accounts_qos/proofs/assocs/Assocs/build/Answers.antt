@@ -1,5 +1,5 @@
 use Rattle.std.proofs.Common.{arith}
-use Rattle.accounts_qos.proofs.Way.{rooted_opened}
+use Rattle.accounts_qos.proofs.Way.{few_opened, rooted_opened}
 use Rattle.accounts_qos.proofs.assocs.Assocs.build.Goals as goal
 
 pub invariant_of-result : goal.invariant_of-result
@@ -8,4 +8,6 @@ invariant_of-result c = (
   omega (arith, c.if-len.false, c.len.ensures),
   omega (arith, c.if-len-2.false, c.len-else-len.ensures),
   rw (← c.as_slice.ensures.value) c.in_ok-users.ensures,
+  rw (c.in_ok-records.ensures, c.into_vec.ensures)
+      (few_opened c.file.inside.assocs c.file.invariant.few_users c.file.invariant.few_children),
 )
