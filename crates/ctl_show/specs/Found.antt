@@ -6,6 +6,7 @@ use Rattle.job_table.specs.declared.record.Part.{Part}
 use Rattle.run_limits.specs.Tallies.{Shows}
 use Rattle.ctl_state.specs.Counted.{holding}
 use Rattle.ctl_state.specs.State.{State}
+use Rattle.ctl_rank.specs.Measured.{IsMeasured}
 use Rattle.ctl_show.specs.declared.outlook.Outlook.{Outlook}
 use Rattle.ctl_show.specs.Standing.{cpus_held, group_at}
 use Rattle.ctl_show.specs.Showing.{highest, planned_start}
@@ -22,9 +23,11 @@ pub record CountsParts (parts : List Part) (counts : List ℕ) : Type 0 where
 pub record GroupsNodes (s : State) (groups : List NodeGroup) : Type 0 where
   pub each : (place : ℕ) → slice_get groups place ≡ group_at s place
 
--- What the jobs count that hold processors, the job that is highest in rank, and the second that the plan gives each
--- job.
-pub record IsOutlook (s : State) (outlook : Outlook) : Type 0 where
+-- What the jobs count that hold processors, what their priorities rest on at a moment, the job that is highest in rank
+-- then, and the second that the plan gives each job.
+pub record IsOutlook (s : State) (now : ℕ) (outlook : Outlook) : Type 0 where
   pub tally : Shows s.assocs outlook.tally (holding s.jobs)
-  pub highest : (now : ℕ) → outlook.highest ≡ highest s now
+  pub measured : IsMeasured s outlook.factors
+  pub moment : outlook.factors.moment ≡ now
+  pub highest : outlook.highest ≡ highest s now
   pub starts : (id : ℕ) → get nat_eq outlook.starts id ≡ planned_start s.plan id

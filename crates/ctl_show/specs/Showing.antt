@@ -3,7 +3,7 @@ use Rattle.std.specs.Prelude.{ℕ, ◌-◌, ◌*◌, ◌^◌, min, Bool, true, f
 use Rattle.std.specs.List.{list_any}
 use Rattle.slurm_text.specs.declared.plain.query.JobQuery.{JobQuery}
 use Rattle.slurm_text.specs.declared.plain.query.Query.{Query}
-use Rattle.slurm_text.specs.declared.plain.query.Query.TheVariants.{Squeue, Sinfo}
+use Rattle.slurm_text.specs.declared.plain.query.Query.TheVariants.{Squeue, Sinfo, Sprio}
 use Rattle.slurm_text.specs.declared.plain.query.StateCode.{StateCode}
 use Rattle.slurm_text.specs.declared.plain.query.StateCode.TheVariants as code
 use Rattle.slurm_text.specs.declared.plain.query.Who.{Who}
@@ -14,11 +14,12 @@ use Rattle.slurm_text.specs.declared.plain.state.Final.TheVariants.{Completed, C
 use Rattle.slurm_text.specs.declared.plain.state.JobState.{JobState}
 use Rattle.slurm_text.specs.declared.plain.state.JobState.TheVariants.{Ended}
 use Rattle.slurm_text.specs.declared.plain.state.Reason.{Reason}
-use Rattle.slurm_text.specs.declared.plain.state.Reason.TheVariants.{Resources, Priority}
+use Rattle.slurm_text.specs.declared.plain.state.Reason.TheVariants as reason
 use Rattle.slurm_text.specs.declared.plain.target.Target.{Target}
+use Rattle.slurm_text.specs.declared.plain.priority.PriorityRow.{PriorityRow}
 use Rattle.slurm_text.specs.declared.plain.view.JobRow.{JobRow}
 use Rattle.slurm_text.specs.declared.plain.view.Row.{Row}
-use Rattle.slurm_text.specs.declared.plain.view.Row.TheVariants.{Job}
+use Rattle.slurm_text.specs.declared.plain.view.Row.TheVariants.{Job, Priority}
 use Rattle.slurm_text.specs.declared.plain.view.View.{View}
 use Rattle.backfill_planner.specs.declared.Placed.{Placed}
 use Rattle.partitions.specs.declared.record.PartRecord.{PartRecord}
@@ -30,6 +31,8 @@ use Rattle.job_table.specs.Targets.{index_of, is_named}
 use Rattle.ctl_state.specs.Planning.{names_of}
 use Rattle.ctl_state.specs.Refusals.{refused_if}
 use Rattle.ctl_state.specs.State.{State, partition_of}
+use Rattle.ctl_rank.specs.Priority.{parts_of}
+use Rattle.ctl_rank.specs.Rank.{priority_of}
 use Rattle.ctl_pass.specs.Reasons.{hindrance}
 use Rattle.ctl_pass.specs.Readiness.{candidates}
 use Rattle.ctl_show.specs.Standing.{state_rows}
@@ -86,8 +89,8 @@ highest s now = option_map (λ (job : JobRecord). job.id) (slice_get (candidates
 
 -- why a candidate waits: the highest in rank for what it needs, the others for those above them
 abbrev pub reason_by_rank : Option ℕ → JobRecord → Reason
-reason_by_rank None job = Priority
-reason_by_rank (Some id) job = if nat_eq id job.id then Resources else Priority
+reason_by_rank None job = reason.Priority
+reason_by_rank (Some id) job = if nat_eq id job.id then reason.Resources else reason.Priority
 
 -- why a pending job waits
 abbrev pub reason_of : State → ℕ → JobRecord → Reason
@@ -132,7 +135,7 @@ reason_shown s now job = if is_pending job.state then Some (reason_of s now job)
 abbrev pub start_shown : State → JobRecord → Option ℕ
 start_shown s job = if is_pending job.state then planned_start s.plan job.id else job.started
 
--- What is shown of a job. All jobs have the same priority.
+-- What is shown of a job.
 unfoldable pub row_of : State → ℕ → JobRecord → JobRow
 row_of s now job = record {
   id = job.id;
@@ -149,7 +152,7 @@ row_of s now job = record {
   node_names = node_names s job;
   reason = reason_shown s now job;
   start = start_shown s job;
-  priority = 1;
+  priority = priority_of s now job;
   limit = job.limit;
   cpus = cpus_of job;
 }
@@ -158,10 +161,31 @@ row_of s now job = record {
 abbrev pub job_rows : State → ℕ → List ℕ → JobQuery → List Row
 job_rows s now asker query = map (λ job. Job (row_of s now job)) (filter (is_shown s asker query) s.jobs)
 
+-- sprio shows pending jobs alone
+unfoldable pub is_weighed : List ℕ → Who → Option (List Target) → JobRecord → Bool
+is_weighed asker who jobs job = is_pending job.state && (is_of who asker job && is_among jobs job)
+
+-- what is shown of a job's priority
+unfoldable pub priority_row_of : State → ℕ → JobRecord → PriorityRow
+priority_row_of s now job = record {
+  id = job.id;
+  array = job.array;
+  index = index_of job;
+  partition = partition_name s job;
+  user = job.user;
+  parts = parts_of s now job;
+}
+
+-- the rows of priorities, in the order of the jobs' numbers
+abbrev pub priority_rows : State → ℕ → List ℕ → Who → Option (List Target) → List Row
+priority_rows s now asker who jobs =
+    map (λ job. Priority (priority_row_of s now job)) (filter (is_weighed asker who jobs) s.jobs)
+
 -- what a user's query shows at a moment
 unfoldable pub view_of : State → ℕ → List ℕ → Query → View
 view_of s now asker (Squeue query) = record { rows = job_rows s now asker query }
 view_of s now asker (Sinfo partition titles) = record { rows = state_rows s partition }
+view_of s now asker (Sprio who jobs titles) = record { rows = priority_rows s now asker who jobs }
 
 -- a target names no job
 abbrev pub names_nothing : List JobRecord → Option (List Target) → Bool
@@ -180,3 +204,4 @@ show_refusals s (Squeue query) =
     ∷ refused_if (is_unknown s query.partition) InvalidPartition
     ∷ []
 show_refusals s (Sinfo partition titles) = refused_if (is_unknown s partition) InvalidPartition ∷ []
+show_refusals s (Sprio who jobs titles) = refused_if (names_nothing s.jobs jobs) InvalidJobId ∷ []

@@ -9,6 +9,7 @@ ghost use Rattle.ctl_state.specs.State.{state_of};
 ghost use Rattle.ctl_show.specs.Showing;
 
 use ctl_state::cluster::Cluster;
+use ctl_state::jobs::is_pending;
 use job_table::record::JobRecord;
 use job_table::targets::{is_named, places_of};
 use slurm_text::items::Items;
@@ -108,6 +109,19 @@ pub(crate) fn is_shown(cluster: &Cluster, asker: &Name, query: &JobQuery, job: &
         && is_of(&query.who, asker, job)
         && is_there(cluster, &query.partition, job)
         && is_among(&query.jobs, job)
+}
+
+/// Whether a user's query of priorities shows the job. Linear in the targets that the query names.
+#[tactic(auto, unfolding(crate::specs::Showing::is_weighed))]
+pub(crate) fn is_weighed(
+    asker: &Name,
+    who: &Who,
+    jobs: &Option<Items<Target>>,
+    job: &JobRecord,
+) -> bool
+    ensures { result ≡ Showing.is_weighed asker.now who.now jobs.now job.now }
+{
+    is_pending(job) && is_of(who, asker, job) && is_among(jobs, job)
 }
 
 fn names_any(target: &Target, jobs: &[JobRecord]) -> bool

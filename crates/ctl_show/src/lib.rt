@@ -1,8 +1,9 @@
-//! Queries: what is shown of jobs, and of how the nodes of partitions stand.
+//! Queries: what is shown of jobs, of their priorities, and of how the nodes of partitions stand.
 #![tactic(auto)]
 
 mod jobs;
 mod outlook;
+mod priorities;
 mod rows;
 mod show;
 mod standing;

@@ -10,6 +10,7 @@ ghost use Rattle.ctl_show.specs.Showing;
 
 use backfill_planner::Placed;
 use ctl_pass::highest;
+use ctl_rank::{Factors, measure};
 use ctl_state::cluster::Cluster;
 use ctl_state::counting::count_holding;
 use run_limits::tally::Tally;
@@ -30,6 +31,8 @@ pub(crate) struct Outlook {
     pub(crate) starts: HashMap<u32, Second>,
     /// What the jobs count that hold processors.
     pub(crate) tally: Tally,
+    /// What the priorities rest on.
+    pub(crate) factors: Factors,
 }
 
 // The seconds that the plan gives, by the numbers of the jobs. Linear in the plan.
@@ -45,16 +48,19 @@ fn starts_of(alloc: Global, plan: &[Placed]) -> Result<HashMap<u32, Second>, Mem
     Ok(starts)
 }
 
-/// Linear in the jobs and the plan; each job that holds processors, and each pending one that is higher in rank than the
-/// candidates before it, costs its association's way up to root besides.
-pub(crate) fn outlook_of(alloc: Global, cluster: &Cluster) -> Result<Outlook, Memory>
+/// Linear in nodes, partitions, jobs and the plan, beside a sort of the users by what they have used; each job that holds
+/// processors, and each pending one that is higher in rank than the candidates before it, costs its association's way up
+/// to root besides.
+pub(crate) fn outlook_of(alloc: Global, cluster: &Cluster, moment: u64) -> Result<Outlook, Memory>
     requires { IsSound (state_of cluster.now) }
-    ensures { IfOk result (IsOutlook (state_of cluster.now)) }
+    ensures { IfOk result (IsOutlook (state_of cluster.now) moment) }
 {
     let tally = count_holding(alloc, &cluster.assocs, cluster.jobs.records())?;
+    let factors = measure(alloc, cluster, moment)?;
     Ok(Outlook {
-        highest: highest(cluster, &tally),
+        highest: highest(cluster, &tally, &factors),
         starts: starts_of(alloc, &cluster.plan)?,
         tally,
+        factors,
     })
 }

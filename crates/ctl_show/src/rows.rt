@@ -10,6 +10,7 @@ ghost use Rattle.ctl_show.specs.Showing;
 use crate::jobs::is_shown;
 use crate::outlook::{Outlook, Second, outlook_of};
 use ctl_pass::hindrance;
+use ctl_rank::priority_of;
 use ctl_state::cluster::Cluster;
 use ctl_state::jobs::is_pending;
 use ctl_state::planning::names_of;
@@ -27,9 +28,6 @@ use std::alloc::Global;
 // How long a job runs or ran, in seconds.
 type Elapsed = Ranged<0, 1000000000000>;
 
-// All jobs have the same priority.
-const PRIORITY: u32 = 1;
-
 // The name, or this text as one, which is a name. A text that is none comes out as want of memory.
 fn name_or(alloc: Global, name: &Option<Name>, other: &[u8]) -> Result<Name, Memory>
     ensures { IfOk result (λ copy. copy ≡ unwrap_or name.now other.now) }
@@ -40,7 +38,8 @@ fn name_or(alloc: Global, name: &Option<Name>, other: &[u8]) -> Result<Name, Mem
     }
 }
 
-fn partition_name(cluster: &Cluster, job: &JobRecord) -> Result<Name, Memory>
+/// The name of the job's partition.
+pub(crate) fn partition_name(cluster: &Cluster, job: &JobRecord) -> Result<Name, Memory>
     requires { job.now.partition < length cluster.now.partitions }
     ensures { IfOk result (λ name. name ≡ Showing.partition_name (state_of cluster.now) job.now) }
 {
@@ -131,8 +130,8 @@ fn reason_by_rank(highest: Option<u32>, job: &JobRecord) -> Reason
 
 // Why the job waits, where it does.
 fn reason_shown(cluster: &Cluster, outlook: &Outlook, job: &JobRecord) -> Option<Reason>
-    requires { IsOutlook (state_of cluster.now) outlook.now }
-    ensures { (now : ℕ) → result ≡ Showing.reason_shown (state_of cluster.now) now job.now }
+    requires { IsOutlook (state_of cluster.now) outlook.now.factors.moment outlook.now }
+    ensures { result ≡ Showing.reason_shown (state_of cluster.now) outlook.now.factors.moment job.now }
 {
     if !is_pending(job) {
         return None;
@@ -146,7 +145,7 @@ fn reason_shown(cluster: &Cluster, outlook: &Outlook, job: &JobRecord) -> Option
 // The second of the job's start, or the one planned for it.
 fn start_shown(outlook: &Outlook, job: &JobRecord) -> Option<Second>
     requires { unwrap_or job.now.started 0 ≤ last_moment }
-    ensures { (s : State) → IsOutlook s outlook.now → result ≡ Showing.start_shown s job.now }
+    ensures { (s : State) (now : ℕ) → IsOutlook s now outlook.now → result ≡ Showing.start_shown s job.now }
 {
     if is_pending(job) {
         return outlook.starts.get(&job.id).copied();
@@ -166,7 +165,7 @@ fn row_of(
     job: &JobRecord,
 ) -> Result<JobRow, Memory>
     requires in_time { moment ≤ last_moment }
-    requires outlook { IsOutlook (state_of cluster.now) outlook.now }
+    requires outlook { IsOutlook (state_of cluster.now) moment outlook.now }
     requires partition { job.now.partition < length cluster.now.partitions }
     requires started { unwrap_or job.now.started 0 ≤ last_moment }
     requires ended { unwrap_or job.now.ended 0 ≤ last_moment }
@@ -187,7 +186,7 @@ fn row_of(
         node_names: node_names(alloc, cluster, job)?,
         reason: reason_shown(cluster, outlook, job),
         start: start_shown(outlook, job),
-        priority: PRIORITY,
+        priority: priority_of(&outlook.factors, cluster, job).sum,
         limit: job.limit,
         cpus: cpus_of(job),
     })
@@ -206,7 +205,7 @@ pub(crate) fn job_rows(
     ensures { IfOk result (λ rows.
         rows.items ≡ Showing.job_rows (state_of cluster.now) moment asker.now query.now) }
 {
-    let outlook = outlook_of(alloc, cluster)?;
+    let outlook = outlook_of(alloc, cluster, moment)?;
     let mut rows = Vec::new(alloc);
     for job in cluster.jobs.records() {
         if is_shown(cluster, asker, query, job) {

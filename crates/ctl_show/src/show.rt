@@ -7,6 +7,7 @@ ghost use Rattle.ctl_state.specs.Soundness.{IsSound};
 ghost use Rattle.ctl_show.specs.Showing;
 
 use crate::jobs::{is_unknown, names_nothing};
+use crate::priorities::priority_rows;
 use crate::rows::job_rows;
 use crate::standing::state_rows;
 use ctl_state::cluster::Cluster;
@@ -15,6 +16,7 @@ use slurm_text::memory_error::Memory;
 use slurm_text::name::Name;
 use slurm_text::plain::query::{JobQuery, Query};
 use slurm_text::plain::refusal::Refusal;
+use slurm_text::plain::target::Target;
 use slurm_text::plain::view::View;
 use std::alloc::Global;
 
@@ -40,6 +42,18 @@ fn job_refusal(cluster: &Cluster, query: &JobQuery) -> Option<Refusal>
     partition_refusal(cluster, &query.partition)
 }
 
+// Why a query of priorities is refused.
+fn priority_refusal(cluster: &Cluster, jobs: &Option<Items<Target>>) -> Option<Refusal>
+    requires { IsSound (state_of cluster.now) }
+    ensures { result ≡ refused_if (Showing.names_nothing cluster.now.jobs.records jobs.now) Refusal.InvalidJobId }
+{
+    if names_nothing(cluster.jobs.records(), jobs) {
+        Some(Refusal::InvalidJobId)
+    } else {
+        None
+    }
+}
+
 /// Why a query is refused, if it is. Logarithmic in the jobs for each target, and linear in the tasks of arrays.
 pub fn refusal_of(cluster: &Cluster, query: &Query) -> Option<Refusal>
     requires { IsSound (state_of cluster.now) }
@@ -48,13 +62,15 @@ pub fn refusal_of(cluster: &Cluster, query: &Query) -> Option<Refusal>
     match query {
         Query::Squeue(query) => job_refusal(cluster, query),
         Query::Sinfo { partition, .. } => partition_refusal(cluster, partition),
+        Query::Sprio { jobs, .. } => priority_refusal(cluster, jobs),
     }
 }
 
 /// What a user's query shows, at its raised moment. A query of jobs is linear in these, in the parts of those that are
 /// shown, and in the plan, and for each job in the targets and states that it names; each job that holds processors and
-/// each pending one costs its association's way up to root besides. One of partitions is linear in the nodes, the jobs'
-/// parts and the nodes of the partitions that it shows.
+/// each pending one costs its association's way up to root besides; and it measures what the priorities rest on, which
+/// sorts the users. One of priorities measures these, and is linear in the jobs and for each in its targets. One of
+/// partitions is linear in the nodes, the jobs' parts and the nodes of the partitions that it shows.
 #[tactic(auto, unfolding(crate::specs::Showing::view_of))]
 pub fn view_of(
     alloc: Global,
@@ -70,6 +86,7 @@ pub fn view_of(
     let rows = match query {
         Query::Squeue(query) => job_rows(alloc, cluster, moment, asker, query)?,
         Query::Sinfo { partition, .. } => state_rows(alloc, cluster, partition)?,
+        Query::Sprio { who, jobs, .. } => priority_rows(alloc, cluster, moment, asker, who, jobs)?,
     };
     Ok(View {
         rows: Items::from_vec(rows),

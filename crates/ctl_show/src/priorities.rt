@@ -1,0 +1,63 @@
+//! The rows of priorities.
+
+ghost use Rattle.std.specs.Prelude.{◌≡◌, ◌<◌, IfOk, length};
+ghost use Rattle.ctl_state.specs.State.{state_of};
+ghost use Rattle.ctl_state.specs.Soundness.{IsSound};
+ghost use Rattle.ctl_rank.specs.Measured.{IsMeasured};
+ghost use Rattle.ctl_show.specs.Showing;
+
+use crate::jobs::is_weighed;
+use crate::rows::partition_name;
+use ctl_rank::{Factors, measure, priority_of};
+use ctl_state::cluster::Cluster;
+use job_table::record::JobRecord;
+use job_table::targets::index_of;
+use slurm_text::items::Items;
+use slurm_text::memory_error::Memory;
+use slurm_text::name::Name;
+use slurm_text::plain::priority::PriorityRow;
+use slurm_text::plain::query::Who;
+use slurm_text::plain::target::Target;
+use slurm_text::plain::view::Row;
+use std::alloc::Global;
+
+// What is shown of the job's priority.
+#[tactic(auto, unfolding(crate::specs::Showing::priority_row_of))]
+fn row_of(cluster: &Cluster, factors: &Factors, job: &JobRecord) -> Result<PriorityRow, Memory>
+    requires measured { IsMeasured (state_of cluster.now) factors.now }
+    requires partition { job.now.partition < length cluster.now.partitions }
+    ensures { IfOk result (λ row.
+        row ≡ Showing.priority_row_of (state_of cluster.now) factors.now.moment job.now) }
+{
+    Ok(PriorityRow {
+        id: job.id,
+        array: job.array,
+        index: index_of(job),
+        partition: partition_name(cluster, job)?,
+        user: job.user.copy()?,
+        parts: priority_of(factors, cluster, job),
+    })
+}
+
+/// The rows of the pending jobs' priorities that a user's query shows, in the order of the jobs' numbers.
+pub(crate) fn priority_rows(
+    alloc: Global,
+    cluster: &Cluster,
+    moment: u64,
+    asker: &Name,
+    who: &Who,
+    jobs: &Option<Items<Target>>,
+) -> Result<Vec<Row>, Memory>
+    requires { IsSound (state_of cluster.now) }
+    ensures { IfOk result (λ rows.
+        rows.items ≡ Showing.priority_rows (state_of cluster.now) moment asker.now who.now jobs.now) }
+{
+    let factors = measure(alloc, cluster, moment)?;
+    let mut rows = Vec::new(alloc);
+    for job in cluster.jobs.records() {
+        if is_weighed(asker, who, jobs, job) {
+            rows.push(Row::Priority(row_of(cluster, &factors, job)?))?;
+        }
+    }
+    Ok(rows)
+}
