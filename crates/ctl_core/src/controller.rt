@@ -77,12 +77,13 @@ impl Ctl {
 
     /// Decides one request, and changes the state where it is accepted. A submission is linear in associations,
     /// partitions and nodes, sorts the nodes of its partition, costs for each of these what it names of nodes and
-    /// features, is linear in its tasks, and for each limit of submitted jobs that it counts towards in the jobs. Cancelling is for each target logarithmic in the jobs and linear in the
-    /// tasks of its array, of a user's jobs linear in all, and then linear in the plan; it takes no memory. A report is
-    /// linear in the jobs, and for each job of the node in what it tells. A pass costs what its plan costs. A query of
-    /// jobs is linear in these, the parts of those that are shown and the plan, and for each job in the targets and
-    /// states that it names; one of partitions in the nodes, the jobs' parts and the nodes of the partitions that it
-    /// shows.
+    /// features, is linear in its tasks, and for each limit of submitted jobs that it counts towards in the jobs.
+    /// Cancelling is for each target logarithmic in the jobs and linear in the tasks of its array, of a user's jobs
+    /// linear in all, and then linear in the plan; it takes no memory. A report is linear in the jobs, and for each job
+    /// of the node in what it tells. A pass costs what its plan costs. A query of jobs or priorities ranks the users, is
+    /// linear in the jobs, the parts of those that run or are shown and the plan, and for each job in the targets and
+    /// states that it names; one of partitions is linear in the nodes, the jobs' parts and the nodes of the partitions
+    /// that it shows.
     pub fn ask(&mut self, now: u64, user: &Name, request: &Request) -> Result<Decided, Memory>
         ensures reply { IfOk result (λ decided. decided.reply ≡ reply_of self.old.state now user.now request.now) }
         ensures entered { IfOk result (λ decided.
