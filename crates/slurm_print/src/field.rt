@@ -11,12 +11,7 @@ use slurm_text::ranged::Ranged;
 /// Cuts what stands behind the first `start` bytes to `width` bytes and pads it with blanks, on the left where `dot`
 /// says so.
 #[tactic(auto, unfolding(crate::specs::Field::field))]
-pub(crate) fn fit(
-    out: &mut Vec<u8>,
-    start: usize,
-    width: usize,
-    dot: bool,
-) -> Result<(), Memory>
+pub(crate) fn fit(out: &mut Vec<u8>, start: usize, width: usize, dot: bool) -> Result<(), Memory>
     requires within { start ≤ length out.old.items }
     requires narrow { width ≤ 1024 }
     ensures { OnOk result (out.new.items ≡ take start out.old.items ++ field width dot (drop start out.old.items)) }
