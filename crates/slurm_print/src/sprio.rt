@@ -47,7 +47,8 @@ fn push_titles(out: &mut Vec<u8>) -> Result<(), Memory>
     push_cell(out, 10, b"JOBSIZE")?;
     push_cell(out, 10, b"PARTITION")?;
     push_cell(out, 10, b"QOS")?;
-    push_last(out, b"NICE")
+    push_last(out, b"NICE")?;
+    Ok(())
 }
 
 #[tactic(auto, unfolding(crate::specs::Sprio::nice_end))]
