@@ -1,16 +1,16 @@
--- What the options of squeue and sinfo say.
+-- What the options of squeue, sinfo and sprio say.
 use Rattle.std.specs.Prelude.{ℕ, true, false, nat_lt, if◌then◌else◌, List, [], ◌∷◌, length, Option, Some, None, option_map, map}
 use Rattle.option_words.specs.Arguments.{Part, Table, plain, bad, flag, valued, lacking, parts_left}
 use Rattle.slurm_text.specs.Options.{◌>>=◌}
 use Rattle.slurm_text.specs.declared.plain.query.JobQuery.{JobQuery}
 use Rattle.slurm_text.specs.declared.plain.query.Piece.{Piece}
 use Rattle.slurm_text.specs.declared.plain.query.Query.{Query}
-use Rattle.slurm_text.specs.declared.plain.query.Query.TheVariants.{Squeue, Sinfo}
+use Rattle.slurm_text.specs.declared.plain.query.Query.TheVariants.{Squeue, Sinfo, Sprio}
 use Rattle.slurm_text.specs.declared.plain.query.Who.TheVariants.{Anyone, Asker, User}
 use Rattle.squeue_format.specs.Format.{format_in}
 use Rattle.command_words.specs.Names.{name_by}
 use Rattle.command_words.specs.Targets.{states_by, targets_by}
-use Rattle.command_words.specs.declared.queries.TheConstants.{SQUEUE_OPTIONS, SINFO_OPTIONS}
+use Rattle.command_words.specs.declared.queries.TheConstants.{SQUEUE_OPTIONS, SINFO_OPTIONS, SPRIO_OPTIONS}
 use Rattle.command_words.specs.declared.queries.QueryFlag.{QueryFlag}
 use Rattle.command_words.specs.declared.queries.QueryFlag.TheVariants.{NoHeader, Start, Me}
 use Rattle.command_words.specs.declared.queries.QueryOption.{QueryOption}
@@ -75,15 +75,21 @@ said_by query (part ∷ parts) = entry_of part >>= λ entry. said_by (with_entry
 unfoldable pub query_words : Table QueryFlag QueryOption → List (List ℕ) → Option JobQuery
 query_words table words = said_by nothing_said (parts_left table words (record { place = 1; ended = false }))
 
--- the options of squeue and of sinfo, as they stand in their tables
+-- the options of squeue, of sinfo and of sprio, as they stand in their tables
 unfoldable pub squeue_options : Table QueryFlag QueryOption
 squeue_options = map (λ row. (row.0.now, row.1, row.2)) SQUEUE_OPTIONS
 
 unfoldable pub sinfo_options : Table QueryFlag QueryOption
 sinfo_options = map (λ row. (row.0.now, row.1, row.2)) SINFO_OPTIONS
 
+unfoldable pub sprio_options : Table QueryFlag QueryOption
+sprio_options = map (λ row. (row.0.now, row.1, row.2)) SPRIO_OPTIONS
+
 unfoldable pub squeue_by : List (List ℕ) → Option Query
 squeue_by words = option_map Squeue (query_words squeue_options words)
 
 unfoldable pub sinfo_by : List (List ℕ) → Option Query
 sinfo_by words = option_map (λ said. Sinfo said.partition said.titles) (query_words sinfo_options words)
+
+unfoldable pub sprio_by : List (List ℕ) → Option Query
+sprio_by words = option_map (λ said. Sprio said.who said.jobs said.titles) (query_words sprio_options words)

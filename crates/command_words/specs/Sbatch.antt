@@ -1,24 +1,17 @@
 -- What the words of sbatch and its script want.
-use Rattle.std.specs.Prelude.{ℕ, ◌==◌, Bool, false, ◌&&◌, if◌then◌else◌, List, Option, is_none, Result, Ok, Err}
+use Rattle.std.specs.Prelude.{ℕ, Bool, ◌&&◌, if◌then◌else◌, List, Option, is_none, Result, Ok, Err}
 use Rattle.sbatch_reader.specs.Job.{job_in}
 use Rattle.sbatch_reader.specs.declared.refusal.JobRefusal.{JobRefusal}
 use Rattle.sbatch_reader.specs.declared.refusal.JobRefusal.TheVariants.{BadWord, BadLine, Memory}
 use Rattle.slurm_text.specs.declared.plain.job.JobDesc.{JobDesc}
-use Rattle.slurm_text.specs.declared.plain.nice.Nice.{Nice}
-use Rattle.slurm_text.specs.declared.plain.nice.Nice.TheVariants.{Lower, Raise}
 use Rattle.slurm_text.specs.declared.plain.request.Request.TheVariants.{Submit}
 use Rattle.command_words.specs.declared.fault.WordFault.TheVariants.{Word, Line}
 use Rattle.command_words.specs.declared.wanted.Wanted.{Wanted}
 use Rattle.command_words.specs.declared.wanted.Wanted.TheVariants.{Request, Malformed, NotBuilt}
 
-abbrev pub has_usual_nice : Nice → Bool
-has_usual_nice (Lower number) = number == 0
-has_usual_nice (Raise number) = false
-
 -- whether the controller can do for a job all that it asks for
 unfoldable pub is_built : JobDesc → Bool
-is_built job =
-    is_none job.reservation && is_none job.begin && has_usual_nice job.nice && is_none job.dependency
+is_built job = is_none job.reservation && is_none job.begin && is_none job.dependency
 
 abbrev pub wanted_job : JobDesc → Wanted
 wanted_job job = if is_built job then Request (Submit job) else NotBuilt

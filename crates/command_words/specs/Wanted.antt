@@ -4,7 +4,7 @@ use Rattle.option_words.specs.declared.refusal.WordKind.TheVariants.{StrayWord}
 use Rattle.slurm_text.specs.declared.plain.request.Request.{Request}
 use Rattle.slurm_text.specs.declared.plain.request.Request.TheVariants.{Cancel, Report, Pass, Show}
 use Rattle.command_words.specs.Cancel.{scancel_by}
-use Rattle.command_words.specs.Queries.{squeue_by, sinfo_by}
+use Rattle.command_words.specs.Queries.{squeue_by, sinfo_by, sprio_by}
 use Rattle.command_words.specs.Report.{report_by}
 use Rattle.command_words.specs.Sbatch.{sbatch_by}
 use Rattle.command_words.specs.declared.command.Command.{Command}
@@ -23,6 +23,7 @@ lone_by command.Sbatch words = None
 lone_by command.Squeue words = option_map Show (squeue_by words)
 lone_by command.Scancel words = option_map Cancel (scancel_by words)
 lone_by command.Sinfo words = option_map Show (sinfo_by words)
+lone_by command.Sprio words = option_map Show (sprio_by words)
 lone_by command.Report words = option_map Report (report_by (drop 1 words))
 lone_by command.Pass words = pass_by words
 

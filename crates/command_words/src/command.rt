@@ -14,6 +14,8 @@ pub enum Command {
     Scancel,
     /// sinfo(1).
     Sinfo,
+    /// sprio(1).
+    Sprio,
     /// A node's daemon tells what it runs (own).
     Report,
     /// Jobs are ended, started and planned (own).
@@ -33,6 +35,7 @@ impl Command {
             Command::Squeue => b"squeue",
             Command::Scancel => b"scancel",
             Command::Sinfo => b"sinfo",
+            Command::Sprio => b"sprio",
             Command::Report => b"report",
             Command::Pass => b"pass",
         }
@@ -52,6 +55,8 @@ pub(crate) fn command_named(word: &[u8]) -> Option<Command>
         Some(Command::Scancel)
     } else if word == b"sinfo".as_slice() {
         Some(Command::Sinfo)
+    } else if word == b"sprio".as_slice() {
+        Some(Command::Sprio)
     } else if word == b"report".as_slice() {
         Some(Command::Report)
     } else if word == b"pass".as_slice() {

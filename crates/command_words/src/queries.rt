@@ -1,8 +1,8 @@
-//! The options of squeue(1) and sinfo(1).
+//! The options of squeue(1), sinfo(1) and sprio(1).
 
 ghost use Rattle.std.specs.Prelude.{◌≡◌, IfOk};
 ghost use Rattle.option_words.specs.Arguments.{part_of, rows};
-ghost use Rattle.command_words.specs.Queries.{entry_of, flag_entry, format_by, nothing_said, query_words, squeue_options, sinfo_options, squeue_by, sinfo_by, value_of, with_entry};
+ghost use Rattle.command_words.specs.Queries.{entry_of, flag_entry, format_by, nothing_said, query_words, squeue_options, sinfo_options, sprio_options, squeue_by, sinfo_by, sprio_by, value_of, with_entry};
 
 use crate::names::read_name;
 use crate::targets::{read_states, read_targets};
@@ -54,6 +54,13 @@ pub(crate) const SQUEUE_OPTIONS: [(&[u8], Option<u8>, Takes<QueryFlag, QueryOpti
 pub(crate) const SINFO_OPTIONS: [(&[u8], Option<u8>, Takes<QueryFlag, QueryOption>); 2] = [
     (b"noheader", Some(b'h'), Nothing(QueryFlag::NoHeader)),
     (b"partition", Some(b'p'), Value(QueryOption::Partition)),
+];
+
+/// The options of sprio(1).
+pub(crate) const SPRIO_OPTIONS: [(&[u8], Option<u8>, Takes<QueryFlag, QueryOption>); 3] = [
+    (b"noheader", Some(b'h'), Nothing(QueryFlag::NoHeader)),
+    (b"user", Some(b'u'), Value(QueryOption::User)),
+    (b"jobs", Some(b'j'), Value(QueryOption::Jobs)),
 ];
 
 /// What one option says.
@@ -187,6 +194,13 @@ fn sinfo_words(alloc: Global, words: &Words) -> Result<Option<JobQuery>, Memory>
     read_options(alloc, &SINFO_OPTIONS, words)
 }
 
+#[tactic(auto, unfolding(crate::specs::Queries::sprio_options))]
+fn sprio_words(alloc: Global, words: &Words) -> Result<Option<JobQuery>, Memory>
+    ensures { IfOk result (λ said. said ≡ query_words sprio_options words.now) }
+{
+    read_options(alloc, &SPRIO_OPTIONS, words)
+}
+
 /// The query that the words of squeue(1) make.
 #[tactic(auto, unfolding(crate::specs::Queries::squeue_by))]
 pub(crate) fn read_squeue(alloc: Global, words: &Words) -> Result<Option<Query>, Memory>
@@ -206,6 +220,21 @@ pub(crate) fn read_sinfo(alloc: Global, words: &Words) -> Result<Option<Query>, 
     match sinfo_words(alloc, words)? {
         Some(said) => Ok(Some(Query::Sinfo {
             partition: said.partition,
+            titles: said.titles,
+        })),
+        None => Ok(None),
+    }
+}
+
+/// The query that the words of sprio(1) make.
+#[tactic(auto, unfolding(crate::specs::Queries::sprio_by))]
+pub(crate) fn read_sprio(alloc: Global, words: &Words) -> Result<Option<Query>, Memory>
+    ensures { IfOk result (λ query. query ≡ sprio_by words.now) }
+{
+    match sprio_words(alloc, words)? {
+        Some(said) => Ok(Some(Query::Sprio {
+            who: said.who,
+            jobs: said.jobs,
             titles: said.titles,
         })),
         None => Ok(None),

@@ -1,7 +1,7 @@
 //! The words of sbatch(1) and its script.
 
 ghost use Rattle.std.specs.Prelude.{◌≡◌, option_copied, IfOk};
-ghost use Rattle.command_words.specs.Sbatch.{has_usual_nice, is_built, wanted_job, sbatch_by};
+ghost use Rattle.command_words.specs.Sbatch.{is_built, wanted_job, sbatch_by};
 
 use crate::fault::WordFault;
 use crate::wanted::Wanted;
@@ -9,29 +9,16 @@ use sbatch_reader::reader::read_job;
 use sbatch_reader::refusal::JobRefusal;
 use slurm_text::memory_error::Memory;
 use slurm_text::plain::job::JobDesc;
-use slurm_text::plain::nice::Nice;
 use slurm_text::plain::request::Request;
 use slurm_text::words::Words;
 use std::alloc::Global;
-
-fn has_usual_nice(nice: Nice) -> bool
-    ensures { result ≡ has_usual_nice nice }
-{
-    match nice {
-        Nice::Lower(number) => number.get() == 0,
-        Nice::Raise(_) => false,
-    }
-}
 
 // Whether the controller can do for a job all that it asks for.
 #[tactic(auto, unfolding(crate::specs::Sbatch::is_built))]
 fn is_built(job: &JobDesc) -> bool
     ensures { result ≡ is_built job.now }
 {
-    job.reservation.is_none()
-        && job.begin.is_none()
-        && has_usual_nice(job.nice)
-        && job.dependency.is_none()
+    job.reservation.is_none() && job.begin.is_none() && job.dependency.is_none()
 }
 
 /// The job that the words and the script ask for at the moment `now`.

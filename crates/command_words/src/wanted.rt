@@ -6,7 +6,7 @@ ghost use Rattle.command_words.specs.Wanted.{pass_by, lone_by, wanted_by, withou
 use crate::cancel::read_scancel;
 use crate::command::Command;
 use crate::fault::{WordFault, WordKind};
-use crate::queries::{read_sinfo, read_squeue};
+use crate::queries::{read_sinfo, read_sprio, read_squeue};
 use crate::report::read_report;
 use crate::sbatch::read_sbatch;
 use slurm_text::memory_error::Memory;
@@ -58,6 +58,10 @@ fn read_lone(alloc: Global, command: Command, words: &Words) -> Result<Option<Re
             None => Ok(None),
         },
         Command::Sinfo => match read_sinfo(alloc, words)? {
+            Some(query) => Ok(Some(Request::Show(query))),
+            None => Ok(None),
+        },
+        Command::Sprio => match read_sprio(alloc, words)? {
             Some(query) => Ok(Some(Request::Show(query))),
             None => Ok(None),
         },

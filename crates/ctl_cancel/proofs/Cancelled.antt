@@ -121,22 +121,26 @@ stays_at s now user named jobs place job inside read refused =
 -- One step of a walk that cancels those that a test finds.
 pub step : SameAtPlace JobRecord → WalkGoesOn JobRecord → WalkKeepsLength JobRecord
     → (s before after : State) (now : ℕ) (user : List ℕ) (test : JobRecord → Bool) (place : ℕ) (named : Bool)
-    (job : JobRecord)
-    → before ≡ record s { jobs = walked (λ one. cancelled_where s now user (test one) one) place s.jobs }
+    (job : JobRecord) (used more : List ℕ)
+    → before ≡ record s { jobs = walked (λ one. cancelled_where s now user (test one) one) place s.jobs; usage = used }
     → place < length s.jobs → job ≡ get_or before.jobs place job → named ≡ test job
-    → after ≡ record before { jobs = map_at place (cancelled_where before now user named) before.jobs }
-    → after ≡ record s { jobs = walked (λ one. cancelled_where s now user (test one) one) (place + 1) s.jobs }
+    → after ≡ record before { jobs = map_at place (cancelled_where before now user named) before.jobs; usage = more }
+    → after ≡ record s {
+      jobs = walked (λ one. cancelled_where s now user (test one) one) (place + 1) s.jobs;
+      usage = more;
+    }
 unfolding job_refusal
-step same goes_on keeps s before after now user test place named job is inside read tested made =
+step same goes_on keeps s before after now user test place named job used more is inside read tested made =
     let f : JobRecord → JobRecord = λ one. cancelled_where s now user (test one) one in
     let w = walked f place s.jobs in
     let here : job ≡ get_or w place job = rw is at read in
-    let now_made : after ≡ record s { jobs = map_at place (cancelled_where s now user named) w } = rw is at made in
+    let now_made : after ≡ record s { jobs = map_at place (cancelled_where s now user named) w; usage = more } =
+    rw is at made in
     let alike : map_at place (cancelled_where s now user named) w ≡ map_at place f w =
     same (cancelled_where s now user named) f place w
     (at_read w (λ one. cancelled_where s now user named one ≡ f one) place job
     (omega (arith, keeps f place s.jobs)) here (rw tested refl)) in
-    now_made ∙ ap (λ jobs. record s { jobs = jobs }) (alike ∙ goes_on f place s.jobs inside)
+    now_made ∙ ap (λ jobs. record s { jobs = jobs; usage = more }) (alike ∙ goes_on f place s.jobs inside)
 
 -- A target more: who is cancelled isn't cancelled again.
 map-twice : {X : Type 0} (f g h : X → X) (xs : List X) → ((x : X) → f (g x) ≡ h x) → map f (map g xs) ≡ map h xs
@@ -182,48 +186,51 @@ one_more s now user target later jobs =
 
 -- a step of the walk over the targets
 made-of : (s before after : State) (now : ℕ) (user : List ℕ) (target : Target) (jobs : List JobRecord)
-    → before ≡ record s { jobs = jobs }
-    → after ≡ record before { jobs = map (target_done before now user target) before.jobs }
-    → after ≡ record s { jobs = map (target_done s now user target) jobs }
+    (used more : List ℕ) → before ≡ record s { jobs = jobs; usage = used }
+    → after ≡ record before { jobs = map (target_done before now user target) before.jobs; usage = more }
+    → after ≡ record s { jobs = map (target_done s now user target) jobs; usage = more }
 unfolding job_refusal
-made-of s before after now user target jobs is made = rw is at made
+made-of s before after now user target jobs used more is made = rw is at made
 
 pub others_stay : (s before after : State) (now : ℕ) (user : List ℕ) (target : Target) (jobs : List JobRecord)
-    → before ≡ record s { jobs = jobs }
-    → after ≡ record before { jobs = map (target_done before now user target) before.jobs }
-    → after ≡ record s { jobs = after.jobs }
-others_stay s before after now user target jobs is made =
-    let e = made-of s before after now user target jobs is made in
-    e ∙ ap (λ jobs. record s { jobs = jobs }) (sym (ap (λ (state : State). state.jobs) e))
+    (used more : List ℕ) → before ≡ record s { jobs = jobs; usage = used }
+    → after ≡ record before { jobs = map (target_done before now user target) before.jobs; usage = more }
+    → after ≡ record s { jobs = after.jobs; usage = more }
+others_stay s before after now user target jobs used more is made =
+    let e = made-of s before after now user target jobs used more is made in
+    e ∙ ap (λ jobs. record s { jobs = jobs; usage = more }) (sym (ap (λ (state : State). state.jobs) e))
 
 pub next_target : (s before after : State) (now : ℕ) (user : List ℕ) (targets : List Target) (index : ℕ) (d : Target)
-    (jobs : List JobRecord)
-    → before ≡ record s { jobs = jobs }
-    → after ≡ record before { jobs = map (target_done before now user (get_or targets index d)) before.jobs }
+    (jobs : List JobRecord) (used more : List ℕ)
+    → before ≡ record s { jobs = jobs; usage = used }
+    → after ≡ record before {
+      jobs = map (target_done before now user (get_or targets index d)) before.jobs;
+      usage = more;
+    }
     → index < length targets
     → map (cancelled_if s now user (Listed (drop (index + 1) targets))) after.jobs
     ≡ map (cancelled_if s now user (Listed (drop index targets))) jobs
-next_target s before after now user targets index d jobs is made inside =
+next_target s before after now user targets index d jobs used more is made inside =
     let target = get_or targets index d in
     ap (λ (state : State). map (cancelled_if s now user (Listed (drop (index + 1) targets))) state.jobs)
-    (made-of s before after now user target jobs is made)
+    (made-of s before after now user target jobs used more is made)
     ∙ one_more s now user target (drop (index + 1) targets) jobs
     ∙ ap (λ later. map (cancelled_if s now user (Listed later)) jobs) (sym (drop_more targets index d inside))
 
 pub still_rising : (s before after : State) (now : ℕ) (user : List ℕ) (target : Target) (jobs : List JobRecord)
-    → before ≡ record s { jobs = jobs }
-    → after ≡ record before { jobs = map (target_done before now user target) before.jobs }
+    (used more : List ℕ) → before ≡ record s { jobs = jobs; usage = used }
+    → after ≡ record before { jobs = map (target_done before now user target) before.jobs; usage = more }
     → HaveRisingIds jobs → HaveRisingIds after.jobs
-still_rising s before after now user target jobs is made rising =
-    subst HaveRisingIds (sym (ap (λ (state : State). state.jobs) (made-of s before after now user target jobs is made)))
+still_rising s before after now user target jobs used more is made rising =
+    subst HaveRisingIds (sym (ap (λ (state : State). state.jobs) (made-of s before after now user target jobs used more is made)))
     (rise_on (target_done s now user target) jobs (λ job. id-where s now user (is_named target job) job) rising)
 
 pub still_together : (s before after : State) (now : ℕ) (user : List ℕ) (target : Target) (jobs : List JobRecord)
-    → before ≡ record s { jobs = jobs }
-    → after ≡ record before { jobs = map (target_done before now user target) before.jobs }
+    (used more : List ℕ) → before ≡ record s { jobs = jobs; usage = used }
+    → after ≡ record before { jobs = map (target_done before now user target) before.jobs; usage = more }
     → AreTogether jobs → AreTogether after.jobs
-still_together s before after now user target jobs is made are =
-    subst AreTogether (sym (ap (λ (state : State). state.jobs) (made-of s before after now user target jobs is made)))
+still_together s before after now user target jobs used more is made are =
+    subst AreTogether (sym (ap (λ (state : State). state.jobs) (made-of s before after now user target jobs used more is made)))
     (stay_together (target_done s now user target) jobs (λ job. id-where s now user (is_named target job) job)
     (λ job. array-where s now user (is_named target job) job) are)
 

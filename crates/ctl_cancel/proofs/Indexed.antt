@@ -23,8 +23,10 @@ parts-kept stay s now user targets =
     ∙ stay s.jobs change (λ job. false) (λ k d below. parts_kept s now user _ _) (λ k d below never. absurd (cc))
 
 pub indexed_kept : PartsStay → (before after : Cluster) (now : ℕ) (user : List ℕ) (targets : Targets)
-    → state_of after
-    ≡ record (state_of before) { jobs = map (cancelled_if (state_of before) now user targets) before.jobs.records }
+    → state_of after ≡ record (state_of before) {
+      jobs = map (cancelled_if (state_of before) now user targets) before.jobs.records;
+      usage = after.jobs.usage;
+    }
     → after.nodes.held ≡ before.nodes.held → IsIndexed before → IsIndexed after
 indexed_kept stay before after now user targets is held indexed =
     let parts = ap (λ (s : State). parts_of s.jobs) is ∙ parts-kept stay (state_of before) now user targets in

@@ -12,8 +12,9 @@ use Rattle.job_table.specs.declared.record.JobRecord.{JobRecord}
 use Rattle.job_table.specs.declared.change.Change.TheVariants.{CancelPending, CancelRequeue, Leave}
 use Rattle.job_table.specs.JobStates.{is_pending}
 use Rattle.job_table.specs.Table.{HaveRisingIds, has_id, job_with}
+use Rattle.job_table.specs.Usage.{NothingCharged, charged}
 use Rattle.ctl_state.specs.Events.{LetsGo, plan_left, waits}
-use Rattle.ctl_state.specs.Laws.{Changing, ChangesLetGo, KeptLater, LetsGoNothing, PlansLeft}
+use Rattle.ctl_state.specs.Laws.{Changing, ChangesLetGo, Charging, KeptLater, LetsGoNothing, PlansLeft}
 use Rattle.ctl_state.specs.Soundness.{IsKept, IsSound, pending_ids}
 use Rattle.ctl_state.specs.State.{State, last_moment}
 use Rattle.ctl_state.specs.Verdicts.{stamped}
@@ -28,17 +29,19 @@ lets-in changes nothing now job Running kept = changes now (Leave Cancelled now 
 lets-in changes nothing now job (Completing final) kept = changes now CancelRequeue job tt kept
 lets-in changes nothing now job (Ended final) kept = nothing now job kept
 
-pub sound_cancelled : Changing → PlansLeft → ChangesLetGo → KeptLater → LetsGoNothing
+pub sound_cancelled : Changing → Charging → PlansLeft → ChangesLetGo → KeptLater → LetsGoNothing
     → (s : State) (now : ℕ) (user : List ℕ) (targets : Targets)
     → IsSound s → s.moment ≤ now → now ≤ last_moment → IsSound (stamped now (cancel_after s now user targets))
-sound_cancelled changing plans changes later nothing s now user targets sound raised in_time =
+sound_cancelled changing charging plans changes later nothing s now user targets sound raised in_time =
     let change = cancelled_if s now user targets in
     let lets-one : (job : JobRecord) → IsKept now job → LetsGo now job (change job) =
     λ job kept. cond_both (goes s user targets job) _ job (LetsGo now job)
     (λ h. lets-in changes nothing now job job.state kept) (λ h. nothing now job kept) in
     let lets : All (λ job. LetsGo now job (change job)) s.jobs =
     λ k d below. lets-one (get_or s.jobs k d) (later s.moment now (get_or s.jobs k d) raised (sound.jobs k d below)) in
-    changing s now change (plan_left (map change s.jobs) s.plan) sound in_time lets (plans s now change sound lets)
+    charging (record s { jobs = map change s.jobs; plan = plan_left (map change s.jobs) s.plan; moment = now })
+    (charged now s.jobs (map change s.jobs) s.usage)
+    (changing s now change (plan_left (map change s.jobs) s.plan) sound in_time lets (plans s now change sound lets))
 
 -- none goes: all stay
 pub all_stay : (s : State) (now : ℕ) (user : List ℕ) (targets : Targets) (jobs : List JobRecord)
@@ -102,13 +105,15 @@ kept_all test [] all = refl
 kept_all test (x ∷ xs) all = rw (All-head (λ y. test y ≡ true) x xs all)
     (ap (λ rest. x ∷ rest) (kept_all test xs (All-tail (λ y. test y ≡ true) x xs all)))
 
-pub idle : (s : State) (now : ℕ) (user : List ℕ) (targets : Targets) → IsSound s
+pub idle : NothingCharged → (s : State) (now : ℕ) (user : List ℕ) (targets : Targets) → IsSound s
     → list_any (goes s user targets) s.jobs ≡ false → cancel_after s now user targets ≡ s
-idle s now user targets sound none =
+idle nothing s now user targets sound none =
     let plan : plan_left s.jobs s.plan ≡ s.plan =
     kept_all (λ (placed : Placed). waits (job_with placed.id s.jobs)) s.plan
     (λ k d below. waits_there (get_or s.plan k d).id s.jobs sound.rising (sound.plan.pending k d below)) in
-    rw (all_stay s now user targets s.jobs none) (ap (λ plan. record s { plan = plan }) plan)
+    let usage : charged now s.jobs s.jobs s.usage ≡ s.usage =
+    sym (nothing now (record { records = s.jobs; usage = s.usage })).usage in
+    rw (all_stay s now user targets s.jobs none, usage) (ap (λ plan. record s { plan = plan }) plan)
 
 -- and where one goes, it isn't as it was
 unlike : (now : ℕ) (job : JobRecord) → is_done job.state ≡ false → cancelled now job ≡ job → ⊥

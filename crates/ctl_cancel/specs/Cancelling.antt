@@ -14,7 +14,7 @@ use Rattle.job_table.specs.declared.record.JobRecord.{JobRecord}
 use Rattle.job_table.specs.declared.change.Change.TheVariants.{Leave, CancelPending, CancelRequeue}
 use Rattle.job_table.specs.Changes.{changed}
 use Rattle.job_table.specs.Targets.{is_named}
-use Rattle.ctl_state.specs.Events.{plan_left}
+use Rattle.ctl_state.specs.Events.{become, plan_left}
 use Rattle.ctl_state.specs.Refusals.{first_refusal, is_privileged, refused_if}
 use Rattle.ctl_state.specs.State.{State}
 use Rattle.ctl_state.specs.Verdicts.{Verdict, Stays, Makes}
@@ -82,10 +82,10 @@ cancelled_where s now user named job = if named && is_none (job_refusal s user j
 abbrev pub cancelled_if : State → ℕ → List ℕ → Targets → JobRecord → JobRecord
 cancelled_if s now user targets job = cancelled_where s now user (are_naming targets job) job
 
--- the state once the targets are cancelled; who leaves Pending loses its place in the plan
+-- the state once the targets are cancelled; who leaves Pending loses its place in the plan, and whoever leaves Running
+-- is charged to his association
 abbrev pub cancel_after : State → ℕ → List ℕ → Targets → State
-cancel_after s now user targets = record s {
-  jobs = map (cancelled_if s now user targets) s.jobs;
+cancel_after s now user targets = record (become now (map (cancelled_if s now user targets) s.jobs) s) {
   plan = plan_left (map (cancelled_if s now user targets) s.jobs) s.plan;
 }
 

@@ -7,6 +7,7 @@ ghost use Rattle.ctl_state.specs.Soundness.{IsSound};
 ghost use Rattle.ctl_state.specs.State.{state_of};
 ghost use Rattle.job_table.specs.Table.{HaveRisingIds};
 ghost use Rattle.job_table.specs.Targets.{AreTogether, is_named};
+ghost use Rattle.job_table.specs.Usage.{Charges};
 ghost use Rattle.job_table.specs.Walks.{map_at};
 ghost use Rattle.ctl_cancel.specs.Cancelling;
 ghost use Rattle.ctl_cancel.specs.Cancelling.{cancelled_where};
@@ -17,7 +18,7 @@ use ctl_state::jobs::drop_placements;
 use ctl_state::laws::parts_stay;
 use job_table::change::Change;
 use job_table::jobs::Jobs;
-use job_table::laws::{a_change_is_of_its_place, a_walk_changes_all};
+use job_table::laws::{a_change_is_of_its_place, a_walk_changes_all, who_leaves_is_charged};
 use job_table::record::JobRecord;
 use job_table::targets::{is_named, places_of};
 use slurm_text::name::Name;
@@ -81,9 +82,12 @@ fn cancel_targets(cluster: &mut Cluster, moment: u64, user: &Name, targets: &[Ta
     ensures after { state_of cluster.new ≡ record (state_of cluster.old) {
       jobs = map (Cancelling.cancelled_if (state_of cluster.old) moment user.now (Targets.List targets.now))
           cluster.old.jobs.records;
+      usage = cluster.new.jobs.usage;
     } }
+    ensures charges { Charges moment cluster.old.jobs cluster.new.jobs }
     ensures held { cluster.new.nodes.held ≡ cluster.old.nodes.held }
 {
+    who_leaves_is_charged();
     for target in targets {
         cancel_target(cluster, moment, user, target);
     }
@@ -96,11 +100,14 @@ fn cancel_target(cluster: &mut Cluster, moment: u64, user: &Name, target: &Targe
     ensures after { state_of cluster.new ≡ record (state_of cluster.old) {
       jobs = map (λ job. cancelled_where (state_of cluster.old) moment user.now (is_named target.now job) job)
           cluster.old.jobs.records;
+      usage = cluster.new.jobs.usage;
     } }
+    ensures charges { Charges moment cluster.old.jobs cluster.new.jobs }
     ensures held { cluster.new.nodes.held ≡ cluster.old.nodes.held }
 {
     a_walk_changes_all::<JobRecord>();
     a_change_is_of_its_place::<JobRecord>();
+    who_leaves_is_charged();
     let places = places_of(cluster.jobs.records(), target);
     for place in places.first..places.end {
         let named = is_named(target, &cluster.jobs.records()[place]);
@@ -113,11 +120,14 @@ fn cancel_owned(cluster: &mut Cluster, moment: u64, user: &Name, owner: &Name)
     ensures after { state_of cluster.new ≡ record (state_of cluster.old) {
       jobs = map (Cancelling.cancelled_if (state_of cluster.old) moment user.now (Targets.User owner.now))
           cluster.old.jobs.records;
+      usage = cluster.new.jobs.usage;
     } }
+    ensures charges { Charges moment cluster.old.jobs cluster.new.jobs }
     ensures held { cluster.new.nodes.held ≡ cluster.old.nodes.held }
 {
     a_walk_changes_all::<JobRecord>();
     a_change_is_of_its_place::<JobRecord>();
+    who_leaves_is_charged();
     for place in 0..cluster.jobs.records().len() {
         let named = cluster.jobs.records()[place].user.is(owner);
         cancel_where(cluster, place, moment, user, named);
@@ -129,10 +139,13 @@ fn cancel_where(cluster: &mut Cluster, place: usize, moment: u64, user: &Name, n
     requires { place < length cluster.old.jobs.records }
     ensures after { state_of cluster.new ≡ record (state_of cluster.old) {
       jobs = map_at place (cancelled_where (state_of cluster.old) moment user.now named) cluster.old.jobs.records;
+      usage = cluster.new.jobs.usage;
     } }
+    ensures charges { Charges moment cluster.old.jobs cluster.new.jobs }
     ensures held { cluster.new.nodes.held ≡ cluster.old.nodes.held }
 {
     a_change_is_of_its_place::<JobRecord>();
+    who_leaves_is_charged();
     if named && job_refusal(cluster, user, &cluster.jobs.records()[place]).is_none() {
         cancel_at(&mut cluster.jobs, place, moment);
     }
@@ -142,9 +155,11 @@ fn cancel_where(cluster: &mut Cluster, place: usize, moment: u64, user: &Name, n
 // doesn't.
 fn cancel_at(jobs: &mut Jobs, place: usize, moment: u64)
     requires { place < length jobs.old.records }
-    ensures { jobs.new.records ≡ map_at place (Cancelling.cancelled moment) jobs.old.records }
+    ensures jobs { jobs.new.records ≡ map_at place (Cancelling.cancelled moment) jobs.old.records }
+    ensures charges { Charges moment jobs.old jobs.new }
 {
     a_change_is_of_its_place::<JobRecord>();
+    who_leaves_is_charged();
     let change = match jobs.records()[place].state {
         JobState::Pending => Change::CancelPending { moment },
         JobState::Running => Change::Leave {

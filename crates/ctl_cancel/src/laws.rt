@@ -8,7 +8,11 @@ ghost use Rattle.ctl_state.specs.Soundness.{IsSound};
 ghost use Rattle.ctl_state.specs.Verdicts.{stamped};
 ghost use Rattle.ctl_cancel.specs.Cancelling.{cancel_after, goes};
 
-use ctl_state::laws::{changing_keeps_all_sound, every_change_but_a_start_lets_go, jobs_are_kept};
+use ctl_state::laws::{
+    changing_keeps_all_sound, charging_keeps_all_sound, every_change_but_a_start_lets_go,
+    jobs_are_kept,
+};
+use job_table::laws::who_leaves_is_charged;
 
 /// Cancelling keeps all sound.
 pub fn cancelling_keeps_all_sound()
@@ -16,6 +20,7 @@ pub fn cancelling_keeps_all_sound()
         → IsSound (stamped now (cancel_after s now user targets)) }
 {
     changing_keeps_all_sound();
+    charging_keeps_all_sound();
     every_change_but_a_start_lets_go();
     jobs_are_kept();
 }
@@ -26,4 +31,6 @@ pub fn cancelling_nothing_changes_nothing()
         → list_any (goes s user targets) s.jobs ≡ false → cancel_after s now user targets ≡ s }
     ensures only { (s : State) (now : ℕ) (user : List ℕ) (targets : Targets)
         → cancel_after s now user targets ≡ s → list_any (goes s user targets) s.jobs ≡ false }
-{}
+{
+    who_leaves_is_charged();
+}

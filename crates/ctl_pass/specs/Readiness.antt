@@ -1,21 +1,22 @@
 -- The state that a pass plans, and the plan.
-use Rattle.std.specs.Prelude.{ℕ, ◌+◌, ◌*◌, Bool, ◌&&◌, nat_lt, is_none, unwrap_or, List, map, filter, filter_map, flat_map, Option, Some, option_map}
+use Rattle.std.specs.Prelude.{ℕ, ◌+◌, ◌*◌, Bool, ◌&&◌, is_none, List, map, filter, filter_map, flat_map, Option, Some}
 use Rattle.slurm_text.specs.Options.{◌>>=◌}
 use Rattle.backfill_planner.specs.declared.Placed.{Placed}
 use Rattle.backfill_planner.specs.declared.job.PlanJob.{PlanJob}
 use Rattle.backfill_planner.specs.Bases.{BaseView}
 use Rattle.backfill_planner.specs.Plans.{plan_of}
-use Rattle.partitions.specs.declared.record.PartRecord.{PartRecord}
 use Rattle.partitions.specs.Partitions.{bounds_of}
 use Rattle.job_table.specs.declared.record.JobRecord.{JobRecord}
 use Rattle.job_table.specs.JobStates.{is_pending}
-use Rattle.ctl_state.specs.Events.{those_left}
+use Rattle.ctl_state.specs.Events.{become, those_left}
 use Rattle.ctl_state.specs.Planning.{room_of, plan_job}
 use Rattle.ctl_state.specs.Ordered.{ordered_by}
 use Rattle.job_table.specs.Targets.{is_task_of}
 use Rattle.ctl_state.specs.declared.record.ArrayRecord.{ArrayRecord}
 use Rattle.ctl_state.specs.State.{State, partition_of}
 use Rattle.std.specs.List.{list_any}
+use Rattle.ctl_rank.specs.declared.rank.RankKey.{RankKey}
+use Rattle.ctl_rank.specs.Rank.{is_higher, key_of}
 use Rattle.ctl_pass.specs.Reasons.{hindrance}
 use Rattle.ctl_pass.specs.Limits.{timed_out, holds_of_job}
 use Rattle.job_table.specs.Table.{is_old}
@@ -28,9 +29,12 @@ jobs_left s now = those_left (timed_out now) (is_old s.settings.min_job_age now)
 unfoldable pub arrays_left : List JobRecord → List ArrayRecord → List ArrayRecord
 arrays_left jobs arrays = filter (λ (array : ArrayRecord). list_any (is_task_of array.id) jobs) arrays
 
--- the state that a pass plans
+-- the state that a pass plans: those past their limits are charged to their associations
 abbrev pub ready : State → ℕ → State
-ready s now = record s { jobs = jobs_left s now; arrays = arrays_left (jobs_left s now) s.arrays }
+ready s now = record (become now (map (timed_out now) s.jobs) s) {
+  jobs = jobs_left s now;
+  arrays = arrays_left (jobs_left s now) s.arrays;
+}
 
 -- what a plan at this moment begins with
 unfoldable pub base_of : State → ℕ → BaseView
@@ -44,17 +48,13 @@ base_of s now = record {
 abbrev pub is_candidate : State → JobRecord → Bool
 is_candidate s job = is_pending job.state && is_none (hindrance s job)
 
--- the tier of the job's partition
-abbrev pub tier_of : State → JobRecord → ℕ
-tier_of s job = unwrap_or (option_map (λ (partition : PartRecord). partition.conf.tier) (partition_of s job)) 0
-
--- one job is higher in rank than another: of a higher tier; of one tier, jobs rank by their numbers
-abbrev pub is_higher : State → JobRecord → JobRecord → Bool
-is_higher s one other = nat_lt (tier_of s other) (tier_of s one)
+-- a job, and what it is ranked by at a moment
+abbrev pub with_key : State → ℕ → JobRecord → JobRecord × RankKey
+with_key s now job = (job, key_of s now job)
 
 -- the jobs that can be planned, highest in rank first
 unfoldable pub candidates : State → ℕ → List JobRecord
-candidates s now = ordered_by (is_higher s) (filter (is_candidate s) s.jobs)
+candidates s now = ordered_by (is_higher s now) (filter (is_candidate s) s.jobs)
 
 -- what a job needs in its partition
 unfoldable pub needs_of : State → JobRecord → Option PlanJob

@@ -58,6 +58,7 @@ fn begin_one(now: u64, nodes: &mut Nodes, jobs: &mut Jobs, mut start: DueStart)
     requires prepared { IsPrepared nodes.old.records start }
     ensures jobs { jobs.new.records
         ≡ begun now jobs.old.records (start_by nodes.old.records nodes.old.held start) }
+    ensures usage { jobs.new.usage ≡ jobs.old.usage }
     ensures held { TakesParts nodes.old.held
         (map (part_by nodes.old.records nodes.old.held) start.placed.parts) nodes.new.held }
     ensures records { nodes.new.records ≡ nodes.old.records }

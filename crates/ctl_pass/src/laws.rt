@@ -16,10 +16,11 @@ ghost use Rattle.ctl_pass.specs.Passing.{outcome, pass_after, placements_due, is
 
 use backfill_planner::laws::{parts_are_apart, placements_are_of_ranked_jobs, starts_fit};
 use ctl_state::laws::{
-    a_stable_sort_makes_the_order, every_change_but_a_start_lets_go, jobs_are_kept,
-    jobs_get_nodes_that_are_there, letting_go_keeps_all_sound, others_wait_on,
+    a_stable_sort_makes_the_order, charging_keeps_all_sound, every_change_but_a_start_lets_go,
+    jobs_are_kept, jobs_get_nodes_that_are_there, letting_go_keeps_all_sound, others_wait_on,
     plans_keep_all_sound, taking_keeps_all_sound, what_is_taken_is_counted,
 };
+use job_table::laws::who_leaves_is_charged;
 use job_table::record::JobRecord;
 
 /// A pass keeps all sound.
@@ -30,6 +31,7 @@ pub fn a_pass_keeps_all_sound()
     every_change_but_a_start_lets_go();
     jobs_are_kept();
     letting_go_keeps_all_sound();
+    charging_keeps_all_sound();
     a_stable_sort_makes_the_order::<JobRecord>();
     jobs_get_nodes_that_are_there();
     placements_are_of_ranked_jobs();
@@ -46,6 +48,7 @@ pub fn an_idle_pass_changes_nothing()
     ensures idle { (s : State) (now : ℕ) → is_idle s now ≡ true → pass_after s now ≡ s }
     ensures only { (s : State) (now : ℕ) → pass_after s now ≡ s → is_idle s now ≡ true }
 {
+    who_leaves_is_charged();
     a_stable_sort_makes_the_order::<JobRecord>();
     placements_are_of_ranked_jobs();
 }
@@ -63,6 +66,7 @@ pub fn starts_get_all_they_planned()
     every_change_but_a_start_lets_go();
     jobs_are_kept();
     letting_go_keeps_all_sound();
+    charging_keeps_all_sound();
     a_stable_sort_makes_the_order::<JobRecord>();
     jobs_get_nodes_that_are_there();
     placements_are_of_ranked_jobs();
@@ -117,6 +121,7 @@ pub fn what_a_pass_plans_is_sound()
     every_change_but_a_start_lets_go();
     jobs_are_kept();
     letting_go_keeps_all_sound();
+    charging_keeps_all_sound();
 }
 
 /// The placements that are due in a pass can start one after another.
@@ -127,6 +132,7 @@ pub(crate) fn what_is_due_can_start()
     every_change_but_a_start_lets_go();
     jobs_are_kept();
     letting_go_keeps_all_sound();
+    charging_keeps_all_sound();
     a_stable_sort_makes_the_order::<JobRecord>();
     jobs_get_nodes_that_are_there();
     placements_are_of_ranked_jobs();

@@ -3,13 +3,14 @@
 ghost use Rattle.std.specs.Prelude.{◌≡◌, ◌≤◌, ◌<◌, length, map, count_by, unwrap_or};
 ghost use Rattle.std.specs.List.{list_any};
 ghost use Rattle.job_table.specs.Table as table;
+ghost use Rattle.job_table.specs.Usage.{Charges};
 ghost use Rattle.job_table.specs.Walks.{map_at};
 ghost use Rattle.ctl_state.specs.State.{last_moment};
 ghost use Rattle.ctl_pass.specs.Limits;
 
 use job_table::change::Change;
 use job_table::jobs::Jobs;
-use job_table::laws::{a_change_is_of_its_place, a_walk_changes_all};
+use job_table::laws::{a_change_is_of_its_place, a_walk_changes_all, who_leaves_is_charged};
 use job_table::record::JobRecord;
 use slurm_text::plain::limit::Limit;
 use slurm_text::plain::state::{Final, JobState};
@@ -82,9 +83,11 @@ pub(crate) fn any_old(age: u64, now: u64, jobs: &[JobRecord]) -> bool
 // Sees to the limit of the job at a place.
 fn time_one_out(now: u64, jobs: &mut Jobs, place: usize)
     requires { place < length jobs.old.records }
-    ensures { jobs.new.records ≡ map_at place (Limits.timed_out now) jobs.old.records }
+    ensures records { jobs.new.records ≡ map_at place (Limits.timed_out now) jobs.old.records }
+    ensures charges { Charges now jobs.old jobs.new }
 {
     a_change_is_of_its_place::<JobRecord>();
+    who_leaves_is_charged();
     if is_over(now, &jobs.records()[place]) {
         let change = Change::Leave {
             to: Final::Timeout,
@@ -95,11 +98,14 @@ fn time_one_out(now: u64, jobs: &mut Jobs, place: usize)
     }
 }
 
-/// Sees to the limits: the jobs that have reached them complete. Linear in the jobs; it takes no memory.
+/// Sees to the limits: the jobs that have reached them complete, and their associations are charged. Linear in the jobs
+/// and the parts of those that complete; it takes no memory.
 pub(crate) fn time_out(now: u64, jobs: &mut Jobs)
-    ensures { jobs.new.records ≡ map (Limits.timed_out now) jobs.old.records }
+    ensures records { jobs.new.records ≡ map (Limits.timed_out now) jobs.old.records }
+    ensures charges { Charges now jobs.old jobs.new }
 {
     a_walk_changes_all::<JobRecord>();
+    who_leaves_is_charged();
     for place in 0..jobs.records().len() {
         time_one_out(now, jobs, place);
     }

@@ -24,6 +24,7 @@ use crate::same_plans::are_same;
 use crate::split::split;
 use crate::starts::DueStart;
 use backfill_planner::{Placed, plan};
+use ctl_rank::measure;
 use ctl_state::cluster::Cluster;
 use ctl_state::counting::count_holding;
 use ctl_state::laws::parts_stay;
@@ -59,9 +60,10 @@ pub fn refusal_of(cluster: &Cluster, user: &Name) -> Option<Refusal>
 }
 
 /// What a pass at its raised moment does. Linear in jobs, parts and nodes, and for each candidate that names nodes or
-/// features in the nodes of its partition, beside what its plan costs; the nodes of each partition are sorted, and
-/// where tiers rise the candidates. The jobs that hold processors are counted once, in one walk over all; each of
-/// them, each pending job and each placement that begins now costs its association's way up to root besides.
+/// features in the nodes of its partition, beside what its plan costs; the nodes of each partition are sorted, and so
+/// are the users by what they have used and the candidates by rank, each once. What priorities rest on is found once.
+/// The jobs that hold processors are counted once, in one walk over all; each of them, each pending job and each
+/// placement that begins now costs its association's way up to root besides.
 /// It counts a step for each job that it plans, and after want of memory at most that many.
 pub fn decide<L>(
     alloc: Global,
@@ -79,7 +81,8 @@ pub fn decide<L>(
 {
     let base = base_of(alloc, cluster, now)?;
     let tally = count_holding(alloc, &cluster.assocs, cluster.jobs.records())?;
-    let ranked = rank(alloc, cluster, &tally, now)?;
+    let factors = measure(alloc, cluster, now)?;
+    let ranked = rank(alloc, cluster, &tally, &factors)?;
     let Ok(planned) = plan(alloc, base, ranked, now, steps) else {
         return Err(Memory);
     };

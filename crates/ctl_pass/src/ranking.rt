@@ -1,6 +1,7 @@
 //! The jobs that a pass can plan, by rank, and what they need.
 
-ghost use Rattle.std.specs.Prelude.{◌≡◌, ◌≤◌, ◌<◌, All, IfOk, IfSome, OnOk, length, map, filter, filter_map, option_map, slice_get, List, ℕ};
+ghost use Rattle.std.specs.Prelude.{◌≡◌, ◌≤◌, ◌<◌, All, IfOk, IfSome, length, map, filter, filter_map, option_map, slice_get};
+ghost use Rattle.std.specs.Ordering.{is_lt};
 ghost use Rattle.backfill_planner.specs.declared.job.PlanJob.{PlanJob};
 ghost use Rattle.job_table.specs.declared.record.JobRecord.{JobRecord};
 ghost use Rattle.run_limits.specs.Tallies.{Shows};
@@ -9,14 +10,19 @@ ghost use Rattle.ctl_state.specs.Planning;
 ghost use Rattle.ctl_state.specs.Soundness.{IsSound};
 ghost use Rattle.ctl_state.specs.State.{state_of};
 ghost use Rattle.partitions.specs.Partitions.{IsOnNodes};
+ghost use Rattle.ctl_rank.specs.Measured.{IsMeasured};
+ghost use Rattle.ctl_rank.specs.Rank;
 ghost use Rattle.ctl_pass.specs.Readiness;
 
 use crate::reasons::hindrance;
 use backfill_planner::{NodeList, PlanJob};
+use ctl_rank::laws::priorities_stay;
+use ctl_rank::{Factors, RankKey, is_above, key_of};
 use ctl_state::cluster::Cluster;
 use ctl_state::jobs::is_pending;
 use ctl_state::laws::a_stable_sort_makes_the_order;
 use ctl_state::planning::{node_order, plan_job};
+use job_table::laws::jobs_run_on;
 use job_table::record::JobRecord;
 use node_state::record::NodeRecord;
 use partitions::bounds::bounds_of;
@@ -24,14 +30,13 @@ use partitions::record::PartRecord;
 use run_limits::tally::Tally;
 use slurm_text::memory_error::Memory;
 use std::alloc::Global;
+use std::cmp::Ordering;
 
-fn tier_of(cluster: &Cluster, job: &JobRecord) -> u64
-    ensures { result ≡ Readiness.tier_of (state_of cluster.now) job.now }
-{
-    match cluster.partitions.at(job.partition) {
-        Some(partition) => partition.conf.tier.get(),
-        None => 0,
-    }
+// A job that can be planned, and what it is ranked by.
+#[derive(Drop)]
+struct Candidate<'a> {
+    job: &'a JobRecord,
+    key: RankKey,
 }
 
 // Whether the job waits, and nothing hinders it.
@@ -42,40 +47,58 @@ fn is_candidate(cluster: &Cluster, tally: &Tally, job: &JobRecord) -> bool
     is_pending(job) && hindrance(cluster, tally, job).is_none()
 }
 
-// The candidates in the order of their numbers.
+// The candidates in the order of their numbers, each with what it is ranked by.
 fn candidates_of<'a>(
     alloc: Global,
     cluster: &'a Cluster,
     tally: &Tally,
-) -> Result<Vec<&'a JobRecord>, Memory>
-    requires { Shows cluster.now.assocs.records tally.now (holding cluster.now.jobs.records) }
-    ensures { IfOk result (λ jobs. map (λ job. job.now) jobs.items
-        ≡ filter (Readiness.is_candidate (state_of cluster.now)) cluster.now.jobs.records) }
+    factors: &Factors,
+) -> Result<Vec<Candidate<'a>>, Memory>
+    requires counted { Shows cluster.now.assocs.records tally.now (holding cluster.now.jobs.records) }
+    requires measured { IsMeasured (state_of cluster.now) factors.now }
+    ensures { IfOk result (λ some. map (λ one. (one.job.now, one.key)) some.items
+        ≡ map (Readiness.with_key (state_of cluster.now) factors.now.moment)
+        (filter (Readiness.is_candidate (state_of cluster.now)) cluster.now.jobs.records)) }
 {
-    Ok(
-        cluster
-            .jobs
-            .records()
-            .iter()
-            .filter(|job| is_candidate(cluster, tally, job))
-            .collect(alloc)?,
-    )
+    let mut some = Vec::new(alloc);
+    for job in cluster.jobs.records() {
+        if is_candidate(cluster, tally, job) {
+            let key = key_of(factors, cluster, job);
+            some.push(Candidate { job, key })?;
+        }
+    }
+    Ok(some)
 }
 
-// The candidates, highest in rank first: a stable sort, linear where no tier rises.
+// How two candidates are ordered: the one that is higher in rank comes first.
+fn compare(one: RankKey, other: RankKey) -> Ordering
+    ensures { is_lt result ≡ Rank.is_above one other }
+{
+    if is_above(one, other) {
+        Ordering::Less
+    } else if is_above(other, one) {
+        Ordering::Greater
+    } else {
+        Ordering::Equal
+    }
+}
+
+// The candidates, highest in rank first: a stable sort.
 fn by_rank<'a>(
     alloc: Global,
     cluster: &'a Cluster,
     tally: &Tally,
-) -> Result<Vec<&'a JobRecord>, Memory>
-    requires { Shows cluster.now.assocs.records tally.now (holding cluster.now.jobs.records) }
-    ensures { IfOk result (λ jobs. (now : ℕ) → map (λ job. job.now) jobs.items
-        ≡ Readiness.candidates (state_of cluster.now) now) }
+    factors: &Factors,
+) -> Result<Vec<Candidate<'a>>, Memory>
+    requires counted { Shows cluster.now.assocs.records tally.now (holding cluster.now.jobs.records) }
+    requires measured { IsMeasured (state_of cluster.now) factors.now }
+    ensures { IfOk result (λ some. map (λ one. one.job.now) some.items
+        ≡ Readiness.candidates (state_of cluster.now) factors.now.moment) }
 {
-    let mut jobs = candidates_of(alloc, cluster, tally)?;
-    a_stable_sort_makes_the_order::<&JobRecord>();
-    jobs.sort_by(|one, other| tier_of(cluster, other).cmp(&tier_of(cluster, one)))?;
-    Ok(jobs)
+    let mut some = candidates_of(alloc, cluster, tally, factors)?;
+    a_stable_sort_makes_the_order::<Candidate>();
+    some.sort_by(|one, other| compare(one.key, other.key))?;
+    Ok(some)
 }
 
 // The order of the nodes of each partition, each made once: its jobs share it.
@@ -120,71 +143,79 @@ fn need_of(
     Ok(Some(plan_job(alloc, nodes, partition, order, bounds, job)?))
 }
 
-// What the jobs need, in their order.
+// What the candidates need, in their order.
 fn needs_of(
     alloc: Global,
     cluster: &Cluster,
     orders: &[NodeList],
-    jobs: &[&JobRecord],
+    candidates: &[Candidate],
 ) -> Result<Vec<PlanJob>, Memory>
     requires partitions { All (IsOnNodes (length cluster.now.nodes.records)) cluster.now.partitions }
     requires orders { orders.now ≡ map (Planning.node_order cluster.now.nodes.records) cluster.now.partitions }
     ensures ranked { IfOk result (λ ranked. ranked.items
-        ≡ filter_map (Readiness.needs_of (state_of cluster.now)) (map (λ job. job.now) jobs.now)) }
+        ≡ filter_map (Readiness.needs_of (state_of cluster.now)) (map (λ one. one.job.now) candidates.now)) }
     ensures nodes { IfOk result (λ ranked.
         All (λ (job : PlanJob). All (λ node. node < length cluster.now.nodes.records) job.nodes) ranked.items) }
     ensures tasks { IfOk result (λ ranked. All (λ (job : PlanJob). 1 ≤ job.need.tasks) ranked.items) }
 {
-    let mut ranked = Vec::with_capacity(alloc, jobs.len())?;
-    for job in jobs {
-        if let Some(need) = need_of(alloc, cluster, orders, job)? {
+    let mut ranked = Vec::with_capacity(alloc, candidates.len())?;
+    for candidate in candidates {
+        if let Some(need) = need_of(alloc, cluster, orders, candidate.job)? {
             ranked.push(need)?;
         }
     }
     Ok(ranked)
 }
 
-/// What the jobs need that the pass plans, highest in rank first. Linear in the jobs, and for each pending one in its
-/// association's way up to root and the nodes that it must have. The nodes of each partition are sorted once, and its
-/// candidates share them, so that a candidate that says nothing of its nodes costs no more; one that does costs the
-/// nodes of its partition, and for each of them what it names. Where tiers rise among the candidates, these are sorted.
+/// What the jobs need that the pass plans at the factors' moment, highest in rank first. Linear in the jobs, and for each
+/// pending one in its association's way up to root and the nodes that it must have. The nodes of each partition are
+/// sorted once, and its candidates share them, so that a candidate that says nothing of its nodes costs no more; one
+/// that does costs the nodes of its partition, and for each of them what it names. What each candidate is ranked by is
+/// found once, and by that they are sorted.
 pub(crate) fn rank(
     alloc: Global,
     cluster: &Cluster,
     tally: &Tally,
-    now: u64,
+    factors: &Factors,
 ) -> Result<Vec<PlanJob>, Memory>
     requires sound { IsSound (state_of cluster.now) }
     requires counted { Shows cluster.now.assocs.records tally.now (holding cluster.now.jobs.records) }
-    ensures ranked { IfOk result (λ ranked.
-        ranked.items ≡ Readiness.ranked (Readiness.ready (state_of cluster.now) now) now) }
+    requires measured { IsMeasured (state_of cluster.now) factors.now }
+    ensures ranked { IfOk result (λ ranked. ranked.items
+        ≡ Readiness.ranked (Readiness.ready (state_of cluster.now) factors.now.moment) factors.now.moment) }
     ensures nodes { IfOk result (λ ranked.
         All (λ (job : PlanJob). All (λ node. node < length cluster.now.nodes.records) job.nodes) ranked.items) }
     ensures tasks { IfOk result (λ ranked. All (λ (job : PlanJob). 1 ≤ job.need.tasks) ranked.items) }
 {
-    let jobs = by_rank(alloc, cluster, tally)?;
+    jobs_run_on();
+    priorities_stay();
+    let candidates = by_rank(alloc, cluster, tally, factors)?;
     let orders = node_orders(alloc, cluster.nodes.records(), cluster.partitions.records())?;
-    needs_of(alloc, cluster, orders.as_slice(), jobs.as_slice())
+    needs_of(alloc, cluster, orders.as_slice(), candidates.as_slice())
 }
 
-fn is_higher(cluster: &Cluster, one: &JobRecord, other: &JobRecord) -> bool
-    ensures { result ≡ Readiness.is_higher (state_of cluster.now) one.now other.now }
+// Whether one job is higher in rank than another.
+#[tactic(auto, unfolding(ctl_rank::specs::Rank::is_higher))]
+fn is_higher(cluster: &Cluster, factors: &Factors, one: &JobRecord, other: &JobRecord) -> bool
+    requires { IsMeasured (state_of cluster.now) factors.now }
+    ensures { result ≡ Rank.is_higher (state_of cluster.now) factors.now.moment one.now other.now }
 {
-    tier_of(cluster, one) > tier_of(cluster, other)
+    is_above(key_of(factors, cluster, one), key_of(factors, cluster, other))
 }
 
-/// The number of the candidate that is highest in rank, None where there is no candidate. Linear in the jobs, and for
-/// each pending one that is higher than the candidates before it in its association's way up to root and the nodes that
-/// it must have.
-pub fn highest(cluster: &Cluster, tally: &Tally) -> Option<u32>
-    requires { Shows cluster.now.assocs.records tally.now (holding cluster.now.jobs.records) }
-    ensures { (now : ℕ) → result
-        ≡ option_map (λ (job : JobRecord). job.id) (slice_get (Readiness.candidates (state_of cluster.now) now) 0) }
+/// The number of the candidate that is highest in rank at the factors' moment, None where there is no candidate. Linear
+/// in the jobs, and for each pending one that is higher than the candidates before it in its association's way up to
+/// root and the nodes that it must have.
+pub fn highest(cluster: &Cluster, tally: &Tally, factors: &Factors) -> Option<u32>
+    requires counted { Shows cluster.now.assocs.records tally.now (holding cluster.now.jobs.records) }
+    requires measured { IsMeasured (state_of cluster.now) factors.now }
+    ensures { result ≡ option_map (λ (job : JobRecord). job.id)
+        (slice_get (Readiness.candidates (state_of cluster.now) factors.now.moment) 0) }
 {
     let mut highest: Option<&JobRecord> = None;
     for job in cluster.jobs.records() {
         let comes_first = match highest {
-            Some(first) => is_higher(cluster, job, first),
+            Some(first) => is_higher(cluster, factors, job, first),
             None => true,
         };
         if comes_first && is_candidate(cluster, tally, job) {

@@ -14,9 +14,10 @@ use Rattle.node_state.specs.Nodes.{is_up}
 use Rattle.job_table.specs.declared.record.JobRecord.{JobRecord}
 use Rattle.job_table.specs.declared.change.Change.TheVariants.{Leave, DropPart}
 use Rattle.job_table.specs.Changes.{changed, off_node}
-use Rattle.ctl_state.specs.Events.{LetsGo}
+use Rattle.job_table.specs.Usage.{charged}
+use Rattle.ctl_state.specs.Events.{LetsGo, become}
 use Rattle.job_table.specs.JobStates.{is_pending, is_running}
-use Rattle.ctl_state.specs.Laws.{Changing, ChangesLetGo, KeptLater, KeptOn, LetsGoNothing, LetsGoTwice, NodesStay}
+use Rattle.ctl_state.specs.Laws.{Changing, ChangesLetGo, Charging, KeptLater, KeptOn, LetsGoNothing, LetsGoTwice, NodesStay}
 use Rattle.ctl_state.specs.Soundness.{IsSound, IsKept, PlansPending, is_up_at, pending_ids}
 use Rattle.ctl_state.specs.State.{State, last_moment}
 use Rattle.ctl_state.specs.Verdicts.{stamped}
@@ -136,10 +137,10 @@ up-after (node ∷ nodes) (one ∷ later) all zero is = all.0 is
 up-after (node ∷ nodes) (one ∷ later) all (suc place) is = up-after nodes later all.1 place is
 
 -- An accepted report keeps all sound.
-pub sound-reported : Changing → KeptLater → NodesStay → ConfsStay → ReportsSetNoneDown → Rests
+pub sound-reported : Changing → Charging → KeptLater → NodesStay → ConfsStay → ReportsSetNoneDown → Rests
     → (s : State) (now node : ℕ) (report : Report)
     → IsSound s → s.moment ≤ now → now ≤ last_moment → IsSound (stamped now (report_after s now node report))
-sound-reported changing later nodes confs none_down rests s now node report sound raised in_time =
+sound-reported changing charging later nodes confs none_down rests s now node report sound raised in_time =
     let change = reported now node report in
     let plan : PlansPending (map change s.jobs) s.plan = record {
       pending = λ k d below. waits-on change s.jobs (get_or s.plan k d).id (reported-waits now node report)
@@ -150,6 +151,7 @@ sound-reported changing later nodes confs none_down rests s now node report soun
     let lets : All (λ job. LetsGo now job (change job)) s.jobs = λ k d below.
     lets-reported rests now node report (get_or s.jobs k d)
     (later s.moment now (get_or s.jobs k d) raised (sound.jobs k d below)) in
-    nodes (record s { jobs = map change s.jobs; moment = now }) (heard_nodes now node report s.nodes)
-    (changing s now change s.plan sound in_time lets plan) (confs node _ s.nodes)
+    nodes (record (become now (map change s.jobs) s) { moment = now }) (heard_nodes now node report s.nodes)
+    (charging (record s { jobs = map change s.jobs; moment = now }) (charged now s.jobs (map change s.jobs) s.usage)
+    (changing s now change s.plan sound in_time lets plan)) (confs node _ s.nodes)
     (up-after s.nodes (heard_nodes now node report s.nodes) (none_down node _ _ s.nodes))

@@ -15,6 +15,7 @@ use Rattle.job_table.specs.declared.record.JobRecord.{JobRecord}
 use Rattle.job_table.specs.declared.change.Change.TheVariants.{Leave, DropPart}
 use Rattle.job_table.specs.Changes.{changed}
 use Rattle.job_table.specs.Changes.{is_on}
+use Rattle.ctl_state.specs.Events.{become}
 use Rattle.ctl_state.specs.State.{State}
 
 -- the last accepted report of the node at a place
@@ -84,9 +85,8 @@ after_told now node report job (Some done) = told_over now node done job
 abbrev pub reported : ℕ → ℕ → Report → JobRecord → JobRecord
 reported now node report job = if is_at node job then after_told now node report job (done_of report job) else job
 
--- the state after an accepted report of the node at a place
+-- the state after an accepted report of the node at a place; whoever leaves Running is charged to his association
 abbrev pub report_after : State → ℕ → ℕ → Report → State
-report_after s now node report = record s {
+report_after s now node report = record (become now (map (reported now node report) s.jobs) s) {
   nodes = heard_nodes now node report s.nodes;
-  jobs = map (reported now node report) s.jobs;
 }

@@ -3,6 +3,7 @@
 ghost use Rattle.std.specs.Prelude.{◌≡◌, ◌<◌, map, All, find, length, option_copied, Some};
 ghost use Rattle.std.specs.List.{HoldsAt, list_any};
 ghost use Rattle.job_table.specs.Changes.{changed, is_on};
+ghost use Rattle.job_table.specs.Usage.{Charges};
 ghost use Rattle.job_table.specs.Walks.{map_at};
 ghost use Rattle.ctl_report.specs.Reporting.{is_last_start, is_listed, done_of, is_at, is_batch_host, final_of, script_over, told_over, reported};
 ghost use Rattle.ctl_report.specs.Leaving.{AreOnNodes, ShowsJobs};
@@ -10,7 +11,7 @@ ghost use Rattle.ctl_report.specs.Leaving.{AreOnNodes, ShowsJobs};
 use crate::leaving::leave_node;
 use job_table::change::Change;
 use job_table::jobs::Jobs;
-use job_table::laws::{a_change_is_of_its_place, a_walk_changes_all};
+use job_table::laws::{a_change_is_of_its_place, a_walk_changes_all, who_leaves_is_charged};
 use job_table::record::{JobRecord, Part};
 use node_state::nodes::Nodes;
 use slurm_text::plain::report::{Done, Report, Start};
@@ -76,10 +77,12 @@ pub(crate) fn report_jobs(nodes: &mut Nodes, jobs: &mut Jobs, now: u64, node: u3
     requires on { All (λ job. AreOnNodes (length nodes.old.records) job.parts) jobs.old.records }
     requires shown { ShowsJobs nodes.old.held jobs.old.records }
     ensures jobs { jobs.new.records ≡ map (reported now node report.now) jobs.old.records }
+    ensures charges { Charges now jobs.old jobs.new }
     ensures nodes { nodes.new.records ≡ nodes.old.records }
     ensures shown { ShowsJobs nodes.new.held jobs.new.records }
 {
     a_walk_changes_all::<JobRecord>();
+    who_leaves_is_charged();
     for place in 0..jobs.records().len() {
         report_job(nodes, jobs, place, now, node, report);
     }
@@ -98,10 +101,12 @@ fn report_job(
     requires on { HoldsAt (λ job. AreOnNodes (length nodes.old.records) job.parts) jobs.old.records place }
     requires shown { ShowsJobs nodes.old.held jobs.old.records }
     ensures jobs { jobs.new.records ≡ map_at place (reported now node report.now) jobs.old.records }
+    ensures charges { Charges now jobs.old jobs.new }
     ensures nodes { nodes.new.records ≡ nodes.old.records }
     ensures shown { ShowsJobs nodes.new.held jobs.new.records }
 {
     a_change_is_of_its_place::<JobRecord>();
+    who_leaves_is_charged();
     let job = &jobs.records()[place];
     if !is_at(node, job) {
         return;
@@ -123,10 +128,12 @@ fn finish(nodes: &mut Nodes, jobs: &mut Jobs, place: usize, now: u64, node: u32,
     requires on { HoldsAt (λ job. AreOnNodes (length nodes.old.records) job.parts) jobs.old.records place }
     requires shown { ShowsJobs nodes.old.held jobs.old.records }
     ensures jobs { jobs.new.records ≡ map_at place (told_over now node done) jobs.old.records }
+    ensures charges { Charges now jobs.old jobs.new }
     ensures nodes { nodes.new.records ≡ nodes.old.records }
     ensures shown { ShowsJobs nodes.new.held jobs.new.records }
 {
     a_change_is_of_its_place::<JobRecord>();
+    who_leaves_is_charged();
     end_script(jobs, place, now, node, done);
     leave_node(nodes, jobs, place, now, node);
 }
@@ -134,9 +141,11 @@ fn finish(nodes: &mut Nodes, jobs: &mut Jobs, place: usize, now: u64, node: u32,
 // The script of the job at a place is over, if it ran on the node.
 fn end_script(jobs: &mut Jobs, place: usize, now: u64, node: u32, done: Done)
     requires { place < length jobs.old.records }
-    ensures { jobs.new.records ≡ map_at place (script_over now node done) jobs.old.records }
+    ensures jobs { jobs.new.records ≡ map_at place (script_over now node done) jobs.old.records }
+    ensures charges { Charges now jobs.old jobs.new }
 {
     a_change_is_of_its_place::<JobRecord>();
+    who_leaves_is_charged();
     if is_batch_host(node, jobs.records()[place].parts.as_slice()) {
         leave(jobs, place, now, done);
     }
@@ -145,8 +154,9 @@ fn end_script(jobs: &mut Jobs, place: usize, now: u64, node: u32, done: Done)
 // The job at a place leaves Running, as its script ended.
 fn leave(jobs: &mut Jobs, place: usize, now: u64, done: Done)
     requires { place < length jobs.old.records }
-    ensures { jobs.new.records ≡ map_at place
+    ensures jobs { jobs.new.records ≡ map_at place
         (changed (Change.Leave (final_of done.exit) now (Some done.exit))) jobs.old.records }
+    ensures charges { Charges now jobs.old jobs.new }
 {
     let change = Change::Leave {
         to: final_of(done.exit),

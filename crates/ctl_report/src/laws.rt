@@ -11,8 +11,8 @@ ghost use Rattle.slurm_text.specs.Starts.{InOrder};
 ghost use Rattle.ctl_report.specs.Ordering.{in_order};
 
 use ctl_state::laws::{
-    changing_keeps_all_sound, every_change_but_a_start_lets_go, jobs_are_kept,
-    nodes_that_stay_keep_all_sound,
+    changing_keeps_all_sound, charging_keeps_all_sound, every_change_but_a_start_lets_go,
+    jobs_are_kept, nodes_that_stay_keep_all_sound,
 };
 use node_state::laws::{a_change_leaves_the_confs, a_report_sets_no_node_down};
 
@@ -22,6 +22,7 @@ pub fn a_report_keeps_all_sound()
         → IsSound (stamped now (report_after s now node report)) }
 {
     changing_keeps_all_sound();
+    charging_keeps_all_sound();
     every_change_but_a_start_lets_go();
     jobs_are_kept();
     nodes_that_stay_keep_all_sound();

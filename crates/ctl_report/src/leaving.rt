@@ -5,6 +5,7 @@ ghost use Rattle.std.specs.List.{HoldsAt};
 ghost use Rattle.std.specs.Option.{option_to_list};
 ghost use Rattle.node_state.specs.Held.{held_mem, holds_cpu};
 ghost use Rattle.job_table.specs.Changes.{changed};
+ghost use Rattle.job_table.specs.Usage.{Charges};
 ghost use Rattle.job_table.specs.Walks.{map_at};
 ghost use Rattle.ctl_state.specs.Index.{GivesParts};
 ghost use Rattle.ctl_report.specs.Leaving.{AreOnNodes, ShowsJobs, part_dropped};
@@ -46,6 +47,7 @@ pub(crate) fn leave_node(nodes: &mut Nodes, jobs: &mut Jobs, place: usize, now: 
     requires on { HoldsAt (λ job. AreOnNodes (length nodes.old.records) job.parts) jobs.old.records place }
     requires shown { ShowsJobs nodes.old.held jobs.old.records }
     ensures jobs { jobs.new.records ≡ map_at place (changed (Change.DropPart node now)) jobs.old.records }
+    ensures charges { Charges now jobs.old jobs.new }
     ensures nodes { nodes.new.records ≡ nodes.old.records }
     ensures shown { ShowsJobs nodes.new.held jobs.new.records }
 {

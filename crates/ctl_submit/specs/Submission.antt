@@ -9,11 +9,13 @@ use Rattle.slurm_text.specs.declared.plain.job.JobDesc.{JobDesc}
 use Rattle.slurm_text.specs.declared.plain.limit.Limit.{Limit}
 use Rattle.slurm_text.specs.declared.plain.mem_ask.MemAsk.{MemAsk}
 use Rattle.slurm_text.specs.declared.plain.mem_ask.MemAsk.TheVariants as memory
+use Rattle.slurm_text.specs.declared.plain.nice.Nice.{Nice}
+use Rattle.slurm_text.specs.declared.plain.nice.Nice.TheVariants.{Lower, Raise}
 use Rattle.slurm_text.specs.declared.plain.state.HeldBy.{HeldBy}
 use Rattle.slurm_text.specs.declared.plain.state.HeldBy.TheVariants.{Nobody, User}
 use Rattle.slurm_text.specs.declared.plain.state.JobState.TheVariants.{Pending}
 use Rattle.slurm_text.specs.declared.plain.refusal.Refusal.{Refusal}
-use Rattle.slurm_text.specs.declared.plain.refusal.Refusal.TheVariants.{PartitionClosed, InvalidAccount, InvalidPartition, InvalidQos, NodesNotAvailable, NotAllowedHere, JobTableFull, ArrayTooLarge, UnknownNode, JobIdsSpent}
+use Rattle.slurm_text.specs.declared.plain.refusal.Refusal.TheVariants.{AccessDenied, PartitionClosed, InvalidAccount, InvalidPartition, InvalidQos, NodesNotAvailable, NotAllowedHere, JobTableFull, ArrayTooLarge, UnknownNode, JobIdsSpent}
 use Rattle.slurm_text.specs.declared.plain.reply.Reply.TheVariants.{Submitted}
 use Rattle.backfill_planner.specs.Plans.{placed_of}
 use Rattle.node_state.specs.Nodes.{place_named}
@@ -32,7 +34,7 @@ use Rattle.job_table.specs.Table.{HaveRisingIds}
 use Rattle.ctl_state.specs.declared.record.ArrayRecord.{ArrayRecord}
 use Rattle.ctl_state.specs.Counted.{counted_of}
 use Rattle.ctl_state.specs.Planning.{open_room, plan_job}
-use Rattle.ctl_state.specs.Refusals.{first_refusal, refused_if}
+use Rattle.ctl_state.specs.Refusals.{first_refusal, is_privileged, refused_if}
 use Rattle.ctl_state.specs.State.{State, last_job_id}
 use Rattle.ctl_state.specs.Verdicts.{Verdict, Refuses, Makes}
 use Rattle.ctl_submit.specs.declared.handed.Handed.{Handed}
@@ -174,6 +176,15 @@ unfoldable pub is_placeable : State → PartRecord → JobRecord → Bool
 is_placeable s partition job =
     is_some (placed_of (map open_room s.nodes) [] (plan_job s.nodes partition (own_bounds job.desc) job) 0 0)
 
+-- the nice value is negative
+abbrev pub is_negative : Nice → Bool
+is_negative (Lower by) = false
+is_negative (Raise by) = true
+
+-- the user asks for a nice value that only root and SlurmUser may ask for
+abbrev pub may_not_raise : State → List ℕ → JobDesc → Bool
+may_not_raise s user desc = is_negative desc.nice && not (is_privileged s user)
+
 -- a node that is named isn't there
 abbrev pub names_unknown : State → JobDesc → Bool
 names_unknown s desc = list_any (λ name. is_none (place_named name s.nodes)) (desc.required ++ desc.excluded)
@@ -214,6 +225,7 @@ refusals_of_count s job array =
 abbrev pub refusals_under : State → ℕ → List ℕ → JobDesc → Terms → List (Option Refusal)
 refusals_under s moment user desc terms =
     refused_if (not (takes_jobs_of terms.partition terms.account (quality_of desc))) NotAllowedHere
+    ∷ refused_if (may_not_raise s user desc) AccessDenied
     ∷ refused_if (names_unknown s desc) UnknownNode
     ∷ refused_if (not (is_placeable s terms.partition (lone_job s moment user desc terms))) NodesNotAvailable
     ∷ refusals_of_count s (lone_job s moment user desc terms) desc.array

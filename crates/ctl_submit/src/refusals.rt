@@ -16,9 +16,11 @@ use crate::placeable::is_placeable;
 use ctl_state::cluster::Cluster;
 use job_table::record::JobRecord;
 use slurm_text::memory_error::Memory;
+use slurm_text::name::Name;
 use slurm_text::plain::array::ArraySpec;
 use slurm_text::plain::conf::PartState;
 use slurm_text::plain::job::JobDesc;
+use slurm_text::plain::nice::Nice;
 use slurm_text::plain::refusal::Refusal;
 use std::alloc::Global;
 
@@ -30,6 +32,13 @@ pub(crate) fn is_closed(state: PartState) -> bool
     ensures { result ≡ Submission.is_closed state }
 {
     matches!(state, PartState::Drain | PartState::Inactive)
+}
+
+// Whether the user asks for a negative nice value and isn't privileged. `--nice` in sbatch(1).
+fn may_not_raise(cluster: &Cluster, user: &Name, desc: &JobDesc) -> bool
+    ensures { result ≡ Submission.may_not_raise (state_of cluster.now) user.now desc.now }
+{
+    matches!(desc.nice, Nice::Raise(_)) && !cluster.is_privileged(user)
 }
 
 // Whether a node that is named isn't there. Linear in the names.
@@ -116,6 +125,9 @@ pub(crate) fn refusal_of(
     let partition = draft.partition;
     if !takes_jobs_of(partition, &draft.account, draft.desc) {
         return Ok(Some(Refusal::NotAllowedHere));
+    }
+    if may_not_raise(cluster, draft.user, draft.desc) {
+        return Ok(Some(Refusal::AccessDenied));
     }
     if names_unknown(cluster, draft.desc) {
         return Ok(Some(Refusal::UnknownNode));

@@ -107,13 +107,20 @@ fn push_said(out: &mut Vec<u8>, query: &JobQuery) -> Result<(), Unanswered> {
     push_field(out, "jobs", query.jobs.as_ref())?;
     push_field(out, "partition", query.partition.as_ref())?;
     push_field(out, "states", query.states.as_ref())?;
-    if !query.titles {
-        push_field(out, "titles", Some(&query.titles))?;
-    }
+    push_titles(out, query.titles)?;
     if query.starts {
         push_field(out, "starts", Some(&query.starts))?;
     }
     push_field(out, "format", query.format.as_ref())
+}
+
+// That no titles are wanted, where it is so.
+fn push_titles(out: &mut Vec<u8>, titles: bool) -> Result<(), Unanswered> {
+    if titles {
+        Ok(())
+    } else {
+        push_field(out, "titles", Some(&titles))
+    }
 }
 
 // The fields of a query.
@@ -122,11 +129,12 @@ fn push_query_fields(out: &mut Vec<u8>, query: &Query) -> Result<(), Unanswered>
         Query::Squeue(query) => push_said(out, query),
         Query::Sinfo { partition, titles } => {
             push_field(out, "partition", partition.as_ref())?;
-            if *titles {
-                Ok(())
-            } else {
-                push_field(out, "titles", Some(titles))
-            }
+            push_titles(out, *titles)
+        }
+        Query::Sprio { who, jobs, titles } => {
+            push_who(out, who)?;
+            push_field(out, "jobs", jobs.as_ref())?;
+            push_titles(out, *titles)
         }
     }
 }
@@ -137,6 +145,7 @@ fn push_query(out: &mut Vec<u8>, query: &Query) -> Result<(), Unanswered> {
     let command = match query {
         Query::Squeue(_) => "squeue ",
         Query::Sinfo { .. } => "sinfo ",
+        Query::Sprio { .. } => "sprio ",
     };
     out.extend_from_slice(command.as_bytes())?;
     out.extend_from_slice(or_dash(fields)?.as_slice())?;

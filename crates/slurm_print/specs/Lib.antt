@@ -4,5 +4,6 @@ pub mod Orders
 pub mod Ranges
 pub mod Refusal
 pub mod Sinfo
+pub mod Sprio
 pub mod Squeue
 pub mod Text

@@ -10,7 +10,7 @@ use Rattle.slurm_text.specs.declared.plain.view.NodeGroup.{NodeGroup}
 use Rattle.slurm_text.specs.declared.plain.view.NodeGroup.TheVariants.{Down, Draining, Drained, Allocated, Mixed, Idle}
 use Rattle.slurm_text.specs.declared.plain.view.StateRow.{StateRow}
 use Rattle.slurm_text.specs.declared.plain.view.Row.{Row}
-use Rattle.slurm_text.specs.declared.plain.view.Row.TheVariants.{Job, States}
+use Rattle.slurm_text.specs.declared.plain.view.Row.TheVariants.{Job, States, Priority}
 use Rattle.slurm_text.specs.declared.plain.view.View.{View}
 use Rattle.slurm_print.specs.Field.{cell, left_cell}
 
@@ -54,6 +54,7 @@ state_line row =
 abbrev pub sinfo_row : Row → List ℕ
 sinfo_row (Job row) = []
 sinfo_row (States row) = state_line row
+sinfo_row (Priority row) = []
 
 -- the lines, below their titles where these are wanted
 abbrev pub sinfo_text : Bool → View → List ℕ

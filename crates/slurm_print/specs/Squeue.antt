@@ -17,7 +17,7 @@ use Rattle.slurm_text.specs.declared.plain.state.Reason.{Reason}
 use Rattle.slurm_text.specs.declared.plain.state.Reason.TheVariants.{JobHeldAdmin, JobHeldUser, PartitionInactive, PartitionDown, PartitionTimeLimit, PartitionNodeLimit, QosMaxWallDurationPerJobLimit, JobArrayTaskLimit, AssocGrpJobsLimit, AssocGrpCpuLimit, AssocMaxJobsLimit, QosGrpJobsLimit, QosGrpCpuLimit, QosMaxJobsPerUserLimit, QosMaxCpuPerUserLimit, ReqNodeNotAvail, Resources, Priority}
 use Rattle.slurm_text.specs.declared.plain.view.JobRow.{JobRow}
 use Rattle.slurm_text.specs.declared.plain.view.Row.{Row}
-use Rattle.slurm_text.specs.declared.plain.view.Row.TheVariants.{Job, States}
+use Rattle.slurm_text.specs.declared.plain.view.Row.TheVariants as shown
 use Rattle.slurm_text.specs.declared.plain.view.View.{View}
 use Rattle.squeue_format.specs.Format.{usual}
 use Rattle.slurm_print.specs.Field.{field}
@@ -133,8 +133,9 @@ unfoldable pub line : (JobColumn → List ℕ) → List Piece → List ℕ
 line tells pieces = flat_map (piece_text tells) pieces ++ codes "\n"
 
 abbrev pub row_line : List Piece → Row → List ℕ
-row_line pieces (Job row) = line (told row) pieces
-row_line pieces (States row) = []
+row_line pieces (shown.Job row) = line (told row) pieces
+row_line pieces (shown.States row) = []
+row_line pieces (shown.Priority row) = []
 
 -- the format of a query
 abbrev pub format_of : Bool → Option (List Piece) → List Piece

@@ -1,6 +1,6 @@
 -- The text of a reply, as a function of the request and the reply.
 use Rattle.std.specs.Prelude.{ℕ, List, [], ◌++◌, codes, decimal, Bool, false, if◌then◌else◌}
-use Rattle.slurm_text.specs.declared.plain.query.Query.TheVariants.{Squeue, Sinfo}
+use Rattle.slurm_text.specs.declared.plain.query.Query.TheVariants.{Squeue, Sinfo, Sprio}
 use Rattle.slurm_text.specs.declared.plain.reply.Reply.{Reply}
 use Rattle.slurm_text.specs.declared.plain.reply.Reply.TheVariants.{Submitted, Done, Passed, Orders, Idle, Shown, Refused, NotBuilt}
 use Rattle.slurm_text.specs.declared.plain.request.Request.{Request}
@@ -10,6 +10,7 @@ use Rattle.slurm_print.specs.Malformed.{not_built_text}
 use Rattle.slurm_print.specs.Orders.{orders_text}
 use Rattle.slurm_print.specs.Refusal.{refusal_line}
 use Rattle.slurm_print.specs.Sinfo.{sinfo_text}
+use Rattle.slurm_print.specs.Sprio.{sprio_text}
 use Rattle.slurm_print.specs.Squeue.{squeue_text}
 
 -- the command that makes the request
@@ -20,6 +21,7 @@ command_of (Report report) = codes "report"
 command_of Pass = codes "pass"
 command_of (Show (Squeue query)) = codes "squeue"
 command_of (Show (Sinfo partition titles)) = codes "sinfo"
+command_of (Show (Sprio who jobs titles)) = codes "sprio"
 
 abbrev pub submitted_line : ℕ → List ℕ
 submitted_line id = codes "Submitted batch job " ++ decimal id ++ codes "\n"
@@ -49,6 +51,7 @@ idle_text request = []
 abbrev pub shown_text : Request → View → List ℕ
 shown_text (Show (Squeue query)) view = squeue_text query view
 shown_text (Show (Sinfo partition titles)) view = sinfo_text titles view
+shown_text (Show (Sprio who jobs titles)) view = sprio_text titles view
 shown_text request view = []
 
 abbrev pub text_of : Request → Reply → List ℕ

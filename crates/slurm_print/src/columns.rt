@@ -69,8 +69,13 @@ pub(crate) fn title(column: JobColumn) -> &'static [u8]
     }
 }
 
-// A task of an array is named by the array and its index.
-fn push_id(out: &mut Vec<u8>, id: u32, array: Option<u32>, index: Option<u32>) -> Result<(), Memory>
+/// Writes the job's number; a task of an array is named by the array and its index.
+pub(crate) fn push_id(
+    out: &mut Vec<u8>,
+    id: u32,
+    array: Option<u32>,
+    index: Option<u32>,
+) -> Result<(), Memory>
     ensures { OnOk result (out.new.items ≡ out.old.items ++ Squeue.id_of id array index) }
 {
     match (array, index) {

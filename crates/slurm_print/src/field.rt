@@ -8,10 +8,10 @@ use crate::line::push_text;
 use slurm_text::memory_error::Memory;
 use slurm_text::ranged::Ranged;
 
-// Cuts what stands behind the first `start` bytes to `width` bytes and pads it with blanks, on the left where `dot`
-// says so.
+/// Cuts what stands behind the first `start` bytes to `width` bytes and pads it with blanks, on the left where `dot`
+/// says so.
 #[tactic(auto, unfolding(crate::specs::Field::field))]
-fn fit(out: &mut Vec<u8>, start: usize, width: usize, dot: bool) -> Result<(), Memory>
+pub(crate) fn fit(out: &mut Vec<u8>, start: usize, width: usize, dot: bool) -> Result<(), Memory>
     requires within { start ≤ length out.old.items }
     requires narrow { width ≤ 1024 }
     ensures { OnOk result (out.new.items ≡ take start out.old.items ++ field width dot (drop start out.old.items)) }
@@ -78,7 +78,13 @@ pub(crate) fn push_left_cell(out: &mut Vec<u8>, width: usize, text: &[u8]) -> Re
     push_text(out, b" ")
 }
 
-fn push_field(out: &mut Vec<u8>, width: usize, dot: bool, text: &[u8]) -> Result<(), Memory>
+/// Writes the text cut to `width` bytes and padded with blanks, on the left where `dot` says so.
+pub(crate) fn push_field(
+    out: &mut Vec<u8>,
+    width: usize,
+    dot: bool,
+    text: &[u8],
+) -> Result<(), Memory>
     requires { width ≤ 1024 }
     ensures { OnOk result (out.new.items ≡ out.old.items ++ field width dot text.now) }
 {

@@ -9,5 +9,6 @@ mod orders;
 mod ranges;
 mod refusal;
 mod sinfo;
+mod sprio;
 mod squeue;
 pub mod text;

@@ -8,6 +8,7 @@ use crate::malformed::not_built;
 use crate::orders::push_orders;
 use crate::refusal::push_refusal;
 use crate::sinfo::push_sinfo;
+use crate::sprio::push_sprio;
 use crate::squeue::push_view;
 use slurm_text::memory_error::Memory;
 use slurm_text::plain::query::Query;
@@ -90,6 +91,7 @@ fn push_shown(
     match request {
         Request::Show(Query::Squeue(query)) => push_view(alloc, out, query, view),
         Request::Show(Query::Sinfo { titles, .. }) => push_sinfo(alloc, out, *titles, view),
+        Request::Show(Query::Sprio { titles, .. }) => push_sprio(out, *titles, view),
         _ => Ok(()),
     }
 }
@@ -104,5 +106,6 @@ fn command(request: &Request) -> &'static [u8]
         Request::Pass => b"pass",
         Request::Show(Query::Squeue(_)) => b"squeue",
         Request::Show(Query::Sinfo { .. }) => b"sinfo",
+        Request::Show(Query::Sprio { .. }) => b"sprio",
     }
 }

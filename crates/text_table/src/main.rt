@@ -4,6 +4,7 @@
 mod blocks;
 mod hosts;
 mod lines;
+mod priorities;
 mod rows;
 mod texts;
 mod times;
@@ -29,6 +30,7 @@ fn answer(alloc: Global, function: &str, arguments: &[&[u8]]) -> Result<Vec<u8>,
     call_of_texts(alloc, function, arguments)
         .or_else(|| blocks::call(alloc, function, arguments))
         .or_else(|| lines::call(alloc, function, arguments))
+        .or_else(|| priorities::call(alloc, function, arguments))
         .unwrap_or(Err(Unanswered::Arguments))
 }
 

@@ -78,7 +78,8 @@ struct Extras {
     cpus: u64,
 }
 
-fn number_or_none(text: &[u8]) -> Result<Option<u32>, Unanswered> {
+/// A number of 32 bits, or `-`.
+pub fn number_or_none(text: &[u8]) -> Result<Option<u32>, Unanswered> {
     if text == b"-".as_slice() {
         return Ok(None);
     }

@@ -15,9 +15,10 @@ loop-place-preserved c =
           c.a_walk_changes_all.ensures.length s
           (state_of c.loop-place.cluster) (state_of c.cancel_where.new.cluster) c.args.moment c.args.user.now owned
           c.loop-place.place
-          c.is-named.result c.index-records-place.result held.walk (omega arith)
+          c.is-named.result c.index-records-place.result _ _ held.walk (omega arith)
           (rw c.records.ensures.value at c.index-records-place.is)
           (c.is-named.ensures.test ∙ ap owned (sym c.index-records-place.is)) c.cancel_where.ensures.after;
+      charges = c.who_leaves_is_charged.ensures.on c.args.moment _ _ _ held.charges c.cancel_where.ensures.charges;
       held = c.cancel_where.ensures.held ∙ held.held;
       end = held.end;
     }

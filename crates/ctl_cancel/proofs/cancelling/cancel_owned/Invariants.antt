@@ -1,5 +1,6 @@
 use Rattle.std.proofs.Common.{◌≡◌, length}
 use Rattle.slurm_text.specs.declared.plain.target.Targets.TheVariants.{User}
+use Rattle.job_table.specs.Usage.{Charges}
 use Rattle.job_table.specs.Walks.{walked}
 use Rattle.ctl_state.specs.State.{state_of}
 use Rattle.ctl_cancel.specs.Cancelling.{cancelled_if}
@@ -10,7 +11,9 @@ invariant-loop-place l = record {
   walk : state_of l.cluster ≡ record (state_of l.fn.cluster) {
     jobs = walked (cancelled_if (state_of l.fn.cluster) l.moment l.user (User l.owner)) l.place
         l.fn.cluster.jobs.records;
+    usage = l.cluster.jobs.usage;
   };
+  charges : Charges l.moment l.fn.cluster.jobs l.cluster.jobs;
   held : l.cluster.nodes.held ≡ l.fn.cluster.nodes.held;
   end : l.place-end ≡ length l.fn.cluster.jobs.records;
 }

@@ -16,9 +16,10 @@ loop-place-preserved c =
           c.a_walk_changes_all.ensures.length s
           (state_of c.loop-place.cluster) (state_of c.cancel_where.new.cluster) c.args.moment c.args.user.now
           (is_named c.args.target.now) c.loop-place.place
-          c.is_named-named.result c.index-records-place.result held.walk (omega arith)
+          c.is_named-named.result c.index-records-place.result _ _ held.walk (omega arith)
           (rw c.records-in-loop-place.ensures.value at c.index-records-place.is)
           c.is_named-named.ensures c.cancel_where.ensures.after;
+      charges = c.who_leaves_is_charged.ensures.on c.args.moment _ _ _ held.charges c.cancel_where.ensures.charges;
       held = c.cancel_where.ensures.held ∙ held.held;
       end = held.end;
     }
@@ -34,7 +35,7 @@ returns-clause-after c =
     let last : c.places_of-places.result.end ≡ c.loop-place.place = omega arith in
     let behind = rw (last, c.records.ensures.value) at c.places_of-places.ensures.behind in
     c.loop-place.invariant.walk
-    ∙ ap (λ jobs. record s { jobs = jobs })
+    ∙ ap (λ jobs. record s { jobs = jobs; usage = c.loop-place.cluster.jobs.usage })
     (c.a_walk_changes_all.ensures.ends change c.loop-place.place jobs
     (All-weaker (λ job. is_named target job ≡ false) (λ job. change job ≡ job) (λ job other. rw other refl)
     (drop c.loop-place.place jobs) behind))

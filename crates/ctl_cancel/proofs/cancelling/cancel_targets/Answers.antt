@@ -16,13 +16,14 @@ loop-target-preserved c =
     let now = c.args.moment in
     let user = c.args.user.now in
     record {
-      others = others_stay s before after now user _ jobs held.others c.cancel_target.ensures.after;
-      rest = next_target s before after now user c.args.targets.now c.loop-target.target-index _ jobs held.others
+      others = others_stay s before after now user _ jobs _ _ held.others c.cancel_target.ensures.after;
+      rest = next_target s before after now user c.args.targets.now c.loop-target.target-index _ jobs _ _ held.others
           c.cancel_target.ensures.after c.loop-target-test.true
           ∙ held.rest;
+      charges = c.who_leaves_is_charged.ensures.on now _ _ _ held.charges c.cancel_target.ensures.charges;
       held = c.cancel_target.ensures.held ∙ held.held;
-      rising = still_rising s before after now user _ jobs held.others c.cancel_target.ensures.after held.rising;
-      together = still_together s before after now user _ jobs held.others c.cancel_target.ensures.after held.together;
+      rising = still_rising s before after now user _ jobs _ _ held.others c.cancel_target.ensures.after held.rising;
+      together = still_together s before after now user _ jobs _ _ held.others c.cancel_target.ensures.after held.together;
     }
 
 pub returns-clause-after : goal.returns-clause-after
@@ -31,7 +32,7 @@ returns-clause-after c =
     let jobs = c.loop-target.cluster.jobs.records in
     let targets = c.args.targets.now in
     c.loop-target.invariant.others
-    ∙ ap (λ jobs. record s { jobs = jobs })
+    ∙ ap (λ jobs. record s { jobs = jobs; usage = c.loop-target.cluster.jobs.usage })
     (sym (map-id jobs)
     ∙ ap (λ later. map (cancelled_if s c.args.moment c.args.user.now (Listed later)) jobs)
     (sym (drop_all c.loop-target.target-index targets c.loop-target-test.false))

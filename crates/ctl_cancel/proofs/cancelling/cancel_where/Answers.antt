@@ -12,8 +12,8 @@ returns-then-is_none-clause-after c =
     let user = c.args.user.now in
     let free = ap is_none (sym c.job_refusal.ensures) ∙ ap not c.is_none.ensures
     ∙ ap (λ b. not (not b)) c.if-is_none.true in
-    ap (λ jobs. record s { jobs = jobs })
-    (c.cancel_at.ensures
+    ap (λ jobs. record s { jobs = jobs; usage = c.cancel_at.new.jobs.usage })
+    (c.cancel_at.ensures.jobs
     ∙ c.a_change_is_of_its_place.ensures.same (cancelled c.args.moment)
     (cancelled_where s c.args.moment user c.args.named) c.args.place jobs
     (goes_at s c.args.moment user c.args.named jobs c.args.place c.index-records-place.result c.requires
@@ -31,10 +31,10 @@ returns-else-named-clause-after c =
       | else-named-via-then-named+else-is_none w ↦
           let refused = ap is_none (sym w.job_refusal.ensures) ∙ ap not w.is_none.ensures
           ∙ ap (λ b. not (not b)) w.if-is_none.false in
-          ap (λ jobs. record s { jobs = jobs })
+          ap (λ jobs. record s { jobs = jobs; usage = s.usage })
           (sym (stays (stays_at s c.args.moment user c.args.named jobs c.args.place w.index-records-place.result
           c.requires
           (rw w.records.ensures.value at w.index-records-place.is) refused)))
-      | else-named-via-else-named w ↦ ap (λ jobs. record s { jobs = jobs })
+      | else-named-via-else-named w ↦ ap (λ jobs. record s { jobs = jobs; usage = s.usage })
           (sym (stays (λ d. rw w.if-named.false refl)))
     ]

@@ -7,8 +7,8 @@ use Rattle.job_table.specs.Changes.{changed}
 use Rattle.ctl_report.specs.Reporting.{final_of, is_batch_host, script_over}
 use Rattle.ctl_report.proofs.jobs.end_script.Goals as goal
 
-pub returns-then-is_batch_host : goal.returns-then-is_batch_host
-returns-then-is_batch_host c =
+pub returns-then-is_batch_host-clause-jobs : goal.returns-then-is_batch_host-clause-jobs
+returns-then-is_batch_host-clause-jobs c =
     let jobs = c.args.jobs.now.records in
     let node = c.args.node in
     let done = c.args.done in
@@ -18,7 +18,7 @@ returns-then-is_batch_host c =
     let hosts : is_batch_host node job.parts ≡ true =
     ap (λ (job : JobRecord). is_batch_host node job.parts) c.index-records-place.is
     ∙ ap (is_batch_host node) (sym c.as_slice.ensures) ∙ sym c.is_batch_host.ensures ∙ c.if-is_batch_host.true in
-    c.leave.ensures
+    c.leave.ensures.jobs
     ∙ c.a_change_is_of_its_place.ensures.same left over c.args.place jobs
     (at_read jobs (λ job. left job ≡ over job) c.args.place job c.requires
     (rw c.records.ensures.value at c.index-records-place.is)

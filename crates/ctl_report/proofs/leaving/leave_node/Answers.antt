@@ -26,6 +26,6 @@ returns-clause-shown c =
     let after = c.give_back.new.nodes.held in
     let gives = subst (λ (one : JobRecord). GivesParts held (option_to_list (part_dropped c.args.node one)) after)
     (rw c.records.ensures.value at c.index-records-place.is) c.give_back.ensures.given in
-    rw c.change_at.ensures
+    rw c.change_at.ensures.records
     (left_shown c.the_index_shows_what_is_held.ensures.giving held after c.args.now c.args.node c.args.place jobs job
     c.requires.there (c.requires.on job).apart c.requires.shown gives)
