@@ -20,7 +20,7 @@ use Rattle.slurm_text.specs.Digits.{number_within}
 use Rattle.slurm_text.specs.Name.{is_name, is_job_name}
 use Rattle.slurm_text.specs.Memory.{in_megabytes, megabytes_of}
 use Rattle.slurm_text.specs.Hosts.{numbers_of, range_names, made_behind, made_by, few, host_items, first_bad_item, hosts_in}
-use Rattle.worked_rows.specs.Clusters.{usual_settings, usual_partition, usual_account, user_named, usual_assocs, one_node, on_one_node, small_node, four_nodes, on_four_nodes}
+use Rattle.worked_rows.specs.Clusters.{usual_settings, usual_partition, usual_account, user_named, usual_assocs, one_node, on_one_node, on_weighed_node, small_node, four_nodes, on_four_nodes}
 use Rattle.slurm_text.specs.Assocs.{greatest_depth}
 use Rattle.accounts_qos.specs.Accounts.{above, are_of_one_user, place_meant}
 use Rattle.run_limits.specs.Counting.{counts_of, is_in}
@@ -47,7 +47,7 @@ use Rattle.command_words.specs.Report.{start_of, done_of, listed_of, listed_by, 
 use Rattle.command_words.specs.Targets.{target_of, targets_by, state_by, states_by}
 use Rattle.command_words.specs.Cancel.{cancel_words, scancel_options, scancel_by}
 use Rattle.squeue_format.specs.Format.{column_of, width_of, column_by, part_in, format_in, usual}
-use Rattle.command_words.specs.Queries.{query_words, squeue_options, sinfo_options, squeue_by, sinfo_by}
+use Rattle.command_words.specs.Queries.{query_words, squeue_options, sinfo_options, sprio_options, squeue_by, sinfo_by, sprio_by}
 use Rattle.node_pick.specs.Choosing.{numbers_from, filled_sets, sets, fits, chosen}
 use Rattle.resource_profile.specs.Free.{least_after}
 use Rattle.backfill_planner.specs.Giving.{capacities}
@@ -57,6 +57,13 @@ use Rattle.ctl_state.specs.Ordered.{ordered_by}
 use Rattle.ctl_state.specs.Counted.{holding}
 use Rattle.ctl_state.specs.Planning.{names_of, node_order, plan_job}
 use Rattle.ctl_state.specs.Holding.{times_held, free_ids}
+use Rattle.job_table.specs.Usage.{used_by, used_when_left, used_of, charged}
+use Rattle.fair_tree.specs.Tree.{level_of, path_of}
+use Rattle.fair_tree.specs.Ranks.{rank_among, paths_of, ranks_of}
+use Rattle.ctl_rank.specs.Usage.{used_running, usage_at}
+use Rattle.ctl_rank.specs.FairShare.{tree_of, user_usage, user_count, rank_at}
+use Rattle.ctl_rank.specs.Priority.{greatest, all_cpus, greatest_factor, greatest_qos, parts_of}
+use Rattle.ctl_rank.specs.Rank.{is_above, is_higher}
 use Rattle.ctl_pass.specs.Reasons.{hindrance}
 use Rattle.ctl_pass.specs.Readiness.{arrays_left, base_of, candidates, needs_of, ranked, planned}
 use Rattle.ctl_pass.specs.Starting.{may_start, started}
@@ -65,9 +72,10 @@ use Rattle.ctl_submit.specs.Submission.{is_placeable, new_jobs, terms_of, unende
 use Rattle.ctl_cancel.specs.Cancelling.{job_refusal, target_refusal}
 use Rattle.ctl_report.specs.Ordering.{in_order, orders_of}
 use Rattle.slurm_print.specs.Ranges.{run_text}
-use Rattle.ctl_show.specs.Showing.{highest, is_shown, row_of, view_of}
+use Rattle.ctl_show.specs.Showing.{highest, is_shown, row_of, is_weighed, priority_row_of, view_of}
 use Rattle.ctl_show.specs.Standing.{cpus_held, names_standing, rows_of_partition, state_rows}
 use Rattle.slurm_print.specs.Squeue.{told as told_of, title, line}
+use Rattle.slurm_print.specs.Sprio.{nice_end, priority_line}
 use Rattle.slurm_print.specs.Field.{field, cell, left_cell}
 use Rattle.slurm_text.specs.Folding.{in_byte_order, digits_len, grouped, run_text as folded_run, group_text, folded}
 
@@ -86,8 +94,8 @@ files = tt
 
 -- the clusters, and scripts on them
 unfoldable pub clusters : Unit {0}
-unfolding digits usual_settings usual_partition usual_account user_named usual_assocs one_node on_one_node small_node
-    four_nodes on_four_nodes script_of most_blocks greatest_depth above are_of_one_user place_meant counts_of is_in
+unfolding digits usual_settings usual_partition usual_account user_named usual_assocs one_node on_one_node on_weighed_node
+    small_node    four_nodes on_four_nodes script_of most_blocks greatest_depth above are_of_one_user place_meant counts_of is_in
     submit_limits unended
 clusters = tt
 
@@ -102,7 +110,8 @@ headers = tt
 
 -- what reports and queries say
 unfoldable pub told : Unit {0}
-unfolding start_of done_of listed_of listed_by report_by query_words squeue_options sinfo_options squeue_by sinfo_by
+unfolding start_of done_of listed_of listed_by report_by query_words squeue_options sinfo_options sprio_options squeue_by
+    sinfo_by sprio_by
     target_of targets_by state_by states_by cancel_words scancel_options scancel_by column_of width_of column_by
     part_in format_in usual
 told = tt
@@ -112,7 +121,9 @@ unfoldable pub plans : Unit {0}
 unfolding numbers_from filled_sets sets fits chosen least_after capacities placement_at first_second placed_of
     plan_beside plan_of bounds_of ordered_by node_order plan_job times_held free_ids hindrance base_of candidates
     needs_of ranked planned arrays_left holding limits_reached names_of may_start started is_idle is_placeable new_jobs
-    terms_of job_refusal target_refusal
+    terms_of job_refusal target_refusal used_by used_when_left used_of charged used_running usage_at tree_of user_usage
+    user_count rank_at greatest all_cpus greatest_factor greatest_qos parts_of is_above is_higher level_of path_of
+    rank_among paths_of ranks_of
 plans = tt
 
 -- what nodes are ordered
@@ -122,6 +133,6 @@ orders = tt
 
 -- what is shown
 unfoldable pub rows : Unit {0}
-unfolding highest is_shown row_of view_of told_of title line cpus_held names_standing rows_of_partition state_rows elapsed_text field
-    cell left_cell in_byte_order digits_len grouped folded_run group_text folded
+unfolding highest is_shown row_of is_weighed priority_row_of view_of told_of title line nice_end priority_line
+    cpus_held names_standing rows_of_partition state_rows elapsed_text field cell left_cell in_byte_order digits_len grouped folded_run group_text folded
 rows = tt
