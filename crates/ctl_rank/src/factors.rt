@@ -1,14 +1,13 @@
-//! What is found once for the priorities of all jobs at a moment, and the priority of one.
+//! What is found once for the priorities of all jobs at a moment.
 
-ghost use Rattle.std.specs.Prelude.{◌≡◌, ◌<◌, IfOk, length};
+ghost use Rattle.std.specs.Prelude.{◌≡◌, IfOk};
 ghost use Rattle.ctl_state.specs.State.{state_of};
-ghost use Rattle.ctl_rank.specs.Priority;
 ghost use Rattle.ctl_rank.specs.Measured.{IsMeasured};
 
+use crate::greatest::{all_cpus, greatest_factor, greatest_qos};
+use crate::ranks::{count_users, ranks_at};
 use ctl_state::cluster::Cluster;
-use job_table::record::JobRecord;
 use slurm_text::memory_error::Memory;
-use slurm_text::plain::priority::PriorityParts;
 use std::alloc::Global;
 
 /// What the priorities of all jobs at a moment rest on (own).
@@ -34,21 +33,12 @@ pub fn measure(alloc: Global, cluster: &Cluster, now: u64) -> Result<Factors, Me
     ensures measured { IfOk result (IsMeasured (state_of cluster.now)) }
     ensures moment { IfOk result (λ factors. factors.moment ≡ now) }
 {
-    Err(Memory)
-}
-
-/// The job's priority, and what it is made of. In constant time. "Job Priority Factors" of Slurm's multifactor priority.
-pub fn priority_of(factors: &Factors, cluster: &Cluster, job: &JobRecord) -> PriorityParts
-    requires measured { IsMeasured (state_of cluster.now) factors.now }
-    ensures { result ≡ Priority.parts_of (state_of cluster.now) factors.now.moment job.now }
-{
-    PriorityParts {
-        age: 0,
-        fair_share: 0,
-        job_size: 0,
-        partition: 0,
-        qos: 0,
-        nice: job.desc.nice,
-        sum: 1,
-    }
+    Ok(Factors {
+        moment: now,
+        ranks: ranks_at(alloc, cluster, now)?,
+        users: count_users(cluster),
+        cpus: all_cpus(cluster),
+        greatest_factor: greatest_factor(cluster),
+        greatest_qos: greatest_qos(cluster),
+    })
 }

@@ -3,9 +3,14 @@
 #![tactic(auto)]
 
 mod factors;
+mod greatest;
 pub mod laws;
+mod priority;
 mod rank;
+mod ranks;
+mod tree;
 mod usage;
 
-pub use factors::{Factors, measure, priority_of};
+pub use factors::{Factors, measure};
+pub use priority::priority_of;
 pub use rank::{RankKey, is_above, key_of};

@@ -5,7 +5,8 @@ ghost use Rattle.ctl_state.specs.State.{state_of};
 ghost use Rattle.ctl_rank.specs.Rank as spec;
 ghost use Rattle.ctl_rank.specs.Measured.{IsMeasured};
 
-use crate::factors::{Factors, priority_of};
+use crate::factors::Factors;
+use crate::priority::priority_of;
 use ctl_state::cluster::Cluster;
 use job_table::record::JobRecord;
 
@@ -17,6 +18,7 @@ pub struct RankKey {
     pub priority: u32,
 }
 
+// The tier of the job's partition.
 fn tier_of(cluster: &Cluster, job: &JobRecord) -> u64
     ensures { result ≡ spec.tier_of (state_of cluster.now) job.now }
 {
@@ -38,6 +40,7 @@ pub fn key_of(factors: &Factors, cluster: &Cluster, job: &JobRecord) -> RankKey
 }
 
 /// Whether one job is higher in rank than another, by what they are ranked by.
+#[tactic(auto, unfolding(crate::specs::Rank::is_above))]
 pub fn is_above(one: RankKey, other: RankKey) -> bool
     ensures { result ≡ spec.is_above one other }
 {
