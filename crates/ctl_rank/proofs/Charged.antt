@@ -1,10 +1,12 @@
 -- What associations have used stays while jobs leave Running and are gone.
-use Rattle.std.proofs.Common.{◌≡◌, ℕ, zero, suc, ◌+◌, Bool, true, false, ◌&&◌, not, cond, min, List, [], ◌∷◌, map, filter, nat_eq, slice_get, Option, None, Some, refl, sym, ap, ◌∙◌, arith, true≢false}
+use Rattle.std.proofs.Common.{◌≡◌, ℕ, zero, suc, ◌+◌, ◌-◌, ◌^◌, ◌<◌, ◌≤◌, Bool, true, false, ◌&&◌, not, cond, min, List, [], ◌∷◌, length, map, filter, take, get_or, nat_eq, slice_get, inl, inr, Option, None, Some, refl, sym, ap, ◌∙◌, arith, true≢false}
 use Rattle.std.specs.Prelude.{All, option_map, unwrap_or}
 use Rattle.std.specs.List.{AllZip, enumerate_from, zip}
 use Rattle.std.proofs.lemmas.Bool.Decides.{nat_tests}
+use Rattle.std.proofs.lemmas.List.{length-map, get_or-map, get_or_past}
 use Rattle.std.proofs.lemmas.List.Elements.{All-head, All-tail}
-use Rattle.std.proofs.lemmas.List.Sums.{sum_by-cons}
+use Rattle.std.proofs.lemmas.Option.{slice_get_cases}
+use Rattle.std.proofs.lemmas.List.Sums.{sum_by-cons, sum_by_more}
 use Rattle.job_table.specs.declared.record.JobRecord.{JobRecord}
 use Rattle.job_table.specs.JobStates.{is_running}
 use Rattle.job_table.specs.Usage.{RunsOn, charged, grown, greatest_usage, used_by, used_of, used_when_left}
@@ -122,3 +124,50 @@ used_in-stays now place goes jobs after totals on idle =
             ≡ used_in total (used_of now jobs after place + running_usage now after place)
     by_total None = refl
     by_total (Some total) = grown-same total (used_of now jobs after place) (running_usage now after place)
+
+pub running-none : (now place : ℕ) → running_usage now [] place ≡ 0
+unfolding running_usage
+running-none now place = refl
+
+-- one more job, where sums are cut at the greatest usage
+pub running-more : (now place : ℕ) (jobs : List JobRecord) (i : ℕ) (job : JobRecord) → i < length jobs
+    → job ≡ get_or jobs i job → (first was last more : ℕ)
+    → was ≡ min (first + running_usage now (take i jobs) place) 4294967295
+    → more ≡ min (used_running now job) (2 ^ 64 - 1)
+    → last ≡ min (was + cond (nat_eq job.assoc place) more 0) 4294967295
+    → last ≡ min (first + running_usage now (take (i + 1) jobs) place) 4294967295
+unfolding running_usage
+running-more now place jobs i job low is first was last more before used after =
+    by_test (nat_eq job.assoc place) (used_running now job) (running_usage now (take i jobs) place) _ was last more
+    (rw (sym is) at (sum_by_more (uses now place) jobs i job low)) before used after
+  where
+    by_test : (same : Bool) (using rest next was last more : ℕ) → next ≡ rest + cond same using 0
+        → was ≡ min (first + rest) 4294967295 → more ≡ min using (2 ^ 64 - 1)
+        → last ≡ min (was + cond same more 0) 4294967295 → last ≡ min (first + next) 4294967295
+    by_test true using rest next was last more is before used after = omega arith
+    by_test false using rest next was last more is before used after = omega arith
+
+pub capped-low : (totals : List ℕ) (at : ℕ) → get_or (map (λ total. min total 4294967295) totals) at 0 ≤ 4294967295
+capped-low [] at = omega arith
+capped-low (total ∷ totals) zero = omega arith
+capped-low (total ∷ totals) (suc at) = capped-low totals at
+
+-- what is found from the totals and the running jobs is what the associations have used
+pub used_in-found : (totals capped last : List ℕ) (running : ℕ → ℕ) → capped ≡ map (λ total. min total 4294967295) totals
+    → length last ≡ length capped
+    → ((at : ℕ) → at < length capped → get_or last at 0 ≡ min (get_or capped at 0 + running at) 4294967295)
+    → (place : ℕ) → get_or last place 0 ≡ used_in (slice_get totals place) (running place)
+used_in-found totals capped last running is len each place =
+    let cap : ℕ → ℕ = λ total. min total 4294967295 in
+    let long : length capped ≡ length totals = ap length is ∙ length-map totals cap in
+    elim (slice_get_cases totals place).1 [
+      | inl found ↦
+          let mapped : get_or capped place 0 ≡ min (get_or totals place found.0) 4294967295 =
+          ap (λ l. get_or l place 0) is ∙ get_or-map cap totals place found.0 0 found.1 in
+          rw found.2 (omega (arith, mapped, found.3, each place (omega (arith, long, found.1))))
+      | inr behind ↦ rw behind.1 (get_or_past last place 0 (omega (arith, long, len, behind.0)))
+    ]
+
+pub used_in-low : (total : Option ℕ) (running : ℕ) → used_in total running ≤ 4294967295
+used_in-low None running = omega arith
+used_in-low (Some total) running = omega arith

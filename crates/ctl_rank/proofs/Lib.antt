@@ -2,6 +2,6 @@ pub mod Places
 pub mod Users
 pub mod Trees
 pub mod Ranking
-pub mod Greatest
+pub mod Members
 pub mod Charged
 pub mod Staying

@@ -1,5 +1,5 @@
 -- No rank is above the number of users.
-use Rattle.std.proofs.Common.{◌≡◌, ℕ, ◌≤◌, List, length, map, get_or, slice_get, inl, inr, Option, None, Some, sym, ap, ◌∙◌, subst, arith}
+use Rattle.std.proofs.Common.{◌≡◌, ℕ, ◌≤◌, List, length, map, get_or, slice_get, inl, inr, Option, None, Some, sym, ap, ◌∙◌, arith}
 use Rattle.std.specs.Prelude.{All, option_and_then, unwrap_or}
 use Rattle.std.proofs.lemmas.Bool.{cases_lt}
 use Rattle.std.proofs.lemmas.List.{length-map, get_or_past}
@@ -10,6 +10,9 @@ use Rattle.fair_tree.specs.Levels.{Level}
 use Rattle.fair_tree.specs.Tree.{users}
 use Rattle.fair_tree.specs.Ranks.{rank_among, paths_of, ranks_of}
 use Rattle.ctl_state.specs.State.{State}
+use Rattle.ctl_rank.specs.declared.factors.Factors.{Factors}
+use Rattle.ctl_rank.specs.Measured.{IsMeasured}
+use Rattle.ctl_rank.specs.Usage.{usage_at}
 use Rattle.ctl_rank.specs.FairShare.{rank_at, tree_of, user_count, user_usage}
 use Rattle.ctl_rank.proofs.Users.{rank_in-behind}
 
@@ -45,3 +48,22 @@ pub rank_at-behind : (s : State) (now place : ℕ) → length s.assocs ≤ place
 unfolding rank_at
 rank_at-behind s now place high =
     rank_in-behind (ranks_of (tree_of s.assocs) (user_usage s now)) s.assocs place high
+
+-- what is measured has the rank of each place
+pub rank-measured : (s : State) (factors : Factors) (place : ℕ) → IsMeasured s factors
+    → get_or factors.ranks.items place 0 ≡ rank_at s factors.moment place
+rank-measured s factors place measured = elim (cases_lt place (length s.assocs)) [
+  | inl low ↦ measured.ranks place low
+  | inr high ↦
+      get_or_past factors.ranks.items place 0 (omega (arith, measured.len, high)) ∙ sym (rank_at-behind s factors.moment place high)
+]
+
+-- the ranks by what is found that each has used
+pub ranks-are : (s : State) (now : ℕ) (usage : List ℕ) → ((place : ℕ) → get_or usage place 0 ≡ usage_at s now place)
+    → (nodes : List TreeNode) (used : List ℕ) → nodes ≡ tree_of s.assocs
+    → used ≡ map (λ place. get_or usage place 0) (users (tree_of s.assocs))
+    → ranks_of nodes used ≡ ranks_of (tree_of s.assocs) (user_usage s now)
+unfolding user_usage
+ranks-are s now usage each nodes used is_tree is_used =
+    ap (λ l. ranks_of l used) is_tree
+    ∙ ap (ranks_of (tree_of s.assocs)) (is_used ∙ λ i. map (λ place. each place i) (users (tree_of s.assocs)))

@@ -37,5 +37,5 @@ module _ (s : State) (now : ℕ) (jobs : List JobRecord) (goes : JobRecord → B
 
   pub is_higher-stays : (one other : JobRecord)
       → is_higher (left now jobs goes arrays s) now one other ≡ is_higher s now one other
-  unfolding is_higher
+  unfolding is_higher is_above
   is_higher-stays one other = rw (parts_of-stays one, parts_of-stays other) refl

@@ -28,7 +28,7 @@ children-same at [] = refl
 children-same at (assoc ∷ assocs) =
     let nodes = sum_by-cons (λ (node : TreeNode). cond (is_same_place at node.parent) 1 0) (node_of assoc) (map node_of assocs) in
     let records = sum_by-cons (λ (one : AssocRecord). cond (is_same_parent one.conf.parent at) 1 0) assoc assocs in
-    let here = ap (λ b. cond b 1 0) (same-turned at assoc.conf.parent) in
+    let here = ap {B = ℕ} (λ b. cond b 1 0) (same-turned at assoc.conf.parent) in
     omega (arith, nodes, records, here, children-same at assocs)
 
 -- each account stands before what belongs to it
@@ -41,11 +41,11 @@ parents-before assocs rooted place = rw (slice_get-map node_of assocs place) (at
     at None under = tt
     at (Some assoc) under = under
 
-pub IsTree-nodes : (assocs : List AssocRecord) → AreRooted assocs → AreFew assocs → length assocs < 2 ^ 32
-    → All (λ (node : TreeNode). node.shares ≤ 65535) (map node_of assocs) → IsTree (map node_of assocs)
-IsTree-nodes assocs rooted few small shares = record {
-  small = omega (arith, length-map assocs node_of, small);
-  parents = parents-before assocs rooted;
-  children = λ at. omega (arith, children-same at assocs, few.children at);
+pub IsTree-is : (nodes : List TreeNode) (assocs : List AssocRecord) → nodes ≡ map node_of assocs → AreRooted assocs
+    → AreFew assocs → length assocs < 2 ^ 32 → All (λ (node : TreeNode). node.shares ≤ 65535) nodes → IsTree nodes
+IsTree-is nodes assocs is rooted few small shares = record {
+  small = omega (arith, ap length is, length-map assocs node_of, small);
+  parents = rw is (parents-before assocs rooted);
+  children = λ at. rw is (omega (arith, children-same at assocs, few.children at));
   shares = shares;
 }

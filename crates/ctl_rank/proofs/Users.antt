@@ -1,9 +1,9 @@
 -- The places of the users among the associations.
-use Rattle.std.proofs.Common.{◌≡◌, ℕ, ◌+◌, ◌<◌, ◌≤◌, Bool, true, false, cond, List, [], ◌∷◌, ◌++◌, length, take, map, filter, get_or, nat_eq, slice_get, Option, None, Some, refl, sym, ap, ◌∙◌, arith}
+use Rattle.std.proofs.Common.{◌≡◌, ℕ, ◌+◌, ◌<◌, ◌≤◌, Bool, true, false, cond, List, [], ◌∷◌, ◌++◌, length, take, map, filter, get_or, nat_eq, slice_get, inl, inr, Option, None, Some, refl, sym, ap, ◌∙◌, arith}
 use Rattle.std.specs.Prelude.{All, count_by, position, option_and_then, unwrap_or}
 use Rattle.std.specs.List.{enumerate_from}
-use Rattle.std.proofs.lemmas.Bool.{eq-eqb, ne_eqb}
-use Rattle.std.proofs.lemmas.List.{append-nil, length-append, length-map, length-take-le, map_more}
+use Rattle.std.proofs.lemmas.Bool.{cases_lt, eq-eqb, ne_eqb}
+use Rattle.std.proofs.lemmas.List.{append-nil, get_or_append_left, get_or_push, length-append, length-map, length-take-le, map_more, map_push}
 use Rattle.std.proofs.lemmas.List.Elements.{All-nil, All-cons, All-filter, All-map, All-weaker}
 use Rattle.std.proofs.lemmas.List.Sums.{sum_by-cons}
 use Rattle.std.proofs.lemmas.Option.{unwrap_or-slice_get}
@@ -81,6 +81,21 @@ length-users assocs = counted 0 assocs
         step true l e = omega (arith, e)
         step false l e = omega (arith, e)
 
+-- and so has the tree
+pub length-users_of : (nodes : List TreeNode) → length (users nodes) ≡ count_by (λ (node : TreeNode). node.user) nodes
+length-users_of nodes = counted 0 nodes
+  where
+    counted : (n : ℕ) (some : List TreeNode) → length (users_from n some) ≡ count_by (λ (node : TreeNode). node.user) some
+    counted n [] = refl
+    counted n (node ∷ some) =
+        step node.user _ (counted (n + 1) some) ∙ sym (sum_by-cons (λ (one : TreeNode). cond one.user 1 0) node some)
+      where
+        step : (b : Bool) (l : List (ℕ × TreeNode))
+            → length (map (λ one. one.0) l) ≡ count_by (λ (one : TreeNode). one.user) some
+            → length (map (λ one. one.0) (cond b ((n, node) ∷ l) l)) ≡ cond b 1 0 + count_by (λ (one : TreeNode). one.user) some
+        step true l e = omega (arith, e)
+        step false l e = omega (arith, e)
+
 -- the rank of the association at a place, by the ranks of the users
 abbrev pub rank_in : List ℕ → List AssocRecord → ℕ → ℕ
 rank_in ranks assocs place =
@@ -140,3 +155,38 @@ module _ (ranks : List ℕ) (assocs : List AssocRecord) (i : ℕ) (assoc : Assoc
   users-more_account account =
       let more = rw account at (users-more assocs i assoc low is) in
       more ∙ append-nil (users (tree_of (take i assocs)))
+
+  -- what the users have used, with one more association
+  pub used-more_user : (usage used last : List ℕ) (more : ℕ) → assoc.conf.user ≡ true
+      → used ≡ map (λ place. get_or usage place 0) (users (tree_of (take i assocs))) → more ≡ get_or usage i 0
+      → last ≡ used ++ more ∷ [] → last ≡ map (λ place. get_or usage place 0) (users (tree_of (take (i + 1) assocs)))
+  used-more_user usage used last more user before is_more is_last =
+      let at : ℕ → ℕ = λ place. get_or usage place 0 in
+      is_last ∙ ap (λ l. l ++ more ∷ []) before ∙ ap (λ m. map at (users (tree_of (take i assocs))) ++ m ∷ []) is_more
+      ∙ sym (ap (map at) (rw user at (users-more assocs i assoc low is)) ∙ map_push at (users (tree_of (take i assocs))) i)
+
+  pub used-more_account : (usage used : List ℕ) → assoc.conf.user ≡ false
+      → used ≡ map (λ place. get_or usage place 0) (users (tree_of (take i assocs)))
+      → used ≡ map (λ place. get_or usage place 0) (users (tree_of (take (i + 1) assocs)))
+  used-more_account usage used account before =
+      before ∙ ap (map (λ place. get_or usage place 0)) (sym (users-more_account account))
+
+  -- one more rank
+  pub spread-more : (spread last : List ℕ) (more : ℕ) → length spread ≡ i → last ≡ spread ++ more ∷ []
+      → ((place : ℕ) → place < i → get_or spread place 0 ≡ rank_in ranks (take i assocs) place)
+      → more ≡ rank_in ranks (take (i + 1) assocs) i
+      → (place : ℕ) → place < i + 1 → get_or last place 0 ≡ rank_in ranks (take (i + 1) assocs) place
+  spread-more spread last more len is_last before is_more =
+      below_more i
+      (λ place inside.
+      ap (λ l. get_or l place 0) is_last ∙ get_or_append_left spread (more ∷ []) 0 place (omega (arith, len, inside))
+      ∙ before place inside ∙ sym (rank_in-before place inside))
+      (ap (λ l. get_or l i 0) is_last ∙ get_or_push spread more 0 i len ∙ is_more)
+    where
+      below_more : (n : ℕ) → ((place : ℕ) → place < n → get_or last place 0 ≡ rank_in ranks (take (i + 1) assocs) place)
+          → get_or last n 0 ≡ rank_in ranks (take (i + 1) assocs) n
+          → (place : ℕ) → place < n + 1 → get_or last place 0 ≡ rank_in ranks (take (i + 1) assocs) place
+      below_more n below here place inside = elim (cases_lt place n) [
+        | inl lower ↦ below place lower
+        | inr high ↦ let same : place ≡ n = omega (arith, inside, high) in rw same here
+      ]

@@ -1,6 +1,7 @@
 //! The priority of a job. "Job Priority Factors" of Slurm's multifactor priority.
 
-ghost use Rattle.std.specs.Prelude.{◌≡◌, ◌≤◌};
+ghost use Rattle.std.specs.Prelude.{◌≡◌, ◌≤◌, option_map, slice_get, unwrap_or};
+ghost use Rattle.accounts_qos.specs.declared.record.QosRecord.{QosRecord};
 ghost use Rattle.multifactor.specs.Priority.{value_of};
 ghost use Rattle.ctl_state.specs.State.{state_of};
 ghost use Rattle.ctl_rank.specs.FairShare.{rank_at};
@@ -8,6 +9,8 @@ ghost use Rattle.ctl_rank.specs.Priority as spec;
 ghost use Rattle.ctl_rank.specs.Measured.{IsMeasured};
 
 use crate::factors::Factors;
+use crate::ranks::rank_at_place;
+use accounts_qos::record::QosRecord;
 use ctl_state::cluster::Cluster;
 use job_table::record::JobRecord;
 use multifactor::{PriorityInput, Term, priority};
@@ -31,7 +34,7 @@ fn rank_of(factors: &Factors, cluster: &Cluster, place: u32) -> u32
     ensures value { result ≡ rank_at (state_of cluster.now) factors.now.moment place }
     ensures low { result ≤ factors.now.users }
 {
-    factors.ranks.get(place as usize).copied().unwrap_or(0)
+    rank_at_place(factors.ranks.as_slice(), place as usize)
 }
 
 fn fair_share_term(factors: &Factors, cluster: &Cluster, job: &JobRecord) -> Term
@@ -80,15 +83,22 @@ fn partition_term(factors: &Factors, cluster: &Cluster, job: &JobRecord) -> Term
     }
 }
 
+// The priority of the quality of service at a place, 0 of none.
+fn priority_at(qos: &[QosRecord], place: u32) -> u32
+    ensures { result ≡ unwrap_or (option_map (λ (one : QosRecord). one.conf.priority) (slice_get qos.now place)) 0 }
+{
+    match qos.get(place as usize) {
+        Some(one) => one.conf.priority,
+        None => 0,
+    }
+}
+
 // The priority of the job's quality of service.
 fn qos_priority_of(cluster: &Cluster, job: &JobRecord) -> u32
     ensures value { result ≡ spec.qos_priority_of (state_of cluster.now) job.now }
     ensures low { result ≤ spec.greatest_qos (state_of cluster.now) }
 {
-    match cluster.assocs.qos().get(job.qos as usize) {
-        Some(one) => one.conf.priority,
-        None => 0,
-    }
+    priority_at(cluster.assocs.qos(), job.qos)
 }
 
 fn qos_term(factors: &Factors, cluster: &Cluster, job: &JobRecord) -> Term

@@ -14,6 +14,20 @@ use fair_tree::ranks;
 use slurm_text::memory_error::Memory;
 use std::alloc::Global;
 
+// What stands at a place, 0 behind the end.
+fn usage_at_place(usage: &[u64], place: usize) -> u64
+    ensures { result ≡ slice_index usage.now place }
+{
+    usage.get(place).copied().unwrap_or(0)
+}
+
+/// The rank at a place, 0 behind the end.
+pub(crate) fn rank_at_place(ranks: &[u32], place: usize) -> u32
+    ensures { result ≡ slice_index ranks.now place }
+{
+    ranks.get(place).copied().unwrap_or(0)
+}
+
 // What each user has used of each account, in the order of the associations, by what the associations have used.
 fn used_by_users(alloc: Global, assocs: &[AssocRecord], usage: &[u64]) -> Result<Vec<u64>, Memory>
     requires { (place : ℕ) → slice_index usage.now place ≤ 4_294_967_295 }
@@ -23,7 +37,7 @@ fn used_by_users(alloc: Global, assocs: &[AssocRecord], usage: &[u64]) -> Result
     let mut used = Vec::new(alloc);
     for (place, assoc) in assocs.iter().enumerate() {
         if assoc.conf.user {
-            used.push(usage.get(place).copied().unwrap_or(0))?;
+            used.push(usage_at_place(usage, place))?;
         }
     }
     Ok(used)
@@ -39,7 +53,7 @@ fn spread(alloc: Global, assocs: &[AssocRecord], ranks: &[u32]) -> Result<Vec<u3
     let mut next = 0;
     for assoc in assocs {
         if assoc.conf.user {
-            spread.push(ranks.get(next).copied().unwrap_or(0))?;
+            spread.push(rank_at_place(ranks, next))?;
             next += 1;
         } else {
             spread.push(0)?;
@@ -48,16 +62,18 @@ fn spread(alloc: Global, assocs: &[AssocRecord], ranks: &[u32]) -> Result<Vec<u3
     Ok(spread)
 }
 
+// How many of the associations are of users.
+fn users_among(assocs: &[AssocRecord]) -> usize
+    ensures { result ≡ count_by (λ (assoc : AssocRecord). assoc.conf.user) assocs.now }
+{
+    assocs.iter().filter(|assoc| assoc.conf.user).count()
+}
+
 /// How many associations are of users. Linear in them.
 pub(crate) fn count_users(cluster: &Cluster) -> u64
     ensures { result ≡ user_count (state_of cluster.now) }
 {
-    cluster
-        .assocs
-        .records()
-        .iter()
-        .filter(|assoc| assoc.conf.user)
-        .count() as u64
+    users_among(cluster.assocs.records()) as u64
 }
 
 /// The rank of the user of each association, in the order of these; 0 of an account. Linear in associations, jobs and

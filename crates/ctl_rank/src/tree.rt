@@ -1,8 +1,7 @@
 //! The tree of shares.
 
-ghost use Rattle.std.specs.Prelude.{◌≡◌, ◌≤◌, ◌<◌, ◌^◌, IfOk, All, length, map};
+ghost use Rattle.std.specs.Prelude.{◌≡◌, ◌≤◌, ◌<◌, ◌^◌, IfOk, length};
 ghost use Rattle.accounts_qos.specs.Accounts.{AreFew, AreRooted};
-ghost use Rattle.fair_tree.specs.declared.tree.TreeNode.{TreeNode};
 ghost use Rattle.fair_tree.specs.Tree.{IsTree};
 ghost use Rattle.ctl_rank.specs.FairShare as spec;
 
@@ -22,17 +21,6 @@ fn node_of(assoc: &AssocRecord) -> TreeNode
     }
 }
 
-fn nodes_of(alloc: Global, assocs: &[AssocRecord]) -> Result<Vec<TreeNode>, Memory>
-    ensures value { IfOk result (λ nodes. nodes.items ≡ map spec.node_of assocs.now) }
-    ensures shares { IfOk result (λ nodes. All (λ (node : TreeNode). node.shares ≤ 65_535) nodes.items) }
-{
-    let mut nodes = Vec::with_capacity(alloc, assocs.len())?;
-    for assoc in assocs {
-        nodes.push(node_of(assoc))?;
-    }
-    Ok(nodes)
-}
-
 // The tree of shares, in the order of the associations.
 #[tactic(auto, unfolding(crate::specs::FairShare::tree_of))]
 pub(crate) fn tree_of(alloc: Global, assocs: &[AssocRecord]) -> Result<Vec<TreeNode>, Memory>
@@ -42,5 +30,9 @@ pub(crate) fn tree_of(alloc: Global, assocs: &[AssocRecord]) -> Result<Vec<TreeN
     ensures value { IfOk result (λ tree. tree.items ≡ spec.tree_of assocs.now) }
     ensures tree { IfOk result (λ tree. IsTree tree.items) }
 {
-    nodes_of(alloc, assocs)
+    let mut nodes = Vec::with_capacity(alloc, assocs.len())?;
+    for assoc in assocs {
+        nodes.push(node_of(assoc))?;
+    }
+    Ok(nodes)
 }

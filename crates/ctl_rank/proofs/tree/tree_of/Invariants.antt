@@ -2,7 +2,7 @@ use Rattle.std.proofs.Common.{◌≡◌, ◌≤◌, map, take}
 use Rattle.std.specs.Prelude.{All}
 use Rattle.fair_tree.specs.declared.tree.TreeNode.{TreeNode}
 use Rattle.ctl_rank.specs.FairShare.{node_of}
-use Rattle.ctl_rank.proofs.tree.nodes_of.Given as goal
+use Rattle.ctl_rank.proofs.tree.tree_of.Given as goal
 
 -- the nodes so far
 abbrev pub invariant-loop-assoc : goal.invariant-loop-assoc
