@@ -12,8 +12,9 @@ use Rattle.fair_tree.specs.Ranks.{rank_among, paths_of, ranks_of}
 use Rattle.ctl_state.specs.State.{State}
 use Rattle.ctl_rank.specs.declared.factors.Factors.{Factors}
 use Rattle.ctl_rank.specs.Measured.{IsMeasured}
-use Rattle.ctl_rank.specs.Usage.{usage_at}
+use Rattle.ctl_rank.specs.Usage.{running_usage, usage_at}
 use Rattle.ctl_rank.specs.FairShare.{rank_at, tree_of, user_count, user_usage}
+use Rattle.ctl_rank.proofs.Charged.{used_in-low}
 use Rattle.ctl_rank.proofs.Users.{rank_in-behind}
 
 rank_among-low : (paths : List (List Level)) (path : List Level) → rank_among paths path ≤ length paths
@@ -67,3 +68,7 @@ unfolding user_usage
 ranks-are s now usage each nodes used is_tree is_used =
     ap (λ l. ranks_of l used) is_tree
     ∙ ap (ranks_of (tree_of s.assocs)) (is_used ∙ λ i. map (λ place. each place i) (users (tree_of s.assocs)))
+
+pub usage_at-low : (s : State) (now place : ℕ) → usage_at s now place ≤ 4294967295
+unfolding usage_at
+usage_at-low s now place = used_in-low (slice_get s.usage place) (running_usage now s.jobs place)

@@ -10,8 +10,8 @@ pub loop-place-preserved : goal.loop-place-preserved
 loop-place-preserved c =
     let more = sum-next (λ (node : NodeRecord). node.conf.cpus) c.args.cluster.now.nodes.records c.loop-place.place in
     record {
-      value = omega (arith, more, c.loop-place.invariant.value, c.cpus_at.ensures.value);
-      small = omega (arith, c.loop-place.invariant.small, c.cpus_at.ensures.small);
+      value = omega (arith, more, c.loop-place.invariant.value, c.cpus_at-cpus.ensures.value);
+      small = omega (arith, c.loop-place.invariant.small, c.cpus_at-cpus.ensures.small);
     }
 
 pub returns : goal.returns
@@ -20,4 +20,4 @@ returns c =
     let nodes = c.args.cluster.now.nodes.records in
     c.loop-place.invariant.value
     ∙ ap (sum_by (λ (node : NodeRecord). node.conf.cpus))
-    (take_all c.loop-place.place nodes (omega (arith, c.loop-place-test.false, c.len.ensures.value)))
+    (take_all c.loop-place.place nodes (omega (arith, c.loop-place-test.false, c.len-place-end.ensures.value)))

@@ -4,7 +4,7 @@ use Rattle.ctl_rank.proofs.Charged.{capped-low, used_in-found}
 use Rattle.ctl_rank.proofs.usage.usage_of.Goals as goal
 
 pub add_running-requires : goal.add_running-requires
-add_running-requires c = λ at. rw c.in_ok-usage.ensures (capped-low c.usage.result.now at)
+add_running-requires c = record { small = λ at. rw c.in_ok-usage.ensures (capped-low c.usage.result.now at) }
 
 pub returns : goal.returns
 unfolding usage_at
