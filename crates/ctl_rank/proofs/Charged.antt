@@ -90,7 +90,7 @@ running-filter now place goes (job ∷ jobs) idle =
 -- the total at a place, once each has grown
 charged-at : (by : ℕ → ℕ) (n place : ℕ) (totals : List ℕ)
     → slice_get (map (λ (one : ℕ × ℕ). grown one.1 (by one.0)) (enumerate_from n totals)) place
-        ≡ option_map (λ total. grown total (by (n + place))) (slice_get totals place)
+    ≡ option_map (λ total. grown total (by (n + place))) (slice_get totals place)
 charged-at by n place [] = refl
 charged-at by n zero (total ∷ totals) =
     let same : n ≡ n + zero = omega arith in
@@ -111,8 +111,8 @@ pub used_in-stays : (now place : ℕ) (goes : JobRecord → Bool) (jobs after : 
     → AllZip (RunsOn now) jobs after
     → All (λ (job : JobRecord). goes job ≡ true → is_running job.state ≡ false) after
     → used_in (slice_get (charged now jobs after totals) place)
-        (running_usage now (filter (λ (job : JobRecord). not (goes job)) after) place)
-        ≡ used_in (slice_get totals place) (running_usage now jobs place)
+    (running_usage now (filter (λ (job : JobRecord). not (goes job)) after) place)
+    ≡ used_in (slice_get totals place) (running_usage now jobs place)
 unfolding charged
 used_in-stays now place goes jobs after totals on idle =
     let zero_more : 0 + place ≡ place = omega arith in
@@ -121,7 +121,7 @@ used_in-stays now place goes jobs after totals on idle =
   where
     by_total : (total : Option ℕ)
         → used_in (option_map (λ total. grown total (used_of now jobs after place)) total) (running_usage now after place)
-            ≡ used_in total (used_of now jobs after place + running_usage now after place)
+        ≡ used_in total (used_of now jobs after place + running_usage now after place)
     by_total None = refl
     by_total (Some total) = grown-same total (used_of now jobs after place) (running_usage now after place)
 

@@ -23,7 +23,7 @@ same-turned (Some one) (Some other) = nat_eq-turned one other
 
 children-same : (at : Option ℕ) (assocs : List AssocRecord)
     → count_by (λ (node : TreeNode). is_same_place at node.parent) (map node_of assocs)
-        ≡ count_by (λ (assoc : AssocRecord). is_same_parent assoc.conf.parent at) assocs
+    ≡ count_by (λ (assoc : AssocRecord). is_same_parent assoc.conf.parent at) assocs
 children-same at [] = refl
 children-same at (assoc ∷ assocs) =
     let nodes = sum_by-cons (λ (node : TreeNode). cond (is_same_place at node.parent) 1 0) (node_of assoc) (map node_of assocs) in

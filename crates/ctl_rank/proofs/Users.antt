@@ -77,7 +77,7 @@ length-users assocs = counted 0 assocs
         step : (b : Bool) (l : List (ℕ × TreeNode))
             → length (map (λ one. one.0) l) ≡ count_by (λ (one : AssocRecord). one.conf.user) some
             → length (map (λ one. one.0) (cond b ((n, node_of assoc) ∷ l) l))
-                ≡ cond b 1 0 + count_by (λ (one : AssocRecord). one.conf.user) some
+            ≡ cond b 1 0 + count_by (λ (one : AssocRecord). one.conf.user) some
         step true l e = omega (arith, e)
         step false l e = omega (arith, e)
 

@@ -39,11 +39,10 @@ pub(crate) fn all_cpus(cluster: &Cluster) -> u64
 fn factor_among(partitions: &[PartRecord]) -> u64
     ensures { result ≡ fold (λ greatest (partition : PartRecord). max greatest partition.conf.factor) 0 partitions.now }
 {
-    partitions
-        .iter()
-        .map(|partition| partition.conf.factor.get())
-        .max()
-        .unwrap_or(0)
+    partitions.iter().fold(
+        0,
+        |greatest: u64, partition| greatest.max(partition.conf.factor.get()),
+    )
 }
 
 /// The greatest `PriorityJobFactor`, 0 without partitions. Linear in them.
@@ -57,7 +56,8 @@ pub(crate) fn greatest_factor(cluster: &Cluster) -> u64
 fn priority_among(qos: &[QosRecord]) -> u32
     ensures { result ≡ fold (λ greatest (one : QosRecord). max greatest one.conf.priority) 0 qos.now }
 {
-    qos.iter().map(|one| one.conf.priority).max().unwrap_or(0)
+    qos.iter()
+        .fold(0, |greatest: u32, one| greatest.max(one.conf.priority))
 }
 
 /// The greatest priority of a quality of service, 0 without these. Linear in them.
