@@ -26,10 +26,12 @@ fn used_running(now: u64, job: &JobRecord) -> u64
 fn capped(alloc: Global, totals: &[u64]) -> Result<Vec<u64>, Memory>
     ensures { IfOk result (λ usage. usage.items ≡ map (λ total. min total GREATEST_USAGE) totals.now) }
 {
-    Ok(totals
-        .iter()
-        .map(|total| (*total).min(GREATEST_USAGE))
-        .collect(alloc)?)
+    Ok(
+        totals
+            .iter()
+            .map(|total| (*total).min(GREATEST_USAGE))
+            .collect(alloc)?,
+    )
 }
 
 // So much more at a place, up to the greatest usage.

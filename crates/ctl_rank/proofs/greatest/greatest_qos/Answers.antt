@@ -1,0 +1,12 @@
+use Rattle.std.proofs.Common.{ap, max, sym, ◌∙◌}
+use Rattle.std.specs.Prelude.{fold}
+use Rattle.accounts_qos.specs.declared.record.QosRecord.{QosRecord}
+use Rattle.ctl_rank.specs.Priority.{greatest, greatest_qos}
+use Rattle.ctl_rank.proofs.Members.{greatest_read}
+use Rattle.ctl_rank.proofs.greatest.greatest_qos.Goals as goal
+
+pub returns : goal.returns
+unfolding greatest greatest_qos
+returns c =
+    rw c.qos.ensures at c.priority_among.ensures
+    ∙ sym (greatest_read (λ (one : QosRecord). one.conf.priority) c.args.cluster.now.assocs.qos 0)
