@@ -16,9 +16,10 @@ use Rattle.ctl_state.specs.Laws.{OrderMoves}
 use Rattle.ctl_state.specs.Ordered.{ordered_by}
 use Rattle.ctl_state.specs.Soundness.{IsSound}
 use Rattle.ctl_state.specs.State.{State}
+use Rattle.ctl_rank.specs.Rank.{is_higher}
 use Rattle.ctl_pass.specs.Limits.{timed_out}
 use Rattle.ctl_pass.specs.Passing.{outcome}
-use Rattle.ctl_pass.specs.Readiness.{jobs_left, ready, base_of, is_candidate, is_higher, candidates, needs_of, ranked, planned, placements}
+use Rattle.ctl_pass.specs.Readiness.{jobs_left, ready, base_of, is_candidate, candidates, needs_of, ranked, planned, placements}
 use Rattle.ctl_pass.specs.Starting.{started, begun, start_of, may_start}
 use Rattle.ctl_pass.proofs.Planned.{few-jobs}
 use Rattle.ctl_pass.proofs.Ranks.{filter_map-less}
@@ -59,12 +60,12 @@ unfolding planned plan_of ranked candidates
 few-planned moves s now sound =
     let r = ready s now in
     let chosen = filter (is_candidate r) r.jobs in
-    let sorted = ordered_by (is_higher r) chosen in
+    let sorted = ordered_by (is_higher r now) chosen in
     omega (
       arith,
       plan-less (base_of r now) now (ranked r now) (base_of r now).holds,
       filter_map-less (needs_of r) sorted,
-      length_permutation chosen sorted (moves (is_higher r) chosen),
+      length_permutation chosen sorted (moves (is_higher r now) chosen),
       filter-less (is_candidate r) r.jobs,
       filter-less (λ job. not (is_old s.settings.min_job_age now job)) (map (timed_out now) s.jobs),
       length-map s.jobs (timed_out now),

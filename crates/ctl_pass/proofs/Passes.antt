@@ -18,6 +18,7 @@ use Rattle.job_table.specs.declared.change.Change.TheVariants.{Start}
 use Rattle.job_table.specs.Changes.{changed}
 use Rattle.job_table.specs.JobStates.{is_running, is_pending}
 use Rattle.job_table.specs.Table.{is_old}
+use Rattle.job_table.specs.Usage.{NothingCharged, charged}
 use Rattle.job_table.specs.Targets.{is_task_of}
 use Rattle.ctl_state.specs.declared.record.ArrayRecord.{ArrayRecord}
 use Rattle.ctl_state.specs.Events.{those_left, started_as}
@@ -119,6 +120,16 @@ ready-same age now (job ∷ jobs) none all =
       length-map jobs (timed_out now),
     )
 
+none-over : (now : ℕ) (jobs : List JobRecord) → count_by (is_over now) jobs ≡ 0 → map (timed_out now) jobs ≡ jobs
+none-over now [] none = refl
+none-over now (job ∷ jobs) none =
+    grind (
+      arith,
+      nat_tests,
+      none-over now jobs,
+      sum_by-cons (λ one. cond (is_over now one) 1 0) job jobs,
+    )
+
 -- where none starts, they stay too
 none-start : (s : State) (now : ℕ) (jobs : List JobRecord) (plan : List Placed)
     → length (started s now jobs plan).starts ≡ 0 → (started s now jobs plan).jobs ≡ jobs
@@ -127,9 +138,9 @@ none-start s now jobs [] none = refl
 none-start s now jobs (placed ∷ later) none = grind (arith, nat_tests, none-start s now jobs later)
 
 -- An idle pass changes nothing but the moment.
-pub idle-unchanged : (s : State) (now : ℕ) → is_idle s now ≡ true → pass_after s now ≡ s
+pub idle-unchanged : NothingCharged → (s : State) (now : ℕ) → is_idle s now ≡ true → pass_after s now ≡ s
 unfolding is_idle arrays_left
-idle-unchanged s now idle =
+idle-unchanged nothing s now idle =
     let left = jobs_left s now in
     let none = none-start s now left (placements s now) in
     let arrays = filter-whole (λ (array : ArrayRecord). list_any (is_task_of array.id) left) s.arrays in
@@ -143,7 +154,11 @@ idle-unchanged s now idle =
       ready-same s.settings.min_job_age now s.jobs,
       (plans-same (outcome s now).stays s.plan).0,
     ) in
-    rw (same.0, same.1, same.2) refl
+    let none_over : count_by (is_over now) s.jobs ≡ 0 = grind (arith, nat_tests) in
+    let usage : charged now s.jobs (map (timed_out now) s.jobs) s.usage ≡ s.usage =
+    ap (λ jobs. charged now s.jobs jobs s.usage) (none-over now s.jobs none_over)
+    ∙ sym (nothing now (record { records = s.jobs; usage = s.usage })).usage in
+    rw (same.0, same.1, same.2, usage) refl
 
 -- one for a job that waits, or that runs
 abbrev waits : JobRecord → ℕ
@@ -273,7 +288,7 @@ pub sound-passed : ReadyLaws → PlanLaws → StartLaws → (s : State) (now : �
     → now ≤ last_moment → IsSound (stamped now (pass_after s now))
 sound-passed readies plans starts s now sound raised in_time =
     let left = readied s now in
-    rw (← started-same s now now left.jobs left.jobs left.arrays [] (placements s now))
+    rw (← started-same s now now left.jobs left.jobs left.usage left.arrays [] (placements s now))
     (sound-started starts left (jobs_left s now) (placements s now)
     (can-start_ready readies plans s now sound raised in_time))
 
@@ -291,4 +306,4 @@ given-passed readies plans starts s now sound raised in_time =
       | inr (stands, held) ↦
           inr (stands, record { before = held.before; some = held.some; reached = held.reached })
     ] in
-    rw (← started-same s now now left.jobs left.jobs left.arrays [] (placements s now)) given
+    rw (← started-same s now now left.jobs left.jobs left.usage left.arrays [] (placements s now)) given

@@ -22,6 +22,8 @@ use Rattle.job_table.specs.declared.record.JobRecord.{JobRecord}
 use Rattle.job_table.specs.declared.record.Part.{Part}
 use Rattle.job_table.specs.Changes.{is_on}
 use Rattle.job_table.specs.JobStates.{is_pending}
+use Rattle.job_table.specs.Table.{is_old}
+use Rattle.job_table.specs.Usage.{ChangesRunOn, StaysOn}
 use Rattle.run_limits.specs.declared.counted.Counted.{Counted}
 use Rattle.run_limits.specs.declared.tally.Tally.{Tally}
 use Rattle.run_limits.specs.Limits.{Beside, first_reason, limits_reached, reason_if}
@@ -33,15 +35,21 @@ use Rattle.ctl_state.specs.Ordered.{ordered_by}
 use Rattle.ctl_state.specs.Planning.{room_of, seconds_of, plan_job}
 use Rattle.ctl_state.specs.Soundness.{IsSound, IsKept, IsLimit, pending_ids}
 use Rattle.ctl_state.specs.State.{State, partition_of, last_moment, last_job_id}
+use Rattle.ctl_rank.specs.FairShare.{rank_at, user_count, user_usage}
+use Rattle.ctl_rank.specs.Laws.{RanksStay}
+use Rattle.ctl_rank.specs.Priority as priority
+use Rattle.ctl_rank.specs.Priority.{all_cpus, greatest_factor, greatest_qos}
+use Rattle.ctl_rank.specs.Rank.{is_higher}
+use Rattle.ctl_rank.specs.Usage.{usage_at}
 use Rattle.ctl_pass.specs.Awaiting.{Awaits, CanBegin}
-use Rattle.ctl_pass.specs.Limits.{holds_of_job, hold_end}
-use Rattle.ctl_pass.specs.Readiness.{jobs_left, ready, base_of, is_candidate, is_higher, candidates, needs_of, ranked, planned, placements}
+use Rattle.ctl_pass.specs.Limits.{holds_of_job, hold_end, timed_out}
+use Rattle.ctl_pass.specs.Readiness.{jobs_left, ready, base_of, is_candidate, candidates, needs_of, ranked, planned, placements}
 use Rattle.ctl_pass.specs.Taking.{CanStart}
 use Rattle.ctl_pass.specs.Reasons.{exceeds_wall, held_reason, hindrance, hindrances_in, lacks_node, most_tasks}
 use Rattle.ctl_pass.proofs.Held.{held-counted, free-counted}
 use Rattle.ctl_pass.proofs.Lists.{sum_by-larger, sum_by-map, joined-larger, length-rising, at-place, All-joins, All-joined}
-use Rattle.ctl_pass.proofs.Ranks.{IsOfCandidate, waiting, candidates-wait, ranked-all, ranked-candidates, ranked-waits, ranked-apart}
-use Rattle.ctl_pass.proofs.Readied.{ReadyLaws, readied, sound-readied, pending-left}
+use Rattle.ctl_pass.proofs.Ranks.{IsOfCandidate, waiting, candidates-wait, ordered-agree, ranked-all, ranked-candidates, ranked-waits, ranked-apart}
+use Rattle.ctl_pass.proofs.Readied.{ReadyLaws, readied, sound-readied, pending-left, timed_out-runs_on, old-not_running}
 use Rattle.ctl_pass.proofs.Tasks.{holding-left, waits-with, with-left}
 
 -- the laws of plans that a pass rests on
@@ -225,7 +233,7 @@ can-start laws s sound =
 -- So those of a pass can.
 pub can-start_ready : ReadyLaws → PlanLaws → (s : State) (now : ℕ) → IsSound s → s.moment ≤ now → now ≤ last_moment
     → CanStart (readied s now) (placements s now)
-unfolding planned base_of ranked candidates needs_of hindrance
+unfolding planned base_of ranked candidates needs_of hindrance is_higher priority.parts_of rank_at user_usage user_count usage_at all_cpus greatest_factor greatest_qos
 can-start_ready readies plans s now sound raised in_time =
     can-start plans (readied s now) (sound-readied readies s now sound raised in_time)
 
@@ -248,17 +256,35 @@ hindrance-ready : (s : State) (now : ℕ) (job : JobRecord) → hindrance (ready
 unfolding hindrance
 hindrance-ready s now job = ap (hindered s job) (holding-left s.settings.min_job_age now s.jobs)
 
--- so the candidates are those of the state before
-pub ranked_is : (s : State) (now : ℕ) → ranked (ready s now) now ≡ filter_map (needs_of s) (candidates s now)
+-- the laws of ranks that a pass rests on
+pub record RankLaws : Type 0 where
+  pub changes : ChangesRunOn
+  pub stays : StaysOn
+  pub ranks : RanksStay
+
+-- no order of two jobs is another after the first steps
+higher-ready : RankLaws → (s : State) (now : ℕ) (one other : JobRecord)
+    → is_higher (ready s now) now one other ≡ is_higher s now one other
+higher-ready laws s now =
+    let jobs = map (timed_out now) s.jobs in
+    laws.ranks s now jobs (is_old s.settings.min_job_age now) (ready s now).arrays
+    (timed_out-runs_on laws.changes laws.stays now s.jobs)
+    (λ k d below old. old-not_running s.settings.min_job_age now (get_or jobs k d) old)
+
+-- so the candidates are those of the state before, in their order
+pub ranked_is : RankLaws → (s : State) (now : ℕ)
+    → ranked (ready s now) now ≡ filter_map (needs_of s) (candidates s now)
 unfolding ranked candidates needs_of
-ranked_is s now =
+ranked_is laws s now =
     let left = ready s now in
     let same : filter (is_candidate left) left.jobs ≡ filter (is_candidate s) s.jobs =
     filter_agree (is_candidate left) (is_candidate s)
     (λ job. ap (λ some. is_pending job.state && is_none some) (hindrance-ready s now job)) left.jobs
     ∙ candidates-wait s left.jobs ∙ ap (filter (λ job. is_none (hindrance s job)))
     (pending-left s.settings.min_job_age now s.jobs) ∙ sym (candidates-wait s s.jobs) in
-    ap (λ some. filter_map (needs_of s) (ordered_by (is_higher s) some)) same
+    ap (λ some. filter_map (needs_of s) (ordered_by (is_higher left now) some)) same
+    ∙ ap (filter_map (needs_of s)) (ordered-agree (is_higher left now) (is_higher s now) (higher-ready laws s now)
+    (filter (is_candidate s) s.jobs))
 
 pub plan-is : (s : State) (now : ℕ) (made : PlannedView) (base : BaseView) (jobs : List PlanJob)
     → made ≡ record { base = base; ranked = jobs; moment = now }

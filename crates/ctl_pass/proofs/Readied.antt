@@ -1,7 +1,7 @@
 -- What the first steps of a pass leave: jobs past their limits complete, and old records are gone.
 use Rattle.std.proofs.lemmas.Bool.Decides.{nat_tests}
 use Rattle.std.proofs.Common.{◌≡◌, ℕ, suc, ◌+◌, ◌≤◌, ◌<◌, Bool, true, false, ◌&&◌, not, cond, eqb, leb, List, [], ◌∷◌, ◌++◌, length, map, filter, flat_map, take, get_or, unwrap_or, Contains, Some, None, refl, sym, ◌∙◌, arith, inl, inr, rules, tests}
-use Rattle.std.specs.List.{list_any}
+use Rattle.std.specs.List.{AllZip, list_any}
 use Rattle.std.proofs.lemmas.Bool.{cond_both, and_parts, cases_Bool, ne_eqb}
 use Rattle.std.proofs.lemmas.List.{take_more, map-append, append-nil, length-map}
 use Rattle.std.proofs.lemmas.List.Concat.{flat_map-append}
@@ -16,9 +16,10 @@ use Rattle.job_table.specs.declared.change.Change.TheVariants.{Leave}
 use Rattle.job_table.specs.Changes.{changed}
 use Rattle.job_table.specs.JobStates.{is_running, is_ended, is_holding, is_pending}
 use Rattle.job_table.specs.Table.{is_old}
+use Rattle.job_table.specs.Usage.{ChangesRunOn, RunsOn, StaysOn}
 use Rattle.ctl_state.specs.Events.{LetsGo, those_left}
 use Rattle.ctl_state.specs.Holding.{has_members}
-use Rattle.ctl_state.specs.Laws.{LettingGo, ChangesLetGo, LetsGoNothing, KeptLater}
+use Rattle.ctl_state.specs.Laws.{Charging, LettingGo, ChangesLetGo, LetsGoNothing, KeptLater}
 use Rattle.ctl_state.specs.Soundness.{IsSound, IsKept, PlansPending, pending_ids, HasItsParts}
 use Rattle.ctl_state.specs.State.{State, last_moment}
 use Rattle.ctl_pass.specs.Limits.{deadline, is_over, timed_out, holds_of_job}
@@ -38,6 +39,7 @@ pub record ReadyLaws : Type 0 where
   pub changes : ChangesLetGo
   pub nothing : LetsGoNothing
   pub later : KeptLater
+  pub charging : Charging
 
 -- what the limit makes of a job: it was running where it is over
 pub by_limit : (P : JobRecord → Type 0) (now : ℕ) (job : JobRecord)
@@ -62,10 +64,13 @@ pub sound-readied : ReadyLaws → (s : State) (now : ℕ) → IsSound s → s.mo
     → IsSound (readied s now)
 sound-readied laws s now sound raised in_time =
     let old = is_old s.settings.min_job_age now in
-    laws.letting_go s now (timed_out now) old (ready s now).arrays [] sound in_time
+    let left = record s { jobs = those_left (timed_out now) old s.jobs; arrays = (ready s now).arrays; plan = []; moment = now }
+    in
+    laws.charging left (ready s now).usage
+    (laws.letting_go s now (timed_out now) old (ready s now).arrays [] sound in_time
     (All-weaker (IsKept s.moment) (λ job. LetsGo now job (timed_out now job))
     (λ job kept. lets job (laws.later s.moment now job raised kept)) s.jobs sound.jobs)
-    (no-plan (those_left (timed_out now) old s.jobs))
+    (no-plan (those_left (timed_out now) old s.jobs)))
   where
     lets : (job : JobRecord) → IsKept now job → LetsGo now job (timed_out now job)
     lets job kept =
@@ -103,6 +108,24 @@ timed_out-old age now job =
 pub old-ended : (age now : ℕ) (job : JobRecord) → is_old age now job ≡ true → is_ended job.state ≡ true
 old-ended age now job old =
     (and_parts (is_ended job.state) (not (eqb age 0) && leb (unwrap_or job.ended 0 + age) now) old).0
+
+-- one that is old doesn't run
+pub old-not_running : (age now : ℕ) (job : JobRecord) → is_old age now job ≡ true → is_running job.state ≡ false
+old-not_running age now job old = by job.state (old-ended age now job old)
+  where
+    by : (state : JobState) → is_ended state ≡ true → is_running state ≡ false
+    by state ended = search (rules, tests)
+
+-- a limit that is seen to starts nothing
+pub timed_out-runs_on : ChangesRunOn → StaysOn → (now : ℕ) (jobs : List JobRecord)
+    → AllZip (RunsOn now) jobs (map (timed_out now) jobs)
+timed_out-runs_on changes stays now [] = tt
+timed_out-runs_on changes stays now (job ∷ jobs) =
+    (
+      cond_both (is_over now job) (changed (Leave Timeout now None) job) job (RunsOn now job)
+          (λ over. changes now (Leave Timeout now None) job refl) (λ within. stays now job),
+      timed_out-runs_on changes stays now jobs,
+    )
 
 -- one more job of those that are left
 pub left-more : (age now i : ℕ) (jobs : List JobRecord) (job : JobRecord) → i < length jobs → job ≡ get_or jobs i job

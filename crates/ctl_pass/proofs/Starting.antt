@@ -32,16 +32,16 @@ use Rattle.ctl_pass.proofs.Lists.{sum_by-map, pairs-take, pairs-head, pairs-tail
 use Rattle.ctl_pass.proofs.Readied.{no-plan}
 
 -- only the nodes and the accounts matter of the state beside which placements start
-pub started-same : (s : State) (now moment : ℕ) (table jobs : List JobRecord) (arrays : List ArrayRecord)
-    (left plan : List Placed)
-    → started (record s { jobs = table; arrays = arrays; plan = left; moment = moment }) now jobs plan
+pub started-same : (s : State) (now moment : ℕ) (table jobs : List JobRecord) (usage : List ℕ)
+    (arrays : List ArrayRecord) (left plan : List Placed)
+    → started (record s { jobs = table; usage = usage; arrays = arrays; plan = left; moment = moment }) now jobs plan
     ≡ started s now jobs plan
 unfolding started may_start
-started-same s now moment table jobs arrays left [] = refl
-started-same s now moment table jobs arrays left (placed ∷ later) =
+started-same s now moment table jobs usage arrays left [] = refl
+started-same s now moment table jobs usage arrays left (placed ∷ later) =
     rw (
-      started-same s now moment table (begun now jobs (start_of s.nodes jobs placed)) arrays left later,
-      started-same s now moment table jobs arrays left later,
+      started-same s now moment table (begun now jobs (start_of s.nodes jobs placed)) usage arrays left later,
+      started-same s now moment table jobs usage arrays left later,
     ) refl
 
 -- what each start keeps of the jobs, all of them keep

@@ -61,8 +61,11 @@ loop-start-preserved c =
     let jobs : c.begin_one.new.jobs.records ≡ begun_by before.nodes now before.jobs start.placed =
     c.begin_one.ensures.jobs ∙ ap (begun now before.jobs) step.0 in
     let after : State → State = λ s. record s { jobs = begun_by s.nodes now s.jobs start.placed } in
-    let is : record before { nodes = c.begin_one.new.nodes.records; jobs = c.begin_one.new.jobs.records }
-    ≡ after before = rw (jobs, c.begin_one.ensures.records) refl in
+    let is : record before {
+      nodes = c.begin_one.new.nodes.records;
+      jobs = c.begin_one.new.jobs.records;
+      usage = c.begin_one.new.jobs.usage;
+    } ≡ after before = rw (jobs, c.begin_one.ensures.records, c.begin_one.ensures.usage) refl in
     let AreLater : State → Type 0 = λ s. AreDue (unplanned now s) later in
     let first = state_of c.args.cluster.now in
     let run = begun_by first.nodes now in

@@ -26,7 +26,8 @@ pub split-requires-clause-plan : goal.split-requires-clause-plan
 split-requires-clause-plan g c =
     c.into_placements.ensures
     ∙ plan-is (state_of c.args.cluster.now) c.args.now c.in-Ok.planned c.in_ok-base.base c.in_ok-ranked.ranked.items
-    c.in-Ok.ensures.parts c.in_ok-base.ensures c.in_ok-ranked.ensures.ranked
+    c.in-Ok.ensures.parts c.in_ok-base.ensures
+    (rw c.in_ok-factors.ensures.moment at c.in_ok-ranked.ensures.ranked)
 
 pub overflow_cast-result : goal.overflow_cast-result
 overflow_cast-result g c =

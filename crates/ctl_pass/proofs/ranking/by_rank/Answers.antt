@@ -1,27 +1,24 @@
-use Rattle.std.proofs.Common.{◌≡◌, Bool, Bor, map, ap, sym, ◌∙◌, rules}
+use Rattle.std.proofs.Common.{◌≡◌, Bool, map, ap, ◌∙◌, rules}
 use Rattle.std.specs.Cmp.{IsStrictWeakOrder}
 use Rattle.std.specs.Ordering.{is_lt}
 use Rattle.std.proofs.lemmas.Bool.Decides.{nat_tests}
 use Rattle.std.proofs.lemmas.Fn.{always_returns_same}
-use Rattle.std.proofs.lemmas.List.Sorted.{IsStrictWeakOrder-flip, IsStrictWeakOrder-by_number}
-use Rattle.job_table.specs.declared.record.JobRecord.{JobRecord}
-use Rattle.ctl_state.specs.Ordered.{ordered_by}
 use Rattle.ctl_state.specs.State.{state_of}
-use Rattle.ctl_pass.specs.Readiness.{is_higher, tier_of, candidates}
-use Rattle.ctl_pass.proofs.Ranks.{ordered-map}
+use Rattle.ctl_rank.specs.Rank.{is_above}
+use Rattle.ctl_pass.specs.declared.ranking.Candidate.{Candidate}
+use Rattle.ctl_pass.specs.Readiness.{candidates}
+use Rattle.ctl_pass.proofs.Ranks.{above-weak, order-by_keys}
 use Rattle.ctl_pass.proofs.ranking.by_rank.Goals as goal
 
 pub returns : goal.returns
 unfolding candidates
-returns c = λ now.
-    let s = state_of c.args.cluster.now in
-    let before : Bor JobRecord → Bor JobRecord → Bool = λ one other. is_higher s one.now other.now in
-    let weak : IsStrictWeakOrder before =
-    IsStrictWeakOrder-flip _ (IsStrictWeakOrder-by_number (λ (one : Bor JobRecord). tier_of s one.now)) in
+returns c =
+    let before : Candidate → Candidate → Bool = λ one other. is_above one.key other.key in
+    let weak : IsStrictWeakOrder before = above-weak (λ (one : Candidate). one.key) in
     let compares = always_returns_same _ (λ a r. is_lt r
     ≡ before a.0.now a.1.0.now) _ (λ a r q k. search (rules, nat_tests)) in
     let sorted = c.a_stable_sort_makes_the_order.ensures.sorted before _ _ weak
     (c.in_ok-sort_by.ensures.sorted before weak compares) (c.in_ok-sort_by.ensures.stable before weak compares) in
-    ap (map (λ (job : Bor JobRecord). job.now)) sorted
-    ∙ sym (ordered-map (is_higher s) (λ (job : Bor JobRecord). job.now) _)
-    ∙ ap (ordered_by (is_higher s)) c.in_ok-jobs.ensures
+    ap (map (λ (one : Candidate). one.job.now)) sorted
+    ∙ order-by_keys (state_of c.args.cluster.now) c.args.factors.now.moment (λ (one : Candidate). one.job.now)
+    (λ (one : Candidate). one.key) _ _ c.in_ok-some.ensures

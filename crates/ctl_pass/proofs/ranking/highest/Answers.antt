@@ -8,26 +8,26 @@ use Rattle.ctl_pass.proofs.Ranks.{highest-none, highest-more, highest-is}
 use Rattle.ctl_pass.proofs.ranking.highest.Goals as goal
 
 pub loop-job-init : goal.loop-job-init
-loop-job-init c = sym (highest-none (state_of c.args.cluster.now))
+loop-job-init c = sym (highest-none (state_of c.args.cluster.now) c.args.factors.now.moment)
 
 pub loop-job-preserved : goal.loop-job-preserved
 loop-job-preserved c =
-    let more = highest-more (state_of c.args.cluster.now) c.loop-job.job-index c.job-item.result
+    let more = highest-more (state_of c.args.cluster.now) c.args.factors.now.moment c.loop-job.job-index c.job-item.result
     (rw c.records-job-items.ensures.value at c.loop-job-test.true)
     (rw c.records-job-items.ensures.value at c.job-item.is) in
     grind (arith, nat_tests, more)
 
 pub returns-in_err-highest : goal.returns-in_err-highest
-returns-in_err-highest c = λ now.
+returns-in_err-highest c =
     let s = state_of c.args.cluster.now in
     let all = rw (take_all c.loop-job.job-index s.jobs (rw c.records-job-items.ensures.value at c.loop-job-test.false))
     at c.loop-job.invariant in
     c.from_residual.ensures ∙ ap (option_map (λ (job : JobRecord). job.id))
-    (rw c.in_err-highest.was at (all ∙ highest-is s now))
+    (rw c.in_err-highest.was at (all ∙ highest-is s c.args.factors.now.moment))
 
 pub returns : goal.returns
-returns c = λ now.
+returns c =
     let s = state_of c.args.cluster.now in
     let all = rw (take_all c.loop-job.job-index s.jobs (rw c.records-job-items.ensures.value at c.loop-job-test.false))
     at c.loop-job.invariant in
-    ap (option_map (λ (job : JobRecord). job.id)) (rw c.in_ok-highest.was at (all ∙ highest-is s now))
+    ap (option_map (λ (job : JobRecord). job.id)) (rw c.in_ok-highest.was at (all ∙ highest-is s c.args.factors.now.moment))

@@ -7,4 +7,4 @@ use Rattle.ctl_pass.proofs.ranking.highest.Given as goal
 -- the highest of the candidates so far
 abbrev pub invariant-loop-job : goal.invariant-loop-job
 invariant-loop-job l =
-    option_copied l.highest ≡ highest_of (state_of l.cluster) (take l.job-index l.cluster.jobs.records)
+    option_copied l.highest ≡ highest_of (state_of l.cluster) l.factors.moment (take l.job-index l.cluster.jobs.records)
