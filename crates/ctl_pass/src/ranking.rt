@@ -200,7 +200,10 @@ fn is_higher(cluster: &Cluster, factors: &Factors, one: &JobRecord, other: &JobR
     requires { IsMeasured (state_of cluster.now) factors.now }
     ensures { result ≡ Rank.is_higher (state_of cluster.now) factors.now.moment one.now other.now }
 {
-    is_above(key_of(factors, cluster, one), key_of(factors, cluster, other))
+    is_above(
+        key_of(factors, cluster, one),
+        key_of(factors, cluster, other),
+    )
 }
 
 /// The number of the candidate that is highest in rank at the factors' moment, None where there is no candidate. Linear

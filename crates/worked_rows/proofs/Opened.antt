@@ -95,7 +95,7 @@ files = tt
 -- the clusters, and scripts on them
 unfoldable pub clusters : Unit {0}
 unfolding digits usual_settings usual_partition usual_account user_named usual_assocs one_node on_one_node on_weighed_node
-    small_node    four_nodes on_four_nodes script_of most_blocks greatest_depth above are_of_one_user place_meant counts_of is_in
+    small_node four_nodes on_four_nodes script_of most_blocks greatest_depth above are_of_one_user place_meant counts_of is_in
     submit_limits unended
 clusters = tt
 
