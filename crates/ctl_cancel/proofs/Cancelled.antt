@@ -222,7 +222,8 @@ pub still_rising : (s before after : State) (now : ℕ) (user : List ℕ) (targe
     → after ≡ record before { jobs = map (target_done before now user target) before.jobs; usage = more }
     → HaveRisingIds jobs → HaveRisingIds after.jobs
 still_rising s before after now user target jobs used more is made rising =
-    subst HaveRisingIds (sym (ap (λ (state : State). state.jobs) (made-of s before after now user target jobs used more is made)))
+    subst HaveRisingIds
+    (sym (ap (λ (state : State). state.jobs) (made-of s before after now user target jobs used more is made)))
     (rise_on (target_done s now user target) jobs (λ job. id-where s now user (is_named target job) job) rising)
 
 pub still_together : (s before after : State) (now : ℕ) (user : List ℕ) (target : Target) (jobs : List JobRecord)
@@ -230,7 +231,8 @@ pub still_together : (s before after : State) (now : ℕ) (user : List ℕ) (tar
     → after ≡ record before { jobs = map (target_done before now user target) before.jobs; usage = more }
     → AreTogether jobs → AreTogether after.jobs
 still_together s before after now user target jobs used more is made are =
-    subst AreTogether (sym (ap (λ (state : State). state.jobs) (made-of s before after now user target jobs used more is made)))
+    subst AreTogether
+    (sym (ap (λ (state : State). state.jobs) (made-of s before after now user target jobs used more is made)))
     (stay_together (target_done s now user target) jobs (λ job. id-where s now user (is_named target job) job)
     (λ job. array-where s now user (is_named target job) job) are)
 

@@ -23,7 +23,8 @@ loop-target-preserved c =
       charges = c.who_leaves_is_charged.ensures.on now _ _ _ held.charges c.cancel_target.ensures.charges;
       held = c.cancel_target.ensures.held ∙ held.held;
       rising = still_rising s before after now user _ jobs _ _ held.others c.cancel_target.ensures.after held.rising;
-      together = still_together s before after now user _ jobs _ _ held.others c.cancel_target.ensures.after held.together;
+      together = still_together s before after now user _ jobs _ _ held.others c.cancel_target.ensures.after
+          held.together;
     }
 
 pub returns-clause-after : goal.returns-clause-after

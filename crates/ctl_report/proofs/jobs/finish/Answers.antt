@@ -11,3 +11,7 @@ pub leave_node-requires-clause-shown : goal.leave_node-requires-clause-shown
 leave_node-requires-clause-shown c = rw c.end_script.ensures.jobs
     (over_shown c.args.nodes.now.held c.args.now c.args.node c.args.place c.args.done c.args.jobs.now.records
     c.requires.shown)
+
+pub returns-clause-charges : goal.returns-clause-charges
+returns-clause-charges c =
+    c.who_leaves_is_charged.ensures.on c.args.now _ _ _ c.end_script.ensures.charges c.leave_node.ensures.charges
