@@ -120,12 +120,11 @@ old-not_running age now job old = by job.state (old-ended age now job old)
 pub timed_out-runs_on : ChangesRunOn → StaysOn → (now : ℕ) (jobs : List JobRecord)
     → AllZip (RunsOn now) jobs (map (timed_out now) jobs)
 timed_out-runs_on changes stays now [] = tt
-timed_out-runs_on changes stays now (job ∷ jobs) =
-    (
-      cond_both (is_over now job) (changed (Leave Timeout now None) job) job (RunsOn now job)
-          (λ over. changes now (Leave Timeout now None) job refl) (λ within. stays now job),
-      timed_out-runs_on changes stays now jobs,
-    )
+timed_out-runs_on changes stays now (job ∷ jobs) = (
+  cond_both (is_over now job) (changed (Leave Timeout now None) job) job (RunsOn now job)
+      (λ over. changes now (Leave Timeout now None) job refl) (λ within. stays now job),
+  timed_out-runs_on changes stays now jobs,
+)
 
 -- one more job of those that are left
 pub left-more : (age now i : ℕ) (jobs : List JobRecord) (job : JobRecord) → i < length jobs → job ≡ get_or jobs i job
