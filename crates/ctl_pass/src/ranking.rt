@@ -206,9 +206,9 @@ fn is_higher(cluster: &Cluster, factors: &Factors, one: &JobRecord, other: &JobR
     )
 }
 
-/// The number of the candidate that is highest in rank at the factors' moment, None where there is no candidate. Linear
-/// in the jobs, and for each pending one that is higher than the candidates before it in its association's way up to
-/// root and the nodes that it must have.
+/// The number of the candidate that is highest in rank at the factors' moment, None where there is no candidate. One walk
+/// over the jobs, which looks at what each pending one is ranked by; each that is higher than the candidates before it
+/// costs its association's way up to root and the nodes that it must have besides.
 pub fn highest(cluster: &Cluster, tally: &Tally, factors: &Factors) -> Option<u32>
     requires counted { Shows cluster.now.assocs.records tally.now (holding cluster.now.jobs.records) }
     requires measured { IsMeasured (state_of cluster.now) factors.now }
@@ -218,7 +218,7 @@ pub fn highest(cluster: &Cluster, tally: &Tally, factors: &Factors) -> Option<u3
     let mut highest: Option<&JobRecord> = None;
     for job in cluster.jobs.records() {
         let comes_first = match highest {
-            Some(first) => is_higher(cluster, factors, job, first),
+            Some(first) => is_pending(job) && is_higher(cluster, factors, job, first),
             None => true,
         };
         if comes_first && is_candidate(cluster, tally, job) {
