@@ -47,7 +47,7 @@ place-left now place job after on =
 
 running-left : (now place : ℕ) (jobs after : List JobRecord) → AllZip (RunsOn now) jobs after
     → running_usage now jobs place ≡ used_of now jobs after place + running_usage now after place
-unfolding running_usage used_of
+unfolding used_of
 running-left now place [] [] on = refl
 running-left now place [] (y ∷ ys) on = absurd on
 running-left now place (x ∷ xs) [] on = absurd on
@@ -66,7 +66,7 @@ running-left now place (x ∷ xs) (y ∷ ys) on =
 running-filter : (now place : ℕ) (goes : JobRecord → Bool) (jobs : List JobRecord)
     → All (λ (job : JobRecord). goes job ≡ true → is_running job.state ≡ false) jobs
     → running_usage now (filter (λ (job : JobRecord). not (goes job)) jobs) place ≡ running_usage now jobs place
-unfolding running_usage used_running
+unfolding used_running
 running-filter now place goes [] idle = refl
 running-filter now place goes (job ∷ jobs) idle =
     by_test (goes job)
@@ -126,7 +126,6 @@ used_in-stays now place goes jobs after totals on idle =
     by_total (Some total) = grown-same total (used_of now jobs after place) (running_usage now after place)
 
 pub running-none : (now place : ℕ) → running_usage now [] place ≡ 0
-unfolding running_usage
 running-none now place = refl
 
 -- one more job, where sums are cut at the greatest usage
@@ -136,7 +135,6 @@ pub running-more : (now place : ℕ) (jobs : List JobRecord) (i : ℕ) (job : Jo
     → more ≡ min (used_running now job) (2 ^ 64 - 1)
     → last ≡ min (was + cond (nat_eq job.assoc place) more 0) 4294967295
     → last ≡ min (first + running_usage now (take (i + 1) jobs) place) 4294967295
-unfolding running_usage
 running-more now place jobs i job low is first was last more before used after =
     by_test (nat_eq job.assoc place) (used_running now job) (running_usage now (take i jobs) place) _ was last more
     (rw (sym is) at (sum_by_more (uses now place) jobs i job low)) before used after

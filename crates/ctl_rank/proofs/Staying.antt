@@ -12,7 +12,7 @@ use Rattle.ctl_state.specs.State.{State}
 use Rattle.ctl_rank.specs.Usage.{usage_at}
 use Rattle.ctl_rank.specs.FairShare.{rank_at, tree_of, user_count, user_usage}
 use Rattle.ctl_rank.specs.Priority.{all_cpus, greatest_factor, greatest_qos, parts_of}
-use Rattle.ctl_rank.specs.Rank.{is_above, is_higher, key_of}
+use Rattle.ctl_rank.specs.Rank.{is_above, is_higher}
 use Rattle.ctl_rank.specs.Laws.{left}
 use Rattle.ctl_rank.proofs.Charged.{used_in-stays}
 

@@ -10,7 +10,7 @@ unfoldable pub used_running : ℕ → JobRecord → ℕ
 used_running now job = if is_running job.state then used_by now job else 0
 
 -- what those of the jobs have used that run and are of the association at a place
-unfoldable pub running_usage : ℕ → List JobRecord → ℕ → ℕ
+abbrev pub running_usage : ℕ → List JobRecord → ℕ → ℕ
 running_usage now jobs place =
     sum_by (λ (job : JobRecord). if nat_eq job.assoc place then used_running now job else 0) jobs
 

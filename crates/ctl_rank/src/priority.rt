@@ -1,4 +1,4 @@
-//! The priority of a job. "Job Priority Factors" of Slurm's multifactor priority.
+//! The priority of a job.
 
 ghost use Rattle.std.specs.Prelude.{◌≡◌, ◌≤◌, option_map, slice_get, unwrap_or};
 ghost use Rattle.accounts_qos.specs.declared.record.QosRecord.{QosRecord};
@@ -112,7 +112,8 @@ fn qos_term(factors: &Factors, cluster: &Cluster, job: &JobRecord) -> Term
     }
 }
 
-/// The job's priority, and what it is made of. In constant time. "Job Priority Factors" of Slurm's multifactor priority.
+/// The job's priority, and what it is made of. In constant time. "Job Priority Factors" of Slurm's multifactor
+/// priority.
 #[tactic(auto, unfolding(crate::specs::Priority::parts_of))]
 pub fn priority_of(factors: &Factors, cluster: &Cluster, job: &JobRecord) -> PriorityParts
     requires measured { IsMeasured (state_of cluster.now) factors.now }

@@ -10,8 +10,8 @@ use crate::priority::priority_of;
 use ctl_state::cluster::Cluster;
 use job_table::record::JobRecord;
 
-/// What a job is ranked by: first the `PriorityTier` of its partition, then its priority; of those alike the lower number
-/// comes first (own).
+/// What a job is ranked by: first the `PriorityTier` of its partition, then its priority; of those alike the lower
+/// number comes first (own).
 #[derive(Clone, Copy, PartialEq, Eq, Debug)]
 pub struct RankKey {
     pub tier: u64,

@@ -47,7 +47,9 @@ fn used_by_users(alloc: Global, assocs: &[AssocRecord], usage: &[u64]) -> Result
 fn spread(alloc: Global, assocs: &[AssocRecord], ranks: &[u32]) -> Result<Vec<u32>, Memory>
     ensures len { IfOk result (λ spread. vec_len spread ≡ length assocs.now) }
     ensures each { IfOk result (λ spread. (place : ℕ) → place < length assocs.now → slice_index spread.items place
-        ≡ unwrap_or (option_and_then (slice_get ranks.now) (position (nat_eq place) (users (shares_of assocs.now)))) 0) }
+        ≡ unwrap_or
+        (option_and_then (slice_get ranks.now) (position (nat_eq place) (users (shares_of assocs.now))))
+        0) }
 {
     let mut spread = Vec::with_capacity(alloc, assocs.len())?;
     let mut next = 0;

@@ -1,5 +1,4 @@
-use Rattle.std.proofs.Common.{ap, max, sym, ◌∙◌}
-use Rattle.std.specs.Prelude.{fold}
+use Rattle.std.proofs.Common.{sym, ◌∙◌}
 use Rattle.partitions.specs.declared.record.PartRecord.{PartRecord}
 use Rattle.ctl_rank.specs.Priority.{greatest, greatest_factor}
 use Rattle.ctl_rank.proofs.Members.{greatest_read}

@@ -1,5 +1,4 @@
-use Rattle.std.proofs.Common.{ap, max, sym, ◌∙◌}
-use Rattle.std.specs.Prelude.{fold}
+use Rattle.std.proofs.Common.{sym, ◌∙◌}
 use Rattle.accounts_qos.specs.declared.record.QosRecord.{QosRecord}
 use Rattle.ctl_rank.specs.Priority.{greatest, greatest_qos}
 use Rattle.ctl_rank.proofs.Members.{greatest_read}
