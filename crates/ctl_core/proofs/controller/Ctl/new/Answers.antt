@@ -16,8 +16,8 @@ invariant_of-result c =
           })
           (rw (← view) at c.in_ok-partitions.ensures.on_nodes)
           (rw c.records-2.ensures.value at c.partitions_in_range.ensures)
-          c.new.ensures c.new-3.ensures.items c.get.ensures.range refl refl,
-      shows-none _ _ (rw (← view) at c.in_ok-nodes.ensures.held) c.new.ensures,
+          c.in_ok-jobs.ensures.records c.new-3.ensures.items c.get.ensures.range refl refl,
+      shows-none _ _ (rw (← view) at c.in_ok-nodes.ensures.held) c.in_ok-jobs.ensures.records,
     )
 
 pub returns-clause-sound : goal.returns-clause-sound
