@@ -7,18 +7,17 @@ build-requires-2-clause-of_nodes c =
     rw (c.into_vec-2.ensures, c.in_ok-nodes.ensures.records, c.into_vec.ensures, names-opened) c.conf.invariant.of_nodes
 
 pub invariant_of-result : goal.invariant_of-result
-invariant_of-result c =
-    let view = c.nodes.view_is in (
-      sound-opening _ c.settings_in_range.ensures
-          (record {
-            named = rw (← view) at c.records.ensures.named;
-            each = rw (c.records.ensures.value, ← view) at c.nodes_in_range.ensures;
-          })
-          (rw (← view) at c.in_ok-partitions.ensures.on_nodes)
-          (rw c.records-2.ensures.value at c.partitions_in_range.ensures)
-          c.in_ok-jobs.ensures.records c.new-3.ensures.items c.get.ensures.range refl refl,
-      shows-none _ _ (rw (← view) at c.in_ok-nodes.ensures.held) c.in_ok-jobs.ensures.records,
-    )
+invariant_of-result c = (
+  sound-opening _ c.settings_in_range.ensures
+      (record {
+        named = c.records.ensures.named;
+        each = rw c.records.ensures.value at c.nodes_in_range.ensures;
+      })
+      c.in_ok-partitions.ensures.on_nodes
+      (rw c.records-2.ensures.value at c.partitions_in_range.ensures)
+      c.in_ok-jobs.ensures.records c.new-3.ensures.items c.get.ensures.range refl refl,
+  shows-none _ _ c.in_ok-nodes.ensures.held c.in_ok-jobs.ensures.records,
+)
 
 pub returns-clause-sound : goal.returns-clause-sound
 returns-clause-sound c = (invariant_of-result c).0
