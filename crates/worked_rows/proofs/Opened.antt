@@ -20,7 +20,7 @@ use Rattle.slurm_text.specs.Digits.{number_within}
 use Rattle.slurm_text.specs.Name.{is_name, is_job_name}
 use Rattle.slurm_text.specs.Memory.{in_megabytes, megabytes_of}
 use Rattle.slurm_text.specs.Hosts.{numbers_of, range_names, made_behind, made_by, few, host_items, first_bad_item, hosts_in}
-use Rattle.worked_rows.specs.Clusters.{usual_settings, usual_partition, usual_account, user_named, usual_assocs, one_node, on_one_node, on_weighed_node, small_node, four_nodes, on_four_nodes}
+use Rattle.worked_rows.specs.Clusters.{usual_settings, usual_partition, usual_account, user_named, usual_assocs, one_node, on_one_node, small_node, four_nodes, on_four_nodes}
 use Rattle.slurm_text.specs.Assocs.{greatest_depth}
 use Rattle.accounts_qos.specs.Accounts.{above, are_of_one_user, place_meant}
 use Rattle.run_limits.specs.Counting.{counts_of, is_in}
@@ -94,7 +94,7 @@ files = tt
 
 -- the clusters, and scripts on them
 unfoldable pub clusters : Unit {0}
-unfolding digits usual_settings usual_partition usual_account user_named usual_assocs one_node on_one_node on_weighed_node
+unfolding digits usual_settings usual_partition usual_account user_named usual_assocs one_node on_one_node
     small_node four_nodes on_four_nodes script_of most_blocks greatest_depth above are_of_one_user place_meant counts_of is_in
     submit_limits unended
 clusters = tt

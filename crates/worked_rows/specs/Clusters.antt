@@ -87,11 +87,6 @@ one_node = record {
 unfoldable pub on_one_node : State
 on_one_node = opening one_node usual_assocs
 
--- the same where age and size count
-unfoldable pub on_weighed_node : State
-on_weighed_node =
-    record on_one_node { settings = record on_one_node.settings { weight_age = 1000; weight_job_size = 1000 } }
-
 -- a node of two processors
 unfoldable pub small_node : NodeConf
 small_node = record { name = codes "n1"; cpus = 2; mem = 2000; weight = 1; features = []; state = Unknown }

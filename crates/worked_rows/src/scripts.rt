@@ -2,7 +2,7 @@
 ghost use Rattle.std.specs.Prelude.{◌≡◌, codes, [], ◌++◌};
 ghost use Rattle.slurm_print.specs.Malformed.{not_built_text, bad_header_text};
 ghost use Rattle.slurm_top.specs.Script.{script_of};
-ghost use Rattle.worked_rows.specs.Clusters.{on_one_node, on_weighed_node, on_four_nodes};
+ghost use Rattle.worked_rows.specs.Clusters.{on_one_node, on_four_nodes};
 
 /// Nothing is answered by nothing, and a submission by its job's number or its refusal.
 #[tactic(none)]
@@ -97,21 +97,6 @@ pub fn queries()
     ensures no_partition { script_of on_four_nodes
         (codes "0 alice sinfo -p other\n")
         ≡ codes "sinfo: error: InvalidPartition (3)\n" }
-{}
-
-/// A job's priority, and what it is made of: half of the processors after a week, and a nice value.
-#[tactic(none)]
-pub fn priorities()
-    ensures weighed { script_of on_weighed_node
-        (codes "0 alice sbatch -n 2\n604800 alice sprio -h\n")
-        ≡ codes "Submitted batch job 1\n"
-        ++ codes "                 1      main    alice       1500       1000          0        500          0          0           0\n" }
-    ensures nice { script_of on_weighed_node
-        (codes "0 bob sbatch -n 4 --nice=7\n0 bob squeue -h -o '%i %Q'\n")
-        ≡ codes "Submitted batch job 1\n1 993\n" }
-    ensures privileged { script_of on_weighed_node
-        (codes "0 alice sbatch --nice=-1\n")
-        ≡ codes "sbatch: error: AccessDenied (11)\n" }
 {}
 
 /// A job reaches its limit, is killed, ends, and is dropped five minutes later.
