@@ -5,9 +5,8 @@
 ghost use Rattle.std.specs.Prelude.{◌≡◌, IfOk};
 
 use slurm_text::items::Items;
-use std::alloc::{AllocError, Global};
-use std::error::Error;
-use std::fmt;
+use slurm_text::memory_error::Memory;
+use std::alloc::Global;
 
 mod base;
 mod job;
@@ -55,35 +54,5 @@ impl Placed {
             start: self.start,
             parts: Items::from_vec(Vec::from_slice(alloc, self.parts.as_slice())?),
         })
-    }
-}
-
-/// There wasn't memory enough.
-#[derive(Clone, Copy, Debug, PartialEq, Eq)]
-pub struct Memory;
-
-impl fmt::Display for Memory {
-    fn fmt<W: fmt::Write>(&self, f: &mut fmt::Formatter<W>) -> fmt::Result {
-        f.write_str("out of memory")
-    }
-}
-
-impl Error for Memory {}
-
-impl From<AllocError> for Memory {
-    fn from(_: AllocError) -> Self {
-        Memory
-    }
-}
-
-impl From<node_pick::Memory> for Memory {
-    fn from(_: node_pick::Memory) -> Self {
-        Memory
-    }
-}
-
-impl From<resource_profile::Memory> for Memory {
-    fn from(_: resource_profile::Memory) -> Self {
-        Memory
     }
 }

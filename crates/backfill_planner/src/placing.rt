@@ -11,11 +11,12 @@ use crate::base::Base;
 use crate::job::PlanJob;
 use crate::laws::lower_laws;
 use crate::sweep::Sweep;
-use crate::{Memory, Placed, Share};
+use crate::{Placed, Share};
 use node_pick::laws::fitting_sets_are_within;
 use node_pick::{Dealt, pick};
 use resource_profile::{NodeRoom, Profile, Steps};
 use slurm_text::items::Items;
+use slurm_text::memory_error::Memory;
 use slurm_text::plain::mem_ask::MemAsk;
 use std::alloc::Global;
 

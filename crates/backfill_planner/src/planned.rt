@@ -9,13 +9,14 @@ ghost use Rattle.backfill_planner.specs.Placements.{IsPlannable, AreParts, Start
 ghost use Rattle.backfill_planner.specs.Plans.{holds_of, placed_of, plan_of, plan_holds_of};
 ghost use Rattle.backfill_planner.specs.Searches.{IsSeen};
 
+use crate::Placed;
 use crate::base::Base;
 use crate::job::PlanJob;
 use crate::laws::lower_laws;
 use crate::placing::{place, window_end};
 use crate::seen::{Searches, Seen};
-use crate::{Memory, Placed};
 use resource_profile::{Hold, Profile, Steps};
+use slurm_text::memory_error::Memory;
 use std::alloc::Global;
 use std::marker::Model;
 

@@ -6,10 +6,10 @@ ghost use Rattle.backfill_planner.specs.Searches.{IsSeen};
 ghost use Rattle.backfill_planner.specs.declared.seen.Seen.{Seen as OneSeen};
 ghost use Rattle.backfill_planner.specs.declared.job.PlanJob.{PlanJob as AJob};
 
-use crate::Memory;
 use crate::job::PlanJob;
 use crate::laws::lower_laws;
 use crate::lesser::is_lesser;
+use slurm_text::memory_error::Memory;
 use std::alloc::Global;
 
 // How many searches are kept in mind.

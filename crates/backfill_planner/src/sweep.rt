@@ -2,10 +2,10 @@ ghost use Rattle.std.specs.Prelude.{◌≡◌, ◌≢◌, AllPairs, ◌+◌, ◌
 ghost use Rattle.backfill_planner.specs.Giving;
 ghost use Rattle.backfill_planner.specs.Sweeps.{GivesUntil, IsSwept};
 
-use crate::Memory;
 use crate::job::PlanJob;
 use crate::placing::{tasks_given, window_end};
 use resource_profile::{NodeRoom, Profile};
+use slurm_text::memory_error::Memory;
 use std::alloc::Global;
 
 // What a node can give, and the second before which that holds.

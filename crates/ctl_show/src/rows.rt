@@ -1,7 +1,6 @@
 //! The rows of jobs.
 
-ghost use Rattle.std.specs.Prelude.{◌≡◌, ◌≤◌, ◌<◌, ◌-◌, ◌^◌, ℕ, IfOk, length, min, sum_by, unwrap_or};
-ghost use Rattle.job_table.specs.declared.record.Part.{Part};
+ghost use Rattle.std.specs.Prelude.{◌≡◌, ◌≤◌, ◌<◌, ℕ, IfOk, length, unwrap_or};
 ghost use Rattle.ctl_state.specs.State.{State, state_of, last_moment};
 ghost use Rattle.ctl_state.specs.Soundness.{IsSound};
 ghost use Rattle.ctl_show.specs.Found.{IsOutlook};
@@ -14,8 +13,9 @@ use ctl_rank::priority_of;
 use ctl_state::cluster::Cluster;
 use ctl_state::jobs::is_pending;
 use ctl_state::planning::names_of;
-use job_table::record::{JobRecord, Part};
+use job_table::record::JobRecord;
 use job_table::targets::index_of;
+use job_table::usage::cpus_in;
 use slurm_text::items::Items;
 use slurm_text::memory_error::Memory;
 use slurm_text::name::Name;
@@ -94,17 +94,6 @@ fn node_names(alloc: Global, cluster: &Cluster, job: &JobRecord) -> Result<Items
         }
         JobState::Ended(_) => job.last_nodes.copy(),
     }
-}
-
-// How many processors the parts have. The count stands still at its type's end.
-fn cpus_in(parts: &[Part]) -> u64
-    ensures { result ≡ min (sum_by (λ (part : Part). length part.cpus) parts.now) (2 ^ 64 - 1) }
-{
-    let mut count = 0_u64;
-    for part in parts {
-        count = count.saturating_add(part.cpus.len() as u64);
-    }
-    count
 }
 
 // How many processors the job holds, or asks for.

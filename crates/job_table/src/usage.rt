@@ -12,8 +12,8 @@ use slurm_text::plain::state::JobState;
 /// The greatest usage, in seconds of one processor, that is told apart from more (own).
 pub const GREATEST_USAGE: u64 = 4_294_967_295;
 
-// How many processors the parts have. The count stands still at its type's end.
-fn cpus_in(parts: &[Part]) -> u64
+/// How many processors the parts have. The count stands still at its type's end. Linear in the parts.
+pub fn cpus_in(parts: &[Part]) -> u64
     ensures { result ≡ min (sum_by (λ part. length part.cpus) parts.now) (2 ^ 64 - 1) }
 {
     let mut count = 0_u64;

@@ -3,8 +3,9 @@ ghost use Rattle.node_pick.specs.Sets.{tasks_given, Fits, IsChosen};
 ghost use Rattle.node_pick.specs.Beginnings.{IsRequiredBeginning};
 ghost use Rattle.node_pick.specs.Holding.{IsReserve, IsFull};
 
+use crate::Need;
 use crate::reserve::Reserve;
-use crate::{Memory, Need};
+use small_texts::memory_error::Memory;
 use std::alloc::{AllocError, Global};
 
 // The beginning of a set.

@@ -8,9 +8,8 @@ ghost use Rattle.std.specs.Bool.{OnTrue, OnFalse};
 ghost use Rattle.node_pick.specs.Sets.{Fits, IsChosen, dealt, places};
 ghost use Rattle.node_pick.specs.Choosing.{chosen};
 
-use std::alloc::{AllocError, Global};
-use std::error::Error;
-use std::fmt;
+use small_texts::memory_error::Memory;
+use std::alloc::Global;
 
 mod choice;
 mod dealing;
@@ -37,26 +36,9 @@ pub struct Dealt {
     pub tasks: u32,
 }
 
-/// There wasn't memory enough. More than 4,294,967,295 places count as too many to keep.
-#[derive(Clone, Copy, Debug, PartialEq, Eq)]
-pub struct Memory;
-
-impl fmt::Display for Memory {
-    fn fmt<W: fmt::Write>(&self, f: &mut fmt::Formatter<W>) -> fmt::Result {
-        f.write_str("out of memory")
-    }
-}
-
-impl Error for Memory {}
-
-impl From<AllocError> for Memory {
-    fn from(_: AllocError) -> Self {
-        Memory
-    }
-}
-
 /// The chosen set with its tasks, in `out`: true, or false where no set fits, and then `out` is empty. It sorts the
-/// capacities once and then walks along them, O(n log n) for n capacities, whatever the number of sets.
+/// capacities once and then walks along them, O(n log n) for n capacities, whatever the number of sets. More than
+/// 4,294,967,295 places count as too many to keep.
 pub fn pick(alloc: Global, caps: &[u32], need: &Need, out: &mut Vec<Dealt>) -> Result<bool, Memory>
     ensures chosen { IfOk result (λ found. OnTrue found (IsChosen caps.now need.now (places out.new.items))) }
     ensures dealt { IfOk result (λ found.

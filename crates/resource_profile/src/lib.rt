@@ -1,10 +1,6 @@
 //! What the nodes have free over time: the rooms of the nodes, the holds on them, and a count of the planner's steps.
 #![tactic(auto)]
 
-use std::alloc::AllocError;
-use std::error::Error;
-use std::fmt;
-
 mod ends;
 pub mod laws;
 mod levels;
@@ -33,22 +29,4 @@ pub struct Hold {
     pub until: u64,
     pub cpus: u32,
     pub mem: u64,
-}
-
-/// There wasn't memory enough.
-#[derive(Clone, Copy, Debug, PartialEq, Eq)]
-pub struct Memory;
-
-impl fmt::Display for Memory {
-    fn fmt<W: fmt::Write>(&self, f: &mut fmt::Formatter<W>) -> fmt::Result {
-        f.write_str("out of memory")
-    }
-}
-
-impl Error for Memory {}
-
-impl From<AllocError> for Memory {
-    fn from(_: AllocError) -> Self {
-        Memory
-    }
 }

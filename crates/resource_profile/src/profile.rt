@@ -9,7 +9,8 @@ ghost use Rattle.resource_profile.specs.declared.timeline.Timeline.{Timeline as 
 use crate::ends::{add_end, drop_end, next_end};
 use crate::levels::{Window, least_free};
 use crate::timeline::Timeline;
-use crate::{Hold, Memory, NodeRoom};
+use crate::{Hold, NodeRoom};
+use small_texts::memory_error::Memory;
 use std::alloc::Global;
 use std::marker::Model;
 

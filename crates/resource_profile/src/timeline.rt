@@ -3,7 +3,8 @@ ghost use Rattle.resource_profile.specs.Levels.{HasLevels, IsLevelled, CanTake, 
 ghost use Rattle.resource_profile.specs.declared.levels.Amount.{Amount as AnAmount};
 
 use crate::levels::{Amount, Level, give, take};
-use crate::{Hold, Memory, NodeRoom};
+use crate::{Hold, NodeRoom};
+use small_texts::memory_error::Memory;
 use std::alloc::Global;
 
 // What a node has free over time, and how many holds are on it.

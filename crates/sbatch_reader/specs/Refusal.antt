@@ -1,10 +1,11 @@
 -- Where a command or its script is wrong.
-use Rattle.std.specs.Prelude.{ℕ, min}
+use Rattle.std.specs.Prelude.{ℕ, min, List, ◌++◌, codes, decimal}
 use Rattle.option_words.specs.declared.refusal.WordKind.{WordKind}
+use Rattle.option_words.specs.Refusal.{kind_text}
 use Rattle.sbatch_reader.specs.declared.refusal.Place.{Place}
 use Rattle.sbatch_reader.specs.declared.refusal.Place.TheVariants.{Word, Line}
 use Rattle.sbatch_reader.specs.declared.refusal.JobRefusal.{JobRefusal}
-use Rattle.sbatch_reader.specs.declared.refusal.JobRefusal.TheVariants.{BadWord, BadLine}
+use Rattle.sbatch_reader.specs.declared.refusal.JobRefusal.TheVariants.{BadWord, BadLine, Memory}
 
 -- a number as it is told: one that 32 bits don't hold is told as the greatest
 abbrev pub told : ℕ → ℕ
@@ -14,3 +15,9 @@ told number = min number 4_294_967_295
 abbrev pub refusal_at : Place → WordKind → JobRefusal
 refusal_at (Word number) kind = BadWord number kind
 refusal_at (Line number) kind = BadLine number kind
+
+-- what is told of a job that wasn't read
+abbrev pub job_message : JobRefusal → List ℕ
+job_message (BadWord word kind) = codes "word " ++ decimal word ++ codes ": " ++ kind_text kind
+job_message (BadLine line kind) = codes "line " ++ decimal line ++ codes ": " ++ kind_text kind
+job_message Memory = codes "out of memory"

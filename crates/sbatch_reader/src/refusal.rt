@@ -27,11 +27,16 @@ pub enum JobRefusal {
 }
 
 impl fmt::Display for JobRefusal {
+    ghost use Rattle.std.specs.Prelude.{Some};
+    ghost use Rattle.sbatch_reader.specs.Refusal.{job_message};
+
+    ghost output = { λ refusal. Some (job_message refusal) };
+
     fn fmt<W: fmt::Write>(&self, f: &mut fmt::Formatter<W>) -> fmt::Result {
         match self {
             JobRefusal::BadWord { word, kind } => write!(f, "word {word}: {kind}"),
             JobRefusal::BadLine { line, kind } => write!(f, "line {line}: {kind}"),
-            JobRefusal::Memory => write!(f, "out of memory"),
+            JobRefusal::Memory => f.write_str("out of memory"),
         }
     }
 }
