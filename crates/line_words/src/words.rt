@@ -301,6 +301,7 @@ pub fn split_words(alloc: Global, line: &[u8]) -> Result<Words, WordsRefusal>
     ensures value { IfOk result (λ words. words ≡ words_in line.now) }
     ensures good { OnOk result (first_bad line.now ≡ None) }
     ensures refused { (p : ℕ) → IsErrOf result (WordsRefusal.BadWords p) ↔ (first_bad line.now ≡ Some p) }
+    ensures by_place { (p : ℕ) → ¬ IsErrOf result (WordsRefusal.BadWord p) }
 {
     match first_bad(line) {
         Some(place) => Err(WordsRefusal::BadWords {
@@ -361,6 +362,7 @@ pub fn words_of(alloc: Global, list: &[String]) -> Result<Words, WordsRefusal>
     ensures good { OnOk result (first_bad_word (map string_bytes list.now) ≡ None) }
     ensures refused { (p : ℕ) → IsErrOf result (WordsRefusal.BadWord p)
         ↔ (first_bad_word (map string_bytes list.now) ≡ Some p) }
+    ensures by_word { (p : ℕ) → ¬ IsErrOf result (WordsRefusal.BadWords p) }
 {
     match first_bad_word(list) {
         Some(place) => Err(WordsRefusal::BadWord {
