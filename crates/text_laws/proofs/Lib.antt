@@ -1,0 +1,3 @@
+pub mod Modes
+pub mod Meaning
+pub mod Reading
