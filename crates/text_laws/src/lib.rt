@@ -2,4 +2,5 @@
 //! `host_lists`. A law is the contract of a function that does nothing.
 #![tactic(auto)]
 
+pub mod folds;
 pub mod words;
