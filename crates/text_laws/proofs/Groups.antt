@@ -1,11 +1,10 @@
 -- The groups of names.
-use Rattle.std.proofs.Common.{ℕ, suc, ◌≡◌, ◌≢◌, ◌+◌, ◌<◌, ◌≤◌, ◌&&◌, ◌==◌, not, if◌then◌else◌, Bool, true, false, List, [], ◌∷◌, ◌++◌, length, map, get_or, fold, flat_map, All, AllPairs, IsPermutation, ◌⊎◌, inl, inr, ⊎_elim, sym, refl, ap, ◌∙◌, subst, arith, append_assoc, eqb-true}
+use Rattle.std.proofs.Common.{ℕ, ◌≡◌, ◌≢◌, ◌&&◌, ◌==◌, not, if◌then◌else◌, Bool, true, false, List, [], ◌∷◌, ◌++◌, length, map, get_or, fold, flat_map, All, AllPairs, IsPermutation, sym, refl, ap, ◌∙◌, subst, arith, append_assoc, eqb-true}
 use Rattle.std.specs.Str.{bytes_eq}
 use Rattle.std.proofs.lemmas.Bool.Decides.{nat_tests}
 use Rattle.std.proofs.lemmas.Slice.Eq.{bytes_eq-Decides}
-use Rattle.std.proofs.lemmas.List.{append-nil, length-append}
+use Rattle.std.proofs.lemmas.List.{append-nil}
 use Rattle.std.proofs.lemmas.List.Elements.{All-nil, All-cons, All-head, All-tail, All-push, All-weaker}
-use Rattle.std.proofs.lemmas.List.Kept.{AllPairs-cons}
 use Rattle.std.proofs.lemmas.List.Quantifiers.{all_pairs_push}
 use Rattle.std.proofs.lemmas.List.Sorted.{IsPermutation-refl, IsPermutation-sym, IsPermutation-trans, IsPermutation-middle, IsPermutation-append_left, IsPermutation-append_right}
 use Rattle.host_lists.specs.Folding.{prefix_of, digits_len, same_group, is_of_group, with_grouped, grouped}
@@ -201,9 +200,10 @@ module _ (R : List ℕ → List ℕ → Type 0) where
   IsAhead names group = AllPairs R group × All (λ name. All (λ n. R n name) group) names
 
   ahead-gets : (name : List ℕ) (names : List (List ℕ)) → All (R name) names → (group : Group) → IsAhead (name ∷ names) group → IsAhead names (group ++ name ∷ [])
-  ahead-gets name names later group h =
-      (all_pairs_push R group name h.0 (All-head (λ m. All (λ n. R n m) group) name names h.1),
-      λ k d inside. All-push (λ n. R n (get_or names k d)) group name (All-tail (λ m. All (λ n. R n m) group) name names h.1 k d inside) (later k d inside))
+  ahead-gets name names later group h = (
+    all_pairs_push R group name h.0 (All-head (λ m. All (λ n. R n m) group) name names h.1),
+    λ k d inside. All-push (λ n. R n (get_or names k d)) group name (All-tail (λ m. All (λ n. R n m) group) name names h.1 k d inside) (later k d inside),
+  )
 
   ahead-begins : (name : List ℕ) (names : List (List ℕ)) → All (R name) names → IsAhead names (name ∷ [])
   ahead-begins name names later =

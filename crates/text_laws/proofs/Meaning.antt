@@ -1,10 +1,10 @@
 -- What is read of pieces, words and sentences is what they mean.
-use Rattle.std.proofs.Common.{ℕ, ◌≡◌, ◌≢◌, ◌==◌, not, Bool, true, false, None, List, [], ◌∷◌, ◌++◌, map, flat_map, refl, sym, ap, ◌∙◌, subst, append_assoc}
+use Rattle.std.proofs.Common.{ℕ, ◌≡◌, ◌≢◌, ◌==◌, not, true, false, None, List, [], ◌∷◌, ◌++◌, map, flat_map, refl, sym, ap, ◌∙◌, append_assoc}
 use Rattle.std.specs.List.{list_all}
 use Rattle.std.proofs.lemmas.List.{append-nil}
-use Rattle.line_words.specs.Words.{is_blank, mode_outside, mode_after, written_outside, may_end, prepend, words_from, words_in, open_place}
+use Rattle.line_words.specs.Words.{is_blank, may_end, prepend, words_from, words_in, open_place}
 use Rattle.text_laws.specs.Sentences.{Item, Itself, Marked, Both, Piece, Bare, Escaped, Single, Double, Word, Sentence, IsWord, AreWords, IsSentence, is_marked, is_item, is_piece, item_written, item_meant, piece_written, piece_meant, pieces_written, words_written, word_meant, sentence_written}
-use Rattle.text_laws.proofs.Modes.{Mode, between, within, in_escape, in_single, in_double, in_double_escape, end_mode, both-left, both-right, not-true, neither-left, neither-right, blank, IsBlank, bare, IsBare, closed}
+use Rattle.text_laws.proofs.Modes.{Mode, between, within, in_single, in_double, end_mode, both-left, both-right, not-true, neither-left, neither-right, blank, IsBlank, bare, IsBare, closed}
 
 pub prepend-prepend : (w bytes : List ℕ) (ws : List (List ℕ)) → prepend w (prepend bytes ws) ≡ prepend (w ++ bytes) ws
 prepend-prepend w bytes [] = refl

@@ -1,5 +1,5 @@
 -- Where a line stands behind a text, and what a byte does outside quotes.
-use Rattle.std.proofs.Common.{ℕ, suc, ◌≡◌, ◌&&◌, ◌||◌, ◌==◌, not, if◌then◌else◌, Bool, true, false, Option, None, Some, List, [], ◌∷◌, ◌++◌, refl, sym, ap, ◌∙◌, eqb-true}
+use Rattle.std.proofs.Common.{ℕ, suc, ◌≡◌, ◌&&◌, ◌||◌, ◌==◌, not, if◌then◌else◌, Bool, true, false, None, Some, List, [], ◌∷◌, refl, sym}
 use Rattle.line_words.specs.Words.{is_blank, mode_outside, mode_after, written_outside, opens, may_end, open_from, open_place, words_from}
 
 -- Where a line may stand, each place named by the bytes that lead to it: the crate of the words keeps its names of these.

@@ -1,5 +1,5 @@
 -- The numbers of names that are alike rise in byte order.
-use Rattle.std.proofs.Common.{ℕ, zero, suc, ◌≡◌, ◌+◌, ◌-◌, ◌*◌, ◌<◌, ◌≤◌, ◌==◌, min, cond, nat_le, nat_lt, Bool, true, false, List, [], ◌∷◌, ◌++◌, length, take, drop, reverse, get_or, All, AllPairs, sym, refl, ap, ◌∙◌, subst, arith, eqb-true}
+use Rattle.std.proofs.Common.{ℕ, ◌≡◌, ◌+◌, ◌-◌, ◌*◌, ◌<◌, ◌≤◌, ◌==◌, min, cond, nat_le, nat_lt, Bool, true, false, List, [], ◌∷◌, ◌++◌, length, drop, reverse, get_or, All, AllPairs, sym, refl, ap, ◌∙◌, arith, eqb-true}
 use Rattle.std.specs.Char.{is_ascii_digit, digit_value}
 use Rattle.std.specs.List.{list_all, suffix_len}
 use Rattle.std.specs.Ordering.{nat_cmp, ordering_then}

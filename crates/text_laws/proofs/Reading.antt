@@ -1,8 +1,8 @@
 -- Each line at whose end nothing is open is the line of a sentence.
 use Rattle.std.proofs.Common.{ℕ, ◌≡◌, ◌≢◌, ◌==◌, ◌||◌, not, Bool, true, false, if◌then◌else◌, None, List, [], ◌∷◌, ◌++◌, flat_map, refl, sym, ap, ◌∙◌, subst, eqb-true, append_assoc}
 use Rattle.std.specs.List.{list_all}
-use Rattle.line_words.specs.Words.{is_blank, mode_outside, mode_after, may_end, open_place}
-use Rattle.text_laws.specs.Sentences.{Item, Itself, Marked, Both, Piece, Bare, Escaped, Single, Double, Word, Sentence, IsWord, AreWords, IsSentence, is_marked, is_item, is_piece, item_written, piece_written, pieces_written, words_written, sentence_written}
+use Rattle.line_words.specs.Words.{is_blank, mode_outside, may_end, open_place}
+use Rattle.text_laws.specs.Sentences.{Item, Itself, Marked, Both, Piece, Bare, Escaped, Single, Double, Word, Sentence, AreWords, IsSentence, is_marked, is_item, is_piece, item_written, piece_written, pieces_written, words_written, sentence_written}
 use Rattle.text_laws.proofs.Modes.{Mode, between, within, in_escape, in_single, in_double, in_double_escape, end_mode, ends, blank, bare}
 
 -- what is left of a line: from between words on, blanks and words

@@ -1,6 +1,6 @@
 -- The runs of names.
-use Rattle.std.proofs.Common.{ℕ, zero, suc, ◌≡◌, ◌≢◌, ◌+◌, ◌-◌, ◌<◌, ◌≤◌, ◌==◌, if◌then◌else◌, Bool, true, false, List, [], ◌∷◌, ◌++◌, length, map, flat_map, get_or, All, Contains, sym, refl, ap, ◌∙◌, subst, arith, add-one, eqb-true}
-use Rattle.std.specs.List.{range_with_len, AllAdjacentBelow}
+use Rattle.std.proofs.Common.{ℕ, zero, suc, ◌≡◌, ◌≢◌, ◌+◌, ◌-◌, ◌≤◌, ◌==◌, if◌then◌else◌, Bool, true, false, List, [], ◌∷◌, ◌++◌, length, map, flat_map, All, Contains, sym, refl, ap, ◌∙◌, arith, eqb-true}
+use Rattle.std.specs.List.{AllAdjacentBelow}
 use Rattle.std.proofs.lemmas.Bool.Decides.{nat_tests}
 use Rattle.std.proofs.lemmas.List.Elements.{All-nil, All-cons, All-head, All-tail, All-weaker, Contains-append_right}
 use Rattle.host_lists.specs.Folding.{number_of, continued, runs}

@@ -1,5 +1,5 @@
 -- Words as one writes them on a line, piece by piece: "Quoting" in sh(1). 34 is ", 39 is ' and 92 is \.
-use Rattle.std.specs.Prelude.{ℕ, ◌≡◌, ◌≢◌, Bool, not, true, ◌||◌, ◌==◌, Option, None, List, [], ◌∷◌, ◌++◌, map, flat_map}
+use Rattle.std.specs.Prelude.{ℕ, ◌≡◌, ◌≢◌, Bool, not, true, ◌||◌, ◌==◌, None, List, [], ◌∷◌, ◌++◌, map, flat_map}
 use Rattle.std.specs.List.{list_all}
 use Rattle.line_words.specs.Words.{is_blank, words_in, open_place}
 
