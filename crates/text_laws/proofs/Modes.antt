@@ -2,7 +2,7 @@
 use Rattle.std.proofs.Common.{ℕ, suc, ◌≡◌, ◌&&◌, ◌||◌, ◌==◌, not, if◌then◌else◌, Bool, true, false, None, Some, List, [], ◌∷◌, refl, sym}
 use Rattle.line_words.specs.Words.{is_blank, mode_outside, mode_after, written_outside, opens, may_end, open_from, open_place, words_from}
 
--- Where a line may stand, each place named by the bytes that lead to it: the crate of the words keeps its names of these.
+-- Where a line may stand, each place named by a byte that leads to it: the crate of the words keeps its names of these.
 abbrev domain : {A B : Type 0} → (A → B) → Type 0
 domain {A} f = A
 
@@ -32,20 +32,24 @@ end_mode mode [] = mode
 end_mode mode (b ∷ text) = end_mode (mode_after mode b) text
 
 -- nothing is open exactly where the line may end
-closed-from : (text : List ℕ) (mode : Mode) (opened place : ℕ) → may_end (end_mode mode text) ≡ true → open_from mode opened place text ≡ None
+closed-from : (text : List ℕ) (mode : Mode) (opened place : ℕ) → may_end (end_mode mode text) ≡ true
+    → open_from mode opened place text ≡ None
 closed-from [] mode opened place h = rw h refl
-closed-from (b ∷ text) mode opened place h = closed-from text (mode_after mode b) (if opens mode b then place else opened) (suc place) h
+closed-from (b ∷ text) mode opened place h = closed-from text (mode_after mode b)
+    (if opens mode b then place else opened) (suc place) h
 
 pub closed : (line : List ℕ) → may_end (end_mode between line) ≡ true → open_place line ≡ None
 unfolding open_place
 closed line h = closed-from line between 0 0 h
 
-ends-from : (text : List ℕ) (mode : Mode) (opened place : ℕ) → open_from mode opened place text ≡ None → may_end (end_mode mode text) ≡ true
+ends-from : (text : List ℕ) (mode : Mode) (opened place : ℕ) → open_from mode opened place text ≡ None
+    → may_end (end_mode mode text) ≡ true
 ends-from [] mode opened place h = by_end (may_end mode) h where
   by_end : (t : Bool) → (if t then None else Some opened) ≡ None → t ≡ true
   by_end true e = refl
   by_end false e = cc
-ends-from (b ∷ text) mode opened place h = ends-from text (mode_after mode b) (if opens mode b then place else opened) (suc place) h
+ends-from (b ∷ text) mode opened place h = ends-from text (mode_after mode b)
+    (if opens mode b then place else opened) (suc place) h
 
 pub ends : (line : List ℕ) → open_place line ≡ None → may_end (end_mode between line) ≡ true
 unfolding open_place
@@ -86,7 +90,8 @@ pub record IsBare (b : ℕ) : Type 0 where
   pub adds : written_outside b ≡ b ∷ []
 
 unmarked : (b : ℕ) → is_blank b ≡ false → (single double slash : Bool) → (single || double || slash) ≡ false
-    → (if is_blank b then between else (if single then in_single else (if double then in_double else (if slash then in_escape else within))))
+    → (if is_blank b then between else
+    (if single then in_single else (if double then in_double else (if slash then in_escape else within))))
     ≡ within
 unmarked b e false false false none = rw e refl
 unmarked b e false false true none = cc

@@ -47,32 +47,39 @@ other-digits : (d : ℕ) (ds : List ℕ) → AreDigits (d ∷ ds) → AreDigits 
 other-digits d ds h = both-right (is_ascii_digit d) (list_all is_ascii_digit ds) h
 
 -- a lesser front makes a lesser number, whatever as many digits follow
-lesser_front : (ds es : List ℕ) (m n : ℕ) → length ds ≡ length es → AreDigits ds → AreDigits es → m < n → digits_value_after 10 m ds < digits_value_after 10 n es
+lesser_front : (ds es : List ℕ) (m n : ℕ) → length ds ≡ length es → AreDigits ds → AreDigits es → m < n
+    → digits_value_after 10 m ds < digits_value_after 10 n es
 lesser_front [] [] m n e h k less = less
 lesser_front [] (x ∷ es) m n e h k less = absurd (omega (arith, e))
 lesser_front (d ∷ ds) [] m n e h k less = absurd (omega (arith, e))
 lesser_front (d ∷ ds) (x ∷ es) m n e h k less =
     let one : IsDigit d = first-digit d ds h in
     let is : digit_value d ≡ d - 48 = value d one in
-    lesser_front ds es (m * 10 + digit_value d) (n * 10 + digit_value x) (omega (arith, e)) (other-digits d ds h) (other-digits x es k) (omega (arith, is, one.least, one.most, less))
+    lesser_front ds es (m * 10 + digit_value d) (n * 10 + digit_value x) (omega (arith, e)) (other-digits d ds h)
+    (other-digits x es k) (omega (arith, is, one.least, one.most, less))
 
 -- one digit more: the first two that differ decide
-digits-step : (d x : ℕ) (ds es : List ℕ) (m n : ℕ) → length ds ≡ length es → AreDigits (d ∷ ds) → AreDigits (x ∷ es) → m ≤ n
-    → ((low high : ℕ) → low ≤ high → slice_cmp nat_cmp ds es ≡ Less → digits_value_after 10 low ds < digits_value_after 10 high es)
-    → (less same : Bool) → nat_lt d x ≡ less → (d == x) ≡ same → ordering_then (cond less Less (cond same Equal Greater)) (slice_cmp nat_cmp ds es) ≡ Less
+digits-step : (d x : ℕ) (ds es : List ℕ) (m n : ℕ) → length ds ≡ length es → AreDigits (d ∷ ds) → AreDigits (x ∷ es)
+    → m ≤ n
+    → ((low high : ℕ) → low ≤ high → slice_cmp nat_cmp ds es ≡ Less
+    → digits_value_after 10 low ds < digits_value_after 10 high es)
+    → (less same : Bool) → nat_lt d x ≡ less → (d == x) ≡ same → ordering_then
+    (cond less Less (cond same Equal Greater)) (slice_cmp nat_cmp ds es) ≡ Less
     → digits_value_after 10 (m * 10 + digit_value d) ds < digits_value_after 10 (n * 10 + digit_value x) es
 digits-step d x ds es m n e h k low more true same f g now =
     let less : d < x = grind (arith, nat_tests, f) in
     let is_d : digit_value d ≡ d - 48 = value d (first-digit d ds h) in
     let is_x : digit_value x ≡ x - 48 = value x (first-digit x es k) in
-    lesser_front ds es (m * 10 + digit_value d) (n * 10 + digit_value x) e (other-digits d ds h) (other-digits x es k) (omega (arith, is_d, is_x, (first-digit d ds h).least, less, low))
+    lesser_front ds es (m * 10 + digit_value d) (n * 10 + digit_value x) e (other-digits d ds h)
+    (other-digits x es k) (omega (arith, is_d, is_x, (first-digit d ds h).least, less, low))
 digits-step d x ds es m n e h k low more false true f g now =
     let values : digit_value d ≡ digit_value x = ap digit_value (eqb-true d x g) in
     more (m * 10 + digit_value d) (n * 10 + digit_value x) (omega (arith, values, low)) now
 digits-step d x ds es m n e h k low more false false f g now = let clash : Greater ≡ Less = now in cc
 
 -- as many digits in byte order are numbers in order
-lesser_digits : (ds es : List ℕ) (m n : ℕ) → length ds ≡ length es → AreDigits ds → AreDigits es → m ≤ n → slice_cmp nat_cmp ds es ≡ Less → digits_value_after 10 m ds < digits_value_after 10 n es
+lesser_digits : (ds es : List ℕ) (m n : ℕ) → length ds ≡ length es → AreDigits ds → AreDigits es → m ≤ n
+    → slice_cmp nat_cmp ds es ≡ Less → digits_value_after 10 m ds < digits_value_after 10 n es
 lesser_digits [] [] m n e h k low below = cc
 lesser_digits [] (x ∷ es) m n e h k low below = absurd (omega (arith, e))
 lesser_digits (d ∷ ds) [] m n e h k low below = absurd (omega (arith, e))
@@ -97,7 +104,9 @@ passes-drop p xs k h =
     list_all-from_AllPass p (drop (length xs - k) xs) (λ j d g.
     let few : suffix_len p xs ≤ length xs = suffix_len-le-length p xs in
     let lt : j < k = omega (arith, length-drop (length xs - k) xs) in
-    let at : get_or (drop (length xs - k) xs) j d ≡ get_or (reverse xs) (k - 1 - j) d = get_or-drop (length xs - k) xs j d ∙ (ap (λ (i : ℕ). get_or xs i d) (omega arith) ∙ sym (get_or-reverse xs (k - 1 - j) d (omega arith))) in
+    let at : get_or (drop (length xs - k) xs) j d ≡ get_or (reverse xs) (k - 1 - j) d =
+    get_or-drop (length xs - k) xs j d ∙ (ap (λ (i : ℕ). get_or xs i d) (omega arith)
+    ∙ sym (get_or-reverse xs (k - 1 - j) d (omega arith))) in
     rw at (prefix_len_passes p (reverse xs) (k - 1 - j) d (omega arith)))
 
 name-digits : (name : List ℕ) → AreDigits (digits_of name)
@@ -116,15 +125,22 @@ name-parts name = take-append-drop (length name - digits_len name) name
 
 rising : (one other : List ℕ) → AreAlike one other → IsBelow one other → number_of one < number_of other
 rising one other alike below =
-    let parts : other ≡ prefix_of one ++ digits_of other = sym (name-parts other) ∙ ap (λ (front : List ℕ). front ++ digits_of other) (sym alike.0) in
-    let whole : slice_cmp nat_cmp (prefix_of one ++ digits_of one) (prefix_of one ++ digits_of other) ≡ Less = ap (λ (text : List ℕ). slice_cmp nat_cmp text (prefix_of one ++ digits_of other)) (name-parts one) ∙ (ap (slice_cmp nat_cmp one) (sym parts) ∙ below) in
-    lesser_digits (digits_of one) (digits_of other) 0 0 (length-digits one ∙ (alike.1 ∙ sym (length-digits other))) (name-digits one) (name-digits other) (omega arith) (sym (same_front (prefix_of one) (digits_of one) (digits_of other)) ∙ whole)
+    let parts : other ≡ prefix_of one ++ digits_of other = sym (name-parts other)
+    ∙ ap (λ (front : List ℕ). front ++ digits_of other) (sym alike.0) in
+    let whole : slice_cmp nat_cmp (prefix_of one ++ digits_of one) (prefix_of one ++ digits_of other) ≡ Less =
+    ap (λ (text : List ℕ). slice_cmp nat_cmp text (prefix_of one ++ digits_of other)) (name-parts one)
+    ∙ (ap (slice_cmp nat_cmp one) (sym parts) ∙ below) in
+    lesser_digits (digits_of one) (digits_of other) 0 0 (length-digits one ∙ (alike.1 ∙ sym (length-digits other)))
+    (name-digits one) (name-digits other) (omega arith)
+    (sym (same_front (prefix_of one) (digits_of one) (digits_of other)) ∙ whole)
 
-pub numbers-rise : (names : List (List ℕ)) → All (AllPairs (λ one other. number_of one < number_of other)) (grouped (in_byte_order names))
+pub numbers-rise : (names : List (List ℕ))
+    → All (AllPairs (λ one other. number_of one < number_of other)) (grouped (in_byte_order names))
 numbers-rise names k d inside i j e before below =
     let sorted : List (List ℕ) = in_byte_order names in
     let group : List (List ℕ) = get_or (grouped sorted) k d in
     let alike : All (AreAlike (first_of group)) group = (groups-alike sorted k d inside).1 in
     let one : AreAlike (first_of group) (get_or group i e) = alike i e (omega (arith, before, below)) in
     let other : AreAlike (first_of group) (get_or group j e) = alike j e below in
-    rising (get_or group i e) (get_or group j e) (sym one.0 ∙ other.0, sym one.1 ∙ other.1) (order-within IsBelow sorted (names-in_order names) k d inside i j e before below)
+    rising (get_or group i e) (get_or group j e) (sym one.0 ∙ other.0, sym one.1 ∙ other.1)
+    (order-within IsBelow sorted (names-in_order names) k d inside i j e before below)

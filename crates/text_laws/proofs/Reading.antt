@@ -72,7 +72,8 @@ record Begun (text : List ℕ) : Type 0 where
   rest : Rest behind
   is : piece_written piece ++ behind ≡ text
 
-begun-written : (text : List ℕ) (g : Begun text) → pieces_written (g.piece ∷ g.rest.pieces) ++ (g.rest.blanks ++ words_written g.rest.words) ≡ text
+begun-written : (text : List ℕ) (g : Begun text)
+    → pieces_written (g.piece ∷ g.rest.pieces) ++ (g.rest.blanks ++ words_written g.rest.words) ≡ text
 begun-written text g =
     append_assoc (piece_written g.piece) (pieces_written g.rest.pieces) (g.rest.blanks ++ words_written g.rest.words)
     ∙ (ap (λ (u : List ℕ). piece_written g.piece ++ u) g.rest.is ∙ g.is)
@@ -97,8 +98,17 @@ begun-tail text g = record {
   blanks = [];
   words = record { pieces = g.piece ∷ g.rest.pieces; blanks = g.rest.blanks } ∷ g.rest.words;
   are_blanks = refl;
-  are_words = (record { some = no_end g.piece g.rest.pieces; pieces = rw (g.fits, g.rest.are_pieces) refl; blanks = g.rest.are_blanks }, g.rest.apart, g.rest.are_words);
-  is = append_assoc (pieces_written (g.piece ∷ g.rest.pieces)) g.rest.blanks (words_written g.rest.words) ∙ begun-written text g;
+  are_words = (
+    record {
+      some = no_end g.piece g.rest.pieces;
+      pieces = rw (g.fits, g.rest.are_pieces) refl;
+      blanks = g.rest.are_blanks;
+    },
+    g.rest.apart,
+    g.rest.are_words,
+  );
+  is = append_assoc (pieces_written (g.piece ∷ g.rest.pieces)) g.rest.blanks (words_written g.rest.words)
+      ∙ begun-written text g;
 }
 
 blank-tail : (b : ℕ) (text : List ℕ) → is_blank b ≡ true → Tail text → Tail (b ∷ text)
@@ -145,7 +155,8 @@ begun-double b text e r = record {
   behind = r.behind;
   fits = r.are_items;
   rest = r.rest;
-  is = ap (λ (u : List ℕ). 34 ∷ u) (append_assoc (flat_map item_written r.items) (34 ∷ []) r.behind ∙ r.is) ∙ first_is b 34 text e;
+  is = ap (λ (u : List ℕ). 34 ∷ u) (append_assoc (flat_map item_written r.items) (34 ∷ []) r.behind ∙ r.is)
+      ∙ first_is b 34 text e;
 }
 
 begun-escape : (b : ℕ) (text : List ℕ) → b ≡ 92 → EscapeRest text → Begun (b ∷ text)
@@ -157,7 +168,8 @@ begun-escape b text e r = record {
   is = ap (λ (u : List ℕ). 92 ∷ u) r.is ∙ first_is b 92 text e;
 }
 
-begun-bare : (b : ℕ) (text : List ℕ) → (is_blank b || (b == 39 || b == 34 || b == 92)) ≡ false → Rest text → Begun (b ∷ text)
+begun-bare : (b : ℕ) (text : List ℕ) → (is_blank b || (b == 39 || b == 34 || b == 92)) ≡ false → Rest text
+    → Begun (b ∷ text)
 begun-bare b text none r = record { piece = Bare b; behind = text; fits = rw none refl; rest = r; is = refl }
 
 moved : (text : List ℕ) (one other : Mode) → one ≡ other → MayEnd one text → MayEnd other text
@@ -165,7 +177,8 @@ moved text one other e h = subst (λ (mode : Mode). MayEnd mode text) e h
 
 next : (b : ℕ) (text : List ℕ) → Left text → MayEnd (mode_outside b) text → Next b text
 next b text left h = by_blank (is_blank b) refl where
-  by_mark : is_blank b ≡ false → (single double slash : Bool) → (b == 39) ≡ single → (b == 34) ≡ double → (b == 92) ≡ slash → Next b text
+  by_mark : is_blank b ≡ false → (single double slash : Bool) → (b == 39) ≡ single → (b == 34) ≡ double
+      → (b == 92) ≡ slash → Next b text
   by_mark e true double slash f g k =
       let at : b ≡ 39 = eqb-true b 39 f in
       Begins (begun-single b text at (left.single (moved text (mode_outside b) in_single (ap mode_outside at) h)))
@@ -196,7 +209,13 @@ next-rest b text (Begins g) = begun-rest (b ∷ text) g
 single-step : (b : ℕ) (text : List ℕ) → Left text → MayEnd in_single (b ∷ text) → SingleRest (b ∷ text)
 single-step b text left h = by_quote (b == 39) refl h where
   by_quote : (t : Bool) → (b == 39) ≡ t → MayEnd (if t then within else in_single) text → SingleRest (b ∷ text)
-  by_quote true e k = record { bytes = []; behind = text; are_bytes = refl; rest = left.within_word k; is = first_is b 39 text (eqb-true b 39 e) }
+  by_quote true e k = record {
+    bytes = [];
+    behind = text;
+    are_bytes = refl;
+    rest = left.within_word k;
+    is = first_is b 39 text (eqb-true b 39 e);
+  }
   by_quote false e k =
       let r : SingleRest text = left.single k in
       record {
@@ -214,13 +233,33 @@ marked-item b text at r = by_mark (is_marked r.byte) refl where
   same = ap (λ (u : List ℕ). 92 ∷ r.byte ∷ u) r.rest.is ∙ (ap (λ (u : List ℕ). 92 ∷ u) r.is ∙ first_is b 92 text at)
 
   by_mark : (t : Bool) → is_marked r.byte ≡ t → DoubleRest (b ∷ text)
-  by_mark true e = record { items = Marked r.byte ∷ r.rest.items; behind = r.rest.behind; are_items = rw (e, r.rest.are_items) refl; rest = r.rest.rest; is = same }
-  by_mark false e = record { items = Both r.byte ∷ r.rest.items; behind = r.rest.behind; are_items = rw (e, r.rest.are_items) refl; rest = r.rest.rest; is = same }
+  by_mark true e = record {
+    items = Marked r.byte ∷ r.rest.items;
+    behind = r.rest.behind;
+    are_items = rw (e, r.rest.are_items) refl;
+    rest = r.rest.rest;
+    is = same;
+  }
+  by_mark false e = record {
+    items = Both r.byte ∷ r.rest.items;
+    behind = r.rest.behind;
+    are_items = rw (e, r.rest.are_items) refl;
+    rest = r.rest.rest;
+    is = same;
+  }
 
 double-step : (b : ℕ) (text : List ℕ) → Left text → MayEnd in_double (b ∷ text) → DoubleRest (b ∷ text)
 double-step b text left h = by_mark (b == 34) (b == 92) refl refl h where
-  by_mark : (quote slash : Bool) → (b == 34) ≡ quote → (b == 92) ≡ slash → MayEnd (if quote then within else (if slash then in_double_escape else in_double)) text → DoubleRest (b ∷ text)
-  by_mark true slash e f k = record { items = []; behind = text; are_items = refl; rest = left.within_word k; is = first_is b 34 text (eqb-true b 34 e) }
+  by_mark : (quote slash : Bool) → (b == 34) ≡ quote → (b == 92) ≡ slash
+      → MayEnd (if quote then within else (if slash then in_double_escape else in_double)) text
+      → DoubleRest (b ∷ text)
+  by_mark true slash e f k = record {
+    items = [];
+    behind = text;
+    are_items = refl;
+    rest = left.within_word k;
+    is = first_is b 34 text (eqb-true b 34 e);
+  }
   by_mark false true e f k = marked-item b text (eqb-true b 92 f) (left.behind_mark k)
   by_mark false false e f k =
       let r : DoubleRest text = left.double k in
@@ -240,7 +279,16 @@ open_end e = cc
 left : (text : List ℕ) → Left text
 left [] = record {
   between_words = λ h. record { blanks = []; words = []; are_blanks = refl; are_words = tt; is = refl };
-  within_word = λ h. record { pieces = []; blanks = []; words = []; are_pieces = refl; are_blanks = refl; apart = λ some. absurd (some refl); are_words = tt; is = refl };
+  within_word = λ h. record {
+    pieces = [];
+    blanks = [];
+    words = [];
+    are_pieces = refl;
+    are_blanks = refl;
+    apart = λ some. absurd (some refl);
+    are_words = tt;
+    is = refl;
+  };
   behind_slash = λ h. absurd (open_end h);
   single = λ h. absurd (open_end h);
   double = λ h. absurd (open_end h);
@@ -257,7 +305,14 @@ left (b ∷ text) =
       behind_mark = λ h. record { byte = b; behind = text; rest = more.double h; is = refl };
     }
 
-pub closed-line : (line : List ℕ) → open_place line ≡ None → (sentence : Sentence) × IsSentence sentence × (sentence_written sentence ≡ line)
+pub closed-line : (line : List ℕ) → open_place line ≡ None
+    → (sentence : Sentence) × IsSentence sentence × (sentence_written sentence ≡ line)
 closed-line line h =
-    let whole : Tail line = (left line).between_words (ends line h) in
-    (record { blanks = whole.blanks; words = whole.words }, record { blanks = whole.are_blanks; words = whole.are_words }, whole.is)
+    let whole : Tail line = (left line).between_words (ends line h) in (
+      record { blanks = whole.blanks; words = whole.words },
+      record {
+        blanks = whole.are_blanks;
+        words = whole.are_words;
+      },
+      whole.is,
+    )

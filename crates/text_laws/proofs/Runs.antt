@@ -38,7 +38,8 @@ record Grows (name : List ℕ) (rs grown : List Run) : Type 0 where
 one_number : (name : List ℕ) → run_numbers (name, name) ≡ number_of name ∷ []
 one_number name = let one : number_of name + 1 - number_of name ≡ 1 = omega arith in rw one refl
 
-more_numbers : (name first last : List ℕ) → number_of first ≡ number_of name + 1 → number_of first ≤ number_of last → run_numbers (name, last) ≡ number_of name ∷ run_numbers (first, last)
+more_numbers : (name first last : List ℕ) → number_of first ≡ number_of name + 1 → number_of first ≤ number_of last
+    → run_numbers (name, last) ≡ number_of name ∷ run_numbers (first, last)
 more_numbers name first last e h =
     let count : number_of last + 1 - number_of name ≡ suc (number_of last + 1 - number_of first) = omega arith in
     rw (count, e) refl
@@ -55,7 +56,8 @@ grows name [] up apart = record {
   numbers = rw (one_number name) refl;
 }
 grows name (next ∷ rs) up apart = by_next (number_of next.0 == number_of name + 1) refl where
-  by_next : (t : Bool) → (number_of next.0 == number_of name + 1) ≡ t → Grows name (next ∷ rs) (if t then (name, next.1) ∷ rs else (name, name) ∷ next ∷ rs)
+  by_next : (t : Bool) → (number_of next.0 == number_of name + 1) ≡ t
+      → Grows name (next ∷ rs) (if t then (name, next.1) ∷ rs else (name, name) ∷ next ∷ rs)
   by_next true e =
       let at : number_of next.0 ≡ number_of name + 1 = eqb-true (number_of next.0) (number_of name + 1) e in
       let first : number_of next.0 ≤ number_of next.1 = All-head GoesUp next rs up in
@@ -66,7 +68,11 @@ grows name (next ∷ rs) up apart = by_next (number_of next.0 == number_of name 
       }
   by_next false e = record {
     up = All-cons GoesUp (name, name) (next ∷ rs) (omega arith) up;
-    apart = (λ at. let same : (number_of next.0 == number_of name + 1) ≡ true = grind (arith, nat_tests, at) in let clash : false ≡ true = sym e ∙ same in cc, apart);
+    apart = (
+      λ at. let same : (number_of next.0 == number_of name + 1) ≡ true = grind (arith, nat_tests, at) in
+          let clash : false ≡ true = sym e ∙ same in cc,
+      apart,
+    );
     numbers = ap (λ (u : List ℕ). u ++ flat_map run_numbers (next ∷ rs)) (one_number name);
   }
 
@@ -79,7 +85,8 @@ are_runs : (names : List (List ℕ)) → AreRuns names
 are_runs [] = record { up = All-nil GoesUp; apart = tt; numbers = refl }
 are_runs (name ∷ names) =
     let more : AreRuns names = are_runs names in
-    let whole : Grows name (runs names) (continued name name (runs names)) = grows name (runs names) more.up more.apart in
+    let whole : Grows name (runs names) (continued name name (runs names)) =
+    grows name (runs names) more.up more.apart in
     record {
       up = whole.up;
       apart = whole.apart;
@@ -92,7 +99,8 @@ runs-numbers names = (are_runs names).numbers
 pub runs-up : (names : List (List ℕ)) → All (λ run. number_of run.0 ≤ number_of run.1) (runs names)
 runs-up names = (are_runs names).up
 
-pub runs-longest : (names : List (List ℕ)) → AllAdjacentBelow (λ run next. number_of next.0 ≢ number_of run.1 + 1) (runs names) (length (runs names))
+pub runs-longest : (names : List (List ℕ))
+    → AllAdjacentBelow (λ run next. number_of next.0 ≢ number_of run.1 + 1) (runs names) (length (runs names))
 runs-longest names = adjacent (runs names) (are_runs names).apart
 
 -- ---- the names at which runs begin and end
@@ -101,18 +109,25 @@ abbrev IsOf : List (List ℕ) → Run → Type 0
 IsOf names run = Contains names run.0 × Contains names run.1
 
 of_more : (name : List ℕ) (names : List (List ℕ)) (run : Run) → IsOf names run → IsOf (name ∷ names) run
-of_more name names run h = (Contains-append_right (name ∷ []) names run.0 h.0, Contains-append_right (name ∷ []) names run.1 h.1)
+of_more name names run h = (
+  Contains-append_right (name ∷ []) names run.0 h.0,
+  Contains-append_right (name ∷ []) names run.1 h.1,
+)
 
 here : (name : List ℕ) (names : List (List ℕ)) → Contains (name ∷ names) name
 here name names = (0, omega arith, refl)
 
-of-continued : (name : List ℕ) (names : List (List ℕ)) (rs : List Run) → All (IsOf (name ∷ names)) rs → All (IsOf (name ∷ names)) (continued name name rs)
-of-continued name names [] h = All-cons (IsOf (name ∷ names)) (name, name) [] (here name names, here name names) (All-nil (IsOf (name ∷ names)))
+of-continued : (name : List ℕ) (names : List (List ℕ)) (rs : List Run) → All (IsOf (name ∷ names)) rs
+    → All (IsOf (name ∷ names)) (continued name name rs)
+of-continued name names [] h = All-cons (IsOf (name ∷ names)) (name, name) [] (here name names, here name names)
+    (All-nil (IsOf (name ∷ names)))
 of-continued name names (next ∷ rs) h = by_next (number_of next.0 == number_of name + 1) where
   by_next : (t : Bool) → All (IsOf (name ∷ names)) (if t then (name, next.1) ∷ rs else (name, name) ∷ next ∷ rs)
-  by_next true = All-cons (IsOf (name ∷ names)) (name, next.1) rs (here name names, (All-head (IsOf (name ∷ names)) next rs h).1) (All-tail (IsOf (name ∷ names)) next rs h)
+  by_next true = All-cons (IsOf (name ∷ names)) (name, next.1) rs
+      (here name names, (All-head (IsOf (name ∷ names)) next rs h).1) (All-tail (IsOf (name ∷ names)) next rs h)
   by_next false = All-cons (IsOf (name ∷ names)) (name, name) (next ∷ rs) (here name names, here name names) h
 
 pub runs-names : (names : List (List ℕ)) → All (λ run. Contains names run.0 × Contains names run.1) (runs names)
 runs-names [] = All-nil (IsOf [])
-runs-names (name ∷ names) = of-continued name names (runs names) (All-weaker (IsOf names) (IsOf (name ∷ names)) (of_more name names) (runs names) (runs-names names))
+runs-names (name ∷ names) = of-continued name names (runs names)
+    (All-weaker (IsOf names) (IsOf (name ∷ names)) (of_more name names) (runs names) (runs-names names))
