@@ -8,6 +8,7 @@ use Rattle.std.specs.declared.cmp.Ordering.TheVariants.{Less}
 use Rattle.host_lists.specs.Hosts.{has}
 use Rattle.host_lists.specs.Folding.{in_byte_order, digits_len, prefix_of, number_of, grouped, runs}
 
+-- the first name of a group
 abbrev pub first_of : List (List ℕ) → List ℕ
 first_of [] = []
 first_of (name ∷ names) = name
@@ -16,9 +17,11 @@ first_of (name ∷ names) = name
 abbrev pub AreAlike : List ℕ → List ℕ → Type 0
 AreAlike one other = (prefix_of one ≡ prefix_of other) × (digits_len one ≡ digits_len other)
 
+-- each name is before all that follow it
 abbrev pub AreInOrder : (List ℕ → List ℕ → Bool) → List (List ℕ) → Type 0
 AreInOrder is_before names = AllPairs (λ one other. is_before one other ≡ true) names
 
+-- a name is below another in byte order
 abbrev pub IsBelow : List ℕ → List ℕ → Type 0
 IsBelow one other = slice_cmp nat_cmp one other ≡ Less
 
@@ -39,8 +42,8 @@ GroupsAreAlike = (names : List (List ℕ))
     → All (λ group. (group ≢ []) × All (AreAlike (first_of group)) group) (grouped names)
 
 -- a name without digits stands alone;
-abbrev pub SomeStandAlone : Type 0
-SomeStandAlone = (names : List (List ℕ))
+abbrev pub NamesWithoutDigits : Type 0
+NamesWithoutDigits = (names : List (List ℕ))
     → All (λ group. digits_len (first_of group) ≡ 0 → length group ≡ 1) (grouped names)
 
 -- no two groups with digits are alike;

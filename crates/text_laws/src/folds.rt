@@ -13,7 +13,7 @@ pub fn names_are_put_in_order()
 pub fn groups_are_of_names_alike()
     ensures names { Folds.GroupsHoldTheNames }
     ensures alike { Folds.GroupsAreAlike }
-    ensures alone { Folds.SomeStandAlone }
+    ensures alone { Folds.NamesWithoutDigits }
     ensures apart { Folds.GroupsAreApart }
 {}
 
