@@ -1,0 +1,8 @@
+pub mod Bytes
+pub mod Groups
+pub mod Meaning
+pub mod Modes
+pub mod Numbers
+pub mod Pairs
+pub mod Reading
+pub mod Runs
