@@ -9,7 +9,7 @@ use small_texts::memory_error::Memory;
 use std::alloc::{AllocError, AllocFailed, Global};
 use std::error::Error;
 use std::marker::Model;
-use std::{fmt, mem};
+use std::{fmt, mem, slice};
 
 /// Words of a command: a list of texts, each byte of them a tab or from 0x20 to 0x7E (own).
 #[derive(Drop)]
@@ -89,8 +89,9 @@ impl From<Memory> for WordsRefusal {
 }
 
 impl Words {
-    ghost use Rattle.std.specs.Prelude.{◌≡◌, ◌↔◌, ◌≤◌, ◌∷◌, [], ◌++◌, if◌then◌else◌, length, is_ok, IsTrue, Some, drop, slice_get, option_copied};
+    ghost use Rattle.std.specs.Prelude.{◌≡◌, ◌↔◌, ◌≤◌, ◌∷◌, [], ◌++◌, if◌then◌else◌, length, map, is_ok, IsTrue, Some, drop, slice_get, option_copied};
     ghost use Rattle.std.specs.List.{list_all};
+    ghost use Rattle.std.specs.Slice.Iter.{iter_rest};
     ghost use Rattle.line_words.specs.Words.{are_words, is_word_byte};
 
     /// No words.
@@ -117,6 +118,13 @@ impl Words {
         self.words.is_empty()
     }
 
+    /// The words, one after the other.
+    pub fn iter(&self) -> slice::Iter<'_, Vec<u8>>
+        ensures { map (λ word. word.items) (iter_rest result) ≡ self.now }
+    {
+        self.words.iter()
+    }
+
     /// The word at a place, counted from 0.
     pub fn get(&self, place: usize) -> Option<&[u8]>
         ensures { option_copied result ≡ slice_get self.now place }
@@ -140,6 +148,21 @@ impl Words {
         ensures { self.new ≡ drop count self.old }
     {
         self.words.drain(..count);
+    }
+}
+
+impl<'a> IntoIterator for &'a Words {
+    ghost use Rattle.std.specs.Prelude.{◌≡◌, map};
+    ghost use Rattle.std.specs.Slice.Iter.{iter_rest};
+
+    type Item = &'a Vec<u8>;
+
+    type IntoIter = slice::Iter<'a, Vec<u8>>;
+
+    ghost into_iter_gives = { λ words it. map (λ word. word.items) (iter_rest it) ≡ words.now };
+
+    fn into_iter(self) -> Self::IntoIter {
+        self.iter()
     }
 }
 
