@@ -1,6 +1,5 @@
 pub mod DepthLemmas
 pub mod IndexLemmas
 pub mod ListLemmas
-pub mod OptionLemmas
 pub mod QosLemmas
 pub mod TreeLemmas

@@ -1,10 +1,11 @@
 -- The form of a line, which begins with a word, a dash and a name in single quotes.
-use Rattle.std.specs.Prelude.{ℕ, ◌+◌, Bool, true, ◌==◌, nat_lt, if◌then◌else◌, List, [], ◌∷◌, take, drop, position, Option, Some, None, option_map}
+use Rattle.std.specs.Prelude.{ℕ, Bool, true, ◌==◌, nat_lt, if◌then◌else◌, List, [], ◌∷◌, Option, Some, None}
 use Rattle.std.specs.List.{list_all}
 use Rattle.slurm_text.specs.Name.{is_name}
 use Rattle.slurm_text.specs.Options.{◌>>=◌}
-use Rattle.assoc_reader.specs.Keys.{line_kind}
-use Rattle.assoc_reader.specs.declared.keys.LineKind.{LineKind}
+use Rattle.assoc_values.specs.Cuts.{cut_at}
+use Rattle.assoc_values.specs.Keys.{line_kind}
+use Rattle.assoc_values.specs.declared.keys.LineKind.{LineKind}
 use Rattle.assoc_reader.specs.declared.lines.LineForm.{LineForm}
 
 -- an empty line and a comment, which begins with `#` (35), say nothing, whatever their bytes
@@ -15,10 +16,6 @@ is_skipped (b ∷ text) = b == 35
 -- bytes of ASCII are below 128
 abbrev pub is_ascii : List ℕ → Bool
 is_ascii text = list_all (λ b. nat_lt b 128) text
-
--- what stands before the first such byte of a text, and what follows it
-abbrev pub cut_at : ℕ → List ℕ → Option (List ℕ × List ℕ)
-cut_at byte text = option_map (λ at. (take at text, drop (at + 1) text)) (position (λ b. b == byte) text)
 
 -- what a line speaks of, its name, and what follows the quote behind the name
 pub record Form : Type 0 where

@@ -3,17 +3,17 @@ use Rattle.std.specs.Prelude.{ℕ, ◌+◌, nat_lt, Bool, true, false, if◌then
 use Rattle.slurm_text.specs.Assocs.{AssocView}
 use Rattle.slurm_text.specs.Fields.{fields}
 use Rattle.conf_values.specs.Refusal.{◌>>=◌}
+use Rattle.assoc_values.specs.Words.{assoc_said, qos_said}
+use Rattle.assoc_values.specs.declared.keys.LineKind.{LineKind}
+use Rattle.assoc_values.specs.declared.keys.LineKind.TheVariants.{Cluster, Qos, Parent, Account, User}
+use Rattle.assoc_values.specs.declared.refusal.AssocKind.{AssocKind}
+use Rattle.assoc_values.specs.declared.refusal.AssocKind.TheVariants.{NotAscii, BadLine, UnknownParent, OverLimit, NoCluster}
+use Rattle.assoc_values.specs.declared.refusal.AssocRefusal.{AssocRefusal}
+use Rattle.assoc_values.specs.declared.refusal.AssocRefusal.TheVariants.{At}
 use Rattle.assoc_reader.specs.Lines.{Form, is_skipped, is_ascii, form_in}
 use Rattle.assoc_reader.specs.Qos.{qos_names, qos_fault, qos_conf, with_normal}
 use Rattle.assoc_reader.specs.Tree.{parent_named, name_fault, with_assoc, no_assocs}
-use Rattle.assoc_reader.specs.Words.{assoc_said, qos_said}
 use Rattle.assoc_reader.specs.declared.draft.Draft.{Draft}
-use Rattle.assoc_reader.specs.declared.keys.LineKind.{LineKind}
-use Rattle.assoc_reader.specs.declared.keys.LineKind.TheVariants.{Cluster, Qos, Parent, Account, User}
-use Rattle.assoc_reader.specs.declared.refusal.AssocKind.{AssocKind}
-use Rattle.assoc_reader.specs.declared.refusal.AssocKind.TheVariants.{NotAscii, BadLine, UnknownParent, OverLimit, NoCluster}
-use Rattle.assoc_reader.specs.declared.refusal.AssocRefusal.{AssocRefusal}
-use Rattle.assoc_reader.specs.declared.refusal.AssocRefusal.TheVariants.{At}
 
 -- a fault of the name comes before what follows the name
 abbrev pub unless : {X : Type 0} → Option AssocKind → Result X AssocKind → Result X AssocKind

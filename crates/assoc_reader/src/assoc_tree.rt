@@ -4,10 +4,10 @@ ghost use Rattle.std.specs.Prelude.{◌≡◌, ◌<◌, ◌^◌, slice_get, opti
 ghost use Rattle.slurm_text.specs.Assocs.{greatest_depth};
 ghost use Rattle.assoc_reader.specs.Tree.{is_root, depth_of};
 
-use crate::assoc_words::AssocWords;
 use crate::counts::Counts;
 use crate::name_index::NameIndex;
-use crate::refusal::AssocKind;
+use assoc_values::assoc_words::AssocWords;
+use assoc_values::refusal::AssocKind;
 use slurm_text::items::Items;
 use slurm_text::memory_error::Memory;
 use slurm_text::name::Name;

@@ -2,17 +2,12 @@
 #![tactic(auto)]
 
 mod assoc_tree;
-mod assoc_words;
 mod counts;
 mod draft;
-mod keys;
 mod lines;
 mod name_index;
-mod options;
 mod qos_table;
-mod qos_words;
 mod reader;
-pub mod refusal;
-mod values;
 
+pub use assoc_values::refusal;
 pub use reader::read_assocs;

@@ -4,8 +4,8 @@ ghost use Rattle.std.specs.Prelude.{◌≡◌, codes, bytes_eq};
 ghost use Rattle.slurm_text.specs.Hosts.{has};
 ghost use Rattle.assoc_reader.specs.Qos.{qos_names, qos_conf};
 
-use crate::qos_words::QosWords;
-use crate::refusal::AssocKind;
+use assoc_values::qos_words::QosWords;
+use assoc_values::refusal::AssocKind;
 use slurm_text::items::Items;
 use slurm_text::memory_error::Memory;
 use slurm_text::name::Name;

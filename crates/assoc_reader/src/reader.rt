@@ -2,11 +2,11 @@
 
 ghost use Rattle.std.specs.Prelude.{ℕ, ◌≡◌, ◌≤◌, length, IfOk, IsErrOf, Ok, Err};
 ghost use Rattle.slurm_text.specs.Fields.{fields};
+ghost use Rattle.assoc_values.specs.declared.refusal.AssocKind.{AssocKind};
 ghost use Rattle.assoc_reader.specs.Reader.{after_lines, nothing_said, whole_file, assocs_in};
-ghost use Rattle.assoc_reader.specs.declared.refusal.AssocKind.{AssocKind};
 
 use crate::draft::Draft;
-use crate::refusal::{AssocKind, AssocRefusal, Fault};
+use assoc_values::refusal::{AssocKind, AssocRefusal, Fault};
 use slurm_text::fields::first_field;
 use slurm_text::plain::assoc::AssocFile;
 use std::alloc::Global;

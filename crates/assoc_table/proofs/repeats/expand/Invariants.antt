@@ -1,5 +1,5 @@
 use Rattle.std.specs.Option.{option_copied}
-use Rattle.assoc_reader.specs.Options.{text_left}
+use Rattle.assoc_values.specs.Options.{text_left}
 use Rattle.assoc_table.proofs.repeats.expand.Given as goal
 
 abbrev pub decreases-loop-rest : goal.decreases-loop-rest

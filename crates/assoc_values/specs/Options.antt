@@ -2,9 +2,9 @@
 use Rattle.std.specs.Prelude.{ℕ, ◌+◌, ◌-◌, Bool, false, not, ◌&&◌, ◌==◌, nat_lt, nat_le, if◌then◌else◌, List, [], ◌∷◌, length, slice_index, slice_range, Option, Some, None, option_map, Result, Ok, ok_or}
 use Rattle.std.specs.List.{list_any, onto_first}
 use Rattle.conf_values.specs.Refusal.{◌>>=◌}
-use Rattle.assoc_reader.specs.Lines.{cut_at}
-use Rattle.assoc_reader.specs.declared.refusal.AssocKind.{AssocKind}
-use Rattle.assoc_reader.specs.declared.refusal.AssocKind.TheVariants.{BadLine, UnknownKey, BadValue}
+use Rattle.assoc_values.specs.Cuts.{cut_at}
+use Rattle.assoc_values.specs.declared.refusal.AssocKind.{AssocKind}
+use Rattle.assoc_values.specs.declared.refusal.AssocKind.TheVariants.{BadLine, UnknownKey, BadValue}
 
 -- whether a quote is open behind a byte; 39 is a single quote
 abbrev pub quoted_behind : Bool → ℕ → Bool

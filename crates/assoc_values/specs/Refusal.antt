@@ -2,12 +2,12 @@
 use Rattle.std.specs.Prelude.{ℕ, List, ◌++◌, codes, decimal}
 use Rattle.conf_values.specs.declared.refusal.ValueRefusal.{ValueRefusal}
 use Rattle.conf_values.specs.declared.refusal.ValueRefusal.TheVariants.{BadValue as BadText, Memory as ValueMemory}
-use Rattle.assoc_reader.specs.declared.refusal.AssocKind.{AssocKind}
-use Rattle.assoc_reader.specs.declared.refusal.AssocKind.TheVariants.{NotAscii, BadLine, UnknownKey, BadValue, TwiceNamed, UnknownParent, OverLimit, NoCluster}
-use Rattle.assoc_reader.specs.declared.refusal.AssocRefusal.{AssocRefusal}
-use Rattle.assoc_reader.specs.declared.refusal.AssocRefusal.TheVariants.{At, Memory as FileMemory}
-use Rattle.assoc_reader.specs.declared.refusal.Fault.{Fault}
-use Rattle.assoc_reader.specs.declared.refusal.Fault.TheVariants.{Refused, Memory}
+use Rattle.assoc_values.specs.declared.refusal.AssocKind.{AssocKind}
+use Rattle.assoc_values.specs.declared.refusal.AssocKind.TheVariants.{NotAscii, BadLine, UnknownKey, BadValue, TwiceNamed, UnknownParent, OverLimit, NoCluster}
+use Rattle.assoc_values.specs.declared.refusal.AssocRefusal.{AssocRefusal}
+use Rattle.assoc_values.specs.declared.refusal.AssocRefusal.TheVariants.{At, Memory as FileMemory}
+use Rattle.assoc_values.specs.declared.refusal.Fault.{Fault}
+use Rattle.assoc_values.specs.declared.refusal.Fault.TheVariants.{Refused, Memory}
 
 -- how a kind is printed
 abbrev pub kind_text : AssocKind → List ℕ

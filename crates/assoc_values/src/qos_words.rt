@@ -1,8 +1,8 @@
 //! What the options of a quality of service say.
 
 ghost use Rattle.std.specs.Prelude.{ℕ, ◌≡◌, IfOk, OnOk, IsErrOf, Ok, Err, Some, None};
-ghost use Rattle.assoc_reader.specs.Words.{qos_said};
-ghost use Rattle.assoc_reader.specs.declared.refusal.AssocKind.{AssocKind};
+ghost use Rattle.assoc_values.specs.Words.{qos_said};
+ghost use Rattle.assoc_values.specs.declared.refusal.AssocKind.{AssocKind};
 
 use crate::keys::{QosKey, qos_key};
 use crate::options::{first_option, options_behind, read_pair};
@@ -13,23 +13,23 @@ use conf_values::values::{read_limit as read_time, read_u32};
 use slurm_text::plain::assoc::QosLimits;
 use std::alloc::Global;
 
-/// What options say.
+/// What the options of a quality of service say (own).
 #[derive(Clone, Copy)]
-pub(crate) struct QosWords {
-    pub(crate) priority: u32,
-    pub(crate) limits: QosLimits,
+pub struct QosWords {
+    pub priority: u32,
+    pub limits: QosLimits,
 }
 
 impl QosWords {
     ghost use Rattle.std.specs.Prelude.{ℕ, ◌≡◌, OnOk, IsErrOf, Ok, Err, Some, None, OnSome, IfNone};
-    ghost use Rattle.assoc_reader.specs.Keys.{qos_key};
-    ghost use Rattle.assoc_reader.specs.Options.{with_option};
-    ghost use Rattle.assoc_reader.specs.Words.{no_qos_words, with_qos_value};
-    ghost use Rattle.assoc_reader.specs.declared.refusal.AssocKind.{AssocKind};
+    ghost use Rattle.assoc_values.specs.Keys.{qos_key};
+    ghost use Rattle.assoc_values.specs.Options.{with_option};
+    ghost use Rattle.assoc_values.specs.Words.{no_qos_words, with_qos_value};
+    ghost use Rattle.assoc_values.specs.declared.refusal.AssocKind.{AssocKind};
 
     /// A line without options.
     #[tactic(auto, unfolding(crate::specs::Words::no_qos_words))]
-    pub(crate) fn new() -> QosWords
+    pub fn new() -> QosWords
         ensures { result ≡ no_qos_words }
     {
         QosWords {
@@ -87,7 +87,7 @@ impl QosWords {
 
 /// What the options behind the name of a quality of service say.
 #[tactic(auto, unfolding(crate::specs::Words::qos_said))]
-pub(crate) fn read_qos_words(rest: &[u8]) -> Result<QosWords, AssocKind>
+pub fn read_qos_words(rest: &[u8]) -> Result<QosWords, AssocKind>
     ensures { result ≡ qos_said rest.now }
 {
     let Some(options) = options_behind(rest) else {

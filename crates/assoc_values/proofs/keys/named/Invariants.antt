@@ -1,6 +1,6 @@
 use Rattle.std.proofs.Common.{◌≡◌, drop, map}
-use Rattle.assoc_reader.specs.Keys.{named}
-use Rattle.assoc_reader.proofs.keys.named.Given as goal
+use Rattle.assoc_values.specs.Keys.{named}
+use Rattle.assoc_values.proofs.keys.named.Given as goal
 
 abbrev pub invariant-loop-name : goal.invariant-loop-name
 invariant-loop-name g l =

@@ -1,6 +1,6 @@
 use Rattle.std.proofs.Common.{◌≡◌, ◌+◌, drop, false}
-use Rattle.assoc_reader.specs.Options.{option_len}
-use Rattle.assoc_reader.proofs.options.option_len.Given as goal
+use Rattle.assoc_values.specs.Options.{option_len}
+use Rattle.assoc_values.proofs.options.option_len.Given as goal
 
 abbrev pub invariant-loop-place : goal.invariant-loop-place
 invariant-loop-place l =

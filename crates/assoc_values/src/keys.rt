@@ -2,11 +2,11 @@
 //! line of a quality of service and its keys are this project's own. Letters count in their case.
 
 ghost use Rattle.std.specs.Prelude.{◌≡◌, map};
-ghost use Rattle.assoc_reader.specs.Keys.{named, line_kind, account_key, user_key, qos_key, assoc_key};
+ghost use Rattle.assoc_values.specs.Keys.{named, line_kind, account_key, user_key, qos_key, assoc_key};
 
 /// What a line speaks of.
 #[derive(Clone, Copy)]
-pub(crate) enum LineKind {
+pub enum LineKind {
     Cluster,
     Qos,
     /// The account of the lines that follow.
@@ -109,9 +109,9 @@ fn named<K: Copy>(table: &[(&[u8], K)], text: &[u8]) -> Option<K>
     None
 }
 
-/// What a line with this beginning speaks of.
+/// What a line speaks of, by what stands before its first quote.
 #[tactic(auto, unfolding(crate::specs::Keys::line_kind))]
-pub(crate) fn line_kind(text: &[u8]) -> Option<LineKind>
+pub fn line_kind(text: &[u8]) -> Option<LineKind>
     ensures { result ≡ line_kind text.now }
 {
     named(&LINE_WORDS, text)

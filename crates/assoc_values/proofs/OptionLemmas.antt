@@ -2,7 +2,7 @@
 use Rattle.std.proofs.Common.{ℕ, suc, cond, ◌≡◌, ◌+◌, ◌-◌, ◌<◌, Bool, true, false, List, [], ◌∷◌, length, take, drop, refl, ap, one-add, arith}
 use Rattle.std.specs.List.{onto_first}
 use Rattle.std.proofs.lemmas.Grind.{common_steps}
-use Rattle.assoc_reader.specs.Options.{quoted_behind, ends_option, option_len, options_from}
+use Rattle.assoc_values.specs.Options.{quoted_behind, ends_option, option_len, options_from}
 
 -- a colon ends an option only where no quote is open
 closed : (quoted : Bool) (b : ℕ) → ends_option quoted b ≡ true → quoted ≡ false

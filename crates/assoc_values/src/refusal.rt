@@ -1,7 +1,7 @@
 //! Why an association file was refused.
 
 ghost use Rattle.std.specs.Prelude.{◌≡◌, ◌≤◌, length};
-ghost use Rattle.assoc_reader.specs.Refusal.{kind_text};
+ghost use Rattle.assoc_values.specs.Refusal.{kind_text};
 
 use conf_values::refusal::ValueRefusal;
 use slurm_text::memory_error;
@@ -50,7 +50,7 @@ impl AssocKind {
 
 impl fmt::Display for AssocKind {
     ghost use Rattle.std.specs.Prelude.{Some};
-    ghost use Rattle.assoc_reader.specs.Refusal.{kind_text};
+    ghost use Rattle.assoc_values.specs.Refusal.{kind_text};
 
     ghost output = { λ kind. Some (kind_text kind) };
 
@@ -69,7 +69,7 @@ pub enum AssocRefusal {
 
 impl fmt::Display for AssocRefusal {
     ghost use Rattle.std.specs.Prelude.{Some};
-    ghost use Rattle.assoc_reader.specs.Refusal.{refusal_message};
+    ghost use Rattle.assoc_values.specs.Refusal.{refusal_message};
 
     ghost output = { λ refusal. Some (refusal_message refusal) };
 
@@ -85,7 +85,7 @@ impl Error for AssocRefusal {}
 
 impl From<memory_error::Memory> for AssocRefusal {
     ghost use Rattle.std.specs.Prelude.{◌≡◌};
-    ghost use Rattle.assoc_reader.specs.declared.refusal.AssocRefusal.TheVariants.{Memory};
+    ghost use Rattle.assoc_values.specs.declared.refusal.AssocRefusal.TheVariants.{Memory};
 
     ghost from_gives = { λ _ e. e ≡ Memory };
 
@@ -96,14 +96,14 @@ impl From<memory_error::Memory> for AssocRefusal {
 
 /// Why a line wasn't read.
 #[derive(Clone, Copy)]
-pub(crate) enum Fault {
+pub enum Fault {
     Refused(AssocKind),
     Memory,
 }
 
 impl From<memory_error::Memory> for Fault {
     ghost use Rattle.std.specs.Prelude.{◌≡◌};
-    ghost use Rattle.assoc_reader.specs.declared.refusal.Fault.TheVariants.{Memory};
+    ghost use Rattle.assoc_values.specs.declared.refusal.Fault.TheVariants.{Memory};
 
     ghost from_gives = { λ _ e. e ≡ Memory };
 
@@ -114,7 +114,7 @@ impl From<memory_error::Memory> for Fault {
 
 impl From<ValueRefusal> for Fault {
     ghost use Rattle.std.specs.Prelude.{◌≡◌};
-    ghost use Rattle.assoc_reader.specs.Refusal.{of_value};
+    ghost use Rattle.assoc_values.specs.Refusal.{of_value};
 
     ghost from_gives = { λ value e. e ≡ of_value value };
 

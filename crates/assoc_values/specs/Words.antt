@@ -3,15 +3,15 @@ use Rattle.std.specs.Prelude.{ℕ, Bool, if◌then◌else◌, List, [], ◌∷�
 use Rattle.slurm_num.specs.Limits.{limit_of}
 use Rattle.slurm_text.specs.Fields.{fields}
 use Rattle.conf_values.specs.Values.{name_in, number_in, u32_in}
-use Rattle.assoc_reader.specs.Keys.{assoc_key, qos_key}
-use Rattle.assoc_reader.specs.Options.{with_option, said_by}
-use Rattle.assoc_reader.specs.declared.keys.AssocKey.{AssocKey}
-use Rattle.assoc_reader.specs.declared.keys.AssocKey.TheVariants.{Fairshare, GrpJobs, GrpSubmitJobs, GrpTres, MaxJobs, MaxSubmitJobs, DefaultAccount, WithoutEffect}
-use Rattle.assoc_reader.specs.declared.keys.QosKey.{QosKey}
-use Rattle.assoc_reader.specs.declared.keys.QosKey.TheVariants as qos
-use Rattle.assoc_reader.specs.declared.assoc_words.AssocWords.{AssocWords}
-use Rattle.assoc_reader.specs.declared.qos_words.QosWords.{QosWords}
-use Rattle.assoc_reader.specs.declared.refusal.AssocKind.{AssocKind}
+use Rattle.assoc_values.specs.Keys.{assoc_key, qos_key}
+use Rattle.assoc_values.specs.Options.{with_option, said_by}
+use Rattle.assoc_values.specs.declared.keys.AssocKey.{AssocKey}
+use Rattle.assoc_values.specs.declared.keys.AssocKey.TheVariants.{Fairshare, GrpJobs, GrpSubmitJobs, GrpTres, MaxJobs, MaxSubmitJobs, DefaultAccount, WithoutEffect}
+use Rattle.assoc_values.specs.declared.keys.QosKey.{QosKey}
+use Rattle.assoc_values.specs.declared.keys.QosKey.TheVariants as qos
+use Rattle.assoc_values.specs.declared.assoc_words.AssocWords.{AssocWords}
+use Rattle.assoc_values.specs.declared.qos_words.QosWords.{QosWords}
+use Rattle.assoc_values.specs.declared.refusal.AssocKind.{AssocKind}
 
 -- a limit is a number of at most ten digits
 abbrev pub limit_in : List ℕ → Option ℕ

@@ -1,7 +1,7 @@
 //! The values of limits.
 
 ghost use Rattle.std.specs.Prelude.{◌≡◌};
-ghost use Rattle.assoc_reader.specs.Words.{limit_in, cpus_in};
+ghost use Rattle.assoc_values.specs.Words.{limit_in, cpus_in};
 
 use conf_values::values::read_number;
 use slurm_text::fields::{UpToThree, up_to_three};

@@ -1,9 +1,9 @@
 //! The options behind a line's name: keys with their values, with a colon before each.
 
 ghost use Rattle.std.specs.Prelude.{ℕ, ◌≡◌, ◌<◌, ◌≤◌, ◌==◌, ◌∷◌, length, not, false, IfSome, option_map, option_copied};
-ghost use Rattle.assoc_reader.specs.Options.{quoted_behind, ends_option, option_len, options_from, options_of_rest, options_in, has_quote, is_key, unquoted, pair_of_parts, pair_in};
+ghost use Rattle.assoc_values.specs.Options.{quoted_behind, ends_option, option_len, options_from, options_of_rest, options_in, has_quote, is_key, unquoted, pair_of_parts, pair_in};
 
-use crate::lines::cut_at;
+use crate::cuts::cut_at;
 
 /// A key with its value.
 #[derive(Clone, Copy)]

@@ -1,8 +1,8 @@
 //! What the options of an account's or a user's line say.
 
 ghost use Rattle.std.specs.Prelude.{ℕ, ◌≡◌, IfOk, OnOk, IsErrOf, Ok, Err, Some, None};
-ghost use Rattle.assoc_reader.specs.Words.{assoc_said};
-ghost use Rattle.assoc_reader.specs.declared.refusal.AssocKind.{AssocKind};
+ghost use Rattle.assoc_values.specs.Words.{assoc_said};
+ghost use Rattle.assoc_values.specs.declared.refusal.AssocKind.{AssocKind};
 
 use crate::keys::{AssocKey, assoc_key};
 use crate::options::{first_option, options_behind, read_pair};
@@ -15,20 +15,21 @@ use slurm_text::plain::assoc::AssocLimits;
 use slurm_text::ranged::Ranged;
 use std::alloc::Global;
 
-/// What options say.
+/// What the options of an account or of a user say, sacctmgr(1).
 #[derive(Drop)]
-pub(crate) struct AssocWords {
-    pub(crate) shares: Ranged<0, 65535>,
-    pub(crate) default_account: Option<Name>,
-    pub(crate) limits: AssocLimits,
+pub struct AssocWords {
+    /// The share of its account, against those of the other children; 1 where no option gives one.
+    pub shares: Ranged<0, 65535>,
+    pub default_account: Option<Name>,
+    pub limits: AssocLimits,
 }
 
 impl AssocWords {
     ghost use Rattle.std.specs.Prelude.{ℕ, ◌≡◌, OnOk, IsErrOf, Ok, Err, Some, None};
-    ghost use Rattle.assoc_reader.specs.Keys.{assoc_key};
-    ghost use Rattle.assoc_reader.specs.Options.{with_option};
-    ghost use Rattle.assoc_reader.specs.Words.{no_assoc_words, with_assoc_value};
-    ghost use Rattle.assoc_reader.specs.declared.refusal.AssocKind.{AssocKind};
+    ghost use Rattle.assoc_values.specs.Keys.{assoc_key};
+    ghost use Rattle.assoc_values.specs.Options.{with_option};
+    ghost use Rattle.assoc_values.specs.Words.{no_assoc_words, with_assoc_value};
+    ghost use Rattle.assoc_values.specs.declared.refusal.AssocKind.{AssocKind};
 
     #[tactic(auto, unfolding(crate::specs::Words::no_assoc_words))]
     fn new() -> AssocWords
@@ -84,9 +85,10 @@ impl AssocWords {
     }
 }
 
-/// What the options behind a user's name say, or behind an account's.
+/// What the options behind a user's name say, or behind an account's. It costs a few steps for each byte, and a look
+/// through the keys for each option.
 #[tactic(auto, unfolding(crate::specs::Words::assoc_said))]
-pub(crate) fn read_assoc_words(alloc: Global, user: bool, rest: &[u8]) -> Result<AssocWords, Fault>
+pub fn read_assoc_words(alloc: Global, user: bool, rest: &[u8]) -> Result<AssocWords, Fault>
     ensures value { IfOk result (λ words. assoc_said user rest.now ≡ Ok words) }
     ensures refused { (k : AssocKind) → IsErrOf result (Fault.Refused k) → assoc_said user rest.now ≡ Err k }
 {

@@ -1,9 +1,9 @@
 -- The words that begin lines, and the keys of options.
 use Rattle.std.specs.Prelude.{ℕ, Bool, if◌then◌else◌, List, Option, map, option_map, find, bytes_eq}
-use Rattle.assoc_reader.specs.declared.keys.TheConstants.{LINE_WORDS, ACCOUNT_KEYS, USER_KEYS, QOS_KEYS}
-use Rattle.assoc_reader.specs.declared.keys.LineKind.{LineKind}
-use Rattle.assoc_reader.specs.declared.keys.AssocKey.{AssocKey}
-use Rattle.assoc_reader.specs.declared.keys.QosKey.{QosKey}
+use Rattle.assoc_values.specs.declared.keys.TheConstants.{LINE_WORDS, ACCOUNT_KEYS, USER_KEYS, QOS_KEYS}
+use Rattle.assoc_values.specs.declared.keys.LineKind.{LineKind}
+use Rattle.assoc_values.specs.declared.keys.AssocKey.{AssocKey}
+use Rattle.assoc_values.specs.declared.keys.QosKey.{QosKey}
 
 -- what a text stands for in a table; letters count in their case
 abbrev pub named : {K : Type 0} → List (List ℕ × K) → List ℕ → Option K
