@@ -3,16 +3,15 @@
 //! as many lines as there are numbers.
 #![tactic(auto)]
 
-mod cases;
 mod repeats;
 mod shown;
 
 use anyhow::Result;
 use assoc_reader::read_assocs;
-use cases::next_case;
 use repeats::expand;
 use shown::show_file;
 use std::io::{Read, Write};
+use table_lines::cases::next_case;
 
 fn main(rt: HostRuntime) -> Result<()> {
     let mut text = Vec::new(rt.alloc());

@@ -2,14 +2,13 @@
 //! file; in one that begins with `=~ NAME` the last line has no line feed.
 #![tactic(auto)]
 
-mod cases;
 mod shown;
 
 use anyhow::Result;
-use cases::next_case;
 use conf_reader::read_conf;
 use shown::show_conf;
 use std::io::{Read, Write};
+use table_lines::cases::next_case;
 
 fn main(rt: HostRuntime) -> Result<()> {
     let mut text = Vec::new(rt.alloc());

@@ -1,17 +1,17 @@
-//! The files of a table.
+//! A table of files. A line `== NAME` begins a file; in one that begins with `=~ NAME` the last line has no line feed.
 
 ghost use Rattle.std.specs.Prelude.{◌<◌, ◌≤◌, length, IfSome};
 
-/// One file of the table, and what follows it.
+/// One file of a table, and what follows it. Its name is the line that begins it.
 #[derive(Clone, Copy)]
-pub(crate) struct Case<'a> {
-    pub(crate) name: &'a [u8],
-    pub(crate) file: &'a [u8],
-    pub(crate) rest: &'a [u8],
+pub struct Case<'a> {
+    pub name: &'a [u8],
+    pub file: &'a [u8],
+    pub rest: &'a [u8],
 }
 
-/// The first file of a table.
-pub(crate) fn next_case(table: &[u8]) -> Option<Case<'_>>
+/// The first file of a table; None where the table is empty. Linear in the file.
+pub fn next_case(table: &[u8]) -> Option<Case<'_>>
     ensures { IfSome result (λ case. length case.rest.now < length table.now) }
 {
     let (head, behind) = table.split_at(line_len(table));
