@@ -12,6 +12,7 @@ ghost use Rattle.ctl_state.specs.State.{state_of};
 ghost use Rattle.partitions.specs.Partitions.{IsOnNodes};
 ghost use Rattle.ctl_rank.specs.Measured.{IsMeasured};
 ghost use Rattle.ctl_rank.specs.Rank;
+ghost use Rattle.ctl_rank.specs.declared.rank.RankKey.{RankKey};
 ghost use Rattle.ctl_waiting.specs.Candidates;
 
 use crate::reasons::hindrance;
@@ -54,7 +55,7 @@ fn candidates_of<'a>(
 ) -> Result<Vec<Candidate<'a>>, Memory>
     requires counted { Shows cluster.now.assocs.records tally.now (holding cluster.now.jobs.records) }
     requires measured { IsMeasured (state_of cluster.now) factors.now }
-    ensures { IfOk result (λ some. map (λ one. (one.job.now, one.key)) some.items
+    ensures { IfOk result (λ some. map {B = JobRecord × RankKey} (λ one. (one.job.now, one.key)) some.items
         ≡ map (λ (job : JobRecord). (job, Rank.key_of (state_of cluster.now) factors.now.moment job))
         (filter (Candidates.is_candidate (state_of cluster.now)) cluster.now.jobs.records)) }
 {
