@@ -19,7 +19,8 @@ use Rattle.ctl_state.specs.State.{State}
 use Rattle.ctl_rank.specs.Rank.{is_higher}
 use Rattle.ctl_pass.specs.Limits.{timed_out}
 use Rattle.ctl_pass.specs.Passing.{outcome}
-use Rattle.ctl_pass.specs.Readiness.{jobs_left, ready, base_of, is_candidate, candidates, needs_of, ranked, planned, placements}
+use Rattle.ctl_waiting.specs.Candidates.{is_candidate, candidates, needs_of, ranked}
+use Rattle.ctl_pass.specs.Readiness.{jobs_left, ready, base_of, planned, placements}
 use Rattle.ctl_pass.specs.Starting.{started, begun, start_of, may_start}
 use Rattle.ctl_pass.proofs.Planned.{few-jobs}
 use Rattle.ctl_pass.proofs.Ranks.{filter_map-less}

@@ -2,7 +2,6 @@ pub mod Lists
 pub mod Readied
 pub mod Tasks
 pub mod Held
-pub mod FirstReason
 pub mod Ranks
 pub mod Splits
 pub mod Due

@@ -237,17 +237,6 @@ take-map-more f xs i x within is =
       ← is,
     ) refl
 
-pub filter_map-more : {X Y Z : Type 0} (h : X → Option Y) (f : Z → X) (xs : List Z) (i : ℕ) (x : Z) → i < length xs
-    → x ≡ get_or xs i x
-    → filter_map h (map f (take (i + 1) xs)) ≡ filter_map h (map f (take i xs)) ++ cons_option (h (f x)) []
-filter_map-more h f xs i x within is =
-    rw (
-      take_more xs i x within,
-      ← is,
-      map-append f (take i xs) (x ∷ []),
-      filter_map-append h (map f (take i xs)) (f x ∷ []),
-    ) refl
-
 pub filter_map-next : {X Y : Type 0} (h : X → Option Y) (xs : List X) (i : ℕ) (x : X) → i < length xs
     → x ≡ get_or xs i x
     → filter_map h (take (i + 1) xs) ≡ filter_map h (take i xs) ++ cons_option (h x) []

@@ -43,9 +43,10 @@ use Rattle.ctl_rank.specs.Rank.{is_higher}
 use Rattle.ctl_rank.specs.Usage.{usage_at}
 use Rattle.ctl_pass.specs.Awaiting.{Awaits, CanBegin}
 use Rattle.ctl_pass.specs.Limits.{holds_of_job, hold_end, timed_out}
-use Rattle.ctl_pass.specs.Readiness.{jobs_left, ready, base_of, is_candidate, candidates, needs_of, ranked, planned, placements}
+use Rattle.ctl_waiting.specs.Candidates.{is_candidate, candidates, needs_of, ranked}
+use Rattle.ctl_pass.specs.Readiness.{jobs_left, ready, base_of, planned, placements}
 use Rattle.ctl_pass.specs.Taking.{CanStart}
-use Rattle.ctl_pass.specs.Reasons.{exceeds_wall, held_reason, hindrance, hindrances_in, lacks_node, most_tasks}
+use Rattle.ctl_waiting.specs.Reasons.{exceeds_wall, held_reason, hindrance, hindrances_in, lacks_node, most_tasks}
 use Rattle.ctl_pass.proofs.Held.{held-counted, free-counted}
 use Rattle.ctl_pass.proofs.Lists.{sum_by-larger, sum_by-map, joined-larger, length-rising, at-place, All-joins, All-joined}
 use Rattle.ctl_pass.proofs.Ranks.{IsOfCandidate, waiting, candidates-wait, ordered-agree, ranked-all, ranked-candidates, ranked-waits, ranked-apart}
@@ -272,10 +273,9 @@ higher-ready laws s now =
     (λ k d below old. old-not_running s.settings.min_job_age now (get_or jobs k d) old)
 
 -- so the candidates are those of the state before, in their order
-pub ranked_is : RankLaws → (s : State) (now : ℕ)
-    → ranked (ready s now) now ≡ filter_map (needs_of s) (candidates s now)
+pub ranked-stay : RankLaws → (s : State) (now : ℕ) → ranked (ready s now) now ≡ ranked s now
 unfolding ranked candidates needs_of
-ranked_is laws s now =
+ranked-stay laws s now =
     let left = ready s now in
     let same : filter (is_candidate left) left.jobs ≡ filter (is_candidate s) s.jobs =
     filter_agree (is_candidate left) (is_candidate s)

@@ -4,7 +4,8 @@ use Rattle.backfill_planner.specs.declared.Placed.{Placed}
 use Rattle.job_table.specs.declared.record.JobRecord.{JobRecord}
 use Rattle.ctl_state.specs.State.{State}
 use Rattle.ctl_pass.specs.Passing.{outcome}
-use Rattle.ctl_pass.specs.Readiness.{is_candidate, jobs_left, placements, ready}
+use Rattle.ctl_waiting.specs.Candidates.{is_candidate}
+use Rattle.ctl_pass.specs.Readiness.{jobs_left, placements, ready}
 use Rattle.ctl_pass.specs.Starting.{JobStart, begun, may_start}
 
 -- What a pass in this state plans is of candidates, which nothing hinders; and just before each of its starts that job

@@ -1,5 +1,4 @@
 pub mod Limits
-pub mod Reasons
 pub mod Readiness
 pub mod Starting
 pub mod SamePlans

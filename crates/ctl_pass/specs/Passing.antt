@@ -15,7 +15,8 @@ use Rattle.ctl_pass.specs.declared.pass.Decided.{Decided}
 use Rattle.ctl_pass.specs.Awaiting.{IsPrepared, placements_of}
 use Rattle.ctl_pass.specs.Live.{has_array}
 use Rattle.ctl_pass.specs.Limits.{is_over}
-use Rattle.ctl_pass.specs.Readiness.{arrays_left, jobs_left, ready, ranked, placements}
+use Rattle.ctl_waiting.specs.Candidates.{ranked}
+use Rattle.ctl_pass.specs.Readiness.{arrays_left, jobs_left, ready, placements}
 use Rattle.ctl_pass.specs.Starting.{Started, due, started}
 use Rattle.ctl_pass.specs.SamePlans.{same_plans}
 

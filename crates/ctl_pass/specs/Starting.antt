@@ -13,7 +13,7 @@ use Rattle.ctl_state.specs.Events.{started_as}
 use Rattle.ctl_state.specs.Planning.{names_of, room_of}
 use Rattle.ctl_state.specs.State.{State}
 use Rattle.run_limits.specs.Limits.{first_reason}
-use Rattle.ctl_pass.specs.Reasons.{reached_beside}
+use Rattle.ctl_waiting.specs.Reasons.{reached_beside}
 use Rattle.ctl_state.specs.Holding.{free_ids, parts_of}
 
 -- the start of a job

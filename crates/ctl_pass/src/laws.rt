@@ -8,19 +8,21 @@ ghost use Rattle.ctl_state.specs.State.{State, last_job_id, last_moment};
 ghost use Rattle.job_table.specs.JobStates.{is_running};
 ghost use Rattle.ctl_state.specs.Soundness.{IsSound};
 ghost use Rattle.ctl_state.specs.Verdicts.{stamped};
-ghost use Rattle.ctl_pass.specs.Readiness.{is_candidate, jobs_left, ready, placements};
+ghost use Rattle.ctl_waiting.specs.Candidates.{is_candidate};
+ghost use Rattle.ctl_pass.specs.Readiness.{RankedStays, jobs_left, ready, placements};
 ghost use Rattle.ctl_pass.specs.Starting.{HasStarted, JobStart, WasHeldBack, begun, may_start};
 ghost use Rattle.ctl_pass.specs.Freedom.{StartsAreFree};
 ghost use Rattle.ctl_pass.specs.Taking.{CanStart, unplanned};
 ghost use Rattle.ctl_pass.specs.Passing.{outcome, pass_after, placements_due, is_idle};
 
 use backfill_planner::laws::{parts_are_apart, placements_are_of_ranked_jobs, starts_fit};
+use ctl_rank::laws::priorities_stay;
 use ctl_state::laws::{
     a_stable_sort_makes_the_order, charging_keeps_all_sound, every_change_but_a_start_lets_go,
     jobs_are_kept, jobs_get_nodes_that_are_there, letting_go_keeps_all_sound, others_wait_on,
     plans_keep_all_sound, taking_keeps_all_sound, what_is_taken_is_counted,
 };
-use job_table::laws::who_leaves_is_charged;
+use job_table::laws::{jobs_run_on, who_leaves_is_charged};
 use job_table::record::JobRecord;
 
 /// A pass keeps all sound.
@@ -112,6 +114,14 @@ pub fn a_started_job_was_planned()
         ⊎ Any (λ (placed : Placed). (placed.id ≡ job.id) × (placed.start ≡ now)) (placements s now))
         (pass_after s now).jobs }
 {}
+
+/// What the candidates need stays as it is, and their order, while the first steps of a pass make its state ready.
+pub fn what_is_ranked_stays()
+    ensures { RankedStays }
+{
+    jobs_run_on();
+    priorities_stay();
+}
 
 /// The state that a pass plans is sound, with no plan yet.
 pub fn what_a_pass_plans_is_sound()

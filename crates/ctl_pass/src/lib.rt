@@ -7,14 +7,10 @@ pub mod laws;
 mod limits;
 mod live_arrays;
 mod pass;
-mod ranking;
-mod reasons;
 mod same_plans;
 mod split;
 mod starts;
 
 pub use live_arrays::LiveArrays;
 pub use pass::{Decided, act, decide, is_idle, refusal_of};
-pub use ranking::highest;
-pub use reasons::hindrance;
 pub use starts::DueStart;

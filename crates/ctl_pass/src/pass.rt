@@ -16,10 +16,9 @@ ghost use Rattle.ctl_pass.specs.Passing;
 
 use crate::base::base_of;
 use crate::beginning::begin;
-use crate::laws::what_is_due_can_start;
+use crate::laws::{what_is_due_can_start, what_is_ranked_stays};
 use crate::limits::{any_old, count_over, time_out};
 use crate::live_arrays::{LiveArrays, live_arrays};
-use crate::ranking::rank;
 use crate::same_plans::are_same;
 use crate::split::split;
 use crate::starts::DueStart;
@@ -29,6 +28,7 @@ use ctl_state::cluster::Cluster;
 use ctl_state::counting::count_holding;
 use ctl_state::laws::parts_stay;
 use ctl_state::record::ArrayRecord;
+use ctl_waiting::rank;
 use resource_profile::Steps;
 use slurm_text::memory_error::Memory;
 use slurm_text::name::Name;
@@ -79,6 +79,7 @@ pub fn decide<L>(
     ensures steps_err { OnErr result (IsTickedUpTo
         (Passing.jobs_planned (state_of cluster.now) now) steps.old steps.new) }
 {
+    what_is_ranked_stays();
     let base = base_of(alloc, cluster, now)?;
     let tally = count_holding(alloc, &cluster.assocs, cluster.jobs.records())?;
     let factors = measure(alloc, cluster, now)?;

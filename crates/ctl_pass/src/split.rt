@@ -15,13 +15,13 @@ ghost use Rattle.ctl_pass.specs.Passing;
 ghost use Rattle.ctl_pass.specs.Awaiting.{CanBegin, CountsOneMore, IsPrepared, placements_of};
 
 use crate::laws::what_a_pass_plans_is_sound;
-use crate::reasons::limit_reached;
 use crate::starts::{DueStart, prepare};
 use backfill_planner::Placed;
 use backfill_planner::laws::placements_are_of_ranked_jobs;
 use ctl_state::cluster::Cluster;
 use ctl_state::counting::counted_of;
 use ctl_state::laws::{a_stable_sort_makes_the_order, what_is_taken_is_counted};
+use ctl_waiting::limit_reached;
 use job_table::record::JobRecord;
 use run_limits::laws::sums_decide_what_is_shown;
 use run_limits::tally::Tally;

@@ -33,8 +33,8 @@ use Rattle.ctl_state.specs.Refusals.{refused_if}
 use Rattle.ctl_state.specs.State.{State, partition_of}
 use Rattle.ctl_rank.specs.Priority.{parts_of}
 use Rattle.ctl_rank.specs.Rank.{priority_of}
-use Rattle.ctl_pass.specs.Reasons.{hindrance}
-use Rattle.ctl_pass.specs.Readiness.{candidates}
+use Rattle.ctl_waiting.specs.Reasons.{hindrance}
+use Rattle.ctl_waiting.specs.Candidates.{candidates}
 use Rattle.ctl_show.specs.Standing.{state_rows}
 
 -- a job in this state has the code

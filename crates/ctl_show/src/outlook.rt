@@ -9,10 +9,10 @@ ghost use Rattle.ctl_show.specs.Found.{IsOutlook};
 ghost use Rattle.ctl_show.specs.Showing;
 
 use backfill_planner::Placed;
-use ctl_pass::highest;
 use ctl_rank::{Factors, measure};
 use ctl_state::cluster::Cluster;
 use ctl_state::counting::count_holding;
+use ctl_waiting::highest;
 use run_limits::tally::Tally;
 use slurm_text::memory_error::Memory;
 use slurm_text::ranged::Ranged;

@@ -8,11 +8,11 @@ ghost use Rattle.ctl_show.specs.Showing;
 
 use crate::jobs::is_shown;
 use crate::outlook::{Outlook, Second, outlook_of};
-use ctl_pass::hindrance;
 use ctl_rank::priority_of;
 use ctl_state::cluster::Cluster;
 use ctl_state::jobs::is_pending;
 use ctl_state::planning::names_of;
+use ctl_waiting::hindrance;
 use job_table::record::JobRecord;
 use job_table::targets::index_of;
 use job_table::usage::cpus_in;

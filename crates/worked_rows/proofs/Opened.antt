@@ -64,8 +64,9 @@ use Rattle.ctl_rank.specs.Usage.{used_running, usage_at}
 use Rattle.ctl_rank.specs.FairShare.{tree_of, user_usage, user_count, rank_at}
 use Rattle.ctl_rank.specs.Priority.{greatest, all_cpus, greatest_factor, greatest_qos, parts_of}
 use Rattle.ctl_rank.specs.Rank.{is_above, is_higher}
-use Rattle.ctl_pass.specs.Reasons.{hindrance}
-use Rattle.ctl_pass.specs.Readiness.{arrays_left, base_of, candidates, needs_of, ranked, planned}
+use Rattle.ctl_waiting.specs.Reasons.{hindrance}
+use Rattle.ctl_waiting.specs.Candidates.{candidates, needs_of, ranked}
+use Rattle.ctl_pass.specs.Readiness.{arrays_left, base_of, planned}
 use Rattle.ctl_pass.specs.Starting.{may_start, started}
 use Rattle.ctl_pass.specs.Passing.{is_idle}
 use Rattle.ctl_submit.specs.Submission.{is_placeable, new_jobs, terms_of, unended}

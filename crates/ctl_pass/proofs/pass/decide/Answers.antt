@@ -24,10 +24,12 @@ plan-requires g c =
 
 pub split-requires-clause-plan : goal.split-requires-clause-plan
 split-requires-clause-plan g c =
+    let s = state_of c.args.cluster.now in
+    let now = c.args.now in
     c.into_placements.ensures
-    ∙ plan-is (state_of c.args.cluster.now) c.args.now c.in-Ok.planned c.in_ok-base.base c.in_ok-ranked.ranked.items
+    ∙ plan-is s now c.in-Ok.planned c.in_ok-base.base c.in_ok-ranked.ranked.items
     c.in-Ok.ensures.parts c.in_ok-base.ensures
-    (rw c.in_ok-factors.ensures.moment at c.in_ok-ranked.ensures.ranked)
+    (rw c.in_ok-factors.ensures.moment at c.in_ok-ranked.ensures.ranked ∙ sym (c.what_is_ranked_stays.ensures s now))
 
 pub overflow_cast-result : goal.overflow_cast-result
 overflow_cast-result g c =

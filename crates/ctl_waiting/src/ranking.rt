@@ -1,4 +1,4 @@
-//! The jobs that a pass can plan, by rank, and what they need.
+//! The jobs that can be planned, by rank, and what they need.
 
 ghost use Rattle.std.specs.Prelude.{◌≡◌, ◌≤◌, ◌<◌, All, IfOk, IfSome, length, map, filter, filter_map, option_map, slice_get};
 ghost use Rattle.std.specs.Ordering.{is_lt};
@@ -12,17 +12,16 @@ ghost use Rattle.ctl_state.specs.State.{state_of};
 ghost use Rattle.partitions.specs.Partitions.{IsOnNodes};
 ghost use Rattle.ctl_rank.specs.Measured.{IsMeasured};
 ghost use Rattle.ctl_rank.specs.Rank;
-ghost use Rattle.ctl_pass.specs.Readiness;
+ghost use Rattle.ctl_rank.specs.declared.rank.RankKey.{RankKey};
+ghost use Rattle.ctl_waiting.specs.Candidates;
 
 use crate::reasons::hindrance;
 use backfill_planner::{NodeList, PlanJob};
-use ctl_rank::laws::priorities_stay;
 use ctl_rank::{Factors, RankKey, is_above, key_of};
 use ctl_state::cluster::Cluster;
 use ctl_state::jobs::is_pending;
 use ctl_state::laws::a_stable_sort_makes_the_order;
 use ctl_state::planning::{node_order, plan_job};
-use job_table::laws::jobs_run_on;
 use job_table::record::JobRecord;
 use node_state::record::NodeRecord;
 use partitions::bounds::bounds_of;
@@ -42,7 +41,7 @@ struct Candidate<'a> {
 // Whether the job waits, and nothing hinders it.
 fn is_candidate(cluster: &Cluster, tally: &Tally, job: &JobRecord) -> bool
     requires { Shows cluster.now.assocs.records tally.now (holding cluster.now.jobs.records) }
-    ensures { result ≡ Readiness.is_candidate (state_of cluster.now) job.now }
+    ensures { result ≡ Candidates.is_candidate (state_of cluster.now) job.now }
 {
     is_pending(job) && hindrance(cluster, tally, job).is_none()
 }
@@ -56,9 +55,9 @@ fn candidates_of<'a>(
 ) -> Result<Vec<Candidate<'a>>, Memory>
     requires counted { Shows cluster.now.assocs.records tally.now (holding cluster.now.jobs.records) }
     requires measured { IsMeasured (state_of cluster.now) factors.now }
-    ensures { IfOk result (λ some. map (λ one. (one.job.now, one.key)) some.items
-        ≡ map (Readiness.with_key (state_of cluster.now) factors.now.moment)
-        (filter (Readiness.is_candidate (state_of cluster.now)) cluster.now.jobs.records)) }
+    ensures { IfOk result (λ some. map {B = JobRecord × RankKey} (λ one. (one.job.now, one.key)) some.items
+        ≡ map (λ (job : JobRecord). (job, Rank.key_of (state_of cluster.now) factors.now.moment job))
+        (filter (Candidates.is_candidate (state_of cluster.now)) cluster.now.jobs.records)) }
 {
     let mut some = Vec::new(alloc);
     for job in cluster.jobs.records() {
@@ -93,7 +92,7 @@ fn by_rank<'a>(
     requires counted { Shows cluster.now.assocs.records tally.now (holding cluster.now.jobs.records) }
     requires measured { IsMeasured (state_of cluster.now) factors.now }
     ensures { IfOk result (λ some. map (λ one. one.job.now) some.items
-        ≡ Readiness.candidates (state_of cluster.now) factors.now.moment) }
+        ≡ Candidates.candidates (state_of cluster.now) factors.now.moment) }
 {
     let mut some = candidates_of(alloc, cluster, tally, factors)?;
     a_stable_sort_makes_the_order::<Candidate>();
@@ -118,7 +117,7 @@ fn node_orders(
 }
 
 // What a job needs in its partition, if it can be had there.
-#[tactic(auto, unfolding(crate::specs::Readiness::needs_of))]
+#[tactic(auto, unfolding(crate::specs::Candidates::needs_of))]
 fn need_of(
     alloc: Global,
     cluster: &Cluster,
@@ -127,7 +126,7 @@ fn need_of(
 ) -> Result<Option<PlanJob>, Memory>
     requires partitions { All (IsOnNodes (length cluster.now.nodes.records)) cluster.now.partitions }
     requires orders { orders.now ≡ map (Planning.node_order cluster.now.nodes.records) cluster.now.partitions }
-    ensures need { IfOk result (λ need. need ≡ Readiness.needs_of (state_of cluster.now) job.now) }
+    ensures need { IfOk result (λ need. need ≡ Candidates.needs_of (state_of cluster.now) job.now) }
     ensures nodes { IfOk result (λ need. IfSome need (λ plan.
         All (λ node. node < length cluster.now.nodes.records) plan.nodes)) }
     ensures tasks { IfOk result (λ need. IfSome need (λ plan. 1 ≤ plan.need.tasks)) }
@@ -153,7 +152,7 @@ fn needs_of(
     requires partitions { All (IsOnNodes (length cluster.now.nodes.records)) cluster.now.partitions }
     requires orders { orders.now ≡ map (Planning.node_order cluster.now.nodes.records) cluster.now.partitions }
     ensures ranked { IfOk result (λ ranked. ranked.items
-        ≡ filter_map (Readiness.needs_of (state_of cluster.now)) (map (λ one. one.job.now) candidates.now)) }
+        ≡ filter_map (Candidates.needs_of (state_of cluster.now)) (map (λ one. one.job.now) candidates.now)) }
     ensures nodes { IfOk result (λ ranked.
         All (λ (job : PlanJob). All (λ node. node < length cluster.now.nodes.records) job.nodes) ranked.items) }
     ensures tasks { IfOk result (λ ranked. All (λ (job : PlanJob). 1 ≤ job.need.tasks) ranked.items) }
@@ -167,12 +166,13 @@ fn needs_of(
     Ok(ranked)
 }
 
-/// What the jobs need that the pass plans at the factors' moment, highest in rank first. Linear in the jobs, and for each
-/// pending one in its association's way up to root and the nodes that it must have. The nodes of each partition are
-/// sorted once, and its candidates share them, so that a candidate that says nothing of its nodes costs no more; one
-/// that does costs the nodes of its partition, and for each of them what it names. What each candidate is ranked by is
-/// found once, and by that they are sorted.
-pub(crate) fn rank(
+/// What the candidates need, which are the pending jobs that nothing hinders, highest in rank at the factors' moment
+/// first. Linear in the jobs, and for each pending one in its association's way up to root and the nodes that it must
+/// have. The nodes of each partition are sorted once, and its candidates share them, so that a candidate that says
+/// nothing of its nodes costs no more; one that does costs the nodes of its partition, and for each of them what it
+/// names. What each candidate is ranked by is found once, and by that they are sorted.
+#[tactic(auto, unfolding(crate::specs::Candidates::ranked))]
+pub fn rank(
     alloc: Global,
     cluster: &Cluster,
     tally: &Tally,
@@ -182,13 +182,11 @@ pub(crate) fn rank(
     requires counted { Shows cluster.now.assocs.records tally.now (holding cluster.now.jobs.records) }
     requires measured { IsMeasured (state_of cluster.now) factors.now }
     ensures ranked { IfOk result (λ ranked. ranked.items
-        ≡ Readiness.ranked (Readiness.ready (state_of cluster.now) factors.now.moment) factors.now.moment) }
+        ≡ Candidates.ranked (state_of cluster.now) factors.now.moment) }
     ensures nodes { IfOk result (λ ranked.
         All (λ (job : PlanJob). All (λ node. node < length cluster.now.nodes.records) job.nodes) ranked.items) }
     ensures tasks { IfOk result (λ ranked. All (λ (job : PlanJob). 1 ≤ job.need.tasks) ranked.items) }
 {
-    jobs_run_on();
-    priorities_stay();
     let candidates = by_rank(alloc, cluster, tally, factors)?;
     let orders = node_orders(alloc, cluster.nodes.records(), cluster.partitions.records())?;
     needs_of(alloc, cluster, orders.as_slice(), candidates.as_slice())
@@ -206,14 +204,14 @@ fn is_higher(cluster: &Cluster, factors: &Factors, one: &JobRecord, other: &JobR
     )
 }
 
-/// The number of the candidate that is highest in rank at the factors' moment, None where there is no candidate. One walk
-/// over the jobs, which looks at what each pending one is ranked by; each that is higher than the candidates before it
-/// costs its association's way up to root and the nodes that it must have besides.
+/// The number of the candidate that is highest in rank at the factors' moment, None where there is no candidate. One
+/// walk over the jobs, which looks at what each pending one is ranked by; each that is higher than the candidates
+/// before it costs its association's way up to root and the nodes that it must have besides.
 pub fn highest(cluster: &Cluster, tally: &Tally, factors: &Factors) -> Option<u32>
     requires counted { Shows cluster.now.assocs.records tally.now (holding cluster.now.jobs.records) }
     requires measured { IsMeasured (state_of cluster.now) factors.now }
     ensures { result ≡ option_map (λ (job : JobRecord). job.id)
-        (slice_get (Readiness.candidates (state_of cluster.now) factors.now.moment) 0) }
+        (slice_get (Candidates.candidates (state_of cluster.now) factors.now.moment) 0) }
 {
     let mut highest: Option<&JobRecord> = None;
     for job in cluster.jobs.records() {

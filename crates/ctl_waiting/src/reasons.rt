@@ -6,7 +6,7 @@ ghost use Rattle.run_limits.specs.Limits.{first_reason, reason_if};
 ghost use Rattle.run_limits.specs.Tallies.{Shows};
 ghost use Rattle.ctl_state.specs.Counted.{holding};
 ghost use Rattle.ctl_state.specs.State.{partition_of, state_of};
-ghost use Rattle.ctl_pass.specs.Reasons;
+ghost use Rattle.ctl_waiting.specs.Reasons;
 
 use ctl_state::cluster::Cluster;
 use ctl_state::counting::counted_of;
@@ -71,7 +71,7 @@ fn most_tasks(job: &JobRecord) -> Option<u64>
 
 /// The limit that the job reaches beside the jobs that are counted; None where it reaches none. Linear in its
 /// association's way up to root.
-pub(crate) fn limit_reached(cluster: &Cluster, tally: &Tally, job: &JobRecord) -> Option<Reason>
+pub fn limit_reached(cluster: &Cluster, tally: &Tally, job: &JobRecord) -> Option<Reason>
     ensures { (jobs : List JobRecord) → Shows cluster.now.assocs.records tally.now (holding jobs)
         → result ≡ first_reason (Reasons.reached_beside (state_of cluster.now) jobs job.now) }
 {

@@ -5,10 +5,10 @@ use Rattle.std.proofs.lemmas.Bool.Decides.{nat_tests}
 use Rattle.std.proofs.lemmas.Fn.{always_returns_same}
 use Rattle.ctl_state.specs.State.{state_of}
 use Rattle.ctl_rank.specs.Rank.{is_above}
-use Rattle.ctl_pass.specs.declared.ranking.Candidate.{Candidate}
-use Rattle.ctl_pass.specs.Readiness.{candidates}
-use Rattle.ctl_pass.proofs.Ranks.{above-weak, order-by_keys}
-use Rattle.ctl_pass.proofs.ranking.by_rank.Goals as goal
+use Rattle.ctl_waiting.specs.declared.ranking.Candidate.{Candidate}
+use Rattle.ctl_waiting.specs.Candidates.{candidates}
+use Rattle.ctl_waiting.proofs.Orders.{above-weak, order-by_keys}
+use Rattle.ctl_waiting.proofs.ranking.by_rank.Goals as goal
 
 pub returns : goal.returns
 unfolding candidates

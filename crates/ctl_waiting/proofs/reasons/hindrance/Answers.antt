@@ -1,11 +1,11 @@
 use Rattle.std.proofs.Common.{◌≡◌, ◌∙◌, ap, rules}
 use Rattle.std.specs.Option.{option_or}
 use Rattle.ctl_state.specs.State.{partition_of, state_of}
-use Rattle.ctl_pass.specs.Reasons.{exceeds_wall, held_reason, hindrance, hindrances_in, lacks_node, reached_beside}
+use Rattle.ctl_waiting.specs.Reasons.{exceeds_wall, held_reason, hindrance, hindrances_in, lacks_node, reached_beside}
 use Rattle.run_limits.specs.Limits.{first_reason, reason_if}
-use Rattle.ctl_pass.proofs.FirstReason.{or-else, reasons-joined}
+use Rattle.ctl_waiting.proofs.FirstReason.{or-else, reasons-joined}
 use Rattle.slurm_text.specs.declared.plain.state.Reason.TheVariants.{QosMaxWallDurationPerJobLimit, ReqNodeNotAvail}
-use Rattle.ctl_pass.proofs.reasons.hindrance.Goals as goal
+use Rattle.ctl_waiting.proofs.reasons.hindrance.Goals as goal
 
 pub returns : goal.returns
 unfolding hindrance

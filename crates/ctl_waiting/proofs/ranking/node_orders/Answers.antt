@@ -1,6 +1,6 @@
 use Rattle.std.proofs.Common.{length, subst, sym}
 use Rattle.partitions.specs.Partitions.{IsOnNodes}
-use Rattle.ctl_pass.proofs.ranking.node_orders.Goals as goal
+use Rattle.ctl_waiting.proofs.ranking.node_orders.Goals as goal
 
 pub node_order-requires : goal.node_order-requires
 node_order-requires c =

@@ -2,9 +2,9 @@ use Rattle.std.proofs.Common.{◌≡◌, ◌≤◌, ◌<◌, All, length, map, t
 use Rattle.std.specs.List.{filter_map}
 use Rattle.backfill_planner.specs.declared.job.PlanJob.{PlanJob}
 use Rattle.ctl_state.specs.State.{state_of}
-use Rattle.ctl_pass.specs.declared.ranking.Candidate.{Candidate}
-use Rattle.ctl_pass.specs.Readiness.{needs_of}
-use Rattle.ctl_pass.proofs.ranking.needs_of.Given as goal
+use Rattle.ctl_waiting.specs.declared.ranking.Candidate.{Candidate}
+use Rattle.ctl_waiting.specs.Candidates.{needs_of}
+use Rattle.ctl_waiting.proofs.ranking.needs_of.Given as goal
 
 -- what the jobs so far need
 abbrev pub invariant-loop-candidate : goal.invariant-loop-candidate

@@ -4,16 +4,16 @@ use Rattle.std.proofs.lemmas.List.{take_all}
 use Rattle.std.proofs.lemmas.Bool.Decides.{nat_tests}
 use Rattle.job_table.specs.declared.record.JobRecord.{JobRecord}
 use Rattle.ctl_state.specs.State.{state_of}
-use Rattle.ctl_pass.proofs.Ranks.{highest-none, highest-more, highest-is}
-use Rattle.ctl_pass.proofs.ranking.highest.Goals as goal
+use Rattle.ctl_waiting.proofs.Orders.{highest-none, highest-more, highest-is}
+use Rattle.ctl_waiting.proofs.ranking.highest.Goals as goal
 
 pub loop-job-init : goal.loop-job-init
 loop-job-init c = sym (highest-none (state_of c.args.cluster.now) c.args.factors.now.moment)
 
 pub loop-job-preserved : goal.loop-job-preserved
 loop-job-preserved c =
-    let more = highest-more (state_of c.args.cluster.now) c.args.factors.now.moment c.loop-job.job-index c.job-item.result
-    (rw c.records-job-items.ensures.value at c.loop-job-test.true)
+    let more = highest-more (state_of c.args.cluster.now) c.args.factors.now.moment c.loop-job.job-index
+    c.job-item.result (rw c.records-job-items.ensures.value at c.loop-job-test.true)
     (rw c.records-job-items.ensures.value at c.job-item.is) in
     grind (arith, nat_tests, more)
 
@@ -30,4 +30,5 @@ returns c =
     let s = state_of c.args.cluster.now in
     let all = rw (take_all c.loop-job.job-index s.jobs (rw c.records-job-items.ensures.value at c.loop-job-test.false))
     at c.loop-job.invariant in
-    ap (option_map (λ (job : JobRecord). job.id)) (rw c.in_ok-highest.was at (all ∙ highest-is s c.args.factors.now.moment))
+    ap (option_map (λ (job : JobRecord). job.id))
+    (rw c.in_ok-highest.was at (all ∙ highest-is s c.args.factors.now.moment))

@@ -1,8 +1,8 @@
 use Rattle.std.proofs.Common.{◌≡◌, take}
 use Rattle.std.specs.Prelude.{option_copied}
 use Rattle.ctl_state.specs.State.{state_of}
-use Rattle.ctl_pass.proofs.Ranks.{highest_of}
-use Rattle.ctl_pass.proofs.ranking.highest.Given as goal
+use Rattle.ctl_waiting.proofs.Orders.{highest_of}
+use Rattle.ctl_waiting.proofs.ranking.highest.Given as goal
 
 -- the highest of the candidates so far
 abbrev pub invariant-loop-job : goal.invariant-loop-job

@@ -1,8 +1,9 @@
 use Rattle.std.proofs.Common.{◌≡◌, filter, map, take}
 use Rattle.ctl_state.specs.State.{state_of}
-use Rattle.ctl_pass.specs.declared.ranking.Candidate.{Candidate}
-use Rattle.ctl_pass.specs.Readiness.{is_candidate, with_key}
-use Rattle.ctl_pass.proofs.ranking.candidates_of.Given as goal
+use Rattle.ctl_waiting.specs.declared.ranking.Candidate.{Candidate}
+use Rattle.ctl_waiting.specs.Candidates.{is_candidate}
+use Rattle.ctl_waiting.proofs.Orders.{with_key}
+use Rattle.ctl_waiting.proofs.ranking.candidates_of.Given as goal
 
 -- the candidates so far
 abbrev pub invariant-loop-job : goal.invariant-loop-job

@@ -1,11 +1,10 @@
 use Rattle.std.proofs.Common.{length, ap, sym, arith}
 use Rattle.std.proofs.lemmas.List.{length-map}
-use Rattle.std.proofs.lemmas.Option.{slice_get_within}
+use Rattle.std.proofs.lemmas.Option.{get_or_from_slice_get, slice_get_within}
 use Rattle.partitions.specs.Partitions.{IsOnNodes}
 use Rattle.ctl_state.specs.Planning.{node_order}
-use Rattle.ctl_pass.proofs.Lists.{at-place}
-use Rattle.ctl_pass.proofs.Ranks.{order-at}
-use Rattle.ctl_pass.proofs.ranking.need_of.Goals as goal
+use Rattle.ctl_waiting.proofs.Needs.{order-at}
+use Rattle.ctl_waiting.proofs.ranking.need_of.Goals as goal
 
 pub bounds-orders-job : goal.bounds-orders-job
 bounds-orders-job c =
@@ -19,11 +18,17 @@ bounds-orders-job c =
 
 pub plan_job-requires-clause-there : goal.plan_job-requires-clause-there
 plan_job-requires-clause-there c =
-    let nodes = c.args.cluster.now.nodes.records in
-    rw c.records-nodes.ensures.value (at-place (IsOnNodes (length nodes)) c.args.cluster.now.partitions _ _
-    c.requires.partitions (sym c.in-Some.ensures))
+    let partitions = c.args.cluster.now.partitions in
+    let place = c.args.job.now.partition in
+    let partition = c.in-Some.partition.now in
+    let is = sym c.in-Some.ensures in
+    let on : IsOnNodes (length c.args.cluster.now.nodes.records) partition =
+    rw (get_or_from_slice_get partitions place partition partition is) at
+    (c.requires.partitions place partition (slice_get_within partitions place partition is)) in
+    rw c.records-nodes.ensures.value on
 
 pub plan_job-requires-clause-order : goal.plan_job-requires-clause-order
 plan_job-requires-clause-order c =
     rw c.records-nodes.ensures.value
-    (order-at c.args.cluster.now.nodes.records _ _ _ _ _ c.requires.orders (sym c.in-Some.ensures) c.index-orders-job.is)
+    (order-at c.args.cluster.now.nodes.records _ _ _ _ _ c.requires.orders (sym c.in-Some.ensures)
+    c.index-orders-job.is)

@@ -1,0 +1,3 @@
+pub mod FirstReason
+pub mod Orders
+pub mod Needs

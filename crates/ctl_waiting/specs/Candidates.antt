@@ -1,0 +1,31 @@
+-- The pending jobs that can be planned, highest in rank first, and what they need.
+use Rattle.std.specs.Prelude.{ℕ, Bool, ◌&&◌, is_none, List, filter, filter_map, Option, Some}
+use Rattle.slurm_text.specs.Options.{◌>>=◌}
+use Rattle.backfill_planner.specs.declared.job.PlanJob.{PlanJob}
+use Rattle.partitions.specs.Partitions.{bounds_of}
+use Rattle.job_table.specs.declared.record.JobRecord.{JobRecord}
+use Rattle.job_table.specs.JobStates.{is_pending}
+use Rattle.ctl_state.specs.Ordered.{ordered_by}
+use Rattle.ctl_state.specs.Planning.{plan_job}
+use Rattle.ctl_state.specs.State.{State, partition_of}
+use Rattle.ctl_rank.specs.Rank.{is_higher}
+use Rattle.ctl_waiting.specs.Reasons.{hindrance}
+
+-- a pending job can be planned where nothing hinders it
+abbrev pub is_candidate : State → JobRecord → Bool
+is_candidate s job = is_pending job.state && is_none (hindrance s job)
+
+-- the jobs that can be planned, highest in rank first
+unfoldable pub candidates : State → ℕ → List JobRecord
+candidates s now = ordered_by (is_higher s now) (filter (is_candidate s) s.jobs)
+
+-- what a job needs in its partition
+unfoldable pub needs_of : State → JobRecord → Option PlanJob
+needs_of s job = do
+  partition ← partition_of s job
+  bounds ← bounds_of partition job.desc
+  Some (plan_job s.nodes partition bounds job)
+
+-- what the candidates need
+unfoldable pub ranked : State → ℕ → List PlanJob
+ranked s now = filter_map (needs_of s) (candidates s now)
