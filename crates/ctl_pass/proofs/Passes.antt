@@ -304,6 +304,6 @@ given-passed readies plans starts s now sound raised in_time =
     (can-start_ready readies plans s now sound raised in_time) k d below due) [
       | inl has ↦ inl has
       | inr (stands, held) ↦
-          inr (stands, record { before = held.before; some = held.some; reached = held.reached })
+          inr (stands, record { before = held.before; some = held.some; waits = held.waits; reached = held.reached })
     ] in
     rw (← started-same s now now left.jobs left.jobs left.usage left.arrays [] (placements s now)) given

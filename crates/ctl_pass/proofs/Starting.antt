@@ -371,7 +371,13 @@ given-after s now before after start placed given due = elim (given due) [
   | inr (stands, held) ↦
       inr (
         stands,
-        record { before = suc held.before; some = omega (arith, held.some); reached = held.reached },
+        record {
+          before = suc held.before;
+          some = omega (arith, held.some);
+          waits = held.waits;
+          reached =
+              held.reached;
+        },
       )
 ]
 
@@ -389,7 +395,16 @@ all-given laws s jobs (placed ∷ later) can =
           let others = all-given laws s jobs later (can-later (beside s jobs) placed later can) in
           rw stays (All-cons (IsGiven s s.moment jobs (record rest { stays = placed ∷ rest.stays })) placed later
           (λ due. let held : may_start s jobs placed.id ≡ false = rw (eq-eqb placed.start s.moment due) at stays in
-          inr ((zero, omega arith, refl), record { before = 0; some = omega arith; reached = held }))
+          inr (
+            (zero, omega arith, refl),
+            record {
+              before = 0;
+              some = omega arith;
+              waits = (All-head (IsReady (beside s jobs)) placed later can.each).waits;
+              reached =
+                  held;
+            },
+          ))
           (λ k d below. given-behind s s.moment jobs rest placed (get_or later k d) (others k d below)))
       | inl goes ↦
           let due = (and_parts (eqb placed.start s.moment) (may_start s jobs placed.id) goes).0 in

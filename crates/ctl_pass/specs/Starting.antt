@@ -1,5 +1,5 @@
 -- What comes of a plan: the jobs that are planned at once start, the other placements stay.
-use Rattle.std.specs.Prelude.{◌≡◌, ℕ, ◌≤◌, Bool, false, ◌&&◌, nat_eq, is_none, if◌then◌else◌, List, [], ◌∷◌, map, fold, take, length, Option, Some, None}
+use Rattle.std.specs.Prelude.{◌≡◌, ℕ, ◌≤◌, Bool, false, ◌&&◌, nat_eq, is_none, if◌then◌else◌, List, [], ◌∷◌, map, fold, take, length, Option, Some, None, Contains}
 use Rattle.std.specs.List.{AllZip}
 use Rattle.slurm_text.specs.declared.plain.state.JobState.TheVariants.{Running}
 use Rattle.resource_profile.specs.declared.NodeRoom.{NodeRoom}
@@ -15,6 +15,7 @@ use Rattle.ctl_state.specs.State.{State}
 use Rattle.run_limits.specs.Limits.{first_reason}
 use Rattle.ctl_waiting.specs.Reasons.{reached_beside}
 use Rattle.ctl_state.specs.Holding.{free_ids, parts_of}
+use Rattle.ctl_state.specs.Soundness.{pending_ids}
 
 -- the start of a job
 pub record JobStart : Type 0 where
@@ -82,10 +83,11 @@ due s now jobs (placed ∷ later) =
     then placed ∷ due s now (begun_by s.nodes now jobs placed) later
     else due s now jobs later
 
--- after so many of these starts, the first ones, the job with this number reached a limit
+-- after so many of these starts, the first ones, the job with this number still waited, and reached a limit
 pub record WasHeldBack (s : State) (now : ℕ) (jobs : List JobRecord) (starts : List JobStart) (id : ℕ) : Type 0 where
   pub before : ℕ
   pub some : before ≤ length starts
+  pub waits : Contains (pending_ids (fold (begun now) jobs (take before starts))) id
   pub reached : may_start s (fold (begun now) jobs (take before starts)) id ≡ false
 
 -- the part has all that the share was planned
