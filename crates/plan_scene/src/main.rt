@@ -21,15 +21,29 @@ fn size_of(words: &[String]) -> Option<Size> {
     if words.len() != 9 {
         return None;
     }
+    let mut numbers = [0_u32; 8];
+    for (place, number) in numbers.iter_mut().enumerate() {
+        *number = words[place].parse::<u32>().ok()?;
+    }
+    let [
+        nodes,
+        processors,
+        running,
+        pending,
+        window,
+        tasks,
+        minutes,
+        unlimited,
+    ] = numbers;
     Some(Size {
-        nodes: words[0].parse::<u32>().ok()?,
-        processors: words[1].parse::<u32>().ok()?,
-        running: words[2].parse::<u32>().ok()?,
-        pending: words[3].parse::<u32>().ok()?,
-        window: words[4].parse::<u32>().ok()?,
-        tasks: words[5].parse::<u32>().ok()?,
-        minutes: words[6].parse::<u32>().ok()?,
-        unlimited: words[7].parse::<u32>().ok()?,
+        nodes,
+        processors,
+        running,
+        pending,
+        window,
+        tasks,
+        minutes,
+        unlimited,
         seed: words[8].parse::<u64>().ok()?,
     })
 }
