@@ -1,6 +1,7 @@
 -- The form of a line, which begins with a word, a dash and a name in single quotes.
 use Rattle.std.specs.Prelude.{ℕ, Bool, true, ◌==◌, nat_lt, if◌then◌else◌, List, [], ◌∷◌, Option, Some, None}
 use Rattle.std.specs.List.{list_all}
+use Rattle.std.specs.Str.{byte}
 use Rattle.slurm_text.specs.Name.{is_name}
 use Rattle.slurm_text.specs.Options.{◌>>=◌}
 use Rattle.assoc_values.specs.Cuts.{cut_at}
@@ -8,10 +9,10 @@ use Rattle.assoc_values.specs.Keys.{line_kind}
 use Rattle.assoc_values.specs.declared.keys.LineKind.{LineKind}
 use Rattle.assoc_reader.specs.declared.lines.LineForm.{LineForm}
 
--- an empty line and a comment, which begins with `#` (35), say nothing, whatever their bytes
+-- an empty line and a comment, which begins with `#`, say nothing, whatever their bytes
 abbrev pub is_skipped : List ℕ → Bool
 is_skipped [] = true
-is_skipped (b ∷ text) = b == 35
+is_skipped (b ∷ text) = b == byte "#"
 
 -- bytes of ASCII are below 128
 abbrev pub is_ascii : List ℕ → Bool
@@ -23,12 +24,12 @@ pub record Form : Type 0 where
   pub name : List ℕ
   pub rest : List ℕ
 
--- the form of a line; 39 is a single quote
+-- the form of a line
 unfoldable pub form_in : List ℕ → Option Form
 form_in text = do
-  beginning ← cut_at 39 text
+  beginning ← cut_at (byte "'") text
   kind ← line_kind beginning.0
-  quoted ← cut_at 39 beginning.1
+  quoted ← cut_at (byte "'") beginning.1
   if is_name quoted.0 then Some (record { kind = kind; name = quoted.0; rest = quoted.1 }) else None
 
 -- the form that the reader gives

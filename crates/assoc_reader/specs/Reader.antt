@@ -1,5 +1,6 @@
 -- What a file says: its lines one after the other.
 use Rattle.std.specs.Prelude.{ℕ, ◌+◌, nat_lt, Bool, true, false, if◌then◌else◌, List, [], ◌∷◌, ◌++◌, length, Option, Some, None, Result, Ok, Err, ok_or}
+use Rattle.std.specs.Str.{byte}
 use Rattle.slurm_text.specs.Assocs.{AssocView}
 use Rattle.slurm_text.specs.Fields.{fields}
 use Rattle.conf_values.specs.Refusal.{◌>>=◌}
@@ -95,8 +96,8 @@ whole_file draft =
     if draft.has_cluster then Ok (record { assocs = draft.tree.assocs; qos = with_normal draft.qos })
     else Err (At 0 NoCluster)
 
--- what the bytes of a file say, or its first fault; 10 is a line feed
+-- what the bytes of a file say, or its first fault
 unfoldable pub assocs_in : List ℕ → Result AssocView AssocRefusal
 assocs_in file =
     if nat_lt 4_194_304 (length file) then Err (At 0 OverLimit)
-    else (after_lines nothing_said 1 (fields 10 file) >>= whole_file)
+    else (after_lines nothing_said 1 (fields (byte "\n") file) >>= whole_file)

@@ -1,6 +1,7 @@
 //! A file, read line by line.
 
 ghost use Rattle.std.specs.Prelude.{ℕ, ◌≡◌, ◌≤◌, length, IfOk, IsErrOf, Ok, Err};
+ghost use Rattle.std.specs.Str.{byte};
 ghost use Rattle.slurm_text.specs.Fields.{fields};
 ghost use Rattle.assoc_values.specs.declared.refusal.AssocKind.{AssocKind};
 ghost use Rattle.assoc_reader.specs.Reader.{after_lines, nothing_said, whole_file, assocs_in};
@@ -36,10 +37,10 @@ pub fn read_assocs(alloc: Global, text: &[u8]) -> Result<AssocFile, AssocRefusal
 
 fn read_lines(alloc: Global, file: &[u8]) -> Result<Draft, AssocRefusal>
     requires { length file.now ≤ 4_194_304 }
-    ensures value { IfOk result (λ draft. after_lines nothing_said 1 (fields 10 file.now) ≡ Ok draft) }
+    ensures value { IfOk result (λ draft. after_lines nothing_said 1 (fields (byte "\n") file.now) ≡ Ok draft) }
     ensures refused { (line : ℕ) → (kind : AssocKind)
         → IsErrOf result (AssocRefusal.At line kind)
-        → after_lines nothing_said 1 (fields 10 file.now) ≡ Err (AssocRefusal.At line kind) }
+        → after_lines nothing_said 1 (fields (byte "\n") file.now) ≡ Err (AssocRefusal.At line kind) }
 {
     let mut draft = Draft::new(alloc);
     let mut rest = Some(file);

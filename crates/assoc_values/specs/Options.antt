@@ -1,18 +1,19 @@
 -- The options behind a line's name, with a colon before each.
 use Rattle.std.specs.Prelude.{ℕ, ◌+◌, ◌-◌, Bool, false, not, ◌&&◌, ◌==◌, nat_lt, nat_le, if◌then◌else◌, List, [], ◌∷◌, length, slice_index, slice_range, Option, Some, None, option_map, Result, Ok, ok_or}
 use Rattle.std.specs.List.{list_any, onto_first}
+use Rattle.std.specs.Str.{byte}
 use Rattle.conf_values.specs.Refusal.{◌>>=◌}
 use Rattle.assoc_values.specs.Cuts.{cut_at}
 use Rattle.assoc_values.specs.declared.refusal.AssocKind.{AssocKind}
 use Rattle.assoc_values.specs.declared.refusal.AssocKind.TheVariants.{BadLine, UnknownKey, BadValue}
 
--- whether a quote is open behind a byte; 39 is a single quote
+-- whether a quote is open behind a byte
 abbrev pub quoted_behind : Bool → ℕ → Bool
-quoted_behind quoted b = if b == 39 then not quoted else quoted
+quoted_behind quoted b = if b == byte "'" then not quoted else quoted
 
--- a colon (58) outside quotes ends an option
+-- a colon outside quotes ends an option
 abbrev pub ends_option : Bool → ℕ → Bool
-ends_option quoted b = not quoted && b == 58
+ends_option quoted b = not quoted && b == byte ":"
 
 -- the texts of options, which colons outside quotes part
 abbrev pub options_from : Bool → List ℕ → List (List ℕ)
@@ -39,11 +40,11 @@ text_left (Some text) = 1 + length text
 -- the options of what follows a name: nothing, or a colon and what stands behind it
 abbrev pub options_in : List ℕ → Option (List (List ℕ))
 options_in [] = Some []
-options_in (b ∷ text) = if b == 58 then Some (options_from false text) else None
+options_in (b ∷ text) = if b == byte ":" then Some (options_from false text) else None
 
 -- whether a text has a single quote
 abbrev pub has_quote : List ℕ → Bool
-has_quote text = list_any (λ b. b == 39) text
+has_quote text = list_any (λ b. b == byte "'") text
 
 -- a text between its first and its last byte
 abbrev pub between_ends : List ℕ → List ℕ
@@ -52,8 +53,8 @@ between_ends text = slice_range text 1 (length text - 1)
 -- whether a text has quotes as its first and last byte, and no others
 abbrev pub is_quoted : List ℕ → Bool
 is_quoted text =
-    nat_le 2 (length text) && (slice_index text 0 == 39
-    && (slice_index text (length text - 1) == 39 && not (has_quote (between_ends text))))
+    nat_le 2 (length text) && (slice_index text 0 == byte "'"
+    && (slice_index text (length text - 1) == byte "'" && not (has_quote (between_ends text))))
 
 -- a value is quoted whole or not at all
 unfoldable pub unquoted : List ℕ → Option (List ℕ)
@@ -74,9 +75,9 @@ abbrev pub pair_of_cut : Option (List ℕ × List ℕ) → Option (List ℕ × L
 pair_of_cut None = None
 pair_of_cut (Some parts) = pair_of_parts parts.0 parts.1
 
--- a key and its value, which the option's first equals sign (61) parts
+-- a key and its value, which the option's first equals sign parts
 unfoldable pub pair_in : List ℕ → Option (List ℕ × List ℕ)
-pair_in option = pair_of_cut (cut_at 61 option)
+pair_in option = pair_of_cut (cut_at (byte "=") option)
 
 -- what was said, with one more option
 unfoldable pub with_option : {K W : Type 0} → (List ℕ → Option K) → (W → K → List ℕ → Option W)

@@ -1,5 +1,6 @@
 -- What the options of a line say.
 use Rattle.std.specs.Prelude.{ℕ, Bool, if◌then◌else◌, List, [], ◌∷◌, bytes_eq, codes, Option, Some, None, option_map, Result}
+use Rattle.std.specs.Str.{byte}
 use Rattle.slurm_num.specs.Limits.{limit_of}
 use Rattle.slurm_text.specs.Fields.{fields}
 use Rattle.conf_values.specs.Values.{name_in, number_in, u32_in}
@@ -24,7 +25,7 @@ cpus_of parts = None
 
 -- 61 is an equals sign
 abbrev pub cpus_in : List ℕ → Option ℕ
-cpus_in text = cpus_of (fields 61 text)
+cpus_in text = cpus_of (fields (byte "=") text)
 
 -- what an option of an account or a user says takes the place of what an earlier one of its key did
 unfoldable pub with_assoc_value : AssocWords → AssocKey → List ℕ → Option AssocWords

@@ -1,21 +1,22 @@
 -- What stands behind the header line of a block: an attachment, and how it is read.
 use Rattle.std.specs.Prelude.{◌≡◌, ◌==◌, ◌&&◌, ℕ, ◌-◌, ◌<◌, ◌≤◌, Bool, true, false, if◌then◌else◌, Option, Some, None, List, [], ◌∷◌, ◌++◌, length, slice_index}
+use Rattle.std.specs.Str.{byte}
 
--- An attachment is lines, each ended by LF (10), of 65,536 bytes at the most.
+-- An attachment is lines, each ended by LF, of 65,536 bytes at the most.
 pub record IsAttachment (bytes : List ℕ) : Type 0 where
   -- its last byte, if it has any, is an LF
-  pub ended : 0 < length bytes → slice_index bytes (length bytes - 1) ≡ 10
+  pub ended : 0 < length bytes → slice_index bytes (length bytes - 1) ≡ byte "\n"
   pub fits : length bytes ≤ 65536
 
--- bytes, at the beginning of a line or within one, with one more dot (46) in front of each line that begins with a dot
+-- bytes, at the beginning of a line or within one, with one more dot in front of each line that begins with a dot
 abbrev pub dotted : Bool → List ℕ → List ℕ
 dotted begins [] = []
-dotted begins (byte ∷ bytes) = (if begins && byte == 46 then 46 ∷ [] else []) ++ byte ∷ dotted (byte == 10) bytes
+dotted begins (b ∷ bytes) = (if begins && b == byte "." then byte "." ∷ [] else []) ++ b ∷ dotted (b == byte "\n") bytes
 
 -- the lines behind the header line of a block; the last line of an attachment is a dot alone
 abbrev pub attachment_lines : Option (List ℕ) → List ℕ
 attachment_lines None = []
-attachment_lines (Some bytes) = dotted true bytes ++ 46 ∷ 10 ∷ []
+attachment_lines (Some bytes) = dotted true bytes ++ byte "." ∷ byte "\n" ∷ []
 
 -- where the next byte of an attachment stands
 pub data Place : Type 0 where
@@ -47,8 +48,8 @@ place_of false = InLine
 -- how a text is read from a place on
 unfoldable pub reading_at : Place → List ℕ → Reading
 reading_at at [] = Unended at []
-reading_at LineStart (byte ∷ bytes) =
-    if byte == 46 then reading_at FirstDot bytes else behind (byte ∷ []) (reading_at (place_of (byte == 10)) bytes)
-reading_at FirstDot (byte ∷ bytes) =
-    if byte == 10 then Ended [] else (if byte == 46 then behind (byte ∷ []) (reading_at InLine bytes) else Off)
-reading_at InLine (byte ∷ bytes) = behind (byte ∷ []) (reading_at (place_of (byte == 10)) bytes)
+reading_at LineStart (b ∷ bytes) =
+    if b == byte "." then reading_at FirstDot bytes else behind (b ∷ []) (reading_at (place_of (b == byte "\n")) bytes)
+reading_at FirstDot (b ∷ bytes) =
+    if b == byte "\n" then Ended [] else (if b == byte "." then behind (b ∷ []) (reading_at InLine bytes) else Off)
+reading_at InLine (b ∷ bytes) = behind (b ∷ []) (reading_at (place_of (b == byte "\n")) bytes)

@@ -2,14 +2,15 @@
 use Rattle.std.specs.Prelude.{◌≡◌, ◌≢◌, ◌==◌, ◌&&◌, ℕ, zero, suc, ◌+◌, ◌-◌, ◌<◌, ◌≤◌, Bool, true, false, nat_eq, nat_lt, nat_le, if◌then◌else◌, List, [], ◌∷◌, ◌++◌, length, take, drop, All, Option, Some, None, is_some, IfSome, codes}
 use Rattle.std.specs.List.{position_or_len, before_first, after_first, ends_with}
 use Rattle.std.specs.Option.{option_map_or}
+use Rattle.std.specs.Str.{byte}
 use Rattle.block_frame.specs.declared.block.Block.{Block}
 use Rattle.block_frame.specs.declared.form.Form.{Form}
 use Rattle.block_frame.specs.declared.form.Form.TheVariants.{Plain}
 use Rattle.block_frame.specs.Attachments.{IsAttachment, attachment_lines, LineStart, Reading, Ended, Unended, Off, reading_at}
 
--- A header line has 1 to 8,192 bytes, and no LF (10) is among them.
+-- A header line has 1 to 8,192 bytes, and no LF is among them.
 pub record IsHeaderLine (line : List ℕ) : Type 0 where
-  pub one_line : All (λ byte. byte ≢ 10) line
+  pub one_line : All (λ b. b ≢ byte "\n") line
   pub not_empty : 0 < length line
   pub fits : length line ≤ 8192
 
@@ -33,7 +34,7 @@ IsBlock Plain block = IsPlainBlock block
 
 -- the bytes of a block: the plain form ends the header line by LF
 abbrev pub spelled : Form → Block → List ℕ
-spelled Plain block = header_line block ++ 10 ∷ attachment_lines block.attachment
+spelled Plain block = header_line block ++ byte "\n" ∷ attachment_lines block.attachment
 
 -- no block of any form has more bytes: a header line, an attachment of lines that are a dot each, and the line that
 -- ends it
@@ -66,7 +67,7 @@ pub record IsBad (form : Form) (text : List ℕ) : Type 0 where
   pub no_block : ¬ BeginsWithBlock form text
 
 abbrev pub is_line_feed : ℕ → Bool
-is_line_feed byte = byte == 10
+is_line_feed b = b == byte "\n"
 
 -- a line of this length is a header line, and stands before the end of a text of that length
 abbrev pub is_header_len : ℕ → ℕ → Bool

@@ -1,6 +1,7 @@
 -- How a reader looks at the bytes at hand: line by line, and each byte once.
 use Rattle.std.specs.Prelude.{◌≡◌, ◌==◌, ◌&&◌, ℕ, ◌+◌, ◌-◌, ◌<◌, ◌≤◌, Bool, true, false, nat_le, nat_lt, if◌then◌else◌, Some, None, List, [], ◌∷◌, ◌++◌, length, take, drop}
 use Rattle.std.specs.List.{position_or_len, slice_range}
+use Rattle.std.specs.Str.{byte}
 use Rattle.block_frame.specs.declared.block.Block.{Block}
 use Rattle.block_frame.specs.declared.form.Form.TheVariants.{Plain}
 use Rattle.block_frame.specs.declared.lines.Kind.{Kind}
@@ -30,11 +31,11 @@ has_room room Off = false
 -- what a line behind a dot is
 abbrev pub kind_behind_dot : List ℕ → Kind
 kind_behind_dot [] = kind.Dot
-kind_behind_dot (byte ∷ bytes) = if byte == 46 then kind.Dotted else kind.Off
+kind_behind_dot (b ∷ bytes) = if b == byte "." then kind.Dotted else kind.Off
 
 abbrev pub kind_of : List ℕ → Kind
 kind_of [] = kind.Plain
-kind_of (byte ∷ bytes) = if byte == 46 then kind_behind_dot bytes else kind.Plain
+kind_of (b ∷ bytes) = if b == byte "." then kind_behind_dot bytes else kind.Plain
 
 -- what a line of this length is, if it stands for so many bytes and there is room for so many
 abbrev pub sized : ℕ → Bool → ℕ → ℕ → Seen
@@ -49,7 +50,7 @@ IsSeen room text (seen.Open searched) =
 IsSeen room text (seen.Line len size) =
     (bytes : List ℕ) × (reading_at LineStart (take (len + 1) text) ≡ Unended LineStart bytes)
     × (length bytes ≡ size) × (size ≤ room) × (len < length text)
-IsSeen room text seen.Last = text ≡ 46 ∷ 10 ∷ drop 2 text
+IsSeen room text seen.Last = text ≡ byte "." ∷ byte "\n" ∷ drop 2 text
 IsSeen room text (seen.Bad searched) =
     (has_room room (reading_at LineStart text) ≡ false) × (searched ≤ position_or_len is_line_feed text)
 
@@ -59,7 +60,7 @@ pub record IsUnderWay (text : List ℕ) (lines : Lines) : Type 0 where
   pub front : List ℕ
   pub rest : List ℕ
   pub bytes : List ℕ
-  pub cut : text ≡ line ++ 10 ∷ (front ++ rest)
+  pub cut : text ≡ line ++ byte "\n" ∷ (front ++ rest)
   pub is_line : IsHeaderLine line
   pub marked : is_marked line ≡ true
   pub read : reading_at LineStart front ≡ Unended LineStart bytes
@@ -77,7 +78,7 @@ IsScanned text (scan.Attachment lines) = IsUnderWay text lines
 -- lines of an attachment, from the beginning of a line or not, without the first dot of each
 abbrev pub undotted : Bool → List ℕ → List ℕ
 undotted begins [] = []
-undotted begins (byte ∷ bytes) = (if begins && byte == 46 then [] else byte ∷ []) ++ undotted (byte == 10) bytes
+undotted begins (b ∷ bytes) = (if begins && b == byte "." then [] else b ∷ []) ++ undotted (b == byte "\n") bytes
 
 -- the block of a header line of this length
 abbrev pub line_block : List ℕ → ℕ → Block

@@ -1,7 +1,7 @@
 -- What the words behind `report` tell.
 use Rattle.std.specs.Prelude.{ℕ, if◌then◌else◌, List, [], ◌∷◌, Option, Some, None, codes, map}
 use Rattle.std.specs.Option.{option_map}
-use Rattle.std.specs.Str.{bytes_eq}
+use Rattle.std.specs.Str.{bytes_eq, byte}
 use Rattle.slurm_text.specs.Fields.{fields}
 use Rattle.slurm_text.specs.Hosts.{all_some}
 use Rattle.slurm_text.specs.Options.{◌>>=◌}
@@ -33,12 +33,11 @@ done_of (id ∷ number ∷ exit ∷ []) = do
   Some (record { start = start; exit = e })
 done_of parts = None
 
--- 46 is a dot
 abbrev pub start_by : List ℕ → Option Start
-start_by text = start_of (fields 46 text)
+start_by text = start_of (fields (byte ".") text)
 
 abbrev pub done_by : List ℕ → Option Done
-done_by text = done_of (fields 46 text)
+done_by text = done_of (fields (byte ".") text)
 
 -- lists of these, where each member is good
 abbrev pub starts_by : List (List ℕ) → Option (List Start)
@@ -47,17 +46,17 @@ starts_by texts = all_some (map start_by texts)
 abbrev pub dones_by : List (List ℕ) → Option (List Done)
 dones_by texts = all_some (map done_by texts)
 
--- `run=LIST` and `done=LIST`, by their fields at an equals sign; the members stand between commas (44)
+-- `run=LIST` and `done=LIST`, by their fields at an equals sign; the members stand between commas
 unfoldable pub listed_of : List (List ℕ) → Option Listed
 listed_of (key ∷ list ∷ []) =
-    if bytes_eq key (codes "run") then option_map Running (starts_by (fields 44 list))
-    else (if bytes_eq key (codes "done") then option_map Over (dones_by (fields 44 list))
+    if bytes_eq key (codes "run") then option_map Running (starts_by (fields (byte ",") list))
+    else (if bytes_eq key (codes "done") then option_map Over (dones_by (fields (byte ",") list))
     else None)
 listed_of parts = None
 
 -- 61 is an equals sign
 unfoldable pub listed_by : List ℕ → Option Listed
-listed_by word = listed_of (fields 61 word)
+listed_by word = listed_of (fields (byte "=") word)
 
 -- a list takes the place of an earlier one of its kind
 abbrev pub with_listed : Named → Listed → Named

@@ -1,6 +1,7 @@
 -- Jobs and states that words name.
 use Rattle.std.specs.Prelude.{ℕ, nat_le, if◌then◌else◌, List, [], ◌∷◌, length, map, codes, bytes_eq, Option, Some, None, option_map}
 use Rattle.std.specs.Borrow.{Bor}
+use Rattle.std.specs.Str.{byte}
 use Rattle.slurm_text.specs.Fields.{fields}
 use Rattle.slurm_text.specs.Hosts.{all_some}
 use Rattle.slurm_text.specs.Options.{◌>>=◌}
@@ -20,15 +21,14 @@ target_of parts = None
 
 -- 95 is an underscore
 abbrev pub target_by : List ℕ → Option Target
-target_by text = target_of (fields 95 text)
+target_by text = target_of (fields (byte "_") text)
 
 -- a list has at most 1,024 members
 abbrev pub few : {X : Type 0} → List (List ℕ) → Option (List X) → Option (List X)
 few texts members = if nat_le (length texts) 1024 then members else None
 
--- 44 is a comma
 unfoldable pub targets_by : List ℕ → Option (List Target)
-targets_by text = few (fields 44 text) (all_some (map target_by (fields 44 text)))
+targets_by text = few (fields (byte ",") text) (all_some (map target_by (fields (byte ",") text)))
 
 -- the codes of the states. "JOB STATE CODES" in squeue(1)
 abbrev pub states : List (List ℕ × StateCode)
@@ -51,4 +51,4 @@ state_by text = state_among states text
 unfoldable pub states_by : List ℕ → Option (List StateCode)
 states_by text =
     if bytes_eq text (codes "all") then Some (map (λ row. row.1) states)
-    else few (fields 44 text) (all_some (map state_by (fields 44 text)))
+    else few (fields (byte ",") text) (all_some (map state_by (fields (byte ",") text)))

@@ -1,6 +1,7 @@
 //! Lists of members between commas.
 
 ghost use Rattle.std.specs.Prelude.{◌≡◌, ℕ, List, Option, map, IfOk};
+ghost use Rattle.std.specs.Str.{byte};
 ghost use Rattle.slurm_text.specs.Fields.{fields};
 ghost use Rattle.slurm_text.specs.Hosts.{all_some};
 ghost use Rattle.command_words.specs.Cut.{texts_of};
@@ -44,7 +45,7 @@ pub(crate) fn read_members<M: Member>(
 /// The members of a list between commas, where these are at most 1,024.
 pub(crate) fn read_few<M: Member>(alloc: Global, list: &[u8]) -> Result<Option<Items<M>>, Memory>
     ensures { IfOk result (λ members.
-        members ≡ few (fields 44 list.now) (all_some (map M.meaning (fields 44 list.now)))) }
+        members ≡ few (fields (byte ",") list.now) (all_some (map M.meaning (fields (byte ",") list.now)))) }
 {
     let texts = cut_at(alloc, list, b',')?;
     if texts.len() > MOST_MEMBERS {

@@ -1,5 +1,6 @@
 -- The logical lines of a configuration file.
 use Rattle.std.specs.Prelude.{ℕ, ◌+◌, ◌-◌, Bool, ◌==◌, if◌then◌else◌, List, [], ◌∷◌, ◌++◌, length, take, slice_index, Option, Some, None}
+use Rattle.std.specs.Str.{byte}
 use Rattle.slurm_text.specs.Fields.{fields_of_rest}
 use Rattle.conf_lines.specs.declared.lines.LineText.{LineText}
 use Rattle.conf_lines.specs.declared.lines.LineText.TheVariants.{Whole, Joined}
@@ -17,9 +18,9 @@ ends_with byte line = slice_index line (length line - 1) == byte
 abbrev pub without_last : List ℕ → List ℕ
 without_last line = take (length line - 1) line
 
--- a carriage return (13) at a line's end is dropped
+-- a carriage return at a line's end is dropped
 unfoldable pub without_return : List ℕ → List ℕ
-without_return line = if ends_with 13 line then without_last line else line
+without_return line = if ends_with (byte "\r") line then without_last line else line
 
 -- the last line has no line feed behind it, so that a carriage return stays there
 abbrev pub without_returns : List (List ℕ) → List (List ℕ)
@@ -32,16 +33,16 @@ abbrev pub joined : ℕ → List ℕ → List NumberedLine → List NumberedLine
 joined number piece [] = record { number = number; text = piece } ∷ []
 joined number piece (line ∷ lines) = record { number = number; text = piece ++ line.text } ∷ lines
 
--- the logical lines of lines from a number on: one that ends with a backslash (92) is joined with what follows
+-- the logical lines of lines from a number on: one that ends with a backslash is joined with what follows
 abbrev pub logical_from : ℕ → List (List ℕ) → List NumberedLine
 logical_from number [] = []
 logical_from number (line ∷ lines) =
-    if ends_with 92 line then joined number (without_last line) (logical_from (number + 1) lines)
+    if ends_with (byte "\\") line then joined number (without_last line) (logical_from (number + 1) lines)
     else record { number = number; text = line } ∷ logical_from (number + 1) lines
 
--- the logical lines of what is left of a file, and none where nothing is; 10 is a line feed
+-- the logical lines of what is left of a file, and none where nothing is
 unfoldable pub lines_of_rest : ℕ → Option (List ℕ) → List NumberedLine
-lines_of_rest number rest = logical_from number (without_returns (fields_of_rest 10 rest))
+lines_of_rest number rest = logical_from number (without_returns (fields_of_rest (byte "\n") rest))
 
 -- the logical lines of a file
 abbrev pub logical_lines : List ℕ → List NumberedLine

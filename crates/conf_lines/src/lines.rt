@@ -2,6 +2,7 @@
 
 ghost use Rattle.std.specs.Prelude.{ℕ, ◌≡◌, ◌≤◌, ◌<◌, ◌+◌, ◌∷◌, ◌++◌, length, if◌then◌else◌, IfOk, IfSome, Some, option_map, option_copied, MatchOption};
 ghost use Rattle.std.specs.Option.{option_len};
+ghost use Rattle.std.specs.Str.{byte};
 ghost use Rattle.slurm_text.specs.Fields.{fields, fields_of_rest};
 ghost use Rattle.conf_lines.specs.Lines.{ends_with, without_last, without_return, without_returns, joined, lines_of_rest, line_bytes, bytes_left};
 
@@ -57,7 +58,7 @@ fn without_return(line: &[u8]) -> &[u8]
 
 // What stands before a backslash at the line's end.
 fn before_backslash(line: &[u8]) -> Option<&[u8]>
-    ensures cut { option_copied result ≡ (if ends_with 92 line.now then Some (without_last line.now) else None) }
+    ensures cut { option_copied result ≡ (if ends_with (byte "\\") line.now then Some (without_last line.now) else None) }
     ensures size { IfSome result (λ front. length front.now ≤ length line.now) }
 {
     match line.split_last() {
@@ -69,8 +70,8 @@ fn before_backslash(line: &[u8]) -> Option<&[u8]>
 // The first line of a text, and what follows its line feed.
 #[tactic(auto, using(crate::proofs::LineLemmas::first_of_more, crate::proofs::LineLemmas::last_line, crate::proofs::LineLemmas::last_len))]
 fn cut_line(text: &[u8]) -> (&[u8], Option<&[u8]>)
-    ensures cut { without_returns (fields 10 text.now)
-        ≡ result.0.now ∷ without_returns (fields_of_rest 10 (option_copied result.1)) }
+    ensures cut { without_returns (fields (byte "\n") text.now)
+        ≡ result.0.now ∷ without_returns (fields_of_rest (byte "\n") (option_copied result.1)) }
     ensures size { length result.0.now + bytes_left (option_copied result.1) ≤ length text.now }
 {
     let (line, rest) = first_field(text, b'\n');

@@ -1,6 +1,7 @@
 //! Pairs: a key and a value with an equals sign between them.
 
 ghost use Rattle.std.specs.Prelude.{◌≡◌, ◌<◌, ◌≤◌, ◌==◌, length, position, IfSome, option_map, option_copied};
+ghost use Rattle.std.specs.Str.{byte};
 ghost use Rattle.conf_lines.specs.Pairs.{has_quote, is_key, unquoted, pair_in, pair_of, pair_of_parts};
 
 /// A key with its value.
@@ -23,7 +24,7 @@ pub fn read_pair(word: &[u8]) -> Option<KeyValue<'_>>
 }
 
 fn equals_sign(word: &[u8]) -> Option<usize>
-    ensures value { result ≡ position (λ b. b == 61) word.now }
+    ensures value { result ≡ position (λ b. b == byte "=") word.now }
     ensures inside { IfSome result (λ at. at < length word.now) }
 {
     word.iter().position(|b| *b == b'=')

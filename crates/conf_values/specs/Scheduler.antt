@@ -1,5 +1,6 @@
 -- The parameters of the scheduler.
 use Rattle.std.specs.Prelude.{ℕ, if◌then◌else◌, List, [], ◌∷◌, map, fold, bytes_eq, codes, Option, Some, None, option_map}
+use Rattle.std.specs.Str.{byte}
 use Rattle.slurm_text.specs.Fields.{fields}
 use Rattle.slurm_text.specs.Hosts.{all_some}
 use Rattle.conf_values.specs.Values.{number_in}
@@ -17,7 +18,7 @@ scheduler_item_of parts = None
 
 -- 61 is an equals sign
 abbrev pub scheduler_item : List ℕ → Option SchedulerItem
-scheduler_item text = scheduler_item_of (fields 61 text)
+scheduler_item text = scheduler_item_of (fields (byte "=") text)
 
 -- a parameter takes the place of an earlier one
 unfoldable pub with_item : Scheduler → SchedulerItem → Scheduler
@@ -27,6 +28,6 @@ with_item plans (Interval seconds) = record plans { interval = Some seconds }
 unfoldable pub no_items : Scheduler
 no_items = record { window = None; interval = None }
 
--- the parameters of the scheduler, between commas (44)
+-- the parameters of the scheduler, between commas
 unfoldable pub scheduler_in : List ℕ → Option Scheduler
-scheduler_in text = option_map (fold with_item no_items) (all_some (map scheduler_item (fields 44 text)))
+scheduler_in text = option_map (fold with_item no_items) (all_some (map scheduler_item (fields (byte ",") text)))

@@ -1,6 +1,6 @@
 -- The values of keys.
 use Rattle.std.specs.Prelude.{ℕ, ◌==◌, Bool, true, false, nat_le, if◌then◌else◌, List, map, codes, bytes_eq, Option, Some, None, is_some, option_map}
-use Rattle.std.specs.Str.{str_eq_ignore_ascii_case}
+use Rattle.std.specs.Str.{str_eq_ignore_ascii_case, byte}
 use Rattle.slurm_text.specs.Digits.{number_within}
 use Rattle.slurm_text.specs.Fields.{fields}
 use Rattle.slurm_text.specs.Hosts.{all_some, hosts_in, first_bad_item}
@@ -30,9 +30,9 @@ is_word word text = str_eq_ignore_ascii_case text word
 abbrev pub name_in : List ℕ → Option (List ℕ)
 name_in text = if is_name text then Some text else None
 
--- names between commas (44)
+-- names between commas
 unfoldable pub names_in : List ℕ → Option (List (List ℕ))
-names_in text = all_some (map name_in (fields 44 text))
+names_in text = all_some (map name_in (fields (byte ",") text))
 
 -- the nodes of a host expression
 unfoldable pub nodes_in : List ℕ → Option (List (List ℕ))

@@ -3,6 +3,7 @@
 ghost use Rattle.std.specs.Prelude.{◌≡◌, ◌<◌, ◌≤◌, ◌^◌, ◌+◌, ◌∷◌, [], ◌++◌, length, is_some, option_and_then, IsTrue, IsSome, IfOk, OnOk, unwrap_or, Some, None, replicate, fold, ℕ, List};
 ghost use Rattle.std.specs.Bool.{OnTrue, OnFalse};
 ghost use Rattle.std.specs.List.{list_all};
+ghost use Rattle.std.specs.Str.{byte};
 ghost use Rattle.small_texts.specs.Fields.{fields};
 ghost use Rattle.small_texts.specs.Name.{is_name};
 ghost use Rattle.indexmap.specs.declared.set.IndexSet.{IndexSet};
@@ -175,7 +176,7 @@ fn count_part(keys: &mut Keys, prefix: &[u8], part: &[u8]) -> bool
 
 /// Whether the parts of a bracket make names, and at most 1,024 of them, each counted once. It takes no memory.
 pub(crate) fn is_good_bracket(prefix: &[u8], inside: &[u8]) -> bool
-    ensures { result ≡ is_some (option_and_then few (made_by_parts prefix.now (fields 44 inside.now))) }
+    ensures { result ≡ is_some (option_and_then few (made_by_parts prefix.now (fields (byte ",") inside.now))) }
 {
     let mut keys = Keys::new();
     let mut rest = Some(inside);
@@ -246,9 +247,9 @@ pub(crate) fn make_bracket(
     prefix: &[u8],
     inside: &[u8],
 ) -> Result<(), Memory>
-    requires { IsSome (option_and_then few (made_by_parts prefix.now (fields 44 inside.now))) }
+    requires { IsSome (option_and_then few (made_by_parts prefix.now (fields (byte ",") inside.now))) }
     ensures { OnOk result (found.new.keys ≡ fold with_name found.old.keys
-        (unwrap_or (option_and_then few (made_by_parts prefix.now (fields 44 inside.now))) [])) }
+        (unwrap_or (option_and_then few (made_by_parts prefix.now (fields (byte ",") inside.now))) [])) }
 {
     let mut rest = Some(inside);
     while let Some(parts) = rest {

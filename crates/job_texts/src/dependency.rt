@@ -1,6 +1,7 @@
 //! What a job waits for.
 
 ghost use Rattle.std.specs.Prelude.{◌≡◌, ◌≤◌, nat_le, [], ◌∷◌, length, IsFalse, IfOk, IsErrOf, Some, None};
+ghost use Rattle.std.specs.Str.{byte};
 ghost use Rattle.slurm_text.specs.Fields.{fields};
 ghost use Rattle.job_texts.specs.Dependency.{u32_in, kind_in, id_in, item_naming, item_of, item_in, count_ids, dependency_in};
 
@@ -118,7 +119,7 @@ impl Part for DepItem {
 // An item that names jobs.
 #[tactic(auto, unfolding(crate::specs::Dependency::item_naming))]
 fn read_naming(alloc: Global, word: &[u8], ids: &[u8]) -> Result<Option<DepItem>, Memory>
-    ensures { IfOk result (λ item. item ≡ item_naming word.now (fields 58 ids.now)) }
+    ensures { IfOk result (λ item. item ≡ item_naming word.now (fields (byte ":") ids.now)) }
 {
     let Some(kind) = read_kind(word) else {
         return Ok(None);

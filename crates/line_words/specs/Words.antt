@@ -1,5 +1,6 @@
 -- How a line is split into words, and how words are written on a line.
-use Rattle.std.specs.Prelude.{ℕ, suc, min, Bool, true, false, not, ◌&&◌, ◌||◌, ◌==◌, if◌then◌else◌, Option, Some, None, List, [], ◌∷◌, ◌++◌, length, nat_lt, position, flat_map}
+use Rattle.std.specs.Prelude.{ℕ, suc, min, Bool, true, false, not, ◌&&◌, ◌||◌, ◌==◌, if◌then◌else◌, Option, Some, None, List, [], ◌∷◌, ◌++◌, length, nat_lt, position, flat_map, codes}
+use Rattle.std.specs.Str.{byte}
 use Rattle.std.specs.Char.{is_ascii_alphanumeric}
 use Rattle.std.specs.List.{list_all, list_any}
 use Rattle.small_texts.specs.Name.{is_printable}
@@ -8,42 +9,42 @@ use Rattle.line_words.specs.declared.words.Mode.TheVariants.{Between, Plain, Esc
 
 -- what a word is made of
 abbrev pub is_word_byte : ℕ → Bool
-is_word_byte b = is_printable b || b == 9
+is_word_byte b = is_printable b || b == byte "\t"
 
 abbrev pub are_words : List (List ℕ) → Bool
 are_words words = list_all (list_all is_word_byte) words
 
 -- blanks and tabs separate words
 abbrev pub is_blank : ℕ → Bool
-is_blank b = b == 32 || b == 9
+is_blank b = b == byte " " || b == byte "\t"
 
--- where a line stands behind a byte outside quotes: 39 is ', 34 is " and 92 is \
+-- where a line stands behind a byte outside quotes
 abbrev pub mode_outside : ℕ → Mode
 mode_outside b =
     if is_blank b
     then Between
-    else (if b == 39 then Single else (if b == 34 then Double else (if b == 92 then Escaped else Plain)))
+    else (if b == byte "'" then Single else (if b == byte "\"" then Double else (if b == byte "\\" then Escaped else Plain)))
 
 -- where a line stands behind a byte
 abbrev pub mode_after : Mode → ℕ → Mode
 mode_after Between b = mode_outside b
 mode_after Plain b = mode_outside b
 mode_after Escaped b = Plain
-mode_after Single b = if b == 39 then Plain else Single
-mode_after Double b = if b == 34 then Plain else (if b == 92 then DoubleEscaped else Double)
+mode_after Single b = if b == byte "'" then Plain else Single
+mode_after Double b = if b == byte "\"" then Plain else (if b == byte "\\" then DoubleEscaped else Double)
 mode_after DoubleEscaped b = Double
 
 abbrev pub written_outside : ℕ → List ℕ
-written_outside b = if is_blank b || (b == 39 || b == 34 || b == 92) then [] else b ∷ []
+written_outside b = if is_blank b || (b == byte "'" || b == byte "\"" || b == byte "\\") then [] else b ∷ []
 
 -- what a byte adds to its word
 abbrev pub written : Mode → ℕ → List ℕ
 written Between b = written_outside b
 written Plain b = written_outside b
 written Escaped b = b ∷ []
-written Single b = if b == 39 then [] else b ∷ []
-written Double b = if b == 34 || b == 92 then [] else b ∷ []
-written DoubleEscaped b = if b == 34 || b == 92 then b ∷ [] else 92 ∷ b ∷ []
+written Single b = if b == byte "'" then [] else b ∷ []
+written Double b = if b == byte "\"" || b == byte "\\" then [] else b ∷ []
+written DoubleEscaped b = if b == byte "\"" || b == byte "\\" then b ∷ [] else byte "\\" ∷ b ∷ []
 
 -- whether a word ends before the byte
 abbrev pub ends_word : Mode → ℕ → Bool
@@ -68,9 +69,9 @@ words_from mode (b ∷ text) =
 unfoldable pub words_in : List ℕ → List (List ℕ)
 words_in line = words_from Between line
 
--- whether a byte begins a comment: a # (35) where a word would begin
+-- whether a byte begins a comment: a # where a word would begin
 abbrev pub begins_comment : Mode → ℕ → Bool
-begins_comment Between b = b == 35
+begins_comment Between b = b == byte "#"
 begins_comment _ b = false
 
 -- what stands before a comment in what is left of a line
@@ -85,8 +86,8 @@ before_comment line = before_comment_from Between line
 
 -- whether a byte opens a quote, or is a backslash outside quotes
 abbrev pub opens : Mode → ℕ → Bool
-opens Between b = b == 39 || b == 34 || b == 92
-opens Plain b = b == 39 || b == 34 || b == 92
+opens Between b = b == byte "'" || b == byte "\"" || b == byte "\\"
+opens Plain b = b == byte "'" || b == byte "\"" || b == byte "\\"
 opens _ b = false
 
 -- whether a line may end
@@ -123,7 +124,7 @@ first_bad_word words = position (λ word. not (list_all is_word_byte word)) word
 abbrev pub is_bare_byte : ℕ → Bool
 is_bare_byte b = is_ascii_alphanumeric b || list_any (λ c. c == b) bare_marks where
   bare_marks : List ℕ
-  bare_marks = 95 ∷ 45 ∷ 46 ∷ 44 ∷ 61 ∷ 58 ∷ 47 ∷ 43 ∷ 37 ∷ 64 ∷ 91 ∷ 93 ∷ 38 ∷ 124 ∷ 63 ∷ []
+  bare_marks = codes "_-.,=:/+%@[]&|?"
 
 -- whether a word stands without quotes
 abbrev pub is_bare : List ℕ → Bool
@@ -131,13 +132,13 @@ is_bare word = nat_lt 0 (length word) && list_all is_bare_byte word
 
 -- a byte within double quotes
 abbrev pub double_quoted : ℕ → List ℕ
-double_quoted b = if b == 34 || b == 92 then 92 ∷ b ∷ [] else b ∷ []
+double_quoted b = if b == byte "\"" || b == byte "\\" then byte "\\" ∷ b ∷ [] else b ∷ []
 
 -- how a word is written
 unfoldable pub quoted : List ℕ → List ℕ
-quoted word = if is_bare word then word else 34 ∷ flat_map double_quoted word ++ 34 ∷ []
+quoted word = if is_bare word then word else byte "\"" ∷ flat_map double_quoted word ++ byte "\"" ∷ []
 
 -- how words are written: one blank between two neighbours
 unfoldable pub quoted_words : List (List ℕ) → List ℕ
 quoted_words [] = []
-quoted_words (word ∷ words) = quoted word ++ flat_map (λ w. 32 ∷ quoted w) words
+quoted_words (word ∷ words) = quoted word ++ flat_map (λ w. byte " " ∷ quoted w) words

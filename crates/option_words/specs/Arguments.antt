@@ -2,6 +2,7 @@
 use Rattle.std.specs.Prelude.{ℕ, ◌+◌, ◌==◌, Bool, false, if◌then◌else◌, List, [], ◌∷◌, take, drop, map, find, position, bytes_eq, codes, Option, Some, None, option_map}
 use Rattle.std.specs.Borrow.{Bor}
 use Rattle.std.specs.List.{cons_option}
+use Rattle.std.specs.Str.{byte}
 use Rattle.option_words.specs.declared.arguments.Takes.{Takes}
 use Rattle.option_words.specs.declared.arguments.Takes.TheVariants.{Nothing, Value, Maybe}
 use Rattle.option_words.specs.declared.arguments.Argument.{Argument}
@@ -39,9 +40,9 @@ is_letter letter (Some own) = own == letter
 abbrev pub lettered : {F V : Type 0} → Table F V → ℕ → Option (Takes F V)
 lettered table letter = option_map (λ row. row.2) (find (λ row. is_letter letter row.1) table)
 
--- whether a word begins with a dash (45) and goes on
+-- whether a word begins with a dash and goes on
 abbrev pub is_dashed : List ℕ → Bool
-is_dashed (mark ∷ next ∷ text) = mark == 45
+is_dashed (mark ∷ next ∷ text) = mark == byte "-"
 is_dashed word = false
 
 -- `--` ends the options
@@ -57,17 +58,17 @@ behind None text = None
 behind (Some place) text = Some (drop (place + 1) text)
 
 abbrev pub equals_place : List ℕ → Option ℕ
-equals_place text = position (λ b. b == 61) text
+equals_place text = position (λ b. b == byte "=") text
 
 abbrev pub unless_empty : List ℕ → Option (List ℕ)
 unless_empty [] = None
 unless_empty (b ∷ text) = Some (b ∷ text)
 
--- The option that a word with a dash names, and the value in that word: what stands behind `=` (61) of `--name=value`,
+-- The option that a word with a dash names, and the value in that word: what stands behind `=` of `--name=value`,
 -- or behind the letter of `-xvalue`.
 abbrev pub option_in : {F V : Type 0} → Table F V → List ℕ → Option (Takes F V) × Option (List ℕ)
 option_in table (mark ∷ next ∷ text) =
-    if next == 45 then (named table (up_to (equals_place text) text), behind (equals_place text) text)
+    if next == byte "-" then (named table (up_to (equals_place text) text), behind (equals_place text) text)
     else (lettered table next, unless_empty text)
 option_in table word = (None, None)
 

@@ -56,11 +56,11 @@ nice_number text = number_within 10 2_147_483_645 text
 abbrev pub raised : ℕ → Nice
 raised number = if number == 0 then Lower 0 else Raise number
 
--- a nice value, which a dash (45) makes negative
+-- a nice value, which a dash makes negative
 unfoldable pub nice_in : List ℕ → Option Nice
 nice_in [] = None
 nice_in (mark ∷ text) =
-    if mark == 45 then option_map raised (nice_number text) else option_map Lower (nice_number (mark ∷ text))
+    if mark == byte "-" then option_map raised (nice_number text) else option_map Lower (nice_number (mark ∷ text))
 
 -- the nodes of a host expression, of which there are at most 1,024
 unfoldable pub nodes_in : List ℕ → Option (List (List ℕ))

@@ -1,5 +1,6 @@
 -- The job that options describe.
 use Rattle.std.specs.Prelude.{ℕ, ◌*◌, max, nat_lt, Bool, false, if◌then◌else◌, List, [], ◌∷◌, length, codes, Option, Some, None, option_map, unwrap_or, Result, Ok, Err}
+use Rattle.std.specs.Str.{byte}
 use Rattle.slurm_text.specs.Fields.{fields}
 use Rattle.slurm_text.specs.Name.{is_job_name}
 use Rattle.slurm_text.specs.declared.plain.job.JobDesc.{JobDesc}
@@ -45,9 +46,9 @@ abbrev pub last_of : List ℕ → List (List ℕ) → List ℕ
 last_of part [] = part
 last_of part (next ∷ parts) = last_of next parts
 
--- what follows the last slash (47) of a path
+-- what follows the last slash of a path
 unfoldable pub last_part : List ℕ → List ℕ
-last_part path = last_of [] (fields 47 path)
+last_part path = last_of [] (fields (byte "/") path)
 
 -- the name of a job that has none of its own, by the word that names the script
 abbrev pub usual_name : Bool → Option (ℕ × List ℕ) → Result (List ℕ) JobRefusal

@@ -1,6 +1,7 @@
 -- What the lines of a script say.
 use Rattle.std.specs.Prelude.{ℕ, ◌+◌, Bool, true, false, ◌&&◌, ◌||◌, if◌then◌else◌, List, [], ◌∷◌, ◌++◌, drop, bytes_eq, nat_eq, codes, Option, Some, None, is_some, Err, ok_or}
 use Rattle.std.specs.List.{starts_with, list_all}
+use Rattle.std.specs.Str.{byte}
 use Rattle.slurm_text.specs.Fields.{fields}
 use Rattle.slurm_text.specs.Options.{◌>>=◌}
 use Rattle.slurm_text.specs.Words.{is_blank, before_comment, first_bad, words_in}
@@ -33,21 +34,21 @@ has_options line = starts_with nat_eq line (codes "#SBATCH") && begins_blank (dr
 abbrev pub has_run : List ℕ → Bool
 has_run line = starts_with nat_eq line (codes "#SIM") && begins_or_ends (drop 4 line)
 
--- what stands behind the key of `key=value`, by the fields at = (61)
+-- what stands behind the key of `key=value`, by the fields at =
 abbrev pub keyed : List ℕ → List (List ℕ) → Option (List ℕ)
 keyed key (name ∷ value ∷ []) = if bytes_eq name key then Some value else None
 keyed key _ = None
 
--- `#SIM run=SECONDS exit=CODE`, by the fields at blanks (32)
+-- `#SIM run=SECONDS exit=CODE`, by the fields at blanks
 unfoldable pub run_of : List (List ℕ) → Option Entry
 run_of (mark ∷ run ∷ exit ∷ []) = do
-  seconds ← keyed (codes "run") (fields 61 run) >>= number_in 1 2_000_000_000
-  code ← keyed (codes "exit") (fields 61 exit) >>= number_in 0 255
+  seconds ← keyed (codes "run") (fields (byte "=") run) >>= number_in 1 2_000_000_000
+  code ← keyed (codes "exit") (fields (byte "=") exit) >>= number_in 0 255
   if bytes_eq mark (codes "#SIM") then Some (Run seconds code) else None
 run_of _ = None
 
 abbrev pub run_says : ℕ → List ℕ → Said
-run_says number line = record { place = Line (told number); what = ok_or (run_of (fields 32 line)) BadValue }
+run_says number line = record { place = Line (told number); what = ok_or (run_of (fields (byte " ") line)) BadValue }
 
 -- the words of a text, where it is a list of words
 unfoldable pub split_text : List ℕ → Option (List (List ℕ))
@@ -82,6 +83,6 @@ abbrev pub script_lines_say : ℕ → List (List ℕ) → List Said
 script_lines_say now [] = []
 script_lines_say now (first ∷ lines) = first_says first ++ lines_say now 2 lines
 
--- what a script says, whose lines end at line feeds (10)
+-- what a script says, whose lines end at line feeds
 unfoldable pub script_says : ℕ → List ℕ → List Said
-script_says now script = script_lines_say now (fields 10 script)
+script_says now script = script_lines_say now (fields (byte "\n") script)

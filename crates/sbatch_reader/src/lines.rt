@@ -2,6 +2,7 @@
 
 ghost use Rattle.std.specs.Prelude.{◌≡◌, ◌∷◌, ◌++◌, [], true, false, drop, fold, option_copied, MatchOption, IfOk, OnOk};
 ghost use Rattle.std.specs.List.{list_all};
+ghost use Rattle.std.specs.Str.{byte};
 ghost use Rattle.slurm_text.specs.Fields.{fields, fields_of_rest};
 ghost use Rattle.slurm_text.specs.Words.{is_blank};
 ghost use Rattle.sbatch_reader.specs.Drafts.{after};
@@ -67,7 +68,7 @@ fn has_run(line: &[u8]) -> bool
 
 // The value of `key=value`.
 fn keyed<'a>(key: &[u8], text: &'a [u8]) -> Option<&'a [u8]>
-    ensures { option_copied result ≡ keyed key.now (fields 61 text.entry.now) }
+    ensures { option_copied result ≡ keyed key.now (fields (byte "=") text.entry.now) }
 {
     match up_to_three(text, b'=') {
         UpToThree::Two(name, value) => if name == key { Some(value) } else { None },
@@ -77,7 +78,7 @@ fn keyed<'a>(key: &[u8], text: &'a [u8]) -> Option<&'a [u8]>
 
 #[tactic(auto, unfolding(crate::specs::Lines::run_of))]
 fn read_run(line: &[u8]) -> Option<Entry>
-    ensures { result ≡ run_of (fields 32 line.now) }
+    ensures { result ≡ run_of (fields (byte " ") line.now) }
 {
     match up_to_three(line, b' ') {
         UpToThree::Three(mark, run, exit) => {
@@ -168,7 +169,7 @@ fn read_line(
 // Reads the lines behind the first one.
 fn read_lines(alloc: Global, rest: Option<&[u8]>, now: u64, draft: &mut Draft) -> Result<(), Memory>
     ensures { OnOk result (draft.new
-        ≡ fold after draft.old (lines_say now 2 (fields_of_rest 10 (option_copied rest.entry)))) }
+        ≡ fold after draft.old (lines_say now 2 (fields_of_rest (byte "\n") (option_copied rest.entry)))) }
 {
     let mut rest = rest;
     let mut number = 2;

@@ -1,6 +1,6 @@
 -- The texts of time limits, and what they mean.
 use Rattle.std.specs.Prelude.{ℕ, ◌+◌, ◌*◌, ◌/◌, ◌||◌, nat_le, ◌==◌, if◌then◌else◌, List, [], ◌∷◌, Option, None, Some, codes}
-use Rattle.std.specs.Str.{str_eq_ignore_ascii_case}
+use Rattle.std.specs.Str.{str_eq_ignore_ascii_case, byte}
 use Rattle.slurm_text.specs.Digits.{number_within}
 use Rattle.slurm_text.specs.Fields.{fields}
 use Rattle.slurm_text.specs.Options.{◌>>=◌}
@@ -47,17 +47,17 @@ seconds_of_day (hours ∷ minutes ∷ seconds ∷ []) = do
   Some (3600 * h + 60 * m + s)
 seconds_of_day _ = None
 
--- the seconds of a time, which has days where it has a dash (45); colons (58) part the rest
+-- the seconds of a time, which has days where it has a dash; colons part the rest
 unfoldable pub seconds_of_parts : List (List ℕ) → Option ℕ
-seconds_of_parts (time ∷ []) = seconds_of_clock (fields 58 time)
+seconds_of_parts (time ∷ []) = seconds_of_clock (fields (byte ":") time)
 seconds_of_parts (days ∷ time ∷ []) = do
   d ← count_of days
-  s ← seconds_of_day (fields 58 time)
+  s ← seconds_of_day (fields (byte ":") time)
   Some (86_400 * d + s)
 seconds_of_parts _ = None
 
 unfoldable pub seconds_of : List ℕ → Option ℕ
-seconds_of text = seconds_of_parts (fields 45 text)
+seconds_of text = seconds_of_parts (fields (byte "-") text)
 
 -- no minutes are no limit, and there are at most 52,560,000 of them
 unfoldable pub limit_of_minutes : ℕ → Option Limit

@@ -2,6 +2,7 @@
 
 ghost use Rattle.std.specs.Prelude.{◌≡◌, ◌<◌, ◌^◌, IfSome};
 ghost use Rattle.std.specs.Result.{result_ok};
+ghost use Rattle.std.specs.Str.{byte};
 ghost use Rattle.slurm_num.specs.Limits.{seconds_of_clock, seconds_of_day, seconds_of, limit_of};
 ghost use Rattle.slurm_text.specs.Fields.{fields};
 
@@ -68,7 +69,7 @@ fn parse_seconds(text: &[u8]) -> Option<u64>
 // The seconds of a time without days.
 #[tactic(auto, unfolding(crate::specs::Limits::seconds_of_clock))]
 fn parse_clock(text: &[u8]) -> Option<u64>
-    ensures value { result ≡ seconds_of_clock (fields 58 text.now) }
+    ensures value { result ≡ seconds_of_clock (fields (byte ":") text.now) }
     ensures small { IfSome result (λ seconds. seconds < 2 ^ 47) }
 {
     match up_to_three(text, b':') {
@@ -87,7 +88,7 @@ fn parse_clock(text: &[u8]) -> Option<u64>
 // The seconds of what follows the days.
 #[tactic(auto, unfolding(crate::specs::Limits::seconds_of_day))]
 fn parse_day(text: &[u8]) -> Option<u64>
-    ensures value { result ≡ seconds_of_day (fields 58 text.now) }
+    ensures value { result ≡ seconds_of_day (fields (byte ":") text.now) }
     ensures small { IfSome result (λ seconds. seconds < 86_400) }
 {
     match up_to_three(text, b':') {

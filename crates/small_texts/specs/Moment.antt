@@ -1,6 +1,6 @@
 -- Texts of moments, which are seconds since 1970-01-01T00:00:00 in UTC.
 use Rattle.std.specs.Prelude.{ℕ, ◌+◌, ◌*◌, ◌/◌, ◌%◌, ◌||◌, nat_le, ◌==◌, if◌then◌else◌, List, [], ◌∷◌, ◌++◌, length, Option, None, Some, codes}
-use Rattle.std.specs.Str.{bytes_eq}
+use Rattle.std.specs.Str.{bytes_eq, byte}
 use Rattle.small_texts.specs.Civil.{day_number, date_after}
 use Rattle.small_texts.specs.Digits.{number_within, leading_digits, after_digits, two_digits}
 use Rattle.small_texts.specs.Fields.{fields}
@@ -36,8 +36,8 @@ seconds_of_clock _ = None
 -- a date (its fields parted by 45, a dash) and a time of day (by 58, a colon)
 unfoldable pub civil_moment : List (List ℕ) → Option ℕ
 civil_moment (date ∷ clock ∷ []) = do
-  days ← day_of_date (fields 45 date)
-  seconds ← seconds_of_clock (fields 58 clock)
+  days ← day_of_date (fields (byte "-") date)
+  seconds ← seconds_of_clock (fields (byte ":") clock)
   Some (86_400 * days + seconds)
 civil_moment _ = None
 
@@ -71,7 +71,7 @@ up_to_last moment = if nat_le moment 250_000_000_000 then Some moment else None
 
 -- the moment that a text names, read at the moment `now`
 unfoldable pub moment_of : List ℕ → ℕ → Option ℕ
-moment_of text now = moment_of_parts now (fields 43 text) >>= λ moment. up_to_last moment
+moment_of text now = moment_of_parts now (fields (byte "+") text) >>= λ moment. up_to_last moment
 
 -- `YYYY-MM-DD`
 abbrev pub date_text : CivilDate → List ℕ

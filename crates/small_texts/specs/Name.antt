@@ -3,10 +3,11 @@ use Rattle.std.specs.Prelude.{ℕ, Bool, ◌&&◌, ◌||◌, ◌==◌, List, len
 use Rattle.std.specs.Char.{is_ascii_alphanumeric}
 use Rattle.std.specs.Int.{is_in_range}
 use Rattle.std.specs.List.{list_all}
+use Rattle.std.specs.Str.{byte}
 
--- a letter, a digit, '_' (95), '-' (45) or '.' (46)
+-- a letter, a digit, '_', '-' or '.'
 abbrev pub is_name_byte : ℕ → Bool
-is_name_byte b = is_ascii_alphanumeric b || (b == 95 || b == 45 || b == 46)
+is_name_byte b = is_ascii_alphanumeric b || (b == byte "_" || b == byte "-" || b == byte ".")
 
 -- a blank, or a byte of ASCII that prints
 abbrev pub is_printable : ℕ → Bool

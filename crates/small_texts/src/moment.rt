@@ -2,6 +2,7 @@
 
 ghost use Rattle.std.specs.Prelude.{◌≡◌, ℕ, ◌/◌, ◌<◌, ◌≤◌, Some, IfSome, IfOk};
 ghost use Rattle.std.specs.Result.{result_ok};
+ghost use Rattle.std.specs.Str.{byte};
 ghost use Rattle.small_texts.specs.Fields.{fields};
 ghost use Rattle.small_texts.specs.Moment.{number_of_width, day_of_date, seconds_of_clock, civil_moment, unit_of, wait_of, up_to_last, moment_of, moment_text};
 ghost use Rattle.small_texts.specs.Civil.{date_after, IsDateAfter};
@@ -141,7 +142,7 @@ fn parse_civil(text: &[u8]) -> Option<u64>
 // The day number of a date.
 #[tactic(auto, unfolding(crate::specs::Moment::day_of_date))]
 fn parse_date(text: &[u8]) -> Option<u64>
-    ensures value { result ≡ day_of_date (fields 45 text.now) }
+    ensures value { result ≡ day_of_date (fields (byte "-") text.now) }
     ensures bound { IfSome result (λ day. day ≤ 2_932_896) }
 {
     match up_to_three(text, b'-') {
@@ -157,7 +158,7 @@ fn parse_date(text: &[u8]) -> Option<u64>
 // The seconds of a time of day.
 #[tactic(auto, unfolding(crate::specs::Moment::seconds_of_clock))]
 fn parse_clock(text: &[u8]) -> Option<u64>
-    ensures value { result ≡ seconds_of_clock (fields 58 text.now) }
+    ensures value { result ≡ seconds_of_clock (fields (byte ":") text.now) }
     ensures bound { IfSome result (λ seconds. seconds < 86_400) }
 {
     match up_to_three(text, b':') {

@@ -1,5 +1,6 @@
 -- What becomes of a table.
 use Rattle.std.specs.Prelude.{◌≡◌, ℕ, List, [], ◌∷◌, ◌++◌}
+use Rattle.std.specs.Str.{byte}
 
 -- the text goes on with the line, and with something behind it
 abbrev pub IsTold : List ℕ → List ℕ → List ℕ → Type 0
@@ -9,4 +10,4 @@ IsTold line before text = (behind : List ℕ) × (text ≡ before ++ (line ++ be
 abbrev pub AreTold : List (List ℕ) → List ℕ → Type 0
 AreTold [] text = text ≡ []
 AreTold (line ∷ later) text =
-    (behind : List ℕ) × (rest : List ℕ) × (text ≡ line ++ (behind ++ 10 ∷ rest)) × AreTold later rest
+    (behind : List ℕ) × (rest : List ℕ) × (text ≡ line ++ (behind ++ byte "\n" ∷ rest)) × AreTold later rest

@@ -1,11 +1,12 @@
 -- Words as one writes them on a line, piece by piece: "Quoting" in sh(1). 34 is ", 39 is ' and 92 is \.
 use Rattle.std.specs.Prelude.{ℕ, ◌≡◌, ◌≢◌, Bool, not, true, ◌||◌, ◌==◌, None, List, [], ◌∷◌, ◌++◌, map, flat_map}
 use Rattle.std.specs.List.{list_all}
+use Rattle.std.specs.Str.{byte}
 use Rattle.line_words.specs.Words.{is_blank, words_in, open_place}
 
 -- a double quote or a backslash, before which a backslash within double quotes is a mark
 abbrev pub is_marked : ℕ → Bool
-is_marked b = b == 34 || b == 92
+is_marked b = b == byte "\"" || b == byte "\\"
 
 -- what stands within double quotes: a byte for itself; a backslash that marks the next byte; a backslash before a byte
 -- that it doesn't mark, where both stand for themselves
@@ -21,13 +22,13 @@ is_item (Both b) = not (is_marked b)
 
 abbrev pub item_written : Item → List ℕ
 item_written (Itself b) = b ∷ []
-item_written (Marked b) = 92 ∷ b ∷ []
-item_written (Both b) = 92 ∷ b ∷ []
+item_written (Marked b) = byte "\\" ∷ b ∷ []
+item_written (Both b) = byte "\\" ∷ b ∷ []
 
 abbrev pub item_meant : Item → List ℕ
 item_meant (Itself b) = b ∷ []
 item_meant (Marked b) = b ∷ []
-item_meant (Both b) = 92 ∷ b ∷ []
+item_meant (Both b) = byte "\\" ∷ b ∷ []
 
 -- a piece of a word: a byte by itself; a byte behind a backslash; what stands within single or double quotes
 pub data Piece : Type 0 where
@@ -38,16 +39,16 @@ pub data Piece : Type 0 where
 
 -- a byte by itself is no blank, quote or backslash; there is no way to have a single quote within single quotes
 abbrev pub is_piece : Piece → Bool
-is_piece (Bare b) = not (is_blank b || (b == 39 || b == 34 || b == 92))
+is_piece (Bare b) = not (is_blank b || (b == byte "'" || b == byte "\"" || b == byte "\\"))
 is_piece (Escaped b) = true
-is_piece (Single bytes) = list_all (λ b. not (b == 39)) bytes
+is_piece (Single bytes) = list_all (λ b. not (b == byte "'")) bytes
 is_piece (Double items) = list_all is_item items
 
 abbrev pub piece_written : Piece → List ℕ
 piece_written (Bare b) = b ∷ []
-piece_written (Escaped b) = 92 ∷ b ∷ []
-piece_written (Single bytes) = 39 ∷ bytes ++ 39 ∷ []
-piece_written (Double items) = 34 ∷ flat_map item_written items ++ 34 ∷ []
+piece_written (Escaped b) = byte "\\" ∷ b ∷ []
+piece_written (Single bytes) = byte "'" ∷ bytes ++ byte "'" ∷ []
+piece_written (Double items) = byte "\"" ∷ flat_map item_written items ++ byte "\"" ∷ []
 
 abbrev pub piece_meant : Piece → List ℕ
 piece_meant (Bare b) = b ∷ []
