@@ -25,19 +25,18 @@ fn nodes(alloc: Global, text: &[u8], count: usize) -> Result<NodeList, Unanswere
 
 // `all`, `5n` for each node or `1000c` for each processor.
 fn mem_ask(text: &[u8]) -> Result<MemAsk, Unanswered> {
-    let Some((unit, digits)) = text.split_last() else {
-        return Err(Unanswered::Arguments);
-    };
     if text == b"all".as_slice() {
         return Ok(MemAsk::All);
     }
-    let megabytes = number(digits)?;
-    if megabytes == 0 || megabytes > 16_777_216 {
+    let Some((unit, digits)) = text.split_last() else {
         return Err(Unanswered::Arguments);
-    }
+    };
+    let Some(megabytes) = Ranged::try_new(number(digits)?) else {
+        return Err(Unanswered::Arguments);
+    };
     match unit {
-        b'n' => Ok(MemAsk::PerNode(Ranged::new(megabytes))),
-        b'c' => Ok(MemAsk::PerCpu(Ranged::new(megabytes))),
+        b'n' => Ok(MemAsk::PerNode(megabytes)),
+        b'c' => Ok(MemAsk::PerCpu(megabytes)),
         _ => Err(Unanswered::Arguments),
     }
 }
@@ -47,26 +46,20 @@ fn seconds(text: &[u8]) -> Result<Option<Ranged<1, 3153600000>>, Unanswered> {
     if text == b"-".as_slice() {
         return Ok(None);
     }
-    let seconds = number(text)?;
-    if seconds == 0 || seconds > 3_153_600_000 {
-        return Err(Unanswered::Arguments);
+    match Ranged::try_new(number(text)?) {
+        Some(seconds) => Ok(Some(seconds)),
+        None => Err(Unanswered::Arguments),
     }
-    Ok(Some(Ranged::new(seconds)))
 }
 
 fn cpus(text: &[u8]) -> Result<Ranged<1, 1024>, Unanswered> {
-    let cpus = number(text)?;
-    if cpus == 0 || cpus > 1024 {
-        return Err(Unanswered::Arguments);
-    }
-    Ok(Ranged::new(cpus))
+    Ranged::try_new(number(text)?).ok_or(Unanswered::Arguments)
 }
 
-// `ID/TASKS/LEAST/MOST/REQUIRED/CPUS/PER_NODE/MEM/whole or shared/NODES/SECONDS`.
-fn job(alloc: Global, text: &[u8], count: usize) -> Result<PlanJob, Unanswered>
+// The words of a job.
+fn job_of(alloc: Global, words: &[&[u8]], count: usize) -> Result<PlanJob, Unanswered>
     ensures { IfOk result (λ job. All (λ node. node < count) job.nodes) }
 {
-    let words = parts(alloc, text, b'/')?;
     let [
         id,
         tasks,
@@ -79,20 +72,34 @@ fn job(alloc: Global, text: &[u8], count: usize) -> Result<PlanJob, Unanswered>
         room,
         places,
         limit,
-    ] = *words.as_slice()
+    ] = *words
     else {
         return Err(Unanswered::Arguments);
     };
+    let id = narrow_number(id)?;
+    let per_node = narrow_number(per_node)?;
+    let need = need(alloc, &[tasks, least, most, required])?;
+    let cpus_per_task = cpus(per_task)?;
+    let mem_ask = mem_ask(mem)?;
+    let seconds = seconds(limit)?;
+    let nodes = nodes(alloc, places, count)?;
     Ok(PlanJob {
-        id: narrow_number(id)?,
-        need: need(tasks, least, most, required)?,
-        cpus_per_task: cpus(per_task)?,
-        per_node: narrow_number(per_node)?,
-        mem_ask: mem_ask(mem)?,
+        id,
+        need,
+        cpus_per_task,
+        per_node,
+        mem_ask,
         exclusive: room == b"whole".as_slice(),
-        nodes: nodes(alloc, places, count)?,
-        seconds: seconds(limit)?,
+        nodes,
+        seconds,
     })
+}
+
+// `ID/TASKS/LEAST/MOST/REQUIRED/CPUS/PER_NODE/MEM/whole or shared/NODES/SECONDS`.
+fn job(alloc: Global, text: &[u8], count: usize) -> Result<PlanJob, Unanswered>
+    ensures { IfOk result (λ job. All (λ node. node < count) job.nodes) }
+{
+    job_of(alloc, parts(alloc, text, b'/')?.as_slice(), count)
 }
 
 /// Jobs of so many nodes.
