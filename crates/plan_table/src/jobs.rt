@@ -2,12 +2,13 @@
 ghost use Rattle.std.specs.Prelude.{◌<◌, All, IfOk};
 ghost use Rattle.backfill_planner.specs.declared.job.PlanJob.{PlanJob};
 
-use crate::picks::need;
+use crate::numbers::narrow_row;
 use backfill_planner::{MemAsk, NodeList, PlanJob};
+use node_pick::Need;
 use slurm_text::ranged::Ranged;
 use std::alloc::Global;
 use table_lines::answer::Unanswered;
-use table_lines::fields::{narrow_number, narrow_numbers, number, parts};
+use table_lines::fields::{narrow_numbers, number, parts};
 
 // Some of so many nodes, each once, as `0+1`.
 fn nodes(alloc: Global, text: &[u8], count: usize) -> Result<NodeList, Unanswered>
@@ -52,40 +53,36 @@ fn seconds(text: &[u8]) -> Result<Option<Ranged<1, 3153600000>>, Unanswered> {
     }
 }
 
-fn cpus(text: &[u8]) -> Result<Ranged<1, 1024>, Unanswered> {
-    Ranged::try_new(number(text)?).ok_or(Unanswered::Arguments)
-}
-
 // The words of a job.
 fn job_of(alloc: Global, words: &[&[u8]], count: usize) -> Result<PlanJob, Unanswered>
     ensures { IfOk result (λ job. All (λ node. node < count) job.nodes) }
 {
-    let [
-        id,
-        tasks,
-        least,
-        most,
-        required,
-        per_task,
-        per_node,
-        mem,
-        room,
-        places,
-        limit,
-    ] = *words
-    else {
+    if words.len() != 11 {
+        return Err(Unanswered::Arguments);
+    }
+    let (numbers, others) = words.split_at(7);
+    let [id, tasks, least, most, required, per_task, per_node] = *narrow_row(
+        alloc, numbers,
+    )?.as_slice() else {
         return Err(Unanswered::Arguments);
     };
-    let id = narrow_number(id)?;
-    let per_node = narrow_number(per_node)?;
-    let need = need(alloc, &[tasks, least, most, required])?;
-    let cpus_per_task = cpus(per_task)?;
+    let [mem, room, places, limit] = *others else {
+        return Err(Unanswered::Arguments);
+    };
+    let Some(cpus_per_task) = Ranged::try_new(u64::from(per_task)) else {
+        return Err(Unanswered::Arguments);
+    };
     let mem_ask = mem_ask(mem)?;
     let seconds = seconds(limit)?;
     let nodes = nodes(alloc, places, count)?;
     Ok(PlanJob {
         id,
-        need,
+        need: Need {
+            tasks,
+            least,
+            most,
+            required,
+        },
         cpus_per_task,
         per_node,
         mem_ask,

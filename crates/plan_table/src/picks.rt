@@ -16,8 +16,8 @@ fn dealt_text(alloc: Global, dealt: &[Dealt]) -> Result<Vec<u8>, Unanswered> {
     Ok(out)
 }
 
-/// The tasks, and the least, the most and the required places.
-pub fn need(alloc: Global, words: &[&[u8]]) -> Result<Need, Unanswered> {
+// The tasks, and the least, the most and the required places.
+fn need(alloc: Global, words: &[&[u8]]) -> Result<Need, Unanswered> {
     let [tasks, least, most, required] = *narrow_row(alloc, words)?.as_slice() else {
         return Err(Unanswered::Arguments);
     };

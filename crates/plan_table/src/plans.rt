@@ -20,14 +20,16 @@ fn push_shares(out: &mut Vec<u8>, shares: &[Share]) -> Result<(), Unanswered> {
     Ok(())
 }
 
-// `ID@START`, and its parts, of each job that has a start.
-fn push_placements(out: &mut Vec<u8>, placements: &[Placed]) -> Result<(), Unanswered> {
+// `ID@START`, and its parts, of each job that has a start, and then the steps.
+fn plan_text(alloc: Global, placements: &[Placed], steps: u64) -> Result<Vec<u8>, Unanswered> {
+    let mut out = Vec::new(alloc);
     for placed in placements {
         let (id, start) = (placed.id, placed.start);
-        push(out, &format_args!("{id}@{start} "))?;
-        push_shares(out, placed.parts.as_slice())?;
+        push(&mut out, &format_args!("{id}@{start} "))?;
+        push_shares(&mut out, placed.parts.as_slice())?;
     }
-    Ok(())
+    push(&mut out, &format_args!("in {steps}"))?;
+    Ok(out)
 }
 
 /// What a plan begins with: the rooms with what the profile has of holds.
@@ -63,14 +65,6 @@ pub fn planned(
     let mut steps = start();
     let planned = plan_jobs(alloc, base, ranked, now, &mut steps)?;
     Ok((planned, steps.count()))
-}
-
-// `PLACEMENTS in STEPS`.
-fn plan_text(alloc: Global, placements: &[Placed], steps: u64) -> Result<Vec<u8>, Unanswered> {
-    let mut out = Vec::new(alloc);
-    push_placements(&mut out, placements)?;
-    push(&mut out, &format_args!("in {steps}"))?;
-    Ok(out)
 }
 
 // What the plan of a line begins with.

@@ -90,12 +90,15 @@ fn try_holds(
     alloc: Global,
     profile: &mut Profile,
     rooms: &[NodeRoom],
-    holds: &[&[u8]],
+    holds: &[u8],
 ) -> Result<(), Unanswered>
     requires { profile.old.rooms ≡ rooms.now }
     ensures { profile.new.rooms ≡ profile.old.rooms }
 {
-    for text in holds {
+    if holds.is_empty() {
+        return Ok(());
+    }
+    for text in &parts(alloc, holds, b',')? {
         let hold = hold(alloc, text)?;
         try_hold(profile, rooms, &hold)?;
     }
@@ -107,11 +110,7 @@ pub fn held(alloc: Global, rooms: &[NodeRoom], holds: &[u8]) -> Result<Profile, 
     ensures { IfOk result (λ profile. profile.rooms ≡ rooms.now) }
 {
     let mut profile = Profile::new(alloc, rooms)?;
-    if holds.is_empty() {
-        return Ok(profile);
-    }
-    let holds = parts(alloc, holds, b',')?;
-    try_holds(alloc, &mut profile, rooms, holds.as_slice())?;
+    try_holds(alloc, &mut profile, rooms, holds)?;
     Ok(profile)
 }
 
@@ -120,40 +119,29 @@ fn profile_of(alloc: Global, rooms_text: &[u8], holds: &[u8]) -> Result<Profile,
     held(alloc, rooms.as_slice(), holds)
 }
 
-// The least that is free of a node over a window, as processors and megabytes.
+// The least that is free of a node over a window, as `CPUS/MEM`.
 fn least_free(
+    alloc: Global,
     profile: &Profile,
     node: &[u8],
     from: &[u8],
     until: &[u8],
-) -> Result<(u32, u64), Unanswered> {
+) -> Result<Vec<u8>, Unanswered> {
     let (node, from, until) = window(node, from, until)?;
     if until <= from {
         return Err(Unanswered::Arguments);
     }
-    Ok(profile.free_min(node, from, until))
-}
-
-// `CPUS/MEM`.
-fn sizes_text(alloc: Global, sizes: (u32, u64)) -> Result<Vec<u8>, Unanswered> {
-    let (cpus, mem) = sizes;
+    let (cpus, mem) = profile.free_min(node, from, until);
     taken(alloc, &format_args!("{cpus}/{mem}"))
 }
 
-fn rise_text(alloc: Global, rise: Option<u64>) -> Result<Vec<u8>, Unanswered> {
-    match rise {
-        Some(end) => taken(alloc, &end),
-        None => taken(alloc, &"none"),
-    }
-}
-
-/// The least that is free of a node over a window, as `CPUS/MEM`: the words are rooms, holds, the node, and the window.
+/// The least that is free of a node over a window, as text: the words are rooms, holds, the node, and the window.
 pub fn free(alloc: Global, words: &[&[u8]]) -> Result<Vec<u8>, Unanswered> {
     let [rooms_text, holds, node, from, until] = *words else {
         return Err(Unanswered::Arguments);
     };
     let profile = profile_of(alloc, rooms_text, holds)?;
-    sizes_text(alloc, least_free(&profile, node, from, until)?)
+    least_free(alloc, &profile, node, from, until)
 }
 
 /// The next end of a hold that is later than a second: the words are rooms, holds, and the second.
@@ -162,6 +150,9 @@ pub fn rise(alloc: Global, words: &[&[u8]]) -> Result<Vec<u8>, Unanswered> {
         return Err(Unanswered::Arguments);
     };
     let after = number(after)?;
-    let profile = profile_of(alloc, rooms_text, holds)?;
-    rise_text(alloc, profile.next_rise(after))
+    let end = profile_of(alloc, rooms_text, holds)?.next_rise(after);
+    match end {
+        Some(end) => taken(alloc, &end),
+        None => taken(alloc, &"none"),
+    }
 }
