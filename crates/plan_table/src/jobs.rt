@@ -2,12 +2,13 @@
 ghost use Rattle.std.specs.Prelude.{◌<◌, All, IfOk};
 ghost use Rattle.backfill_planner.specs.declared.job.PlanJob.{PlanJob};
 
-use crate::picks::need;
+use crate::numbers::narrow_row;
 use backfill_planner::{MemAsk, NodeList, PlanJob};
+use node_pick::Need;
 use slurm_text::ranged::Ranged;
 use std::alloc::Global;
 use table_lines::answer::Unanswered;
-use table_lines::fields::{narrow_number, narrow_numbers, number, parts};
+use table_lines::fields::{narrow_numbers, number, parts};
 
 // Some of so many nodes, each once, as `0+1`.
 fn nodes(alloc: Global, text: &[u8], count: usize) -> Result<NodeList, Unanswered>
@@ -25,19 +26,18 @@ fn nodes(alloc: Global, text: &[u8], count: usize) -> Result<NodeList, Unanswere
 
 // `all`, `5n` for each node or `1000c` for each processor.
 fn mem_ask(text: &[u8]) -> Result<MemAsk, Unanswered> {
-    let Some((unit, digits)) = text.split_last() else {
-        return Err(Unanswered::Arguments);
-    };
     if text == b"all".as_slice() {
         return Ok(MemAsk::All);
     }
-    let megabytes = number(digits)?;
-    if megabytes == 0 || megabytes > 16_777_216 {
+    let Some((unit, digits)) = text.split_last() else {
         return Err(Unanswered::Arguments);
-    }
+    };
+    let Some(megabytes) = Ranged::try_new(number(digits)?) else {
+        return Err(Unanswered::Arguments);
+    };
     match unit {
-        b'n' => Ok(MemAsk::PerNode(Ranged::new(megabytes))),
-        b'c' => Ok(MemAsk::PerCpu(Ranged::new(megabytes))),
+        b'n' => Ok(MemAsk::PerNode(megabytes)),
+        b'c' => Ok(MemAsk::PerCpu(megabytes)),
         _ => Err(Unanswered::Arguments),
     }
 }
@@ -47,52 +47,56 @@ fn seconds(text: &[u8]) -> Result<Option<Ranged<1, 3153600000>>, Unanswered> {
     if text == b"-".as_slice() {
         return Ok(None);
     }
-    let seconds = number(text)?;
-    if seconds == 0 || seconds > 3_153_600_000 {
-        return Err(Unanswered::Arguments);
+    match Ranged::try_new(number(text)?) {
+        Some(seconds) => Ok(Some(seconds)),
+        None => Err(Unanswered::Arguments),
     }
-    Ok(Some(Ranged::new(seconds)))
 }
 
-fn cpus(text: &[u8]) -> Result<Ranged<1, 1024>, Unanswered> {
-    let cpus = number(text)?;
-    if cpus == 0 || cpus > 1024 {
+// The words of a job.
+fn job_of(alloc: Global, words: &[&[u8]], count: usize) -> Result<PlanJob, Unanswered>
+    ensures { IfOk result (λ job. All (λ node. node < count) job.nodes) }
+{
+    if words.len() != 11 {
         return Err(Unanswered::Arguments);
     }
-    Ok(Ranged::new(cpus))
+    let (numbers, others) = words.split_at(7);
+    let [id, tasks, least, most, required, per_task, per_node] = *narrow_row(
+        alloc, numbers,
+    )?.as_slice() else {
+        return Err(Unanswered::Arguments);
+    };
+    let [mem, room, places, limit] = *others else {
+        return Err(Unanswered::Arguments);
+    };
+    let Some(cpus_per_task) = Ranged::try_new(u64::from(per_task)) else {
+        return Err(Unanswered::Arguments);
+    };
+    let mem_ask = mem_ask(mem)?;
+    let seconds = seconds(limit)?;
+    let nodes = nodes(alloc, places, count)?;
+    Ok(PlanJob {
+        id,
+        need: Need {
+            tasks,
+            least,
+            most,
+            required,
+        },
+        cpus_per_task,
+        per_node,
+        mem_ask,
+        exclusive: room == b"whole".as_slice(),
+        nodes,
+        seconds,
+    })
 }
 
 // `ID/TASKS/LEAST/MOST/REQUIRED/CPUS/PER_NODE/MEM/whole or shared/NODES/SECONDS`.
 fn job(alloc: Global, text: &[u8], count: usize) -> Result<PlanJob, Unanswered>
     ensures { IfOk result (λ job. All (λ node. node < count) job.nodes) }
 {
-    let words = parts(alloc, text, b'/')?;
-    let [
-        id,
-        tasks,
-        least,
-        most,
-        required,
-        per_task,
-        per_node,
-        mem,
-        room,
-        places,
-        limit,
-    ] = *words.as_slice()
-    else {
-        return Err(Unanswered::Arguments);
-    };
-    Ok(PlanJob {
-        id: narrow_number(id)?,
-        need: need(tasks, least, most, required)?,
-        cpus_per_task: cpus(per_task)?,
-        per_node: narrow_number(per_node)?,
-        mem_ask: mem_ask(mem)?,
-        exclusive: room == b"whole".as_slice(),
-        nodes: nodes(alloc, places, count)?,
-        seconds: seconds(limit)?,
-    })
+    job_of(alloc, parts(alloc, text, b'/')?.as_slice(), count)
 }
 
 /// Jobs of so many nodes.

@@ -1,10 +1,14 @@
 //! Calls the choice of nodes, profiles and plans that the lines of a table name, and prints each line with the answer.
 #![tactic(auto)]
 
+mod chance;
 mod jobs;
+mod numbers;
 mod picks;
 mod plans;
 mod profiles;
+mod scenes;
+mod sums;
 
 use std::alloc::Global;
 use std::io;
@@ -12,18 +16,12 @@ use table_lines::answer::Unanswered;
 use table_lines::table::{answers, print_answers};
 
 fn answer(alloc: Global, function: &str, arguments: &[&[u8]]) -> Result<Vec<u8>, Unanswered> {
-    match (function, arguments) {
-        ("pick", [places, tasks, least, most, required]) => picks::pick(
-            alloc, places, tasks, least, most, required,
-        ),
-        ("plan", [rooms, horizon, now, jobs]) => plans::plan(alloc, rooms, b"", horizon, now, jobs),
-        ("plan", [rooms, horizon, now, jobs, holds]) => plans::plan(
-            alloc, rooms, holds, horizon, now, jobs,
-        ),
-        ("free", [rooms, holds, node, from, until]) => profiles::free(
-            alloc, rooms, holds, node, from, until,
-        ),
-        ("rise", [rooms, holds, after]) => profiles::rise(alloc, rooms, holds, after),
+    match function {
+        "pick" => picks::pick(alloc, arguments),
+        "plan" => plans::plan(alloc, arguments),
+        "free" => profiles::free(alloc, arguments),
+        "rise" => profiles::rise(alloc, arguments),
+        "scene" => scenes::scene(alloc, arguments),
         _ => Err(Unanswered::Arguments),
     }
 }

@@ -1,9 +1,10 @@
 // The choice of nodes for a job's tasks.
 
+use crate::numbers::narrow_row;
 use node_pick::{Dealt, Need, pick as pick_places};
 use std::alloc::Global;
 use table_lines::answer::{Unanswered, push, taken};
-use table_lines::fields::{narrow_number, narrow_numbers};
+use table_lines::fields::narrow_numbers;
 
 // `PLACE:TASKS` for each place.
 fn dealt_text(alloc: Global, dealt: &[Dealt]) -> Result<Vec<u8>, Unanswered> {
@@ -15,31 +16,36 @@ fn dealt_text(alloc: Global, dealt: &[Dealt]) -> Result<Vec<u8>, Unanswered> {
     Ok(out)
 }
 
-/// The tasks, and the least, the most and the required places.
-pub fn need(tasks: &[u8], least: &[u8], most: &[u8], required: &[u8]) -> Result<Need, Unanswered> {
+// The tasks, and the least, the most and the required places.
+fn need(alloc: Global, words: &[&[u8]]) -> Result<Need, Unanswered> {
+    let [tasks, least, most, required] = *narrow_row(alloc, words)?.as_slice() else {
+        return Err(Unanswered::Arguments);
+    };
     Ok(Need {
-        tasks: narrow_number(tasks)?,
-        least: narrow_number(least)?,
-        most: narrow_number(most)?,
-        required: narrow_number(required)?,
+        tasks,
+        least,
+        most,
+        required,
     })
 }
 
-/// The chosen places with their tasks, where each place can take so many tasks.
-pub fn pick(
-    alloc: Global,
-    capacities: &[u8],
-    tasks: &[u8],
-    least: &[u8],
-    most: &[u8],
-    required: &[u8],
-) -> Result<Vec<u8>, Unanswered> {
-    let capacities = narrow_numbers(alloc, capacities, b',')?;
-    let need = need(tasks, least, most, required)?;
+// The chosen places with their tasks.
+fn pick_from(alloc: Global, capacities: &[u32], need: &Need) -> Result<Vec<u8>, Unanswered> {
     let mut dealt = Vec::new(alloc);
-    match pick_places(alloc, capacities.as_slice(), &need, &mut dealt) {
-        Ok(true) => dealt_text(alloc, dealt.as_slice()),
-        Ok(false) => taken(alloc, &"none"),
-        Err(_) => Err(Unanswered::Memory),
+    if pick_places(alloc, capacities, need, &mut dealt)? {
+        dealt_text(alloc, dealt.as_slice())
+    } else {
+        taken(alloc, &"none")
     }
+}
+
+/// The chosen places with their tasks, where the places can take as many tasks as the first word says, and the others
+/// are the need.
+pub fn pick(alloc: Global, words: &[&[u8]]) -> Result<Vec<u8>, Unanswered> {
+    let Some((capacities, rest)) = words.split_first() else {
+        return Err(Unanswered::Arguments);
+    };
+    let need = need(alloc, rest)?;
+    let capacities = narrow_numbers(alloc, capacities, b',')?;
+    pick_from(alloc, capacities.as_slice(), &need)
 }

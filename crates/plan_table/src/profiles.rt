@@ -3,22 +3,30 @@ ghost use Rattle.std.specs.Prelude.{◌≡◌, IfOk};
 
 use resource_profile::{Hold, NodeRoom, Profile};
 use std::alloc::Global;
-use table_lines::answer::{Unanswered, push, taken};
+use table_lines::answer::{Unanswered, taken};
 use table_lines::fields::{narrow_number, number, parts};
+
+// Processors and megabytes.
+fn sizes(cpus: &[u8], mem: &[u8]) -> Result<(u32, u64), Unanswered> {
+    let cpus = narrow_number(cpus)?;
+    let mem = number(mem)?;
+    Ok((cpus, mem))
+}
+
+// The words of a room.
+fn room_of(words: &[&[u8]]) -> Result<NodeRoom, Unanswered> {
+    let (cpus, mem, usable) = match *words {
+        [cpus, mem] => (cpus, mem, true),
+        [cpus, mem, mark] if mark == b"unusable".as_slice() => (cpus, mem, false),
+        _ => return Err(Unanswered::Arguments),
+    };
+    let (cpus, mem) = sizes(cpus, mem)?;
+    Ok(NodeRoom { cpus, mem, usable })
+}
 
 // `CPUS/MEM`, or `CPUS/MEM/unusable` of a node that no plan may use.
 fn room(alloc: Global, text: &[u8]) -> Result<NodeRoom, Unanswered> {
-    let words = parts(alloc, text, b'/')?;
-    let (cpus, mem, usable) = match *words.as_slice() {
-        [cpus, mem] => (cpus, mem, true),
-        [cpus, mem, b"unusable"] => (cpus, mem, false),
-        _ => return Err(Unanswered::Arguments),
-    };
-    Ok(NodeRoom {
-        cpus: narrow_number(cpus)?,
-        mem: number(mem)?,
-        usable,
-    })
+    room_of(parts(alloc, text, b'/')?.as_slice())
 }
 
 /// The rooms of nodes, as `4/4000,1/8000`.
@@ -30,23 +38,37 @@ pub fn rooms(alloc: Global, text: &[u8]) -> Result<Vec<NodeRoom>, Unanswered> {
     Ok(rooms)
 }
 
-// `NODE/FROM/UNTIL/CPUS/MEM`.
-fn hold(alloc: Global, text: &[u8]) -> Result<Hold, Unanswered> {
-    let words = parts(alloc, text, b'/')?;
-    let [node, from, until, cpus, mem] = *words.as_slice() else {
+// A node, and a window's first second and the one behind its last.
+fn window(node: &[u8], from: &[u8], until: &[u8]) -> Result<(u32, u64, u64), Unanswered> {
+    let node = narrow_number(node)?;
+    let from = number(from)?;
+    let until = number(until)?;
+    Ok((node, from, until))
+}
+
+// The words of a hold.
+fn hold_of(words: &[&[u8]]) -> Result<Hold, Unanswered> {
+    let [node, from, until, cpus, mem] = *words else {
         return Err(Unanswered::Arguments);
     };
+    let (node, from, until) = window(node, from, until)?;
+    let (cpus, mem) = sizes(cpus, mem)?;
     Ok(Hold {
-        node: narrow_number(node)?,
-        from: number(from)?,
-        until: number(until)?,
-        cpus: narrow_number(cpus)?,
-        mem: number(mem)?,
+        node,
+        from,
+        until,
+        cpus,
+        mem,
     })
 }
 
-// Adds the hold where so much is free.
-fn try_hold(profile: &mut Profile, rooms: &[NodeRoom], hold: &Hold) -> Result<(), Unanswered>
+// `NODE/FROM/UNTIL/CPUS/MEM`.
+fn hold(alloc: Global, text: &[u8]) -> Result<Hold, Unanswered> {
+    hold_of(parts(alloc, text, b'/')?.as_slice())
+}
+
+/// Adds the hold where so much is free.
+pub fn try_hold(profile: &mut Profile, rooms: &[NodeRoom], hold: &Hold) -> Result<(), Unanswered>
     requires { profile.old.rooms ≡ rooms.now }
     ensures { profile.new.rooms ≡ profile.old.rooms }
 {
@@ -63,50 +85,73 @@ fn try_hold(profile: &mut Profile, rooms: &[NodeRoom], hold: &Hold) -> Result<()
     }
 }
 
+// Adds those of the holds that have room, one after another.
+fn try_holds(
+    alloc: Global,
+    profile: &mut Profile,
+    rooms: &[NodeRoom],
+    holds: &[u8],
+) -> Result<(), Unanswered>
+    requires { profile.old.rooms ≡ rooms.now }
+    ensures { profile.new.rooms ≡ profile.old.rooms }
+{
+    if holds.is_empty() {
+        return Ok(());
+    }
+    for text in &parts(alloc, holds, b',')? {
+        let hold = hold(alloc, text)?;
+        try_hold(profile, rooms, &hold)?;
+    }
+    Ok(())
+}
+
 /// The rooms with those of the holds that have room, one after another.
 pub fn held(alloc: Global, rooms: &[NodeRoom], holds: &[u8]) -> Result<Profile, Unanswered>
     ensures { IfOk result (λ profile. profile.rooms ≡ rooms.now) }
 {
-    let Ok(mut profile) = Profile::new(alloc, rooms) else {
-        return Err(Unanswered::Memory);
-    };
-    if !holds.is_empty() {
-        for text in &parts(alloc, holds, b',')? {
-            try_hold(&mut profile, rooms, &hold(alloc, text)?)?;
-        }
-    }
+    let mut profile = Profile::new(alloc, rooms)?;
+    try_holds(alloc, &mut profile, rooms, holds)?;
     Ok(profile)
 }
 
-/// The least that is free of a node over a window, as `CPUS/MEM`.
-pub fn free(
+fn profile_of(alloc: Global, rooms_text: &[u8], holds: &[u8]) -> Result<Profile, Unanswered> {
+    let rooms = rooms(alloc, rooms_text)?;
+    held(alloc, rooms.as_slice(), holds)
+}
+
+// The least that is free of a node over a window, as `CPUS/MEM`.
+fn least_free(
     alloc: Global,
-    rooms_text: &[u8],
-    holds: &[u8],
+    profile: &Profile,
     node: &[u8],
     from: &[u8],
     until: &[u8],
 ) -> Result<Vec<u8>, Unanswered> {
-    let profile = held(alloc, rooms(alloc, rooms_text)?.as_slice(), holds)?;
-    let (node, from, until) = (narrow_number(node)?, number(from)?, number(until)?);
+    let (node, from, until) = window(node, from, until)?;
     if until <= from {
         return Err(Unanswered::Arguments);
     }
     let (cpus, mem) = profile.free_min(node, from, until);
-    let mut out = Vec::new(alloc);
-    push(&mut out, &format_args!("{cpus}/{mem}"))?;
-    Ok(out)
+    taken(alloc, &format_args!("{cpus}/{mem}"))
 }
 
-/// The next end of a hold that is later than a second.
-pub fn rise(
-    alloc: Global,
-    rooms_text: &[u8],
-    holds: &[u8],
-    after: &[u8],
-) -> Result<Vec<u8>, Unanswered> {
-    let profile = held(alloc, rooms(alloc, rooms_text)?.as_slice(), holds)?;
-    match profile.next_rise(number(after)?) {
+/// The least that is free of a node over a window, as text: the words are rooms, holds, the node, and the window.
+pub fn free(alloc: Global, words: &[&[u8]]) -> Result<Vec<u8>, Unanswered> {
+    let [rooms_text, holds, node, from, until] = *words else {
+        return Err(Unanswered::Arguments);
+    };
+    let profile = profile_of(alloc, rooms_text, holds)?;
+    least_free(alloc, &profile, node, from, until)
+}
+
+/// The next end of a hold that is later than a second: the words are rooms, holds, and the second.
+pub fn rise(alloc: Global, words: &[&[u8]]) -> Result<Vec<u8>, Unanswered> {
+    let [rooms_text, holds, after] = *words else {
+        return Err(Unanswered::Arguments);
+    };
+    let after = number(after)?;
+    let end = profile_of(alloc, rooms_text, holds)?.next_rise(after);
+    match end {
         Some(end) => taken(alloc, &end),
         None => taken(alloc, &"none"),
     }

@@ -1,5 +1,5 @@
 use Rattle.std.proofs.Common.{◌≡◌}
-use Rattle.plan_table.proofs.profiles.held.Given as goal
+use Rattle.plan_table.proofs.profiles.try_holds.Given as goal
 
 -- the rooms stay
 abbrev pub invariant-loop-text : goal.invariant-loop-text
