@@ -1,8 +1,9 @@
 //! Lines of partitions.
 
-ghost use Rattle.std.specs.Prelude.{ℕ, ◌≡◌, ◌≤◌, ◌<◌, ◌^◌, length, map, IfOk, IfSome, OnOk, IsErrOf, Some, None, Ok, Err};
+ghost use Rattle.std.specs.Prelude.{ℕ, ◌≡◌, ◌≢◌, ◌≤◌, ◌<◌, ◌^◌, if◌then◌else◌, codes, length, map, IfOk, IfSome, OnOk, IsErrOf, Some, None, Ok, Err};
 ghost use Rattle.std.specs.Option.{option_or};
 ghost use Rattle.conf_values.specs.Keys.{partition_key};
+ghost use Rattle.conf_values.specs.Values.{is_word};
 ghost use Rattle.conf_reader.specs.PartitionLines.{part_name, part_nodes, part_entry, partition_names, part_fault, part_word, part_line};
 ghost use Rattle.slurm_text.specs.Hosts.{has};
 ghost use Rattle.conf_reader.specs.Words.{entry_in};
@@ -116,37 +117,59 @@ fn read_part_nodes(alloc: Global, text: &[u8]) -> Result<PartNodes, ValueRefusal
     Ok(PartNodes::Listed(names))
 }
 
+// The only text that the key of groups takes, where it has no effect.
+fn all_groups(text: &[u8]) -> Option<PartEntry>
+    ensures { result ≡ if is_word (codes "ALL") text.now then Some PartEntry.WithoutEffect else None }
+{
+    if is_keyword(text, b"ALL") {
+        Some(PartEntry::WithoutEffect)
+    } else {
+        None
+    }
+}
+
+// What a key and its value say, where that takes no memory.
+#[tactic(auto, unfolding(crate::specs::PartitionLines::part_entry))]
+fn plain_entry(key: PartitionKey, text: &[u8]) -> Option<PartEntry>
+    requires name { key ≢ PartitionKey.PartitionName }
+    requires nodes { key ≢ PartitionKey.Nodes }
+    requires accounts { key ≢ PartitionKey.AllowAccounts }
+    requires qos { key ≢ PartitionKey.AllowQos }
+    ensures { result ≡ part_entry key text.now }
+{
+    match key {
+        PartitionKey::PartitionName
+        | PartitionKey::Nodes
+        | PartitionKey::AllowAccounts
+        | PartitionKey::AllowQos => None,
+        PartitionKey::Default => read_yes_or_no(text).map(PartEntry::IsDefault),
+        PartitionKey::MaxTime => read_limit(text).map(PartEntry::MaxTime),
+        PartitionKey::DefaultTime => read_limit(text).map(PartEntry::DefaultTime),
+        PartitionKey::State => read_part_state(text).map(PartEntry::State),
+        PartitionKey::JobFactor => read_number(text).map(PartEntry::Factor),
+        PartitionKey::Tier => read_number(text).map(PartEntry::Tier),
+        PartitionKey::MinNodes => read_u32(text).map(PartEntry::MinNodes),
+        PartitionKey::MaxNodes => read_most_nodes(text).map(PartEntry::MaxNodes),
+        PartitionKey::AllowGroups => all_groups(text),
+        PartitionKey::OverSubscribe => read_exclusive(text).map(PartEntry::Exclusive),
+        PartitionKey::DefMemPerNode => read_mem_per_node(text).map(PartEntry::Mem),
+        PartitionKey::DefMemPerCpu => read_mem_per_cpu(text).map(PartEntry::Mem),
+        PartitionKey::WithoutEffect => Some(PartEntry::WithoutEffect),
+    }
+}
+
 #[tactic(auto, unfolding(crate::specs::PartitionLines::part_entry))]
 fn read_part_entry(alloc: Global, key: PartitionKey, text: &[u8]) -> Result<PartEntry, ValueRefusal>
     requires { length text.now < 2 ^ 32 }
     ensures value { IfOk result (λ entry. part_entry key text.now ≡ Some entry) }
     ensures refused { IsErrOf result ValueRefusal.BadValue → part_entry key text.now ≡ None }
 {
-    let bad = ValueRefusal::BadValue;
     match key {
         PartitionKey::PartitionName => Ok(PartEntry::Name(read_part_name(alloc, text)?)),
         PartitionKey::Nodes => Ok(PartEntry::Nodes(read_part_nodes(alloc, text)?)),
-        PartitionKey::Default => Ok(PartEntry::IsDefault(read_yes_or_no(text).ok_or(bad)?)),
-        PartitionKey::MaxTime => Ok(PartEntry::MaxTime(read_limit(text).ok_or(bad)?)),
-        PartitionKey::DefaultTime => Ok(PartEntry::DefaultTime(read_limit(text).ok_or(bad)?)),
-        PartitionKey::State => Ok(PartEntry::State(read_part_state(text).ok_or(bad)?)),
-        PartitionKey::JobFactor => Ok(PartEntry::Factor(read_number(text).ok_or(bad)?)),
-        PartitionKey::Tier => Ok(PartEntry::Tier(read_number(text).ok_or(bad)?)),
-        PartitionKey::MinNodes => Ok(PartEntry::MinNodes(read_u32(text).ok_or(bad)?)),
-        PartitionKey::MaxNodes => Ok(PartEntry::MaxNodes(read_most_nodes(text).ok_or(bad)?)),
         PartitionKey::AllowAccounts => Ok(PartEntry::Accounts(read_allowed(alloc, text)?)),
         PartitionKey::AllowQos => Ok(PartEntry::Qos(read_allowed(alloc, text)?)),
-        PartitionKey::AllowGroups => {
-            if is_keyword(text, b"ALL") {
-                Ok(PartEntry::WithoutEffect)
-            } else {
-                Err(bad)
-            }
-        }
-        PartitionKey::OverSubscribe => Ok(PartEntry::Exclusive(read_exclusive(text).ok_or(bad)?)),
-        PartitionKey::DefMemPerNode => Ok(PartEntry::Mem(read_mem_per_node(text).ok_or(bad)?)),
-        PartitionKey::DefMemPerCpu => Ok(PartEntry::Mem(read_mem_per_cpu(text).ok_or(bad)?)),
-        PartitionKey::WithoutEffect => Ok(PartEntry::WithoutEffect),
+        _ => plain_entry(key, text).ok_or(ValueRefusal::BadValue),
     }
 }
 

@@ -70,33 +70,49 @@ fn read_lines(alloc: Global, file: &[u8]) -> Result<Draft, ConfRefusal>
 }
 
 // What holds of the file as a whole.
-#[tactic(auto, unfolding(crate::specs::Reader::whole_file, crate::specs::Reader::conf_of_lines))]
+#[tactic(auto, using(crate::proofs::WholeLemmas::whole_good), unfolding(crate::specs::Reader::conf_of_lines))]
 fn end_file(alloc: Global, draft: Draft) -> Result<Conf, ConfRefusal>
     requires { IsSound draft }
     ensures value { IfOk result (λ conf. whole_file draft ≡ Ok conf) }
     ensures refused { (line : ℕ) → (kind : ConfKind)
         → IsErrOf result (ConfRefusal.At line kind) → whole_file draft ≡ Err (ConfRefusal.At line kind) }
 {
+    if let Some(refusal) = whole_refusal(&draft) {
+        return Err(refusal);
+    }
+    let Draft {
+        settings,
+        nodes,
+        partitions,
+        ..
+    } = draft;
+    let partitions = make_partitions(alloc, nodes.as_slice(), partitions.into_vec())?;
+    let settings = settings.into_settings(alloc)?;
+    Ok(Conf {
+        settings,
+        nodes: nodes.into_items(),
+        partitions,
+    })
+}
+
+#[tactic(auto, unfolding(crate::specs::Reader::whole_file))]
+fn whole_refusal(draft: &Draft) -> Option<ConfRefusal>
+    ensures refused { IfSome result (λ refusal. whole_file draft.now ≡ Err refusal) }
+    ensures good { IsNone result → whole_file draft.now ≡ Ok (conf_of_lines draft.now) }
+{
     if let Some(line) = first_unknown(&draft.nodes, draft.partitions.as_slice()) {
-        return Err(ConfRefusal::At {
+        return Some(ConfRefusal::At {
             line,
             kind: ConfKind::UnknownNode,
         });
     }
     if draft.partitions.as_slice().is_empty() {
-        return Err(ConfRefusal::At {
+        return Some(ConfRefusal::At {
             line: 0,
             kind: ConfKind::NoPartition,
         });
     }
-    let settings = draft.settings.into_settings(alloc)?;
-    let nodes = draft.nodes.into_items();
-    let partitions = make_partitions(alloc, nodes.as_slice(), draft.partitions.into_vec())?;
-    Ok(Conf {
-        settings,
-        nodes,
-        partitions,
-    })
+    None
 }
 
 #[tactic(auto, unfolding(crate::specs::Reader::has_unknown))]
