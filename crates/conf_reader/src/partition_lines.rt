@@ -238,7 +238,8 @@ fn read_part_word(alloc: Global, known: &[PartLine], word: &[u8]) -> Result<Part
 }
 
 impl PartWords {
-    ghost use Rattle.std.specs.Prelude.{◌≡◌, IfOk, IfSome};
+    ghost use Rattle.std.specs.Prelude.{◌≡◌, IfOk, IfSome, OnOk};
+    ghost use Rattle.std.specs.Option.{option_or};
     ghost use Rattle.conf_reader.specs.PartitionLines.{with_part, no_part_words, over, part_conf, line_of};
 
     #[tactic(auto, unfolding(crate::specs::PartitionLines::no_part_words))]
@@ -291,25 +292,50 @@ impl PartWords {
     pub(crate) fn over(self, defaults: &PartWords) -> Result<PartWords, Memory>
         ensures { IfOk result (λ words. words ≡ over self defaults.now) }
     {
-        let nodes = nodes_or_copy(self.nodes, &defaults.nodes)?;
-        let accounts = allowed_or_copy(self.accounts, &defaults.accounts)?;
-        let qos = allowed_or_copy(self.qos, &defaults.qos)?;
-        Ok(PartWords {
-            name: self.name,
-            nodes,
-            is_default: self.is_default.or(defaults.is_default),
-            max_time: self.max_time.or(defaults.max_time),
-            default_time: self.default_time.or(defaults.default_time),
-            state: self.state.or(defaults.state),
-            factor: self.factor.or(defaults.factor),
-            tier: self.tier.or(defaults.tier),
-            min_nodes: self.min_nodes.or(defaults.min_nodes),
-            max_nodes: self.max_nodes.or(defaults.max_nodes),
-            accounts,
-            qos,
-            exclusive: self.exclusive.or(defaults.exclusive),
-            mem: self.mem.or(defaults.mem),
-        })
+        let mut words = self;
+        words.fill_lists(defaults)?;
+        words.fill_values(defaults);
+        Ok(words)
+    }
+
+    // Takes from DEFAULT lines what is a list.
+    fn fill_lists(&mut self, defaults: &PartWords) -> Result<(), Memory>
+        ensures { OnOk result (self.new ≡ record self.old {
+          nodes = option_or self.old.nodes defaults.now.nodes;
+          accounts = option_or self.old.accounts defaults.now.accounts;
+          qos = option_or self.old.qos defaults.now.qos;
+        }) }
+    {
+        fill_nodes(&mut self.nodes, &defaults.nodes)?;
+        fill_allowed(&mut self.accounts, &defaults.accounts)?;
+        fill_allowed(&mut self.qos, &defaults.qos)
+    }
+
+    // Takes from DEFAULT lines what is no list.
+    fn fill_values(&mut self, defaults: &PartWords)
+        ensures { self.new ≡ record self.old {
+          is_default = option_or self.old.is_default defaults.now.is_default;
+          max_time = option_or self.old.max_time defaults.now.max_time;
+          default_time = option_or self.old.default_time defaults.now.default_time;
+          state = option_or self.old.state defaults.now.state;
+          factor = option_or self.old.factor defaults.now.factor;
+          tier = option_or self.old.tier defaults.now.tier;
+          min_nodes = option_or self.old.min_nodes defaults.now.min_nodes;
+          max_nodes = option_or self.old.max_nodes defaults.now.max_nodes;
+          exclusive = option_or self.old.exclusive defaults.now.exclusive;
+          mem = option_or self.old.mem defaults.now.mem;
+        } }
+    {
+        self.is_default = self.is_default.or(defaults.is_default);
+        self.max_time = self.max_time.or(defaults.max_time);
+        self.default_time = self.default_time.or(defaults.default_time);
+        self.state = self.state.or(defaults.state);
+        self.factor = self.factor.or(defaults.factor);
+        self.tier = self.tier.or(defaults.tier);
+        self.min_nodes = self.min_nodes.or(defaults.min_nodes);
+        self.max_nodes = self.max_nodes.or(defaults.max_nodes);
+        self.exclusive = self.exclusive.or(defaults.exclusive);
+        self.mem = self.mem.or(defaults.mem);
     }
 
     /// The partition that these words of a line make; None without nodes.
@@ -317,56 +343,82 @@ impl PartWords {
     pub(crate) fn into_line(self, alloc: Global, number: u32) -> Option<PartLine>
         ensures { result ≡ line_of number self }
     {
-        match (self.name, self.nodes) {
+        let mut words = self;
+        match (words.name.take(), words.nodes.take()) {
             (Some(PartName::Named(name)), Some(nodes)) => Some(PartLine {
                 number,
                 nodes,
-                conf: PartConf {
-                    name,
-                    nodes: Items::from_vec(Vec::new(alloc)),
-                    is_default: self.is_default.unwrap_or(false),
-                    max_time: self.max_time.unwrap_or(Limit::Unlimited),
-                    default_time: self.default_time,
-                    state: self.state.unwrap_or(PartState::Up),
-                    factor: self.factor.unwrap_or(Ranged::new(1)),
-                    tier: self.tier.unwrap_or(Ranged::new(1)),
-                    min_nodes: self.min_nodes.unwrap_or(0),
-                    max_nodes: self.max_nodes.unwrap_or(None),
-                    accounts: self.accounts.unwrap_or(None),
-                    qos: self.qos.unwrap_or(None),
-                    exclusive: self.exclusive.unwrap_or(false),
-                    mem_default: self.mem,
-                },
+                conf: words.into_conf(alloc, name),
             }),
             _ => None,
         }
     }
-}
 
-fn nodes_or_copy(
-    own: Option<PartNodes>,
-    default: &Option<PartNodes>,
-) -> Result<Option<PartNodes>, Memory>
-    ensures { IfOk result (λ nodes. nodes ≡ option_or own default.now) }
-{
-    match (own, default) {
-        (Some(own), _) => Ok(Some(own)),
-        (None, Some(PartNodes::All)) => Ok(Some(PartNodes::All)),
-        (None, Some(PartNodes::Listed(names))) => Ok(Some(PartNodes::Listed(names.copy()?))),
-        (None, None) => Ok(None),
+    // The partition of this name, without its nodes.
+    #[tactic(auto, unfolding(crate::specs::PartitionLines::part_conf))]
+    fn into_conf(self, alloc: Global, name: Name) -> PartConf
+        ensures { result ≡ part_conf self name }
+    {
+        PartConf {
+            name,
+            nodes: Items::from_vec(Vec::new(alloc)),
+            is_default: self.is_default.unwrap_or(false),
+            max_time: self.max_time.unwrap_or(Limit::Unlimited),
+            default_time: self.default_time,
+            state: self.state.unwrap_or(PartState::Up),
+            factor: self.factor.unwrap_or(Ranged::new(1)),
+            tier: self.tier.unwrap_or(Ranged::new(1)),
+            min_nodes: self.min_nodes.unwrap_or(0),
+            max_nodes: self.max_nodes.unwrap_or(None),
+            accounts: self.accounts.unwrap_or(None),
+            qos: self.qos.unwrap_or(None),
+            exclusive: self.exclusive.unwrap_or(false),
+            mem_default: self.mem,
+        }
     }
 }
 
-fn allowed_or_copy(
-    own: Option<Option<Items<Name>>>,
-    default: &Option<Option<Items<Name>>>,
-) -> Result<Option<Option<Items<Name>>>, Memory>
-    ensures { IfOk result (λ names. names ≡ option_or own default.now) }
+// Takes the nodes of DEFAULT lines, where a line gives none itself.
+fn fill_nodes(own: &mut Option<PartNodes>, default: &Option<PartNodes>) -> Result<(), Memory>
+    ensures { OnOk result (own.new ≡ option_or own.old default.now) }
 {
-    match (own, default) {
-        (Some(own), _) => Ok(Some(own)),
-        (None, Some(default)) => Ok(Some(or_copy(None, default)?)),
-        (None, None) => Ok(None),
+    if own.is_none() {
+        *own = copy_nodes(default)?;
+    }
+    Ok(())
+}
+
+fn copy_nodes(nodes: &Option<PartNodes>) -> Result<Option<PartNodes>, Memory>
+    ensures { IfOk result (λ copy. copy ≡ nodes.now) }
+{
+    match nodes {
+        Some(PartNodes::All) => Ok(Some(PartNodes::All)),
+        Some(PartNodes::Listed(names)) => Ok(Some(PartNodes::Listed(names.copy()?))),
+        None => Ok(None),
+    }
+}
+
+// Takes what DEFAULT lines allow, where a line says nothing of it itself.
+fn fill_allowed(
+    own: &mut Option<Option<Items<Name>>>,
+    default: &Option<Option<Items<Name>>>,
+) -> Result<(), Memory>
+    ensures { OnOk result (own.new ≡ option_or own.old default.now) }
+{
+    if own.is_none() {
+        *own = copy_allowed(default)?;
+    }
+    Ok(())
+}
+
+fn copy_allowed(
+    allowed: &Option<Option<Items<Name>>>,
+) -> Result<Option<Option<Items<Name>>>, Memory>
+    ensures { IfOk result (λ copy. copy ≡ allowed.now) }
+{
+    match allowed {
+        Some(names) => Ok(Some(or_copy(None, names)?)),
+        None => Ok(None),
     }
 }
 
