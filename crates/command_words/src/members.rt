@@ -42,6 +42,14 @@ pub(crate) fn read_members<M: Member>(
     Ok(Some(Items::from_vec(members)))
 }
 
+/// The members of a list between commas.
+pub(crate) fn read_all<M: Member>(alloc: Global, list: &[u8]) -> Result<Option<Items<M>>, Memory>
+    ensures { IfOk result (λ members. members ≡ all_some (map M.meaning (fields 44 list.now))) }
+{
+    let texts = cut_at(alloc, list, b',')?;
+    read_members(alloc, texts.as_slice())
+}
+
 /// The members of a list between commas, where these are at most 1,024.
 pub(crate) fn read_few<M: Member>(alloc: Global, list: &[u8]) -> Result<Option<Items<M>>, Memory>
     ensures { IfOk result (λ members.

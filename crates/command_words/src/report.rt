@@ -1,11 +1,10 @@
 //! What a daemon reports.
 
-ghost use Rattle.std.specs.Prelude.{◌≡◌, drop, IfOk};
+ghost use Rattle.std.specs.Prelude.{◌≡◌, [], ◌∷◌, drop, IfOk};
 ghost use Rattle.command_words.specs.Cut.{texts_of};
-ghost use Rattle.command_words.specs.Report.{report_by, pair_by, named, nothing_named, with_listed, listed_by, start_by, done_by};
+ghost use Rattle.command_words.specs.Report.{report_by, pair_by, named, nothing_named, with_listed, listed_by, start_of, start_by, done_by};
 
-use crate::cut::cut_at;
-use crate::members::{Member, read_members};
+use crate::members::{Member, read_all};
 use crate::names::{read_name, read_u32};
 use slurm_text::digits::parse_number;
 use slurm_text::fields::{UpToThree, up_to_three};
@@ -88,10 +87,9 @@ fn read_texts(alloc: Global, words: &[&[u8]]) -> Result<Option<Report>, Memory>
 fn read_pair(boot: &[u8], number: &[u8]) -> Option<(u64, u64)>
     ensures { result ≡ pair_by boot.now number.now }
 {
-    Some((
-        parse_number(boot, 20, u64::MAX)?,
-        parse_number(number, 20, u64::MAX)?,
-    ))
+    let boot = parse_number(boot, 20, u64::MAX)?;
+    let number = parse_number(number, 20, u64::MAX)?;
+    Some((boot, number))
 }
 
 fn read_lists(alloc: Global, words: &[&[u8]]) -> Result<Option<Named>, Memory>
@@ -115,20 +113,8 @@ fn read_list(alloc: Global, word: &[u8]) -> Result<Option<Listed>, Memory>
     ensures { IfOk result (λ list. list ≡ listed_by word.now) }
 {
     match up_to_three(word, b'=') {
-        UpToThree::Two(b"run", list) => {
-            let texts = cut_at(alloc, list, b',')?;
-            let Some(starts) = read_members(alloc, texts.as_slice())? else {
-                return Ok(None);
-            };
-            Ok(Some(Listed::Running(starts)))
-        }
-        UpToThree::Two(b"done", list) => {
-            let texts = cut_at(alloc, list, b',')?;
-            let Some(starts) = read_members(alloc, texts.as_slice())? else {
-                return Ok(None);
-            };
-            Ok(Some(Listed::Done(starts)))
-        }
+        UpToThree::Two(b"run", list) => Ok(read_all(alloc, list)?.map(Listed::Running)),
+        UpToThree::Two(b"done", list) => Ok(read_all(alloc, list)?.map(Listed::Done)),
         _ => Ok(None),
     }
 }
@@ -154,26 +140,31 @@ fn read_start(text: &[u8]) -> Option<Start>
     ensures { result ≡ start_by text.now }
 {
     match up_to_three(text, b'.') {
-        UpToThree::Two(id, number) => Some(Start {
-            id: read_u32(id)?,
-            number: read_u32(number)?,
-        }),
+        UpToThree::Two(id, number) => start_of(id, number),
         _ => None,
     }
 }
 
-#[tactic(auto, unfolding(crate::specs::Report::start_of, crate::specs::Report::done_of))]
+// The start of these two fields.
+#[tactic(auto, unfolding(crate::specs::Report::start_of))]
+fn start_of(id: &[u8], number: &[u8]) -> Option<Start>
+    ensures { result ≡ start_of (id.now ∷ number.now ∷ []) }
+{
+    let id = read_u32(id)?;
+    let number = read_u32(number)?;
+    Some(Start { id, number })
+}
+
+#[tactic(auto, unfolding(crate::specs::Report::done_of))]
 fn read_done(text: &[u8]) -> Option<Done>
     ensures { result ≡ done_by text.now }
 {
     match up_to_three(text, b'.') {
-        UpToThree::Three(id, number, exit) => Some(Done {
-            start: Start {
-                id: read_u32(id)?,
-                number: read_u32(number)?,
-            },
-            exit: read_u32(exit)?,
-        }),
+        UpToThree::Three(id, number, exit) => {
+            let start = start_of(id, number)?;
+            let exit = read_u32(exit)?;
+            Some(Done { start, exit })
+        }
         _ => None,
     }
 }

@@ -30,14 +30,18 @@ pub(crate) fn read_target(text: &[u8]) -> Option<Target>
     ensures { result ≡ target_by text.now }
 {
     match up_to_three(text, b'_') {
-        UpToThree::One(id) => Some(Target {
-            id: read_u32(id)?,
-            index: None,
-        }),
-        UpToThree::Two(id, index) => Some(Target {
-            id: read_u32(id)?,
-            index: Some(read_u32(index)?),
-        }),
+        UpToThree::One(id) => {
+            let id = read_u32(id)?;
+            Some(Target { id, index: None })
+        }
+        UpToThree::Two(id, index) => {
+            let id = read_u32(id)?;
+            let index = read_u32(index)?;
+            Some(Target {
+                id,
+                index: Some(index),
+            })
+        }
         _ => None,
     }
 }

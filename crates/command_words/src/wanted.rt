@@ -49,26 +49,11 @@ fn read_lone(alloc: Global, command: Command, words: &Words) -> Result<Option<Re
 {
     match command {
         Command::Sbatch => Ok(None),
-        Command::Squeue => match read_squeue(alloc, words)? {
-            Some(query) => Ok(Some(Request::Show(query))),
-            None => Ok(None),
-        },
-        Command::Scancel => match read_scancel(alloc, words)? {
-            Some(targets) => Ok(Some(Request::Cancel(targets))),
-            None => Ok(None),
-        },
-        Command::Sinfo => match read_sinfo(alloc, words)? {
-            Some(query) => Ok(Some(Request::Show(query))),
-            None => Ok(None),
-        },
-        Command::Sprio => match read_sprio(alloc, words)? {
-            Some(query) => Ok(Some(Request::Show(query))),
-            None => Ok(None),
-        },
-        Command::Report => match read_report(alloc, words)? {
-            Some(report) => Ok(Some(Request::Report(report))),
-            None => Ok(None),
-        },
+        Command::Squeue => Ok(read_squeue(alloc, words)?.map(Request::Show)),
+        Command::Scancel => Ok(read_scancel(alloc, words)?.map(Request::Cancel)),
+        Command::Sinfo => Ok(read_sinfo(alloc, words)?.map(Request::Show)),
+        Command::Sprio => Ok(read_sprio(alloc, words)?.map(Request::Show)),
+        Command::Report => Ok(read_report(alloc, words)?.map(Request::Report)),
         Command::Pass => Ok(read_pass(words)),
     }
 }

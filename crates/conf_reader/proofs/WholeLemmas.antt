@@ -1,22 +1,24 @@
 -- What a sound draft makes is a configuration.
-use Rattle.std.proofs.Common.{ℕ, zero, suc, ◌≡◌, ◌≢◌, ◌≤◌, ◌==◌, Bool, true, false, not, ◌&&◌, ◌||◌, cond, List, [], ◌∷◌, length, map, find, All, AllPairs, Contains, get_or, Option, Some, None, option_map, refl, ap, sym, subst, arith}
+use Rattle.std.proofs.Common.{ℕ, zero, suc, ◌≡◌, ◌≢◌, ◌≤◌, ◌==◌, Bool, true, false, not, ◌&&◌, ◌||◌, cond, List, [], ◌∷◌, length, map, find, All, AllPairs, Contains, get_or, Option, Some, None, option_map, Ok, Err, if◌then◌else◌, refl, ap, sym, subst, arith}
 use Rattle.std.proofs.lemmas.Bool.Decides.{nat_tests}
 use Rattle.std.proofs.lemmas.List.Elements.{All-nil, All-cons, All-head, All-tail, All-weaker, All-contains_itself}
 use Rattle.std.proofs.lemmas.List.Folds.{Any-from_list_any}
 use Rattle.std.proofs.lemmas.Slice.Eq.{bytes_eq-Decides}
 use Rattle.std.specs.List.{list_any}
 use Rattle.std.specs.Str.{bytes_eq}
-use Rattle.slurm_text.specs.Confs.{node_names, IsOfNodes, IsConf}
+use Rattle.slurm_text.specs.Confs.{ConfView, node_names, IsOfNodes, IsConf}
 use Rattle.slurm_text.specs.Hosts.{has}
 use Rattle.slurm_text.specs.declared.plain.conf.NodeConf.{NodeConf}
 use Rattle.slurm_text.specs.declared.plain.conf.PartConf.{PartConf}
 use Rattle.conf_reader.specs.PartitionLines.{partition_names}
-use Rattle.conf_reader.specs.Reader.{has_unknown, first_unknown, nodes_by, partitions_by}
+use Rattle.conf_reader.specs.Reader.{has_unknown, first_unknown, nodes_by, partitions_by, conf_of_lines, known_all, whole_file}
 use Rattle.conf_reader.specs.Sound.{AreOnce, ListsOnce, IsSound}
 use Rattle.conf_reader.specs.declared.draft.Draft.{Draft}
 use Rattle.conf_reader.specs.declared.partition_lines.PartLine.{PartLine}
 use Rattle.conf_reader.specs.declared.partition_lines.PartNodes.{PartNodes}
 use Rattle.conf_reader.specs.declared.partition_lines.PartNodes.TheVariants.{All as EachNode, Listed}
+use Rattle.conf_values.specs.declared.refusal.ConfKind.TheVariants.{NoPartition}
+use Rattle.conf_values.specs.declared.refusal.ConfRefusal.TheVariants.{At}
 use Rattle.conf_reader.proofs.OnceLemmas.{fails_at, pairs-unmapped}
 
 -- a name that is among names
@@ -99,7 +101,7 @@ names-partitions_by : (known : List (List ℕ)) (lines : List PartLine) → map 
 names-partitions_by known [] = refl
 names-partitions_by known (line ∷ lines) = ap (λ (names : List (List ℕ)). line.conf.name ∷ names) (names-partitions_by known lines)
 
-pub draft-is-conf : (draft : Draft) → IsSound draft → first_unknown (node_names draft.nodes) draft.partitions ≡ None → (length draft.partitions == 0) ≡ false → IsConf draft.nodes (partitions_by (node_names draft.nodes) draft.partitions)
+draft-is-conf : (draft : Draft) → IsSound draft → first_unknown (node_names draft.nodes) draft.partitions ≡ None → (length draft.partitions == 0) ≡ false → IsConf draft.nodes (partitions_by (node_names draft.nodes) draft.partitions)
 unfolding first_unknown
 draft-is-conf draft sound none some =
     let size = length-partitions_by (node_names draft.nodes) draft.partitions in
@@ -118,3 +120,15 @@ draft-is-conf draft sound none some =
       unmapped : (o : Option PartLine) → option_map (λ (line : PartLine). line.number) o ≡ None → o ≡ None
       unmapped (Some line) e = cc
       unmapped None e = refl
+
+-- a file of which nothing is bad as a whole
+pub whole-is-conf : (draft : Draft) (conf : ConfView) → IsSound draft → whole_file draft ≡ Ok conf → IsConf draft.nodes (partitions_by (node_names draft.nodes) draft.partitions)
+unfolding whole_file
+whole-is-conf draft conf sound good = by_line (first_unknown (node_names draft.nodes) draft.partitions) refl good where
+  by_size : first_unknown (node_names draft.nodes) draft.partitions ≡ None → (t : Bool) → (length draft.partitions == 0) ≡ t → (if t then Err (At 0 NoPartition) else Ok (conf_of_lines draft)) ≡ Ok conf → IsConf draft.nodes (partitions_by (node_names draft.nodes) draft.partitions)
+  by_size none true e h = cc
+  by_size none false e h = draft-is-conf draft sound none e
+
+  by_line : (o : Option ℕ) → first_unknown (node_names draft.nodes) draft.partitions ≡ o → known_all draft o ≡ Ok conf → IsConf draft.nodes (partitions_by (node_names draft.nodes) draft.partitions)
+  by_line (Some line) e h = cc
+  by_line None e h = by_size e (length draft.partitions == 0) refl h

@@ -7,14 +7,16 @@ ghost use Rattle.conf_values.specs.declared.refusal.ConfKind.{ConfKind};
 
 use crate::node_lines::{NodeNames, NodeWords, read_node_line};
 use crate::part_table::PartTable;
-use crate::partition_lines::{PartName, PartWords, read_part_line};
+use crate::partition_lines::{PartLine, PartName, PartWords, read_part_line};
 use crate::setting_lines::SettingWords;
 use conf_lines::pairs::read_pair;
 use conf_lines::words::first_word;
 use conf_values::node_table::NodeTable;
 use conf_values::refusal::{ConfKind, Fault};
+use slurm_text::items::Items;
 use slurm_text::keywords::is_keyword;
 use slurm_text::name::Name;
+use slurm_text::plain::conf::NodeConf;
 use std::alloc::Global;
 
 /// What lines say.
@@ -110,7 +112,8 @@ impl PartWords {
 impl Draft {
     ghost use Rattle.std.specs.Prelude.{ℕ, ◌≡◌, ◌<◌, ◌^◌, length, OnOk, IsErrOf, Ok, Err};
     ghost use Rattle.conf_reader.specs.Reader.{nothing_said, after_node_line, after_part_line, after_kind, after_line};
-    ghost use Rattle.conf_reader.specs.Reader.{with_nodes};
+    ghost use Rattle.conf_reader.specs.Reader.{with_nodes, with_partition};
+    ghost use Rattle.conf_reader.specs.PartitionLines.{line_of};
     ghost use Rattle.conf_values.specs.declared.refusal.ConfKind.{ConfKind};
     ghost use Rattle.conf_reader.specs.declared.draft.LineKind.TheVariants.{Settings, Node, Partition};
 
@@ -125,6 +128,19 @@ impl Draft {
             part_defaults: PartWords::new(),
             partitions: PartTable::new(alloc),
         }
+    }
+
+    /// What is kept of the lines once all are read.
+    pub(crate) fn into_parts(self) -> (SettingWords, Items<NodeConf>, Vec<PartLine>)
+        ensures settings { result.0 ≡ self.settings }
+        ensures nodes { result.1 ≡ self.nodes }
+        ensures partitions { result.2.items ≡ self.partitions }
+    {
+        (
+            self.settings,
+            self.nodes.into_items(),
+            self.partitions.into_vec(),
+        )
     }
 
     // Puts the nodes of a line behind the others.
@@ -166,13 +182,20 @@ impl Draft {
             self.part_defaults = words;
             return Ok(());
         }
-        match words.into_line(alloc, number) {
-            Some(line) => {
-                self.partitions.push(line)?;
-                Ok(())
-            }
-            None => Err(Fault::Refused(ConfKind::BadValue)),
-        }
+        self.add_partition(alloc, number, words)
+    }
+
+    // Puts the partition of a line behind the others.
+    fn add_partition(&mut self, alloc: Global, number: u32, words: PartWords) -> Result<(), Fault>
+        ensures value { OnOk result (with_partition self.old (line_of number words) ≡ Ok self.new) }
+        ensures refused { (k : ConfKind)
+            → IsErrOf result (Fault.Refused k) → with_partition self.old (line_of number words) ≡ Err k }
+    {
+        let Some(line) = words.into_line(alloc, number) else {
+            return Err(Fault::Refused(ConfKind::BadValue));
+        };
+        self.partitions.push(line)?;
+        Ok(())
     }
 
     fn read_settings(&mut self, alloc: Global, number: u32, line: &[u8]) -> Result<(), Fault>

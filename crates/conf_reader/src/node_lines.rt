@@ -1,6 +1,6 @@
 //! Lines of nodes.
 
-ghost use Rattle.std.specs.Prelude.{ℕ, ◌≡◌, ◌≤◌, ◌<◌, ◌^◌, ◌*◌, [], ◌++◌, unwrap_or, length, map, IfOk, IfSome, OnOk, IsErrOf, Some, None, Ok, Err};
+ghost use Rattle.std.specs.Prelude.{ℕ, ◌≡◌, ◌≢◌, ◌≤◌, ◌<◌, ◌^◌, ◌*◌, [], ◌++◌, unwrap_or, length, map, IfOk, IfSome, OnOk, IsErrOf, Some, None, Ok, Err};
 ghost use Rattle.conf_values.specs.Keys.{node_key};
 ghost use Rattle.conf_reader.specs.NodeLines.{node_name, node_entry, names_fault, entry_fault, node_word, with_entry, no_node_words, node_line, few, few_times, processors, node_conf};
 ghost use Rattle.slurm_text.specs.Confs.{node_names};
@@ -80,25 +80,37 @@ fn read_node_name(alloc: Global, text: &[u8]) -> Result<NodeNames, ValueRefusal>
     Ok(NodeNames::Hosts(names))
 }
 
+// What a key and its value say, where that takes no memory.
+#[tactic(auto, unfolding(crate::specs::NodeLines::node_entry))]
+fn plain_entry(key: NodeKey, text: &[u8]) -> Option<NodeEntry>
+    requires names { key ≢ NodeKey.NodeName }
+    requires features { key ≢ NodeKey.Features }
+    ensures { result ≡ node_entry key text.now }
+{
+    match key {
+        NodeKey::NodeName | NodeKey::Features => None,
+        NodeKey::Cpus => read_number(text).map(NodeEntry::Cpus),
+        NodeKey::Boards => read_number(text).map(NodeEntry::Boards),
+        NodeKey::Sockets => read_number(text).map(NodeEntry::Sockets),
+        NodeKey::Cores => read_number(text).map(NodeEntry::Cores),
+        NodeKey::Threads => read_number(text).map(NodeEntry::Threads),
+        NodeKey::RealMemory => read_number(text).map(NodeEntry::Mem),
+        NodeKey::Weight => read_number(text).map(NodeEntry::Weight),
+        NodeKey::State => read_node_start(text).map(NodeEntry::State),
+        NodeKey::WithoutEffect => Some(NodeEntry::WithoutEffect),
+    }
+}
+
 #[tactic(auto, unfolding(crate::specs::NodeLines::node_entry))]
 fn read_node_entry(alloc: Global, key: NodeKey, text: &[u8]) -> Result<NodeEntry, ValueRefusal>
     requires { length text.now < 2 ^ 32 }
     ensures value { IfOk result (λ entry. node_entry key text.now ≡ Some entry) }
     ensures refused { IsErrOf result ValueRefusal.BadValue → node_entry key text.now ≡ None }
 {
-    let bad = ValueRefusal::BadValue;
     match key {
         NodeKey::NodeName => Ok(NodeEntry::Names(read_node_name(alloc, text)?)),
-        NodeKey::Cpus => Ok(NodeEntry::Cpus(read_number(text).ok_or(bad)?)),
-        NodeKey::Boards => Ok(NodeEntry::Boards(read_number(text).ok_or(bad)?)),
-        NodeKey::Sockets => Ok(NodeEntry::Sockets(read_number(text).ok_or(bad)?)),
-        NodeKey::Cores => Ok(NodeEntry::Cores(read_number(text).ok_or(bad)?)),
-        NodeKey::Threads => Ok(NodeEntry::Threads(read_number(text).ok_or(bad)?)),
-        NodeKey::RealMemory => Ok(NodeEntry::Mem(read_number(text).ok_or(bad)?)),
-        NodeKey::Weight => Ok(NodeEntry::Weight(read_number(text).ok_or(bad)?)),
         NodeKey::Features => Ok(NodeEntry::Features(read_names(alloc, text)?)),
-        NodeKey::State => Ok(NodeEntry::State(read_node_start(text).ok_or(bad)?)),
-        NodeKey::WithoutEffect => Ok(NodeEntry::WithoutEffect),
+        _ => plain_entry(key, text).ok_or(ValueRefusal::BadValue),
     }
 }
 

@@ -1,8 +1,9 @@
 //! Lines of partitions.
 
-ghost use Rattle.std.specs.Prelude.{ℕ, ◌≡◌, ◌≤◌, ◌<◌, ◌^◌, length, map, IfOk, IfSome, OnOk, IsErrOf, Some, None, Ok, Err};
+ghost use Rattle.std.specs.Prelude.{ℕ, ◌≡◌, ◌≢◌, ◌≤◌, ◌<◌, ◌^◌, if◌then◌else◌, codes, length, map, IfOk, IfSome, OnOk, IsErrOf, Some, None, Ok, Err};
 ghost use Rattle.std.specs.Option.{option_or};
 ghost use Rattle.conf_values.specs.Keys.{partition_key};
+ghost use Rattle.conf_values.specs.Values.{is_word};
 ghost use Rattle.conf_reader.specs.PartitionLines.{part_name, part_nodes, part_entry, partition_names, part_fault, part_word, part_line};
 ghost use Rattle.slurm_text.specs.Hosts.{has};
 ghost use Rattle.conf_reader.specs.Words.{entry_in};
@@ -116,37 +117,59 @@ fn read_part_nodes(alloc: Global, text: &[u8]) -> Result<PartNodes, ValueRefusal
     Ok(PartNodes::Listed(names))
 }
 
+// The only text that the key of groups takes, where it has no effect.
+fn all_groups(text: &[u8]) -> Option<PartEntry>
+    ensures { result ≡ if is_word (codes "ALL") text.now then Some PartEntry.WithoutEffect else None }
+{
+    if is_keyword(text, b"ALL") {
+        Some(PartEntry::WithoutEffect)
+    } else {
+        None
+    }
+}
+
+// What a key and its value say, where that takes no memory.
+#[tactic(auto, unfolding(crate::specs::PartitionLines::part_entry))]
+fn plain_entry(key: PartitionKey, text: &[u8]) -> Option<PartEntry>
+    requires name { key ≢ PartitionKey.PartitionName }
+    requires nodes { key ≢ PartitionKey.Nodes }
+    requires accounts { key ≢ PartitionKey.AllowAccounts }
+    requires qos { key ≢ PartitionKey.AllowQos }
+    ensures { result ≡ part_entry key text.now }
+{
+    match key {
+        PartitionKey::PartitionName
+        | PartitionKey::Nodes
+        | PartitionKey::AllowAccounts
+        | PartitionKey::AllowQos => None,
+        PartitionKey::Default => read_yes_or_no(text).map(PartEntry::IsDefault),
+        PartitionKey::MaxTime => read_limit(text).map(PartEntry::MaxTime),
+        PartitionKey::DefaultTime => read_limit(text).map(PartEntry::DefaultTime),
+        PartitionKey::State => read_part_state(text).map(PartEntry::State),
+        PartitionKey::JobFactor => read_number(text).map(PartEntry::Factor),
+        PartitionKey::Tier => read_number(text).map(PartEntry::Tier),
+        PartitionKey::MinNodes => read_u32(text).map(PartEntry::MinNodes),
+        PartitionKey::MaxNodes => read_most_nodes(text).map(PartEntry::MaxNodes),
+        PartitionKey::AllowGroups => all_groups(text),
+        PartitionKey::OverSubscribe => read_exclusive(text).map(PartEntry::Exclusive),
+        PartitionKey::DefMemPerNode => read_mem_per_node(text).map(PartEntry::Mem),
+        PartitionKey::DefMemPerCpu => read_mem_per_cpu(text).map(PartEntry::Mem),
+        PartitionKey::WithoutEffect => Some(PartEntry::WithoutEffect),
+    }
+}
+
 #[tactic(auto, unfolding(crate::specs::PartitionLines::part_entry))]
 fn read_part_entry(alloc: Global, key: PartitionKey, text: &[u8]) -> Result<PartEntry, ValueRefusal>
     requires { length text.now < 2 ^ 32 }
     ensures value { IfOk result (λ entry. part_entry key text.now ≡ Some entry) }
     ensures refused { IsErrOf result ValueRefusal.BadValue → part_entry key text.now ≡ None }
 {
-    let bad = ValueRefusal::BadValue;
     match key {
         PartitionKey::PartitionName => Ok(PartEntry::Name(read_part_name(alloc, text)?)),
         PartitionKey::Nodes => Ok(PartEntry::Nodes(read_part_nodes(alloc, text)?)),
-        PartitionKey::Default => Ok(PartEntry::IsDefault(read_yes_or_no(text).ok_or(bad)?)),
-        PartitionKey::MaxTime => Ok(PartEntry::MaxTime(read_limit(text).ok_or(bad)?)),
-        PartitionKey::DefaultTime => Ok(PartEntry::DefaultTime(read_limit(text).ok_or(bad)?)),
-        PartitionKey::State => Ok(PartEntry::State(read_part_state(text).ok_or(bad)?)),
-        PartitionKey::JobFactor => Ok(PartEntry::Factor(read_number(text).ok_or(bad)?)),
-        PartitionKey::Tier => Ok(PartEntry::Tier(read_number(text).ok_or(bad)?)),
-        PartitionKey::MinNodes => Ok(PartEntry::MinNodes(read_u32(text).ok_or(bad)?)),
-        PartitionKey::MaxNodes => Ok(PartEntry::MaxNodes(read_most_nodes(text).ok_or(bad)?)),
         PartitionKey::AllowAccounts => Ok(PartEntry::Accounts(read_allowed(alloc, text)?)),
         PartitionKey::AllowQos => Ok(PartEntry::Qos(read_allowed(alloc, text)?)),
-        PartitionKey::AllowGroups => {
-            if is_keyword(text, b"ALL") {
-                Ok(PartEntry::WithoutEffect)
-            } else {
-                Err(bad)
-            }
-        }
-        PartitionKey::OverSubscribe => Ok(PartEntry::Exclusive(read_exclusive(text).ok_or(bad)?)),
-        PartitionKey::DefMemPerNode => Ok(PartEntry::Mem(read_mem_per_node(text).ok_or(bad)?)),
-        PartitionKey::DefMemPerCpu => Ok(PartEntry::Mem(read_mem_per_cpu(text).ok_or(bad)?)),
-        PartitionKey::WithoutEffect => Ok(PartEntry::WithoutEffect),
+        _ => plain_entry(key, text).ok_or(ValueRefusal::BadValue),
     }
 }
 
@@ -215,7 +238,8 @@ fn read_part_word(alloc: Global, known: &[PartLine], word: &[u8]) -> Result<Part
 }
 
 impl PartWords {
-    ghost use Rattle.std.specs.Prelude.{◌≡◌, IfOk, IfSome};
+    ghost use Rattle.std.specs.Prelude.{◌≡◌, IfOk, IfSome, OnOk};
+    ghost use Rattle.std.specs.Option.{option_or};
     ghost use Rattle.conf_reader.specs.PartitionLines.{with_part, no_part_words, over, part_conf, line_of};
 
     #[tactic(auto, unfolding(crate::specs::PartitionLines::no_part_words))]
@@ -268,25 +292,50 @@ impl PartWords {
     pub(crate) fn over(self, defaults: &PartWords) -> Result<PartWords, Memory>
         ensures { IfOk result (λ words. words ≡ over self defaults.now) }
     {
-        let nodes = nodes_or_copy(self.nodes, &defaults.nodes)?;
-        let accounts = allowed_or_copy(self.accounts, &defaults.accounts)?;
-        let qos = allowed_or_copy(self.qos, &defaults.qos)?;
-        Ok(PartWords {
-            name: self.name,
-            nodes,
-            is_default: self.is_default.or(defaults.is_default),
-            max_time: self.max_time.or(defaults.max_time),
-            default_time: self.default_time.or(defaults.default_time),
-            state: self.state.or(defaults.state),
-            factor: self.factor.or(defaults.factor),
-            tier: self.tier.or(defaults.tier),
-            min_nodes: self.min_nodes.or(defaults.min_nodes),
-            max_nodes: self.max_nodes.or(defaults.max_nodes),
-            accounts,
-            qos,
-            exclusive: self.exclusive.or(defaults.exclusive),
-            mem: self.mem.or(defaults.mem),
-        })
+        let mut words = self;
+        words.fill_lists(defaults)?;
+        words.fill_values(defaults);
+        Ok(words)
+    }
+
+    // Takes from DEFAULT lines what is a list.
+    fn fill_lists(&mut self, defaults: &PartWords) -> Result<(), Memory>
+        ensures { OnOk result (self.new ≡ record self.old {
+          nodes = option_or self.old.nodes defaults.now.nodes;
+          accounts = option_or self.old.accounts defaults.now.accounts;
+          qos = option_or self.old.qos defaults.now.qos;
+        }) }
+    {
+        fill_nodes(&mut self.nodes, &defaults.nodes)?;
+        fill_allowed(&mut self.accounts, &defaults.accounts)?;
+        fill_allowed(&mut self.qos, &defaults.qos)
+    }
+
+    // Takes from DEFAULT lines what is no list.
+    fn fill_values(&mut self, defaults: &PartWords)
+        ensures { self.new ≡ record self.old {
+          is_default = option_or self.old.is_default defaults.now.is_default;
+          max_time = option_or self.old.max_time defaults.now.max_time;
+          default_time = option_or self.old.default_time defaults.now.default_time;
+          state = option_or self.old.state defaults.now.state;
+          factor = option_or self.old.factor defaults.now.factor;
+          tier = option_or self.old.tier defaults.now.tier;
+          min_nodes = option_or self.old.min_nodes defaults.now.min_nodes;
+          max_nodes = option_or self.old.max_nodes defaults.now.max_nodes;
+          exclusive = option_or self.old.exclusive defaults.now.exclusive;
+          mem = option_or self.old.mem defaults.now.mem;
+        } }
+    {
+        self.is_default = self.is_default.or(defaults.is_default);
+        self.max_time = self.max_time.or(defaults.max_time);
+        self.default_time = self.default_time.or(defaults.default_time);
+        self.state = self.state.or(defaults.state);
+        self.factor = self.factor.or(defaults.factor);
+        self.tier = self.tier.or(defaults.tier);
+        self.min_nodes = self.min_nodes.or(defaults.min_nodes);
+        self.max_nodes = self.max_nodes.or(defaults.max_nodes);
+        self.exclusive = self.exclusive.or(defaults.exclusive);
+        self.mem = self.mem.or(defaults.mem);
     }
 
     /// The partition that these words of a line make; None without nodes.
@@ -294,56 +343,82 @@ impl PartWords {
     pub(crate) fn into_line(self, alloc: Global, number: u32) -> Option<PartLine>
         ensures { result ≡ line_of number self }
     {
-        match (self.name, self.nodes) {
+        let mut words = self;
+        match (words.name.take(), words.nodes.take()) {
             (Some(PartName::Named(name)), Some(nodes)) => Some(PartLine {
                 number,
                 nodes,
-                conf: PartConf {
-                    name,
-                    nodes: Items::from_vec(Vec::new(alloc)),
-                    is_default: self.is_default.unwrap_or(false),
-                    max_time: self.max_time.unwrap_or(Limit::Unlimited),
-                    default_time: self.default_time,
-                    state: self.state.unwrap_or(PartState::Up),
-                    factor: self.factor.unwrap_or(Ranged::new(1)),
-                    tier: self.tier.unwrap_or(Ranged::new(1)),
-                    min_nodes: self.min_nodes.unwrap_or(0),
-                    max_nodes: self.max_nodes.unwrap_or(None),
-                    accounts: self.accounts.unwrap_or(None),
-                    qos: self.qos.unwrap_or(None),
-                    exclusive: self.exclusive.unwrap_or(false),
-                    mem_default: self.mem,
-                },
+                conf: words.into_conf(alloc, name),
             }),
             _ => None,
         }
     }
-}
 
-fn nodes_or_copy(
-    own: Option<PartNodes>,
-    default: &Option<PartNodes>,
-) -> Result<Option<PartNodes>, Memory>
-    ensures { IfOk result (λ nodes. nodes ≡ option_or own default.now) }
-{
-    match (own, default) {
-        (Some(own), _) => Ok(Some(own)),
-        (None, Some(PartNodes::All)) => Ok(Some(PartNodes::All)),
-        (None, Some(PartNodes::Listed(names))) => Ok(Some(PartNodes::Listed(names.copy()?))),
-        (None, None) => Ok(None),
+    // The partition of this name, without its nodes.
+    #[tactic(auto, unfolding(crate::specs::PartitionLines::part_conf))]
+    fn into_conf(self, alloc: Global, name: Name) -> PartConf
+        ensures { result ≡ part_conf self name }
+    {
+        PartConf {
+            name,
+            nodes: Items::from_vec(Vec::new(alloc)),
+            is_default: self.is_default.unwrap_or(false),
+            max_time: self.max_time.unwrap_or(Limit::Unlimited),
+            default_time: self.default_time,
+            state: self.state.unwrap_or(PartState::Up),
+            factor: self.factor.unwrap_or(Ranged::new(1)),
+            tier: self.tier.unwrap_or(Ranged::new(1)),
+            min_nodes: self.min_nodes.unwrap_or(0),
+            max_nodes: self.max_nodes.unwrap_or(None),
+            accounts: self.accounts.unwrap_or(None),
+            qos: self.qos.unwrap_or(None),
+            exclusive: self.exclusive.unwrap_or(false),
+            mem_default: self.mem,
+        }
     }
 }
 
-fn allowed_or_copy(
-    own: Option<Option<Items<Name>>>,
-    default: &Option<Option<Items<Name>>>,
-) -> Result<Option<Option<Items<Name>>>, Memory>
-    ensures { IfOk result (λ names. names ≡ option_or own default.now) }
+// Takes the nodes of DEFAULT lines, where a line gives none itself.
+fn fill_nodes(own: &mut Option<PartNodes>, default: &Option<PartNodes>) -> Result<(), Memory>
+    ensures { OnOk result (own.new ≡ option_or own.old default.now) }
 {
-    match (own, default) {
-        (Some(own), _) => Ok(Some(own)),
-        (None, Some(default)) => Ok(Some(or_copy(None, default)?)),
-        (None, None) => Ok(None),
+    if own.is_none() {
+        *own = copy_nodes(default)?;
+    }
+    Ok(())
+}
+
+fn copy_nodes(nodes: &Option<PartNodes>) -> Result<Option<PartNodes>, Memory>
+    ensures { IfOk result (λ copy. copy ≡ nodes.now) }
+{
+    match nodes {
+        Some(PartNodes::All) => Ok(Some(PartNodes::All)),
+        Some(PartNodes::Listed(names)) => Ok(Some(PartNodes::Listed(names.copy()?))),
+        None => Ok(None),
+    }
+}
+
+// Takes what DEFAULT lines allow, where a line says nothing of it itself.
+fn fill_allowed(
+    own: &mut Option<Option<Items<Name>>>,
+    default: &Option<Option<Items<Name>>>,
+) -> Result<(), Memory>
+    ensures { OnOk result (own.new ≡ option_or own.old default.now) }
+{
+    if own.is_none() {
+        *own = copy_allowed(default)?;
+    }
+    Ok(())
+}
+
+fn copy_allowed(
+    allowed: &Option<Option<Items<Name>>>,
+) -> Result<Option<Option<Items<Name>>>, Memory>
+    ensures { IfOk result (λ copy. copy ≡ allowed.now) }
+{
+    match allowed {
+        Some(names) => Ok(Some(or_copy(None, names)?)),
+        None => Ok(None),
     }
 }
 

@@ -1,16 +1,18 @@
 //! A file, read line by line.
 
-ghost use Rattle.std.specs.Prelude.{ℕ, ◌≡◌, ◌≤◌, ◌<◌, ◌^◌, ◌++◌, length, not, IfOk, IsErrOf, Ok, Err, OnOk};
+ghost use Rattle.std.specs.Prelude.{ℕ, ◌≡◌, ◌≤◌, ◌<◌, ◌^◌, ◌++◌, ◌&&◌, length, not, IfOk, IfSome, IsNone, IsErrOf, Ok, Err, OnOk};
 ghost use Rattle.std.specs.List.{list_any};
 ghost use Rattle.conf_lines.specs.Lines.{logical_lines};
-ghost use Rattle.slurm_text.specs.Confs.{node_names};
+ghost use Rattle.slurm_text.specs.Confs.{node_names, IsConf};
 ghost use Rattle.conf_reader.specs.Reader.{after_lines, nothing_said, has_unknown, first_unknown, nodes_by, partitions_by, conf_of_lines, whole_file, conf_in};
+ghost use Rattle.conf_reader.specs.SettingLines.{settings_of};
 ghost use Rattle.conf_reader.specs.Sound.{IsSound};
 ghost use Rattle.slurm_text.specs.Hosts.{has};
 ghost use Rattle.conf_values.specs.declared.refusal.ConfKind.{ConfKind};
 
 use crate::draft::Draft;
 use crate::partition_lines::{PartLine, PartNodes};
+use crate::setting_lines::SettingWords;
 use conf_lines::lines::first_line;
 use conf_values::node_table::NodeTable;
 use conf_values::refusal::{ConfKind, ConfRefusal, Fault};
@@ -70,33 +72,62 @@ fn read_lines(alloc: Global, file: &[u8]) -> Result<Draft, ConfRefusal>
 }
 
 // What holds of the file as a whole.
-#[tactic(auto, unfolding(crate::specs::Reader::whole_file, crate::specs::Reader::conf_of_lines))]
+#[tactic(auto, unfolding(crate::specs::Reader::conf_of_lines))]
 fn end_file(alloc: Global, draft: Draft) -> Result<Conf, ConfRefusal>
     requires { IsSound draft }
     ensures value { IfOk result (λ conf. whole_file draft ≡ Ok conf) }
     ensures refused { (line : ℕ) → (kind : ConfKind)
         → IsErrOf result (ConfRefusal.At line kind) → whole_file draft ≡ Err (ConfRefusal.At line kind) }
 {
-    if let Some(line) = first_unknown(&draft.nodes, draft.partitions.as_slice()) {
-        return Err(ConfRefusal::At {
-            line,
-            kind: ConfKind::UnknownNode,
-        });
+    if let Some(refusal) = whole_refusal(&draft) {
+        return Err(refusal);
     }
-    if draft.partitions.as_slice().is_empty() {
-        return Err(ConfRefusal::At {
-            line: 0,
-            kind: ConfKind::NoPartition,
-        });
-    }
-    let settings = draft.settings.into_settings(alloc)?;
-    let nodes = draft.nodes.into_items();
-    let partitions = make_partitions(alloc, nodes.as_slice(), draft.partitions.into_vec())?;
+    let (settings, nodes, partitions) = draft.into_parts();
+    let conf = make_conf(alloc, settings, nodes, partitions)?;
+    Ok(conf)
+}
+
+// What lines make of which none is bad.
+fn make_conf(
+    alloc: Global,
+    settings: SettingWords,
+    nodes: Items<NodeConf>,
+    lines: Vec<PartLine>,
+) -> Result<Conf, Memory>
+    requires { IsConf nodes (partitions_by (node_names nodes) lines.items) }
+    ensures { IfOk result (λ conf. conf ≡ record {
+      settings = settings_of settings;
+      nodes = nodes;
+      partitions = partitions_by (node_names nodes) lines.items;
+    }) }
+{
+    let settings = settings.into_settings(alloc)?;
+    let partitions = make_partitions(alloc, nodes.as_slice(), lines)?;
     Ok(Conf {
         settings,
         nodes,
         partitions,
     })
+}
+
+#[tactic(auto, unfolding(crate::specs::Reader::whole_file))]
+fn whole_refusal(draft: &Draft) -> Option<ConfRefusal>
+    ensures refused { IfSome result (λ refusal. whole_file draft.now ≡ Err refusal) }
+    ensures good { IsNone result → whole_file draft.now ≡ Ok (conf_of_lines draft.now) }
+{
+    if let Some(line) = first_unknown(&draft.nodes, draft.partitions.as_slice()) {
+        return Some(ConfRefusal::At {
+            line,
+            kind: ConfKind::UnknownNode,
+        });
+    }
+    if draft.partitions.as_slice().is_empty() {
+        return Some(ConfRefusal::At {
+            line: 0,
+            kind: ConfKind::NoPartition,
+        });
+    }
+    None
 }
 
 #[tactic(auto, unfolding(crate::specs::Reader::has_unknown))]
@@ -154,6 +185,25 @@ fn has_default(lines: &[PartLine]) -> bool
     lines.iter().any(|line| line.conf.is_default)
 }
 
+// A partition of a line, where these lines come later.
+fn make_partition(
+    alloc: Global,
+    known: &[NodeConf],
+    line: PartLine,
+    later: &[PartLine],
+) -> Result<PartConf, Memory>
+    ensures { IfOk result (λ partition. partition ≡ record line.conf {
+      nodes = nodes_by (node_names known.now) line.nodes;
+      is_default = line.conf.is_default && not (list_any (λ other. other.conf.is_default) later.now);
+    }) }
+{
+    let nodes = find_nodes(alloc, known, line.nodes)?;
+    let mut conf = line.conf;
+    conf.nodes = nodes;
+    conf.is_default = conf.is_default && !has_default(later);
+    Ok(conf)
+}
+
 // The partitions, of which there are few.
 fn make_partitions(
     alloc: Global,
@@ -165,14 +215,9 @@ fn make_partitions(
     let mut lines = lines;
     let mut partitions = Vec::with_capacity(alloc, lines.len())?;
     while !lines.is_empty() {
-        let PartLine {
-            number: _,
-            nodes,
-            mut conf,
-        } = lines.remove(0);
-        conf.nodes = find_nodes(alloc, known, nodes)?;
-        conf.is_default = conf.is_default && !has_default(lines.as_slice());
-        partitions.push(conf)?;
+        let line = lines.remove(0);
+        let partition = make_partition(alloc, known, line, lines.as_slice())?;
+        partitions.push(partition)?;
     }
     Ok(Items::from_vec(partitions))
 }

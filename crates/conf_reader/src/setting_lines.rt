@@ -1,6 +1,6 @@
 //! Lines of settings.
 
-ghost use Rattle.std.specs.Prelude.{ℕ, ◌≡◌, ◌≤◌, ◌<◌, ◌^◌, ◌∷◌, [], length, map, unwrap_or, codes, bytes_eq, IfOk, IfSome, OnOk, IsErrOf, Some, None, Ok, Err};
+ghost use Rattle.std.specs.Prelude.{ℕ, ◌≡◌, ◌≢◌, ◌==◌, ◌≤◌, ◌<◌, ◌^◌, ◌∷◌, [], length, map, option_map, unwrap_or, codes, bytes_eq, IfOk, IfSome, OnOk, IsErrOf, Some, None, Ok, Err};
 ghost use Rattle.std.specs.List.{list_any};
 ghost use Rattle.conf_values.specs.Keys.{setting_key};
 ghost use Rattle.conf_reader.specs.SettingLines.{minutes_in, only, select_parameters, setting_entry, setting_word, setting_line};
@@ -76,10 +76,11 @@ fn read_minutes(text: &[u8]) -> Option<Ranged<1, 52560000>>
     }
 }
 
-fn read_switch(text: &[u8]) -> Option<Ranged<0, 1>>
-    ensures { result ≡ number_in 0 1 text.now }
+fn read_requeue(text: &[u8]) -> Option<SettingEntry>
+    ensures { result ≡ option_map (λ number. SettingEntry.JobRequeue (number == 1)) (number_in 0 1 text.now) }
 {
-    read_number(text)
+    let number: Ranged<0, 1> = read_number(text)?;
+    Some(SettingEntry::JobRequeue(number.get() == 1))
 }
 
 fn is_one_of(text: &[u8], texts: &[&[u8]]) -> bool
@@ -94,26 +95,57 @@ fn is_one_of(text: &[u8], texts: &[&[u8]]) -> bool
 }
 
 // The only texts that a key takes, where they have no effect.
-fn only(text: &[u8], texts: &[&[u8]]) -> Result<SettingEntry, ValueRefusal>
-    ensures value { IfOk result (λ entry. only (map (λ t. t.now) texts.now) text.now ≡ Some entry) }
-    ensures refused { IsErrOf result ValueRefusal.BadValue → only (map (λ t. t.now) texts.now) text.now ≡ None }
+fn only(text: &[u8], texts: &[&[u8]]) -> Option<SettingEntry>
+    ensures { result ≡ only (map (λ t. t.now) texts.now) text.now }
 {
     if is_one_of(text, texts) {
-        Ok(SettingEntry::WithoutEffect)
+        Some(SettingEntry::WithoutEffect)
     } else {
-        Err(ValueRefusal::BadValue)
+        None
     }
 }
 
 #[tactic(auto, unfolding(crate::specs::SettingLines::select_parameters))]
-fn read_select_parameters(text: &[u8]) -> Result<SettingEntry, ValueRefusal>
-    ensures value { IfOk result (λ entry. select_parameters text.now ≡ Some entry) }
-    ensures refused { IsErrOf result ValueRefusal.BadValue → select_parameters text.now ≡ None }
+fn read_select_parameters(text: &[u8]) -> Option<SettingEntry>
+    ensures { result ≡ select_parameters text.now }
 {
     only(
         text,
         &[b"CR_CPU_Memory", b"CR_CPU", b"CR_Core", b"CR_Core_Memory"],
     )
+}
+
+// What a key and its value say, where that takes no memory.
+#[tactic(auto, unfolding(crate::specs::SettingLines::setting_entry))]
+fn plain_entry(key: SettingKey, text: &[u8]) -> Option<SettingEntry>
+    requires { key ≢ SettingKey.SlurmUser }
+    ensures { result ≡ setting_entry key text.now }
+{
+    match key {
+        SettingKey::SlurmUser => None,
+        SettingKey::FirstJobId => read_number(text).map(SettingEntry::FirstJobId),
+        SettingKey::MaxJobCount => read_number(text).map(SettingEntry::MaxJobCount),
+        SettingKey::MaxArraySize => read_number(text).map(SettingEntry::MaxArraySize),
+        SettingKey::MinJobAge => read_number(text).map(SettingEntry::MinJobAge),
+        SettingKey::SlurmdTimeout => read_number(text).map(SettingEntry::SlurmdTimeout),
+        SettingKey::JobRequeue => read_requeue(text),
+        SettingKey::PriorityType => only(text, &[b"priority/multifactor"]),
+        SettingKey::PriorityDecayHalfLife => only(text, &[b"0"]),
+        SettingKey::PriorityMaxAge => read_minutes(text).map(SettingEntry::MaxAge),
+        SettingKey::WeightAge => read_u32(text).map(SettingEntry::WeightAge),
+        SettingKey::WeightFairshare => read_u32(text).map(SettingEntry::WeightFairshare),
+        SettingKey::WeightJobSize => read_u32(text).map(SettingEntry::WeightJobSize),
+        SettingKey::WeightPartition => read_u32(text).map(SettingEntry::WeightPartition),
+        SettingKey::WeightQos => read_u32(text).map(SettingEntry::WeightQos),
+        SettingKey::SchedulerType => only(text, &[b"sched/backfill"]),
+        SettingKey::SchedulerParameters => read_scheduler(text).map(SettingEntry::Plans),
+        SettingKey::SelectType => only(text, &[b"select/cons_tres"]),
+        SettingKey::SelectTypeParameters => read_select_parameters(text),
+        SettingKey::PreemptType => only(text, &[b"preempt/none"]),
+        SettingKey::DefMemPerNode => read_mem_per_node(text).map(SettingEntry::Mem),
+        SettingKey::DefMemPerCpu => read_mem_per_cpu(text).map(SettingEntry::Mem),
+        SettingKey::WithoutEffect => Some(SettingEntry::WithoutEffect),
+    }
 }
 
 #[tactic(auto, unfolding(crate::specs::SettingLines::setting_entry))]
@@ -125,39 +157,9 @@ fn read_setting_entry(
     ensures value { IfOk result (λ entry. setting_entry key text.now ≡ Some entry) }
     ensures refused { IsErrOf result ValueRefusal.BadValue → setting_entry key text.now ≡ None }
 {
-    let bad = ValueRefusal::BadValue;
     match key {
-        SettingKey::FirstJobId => Ok(SettingEntry::FirstJobId(read_number(text).ok_or(bad)?)),
-        SettingKey::MaxJobCount => Ok(SettingEntry::MaxJobCount(read_number(text).ok_or(bad)?)),
-        SettingKey::MaxArraySize => Ok(SettingEntry::MaxArraySize(read_number(text).ok_or(bad)?)),
-        SettingKey::MinJobAge => Ok(SettingEntry::MinJobAge(read_number(text).ok_or(bad)?)),
-        SettingKey::SlurmdTimeout => Ok(SettingEntry::SlurmdTimeout(read_number(text).ok_or(bad)?)),
-        SettingKey::JobRequeue => Ok(SettingEntry::JobRequeue(
-            read_switch(text).ok_or(bad)?.get() == 1,
-        )),
         SettingKey::SlurmUser => Ok(SettingEntry::SlurmUser(read_name(alloc, text)?)),
-        SettingKey::PriorityType => only(text, &[b"priority/multifactor"]),
-        SettingKey::PriorityDecayHalfLife => only(text, &[b"0"]),
-        SettingKey::PriorityMaxAge => Ok(SettingEntry::MaxAge(read_minutes(text).ok_or(bad)?)),
-        SettingKey::WeightAge => Ok(SettingEntry::WeightAge(read_u32(text).ok_or(bad)?)),
-        SettingKey::WeightFairshare => Ok(SettingEntry::WeightFairshare(read_u32(text).ok_or(
-            bad,
-        )?)),
-        SettingKey::WeightJobSize => Ok(SettingEntry::WeightJobSize(read_u32(text).ok_or(bad)?)),
-        SettingKey::WeightPartition => Ok(SettingEntry::WeightPartition(read_u32(text).ok_or(
-            bad,
-        )?)),
-        SettingKey::WeightQos => Ok(SettingEntry::WeightQos(read_u32(text).ok_or(bad)?)),
-        SettingKey::SchedulerType => only(text, &[b"sched/backfill"]),
-        SettingKey::SchedulerParameters => Ok(SettingEntry::Plans(read_scheduler(text).ok_or(
-            bad,
-        )?)),
-        SettingKey::SelectType => only(text, &[b"select/cons_tres"]),
-        SettingKey::SelectTypeParameters => read_select_parameters(text),
-        SettingKey::PreemptType => only(text, &[b"preempt/none"]),
-        SettingKey::DefMemPerNode => Ok(SettingEntry::Mem(read_mem_per_node(text).ok_or(bad)?)),
-        SettingKey::DefMemPerCpu => Ok(SettingEntry::Mem(read_mem_per_cpu(text).ok_or(bad)?)),
-        SettingKey::WithoutEffect => Ok(SettingEntry::WithoutEffect),
+        _ => plain_entry(key, text).ok_or(ValueRefusal::BadValue),
     }
 }
 

@@ -15,15 +15,22 @@ pub fn malformed(alloc: Global, command: Command, fault: WordFault) -> Result<Ve
     ensures { IfOk result (λ text. text.items ≡ malformed_text command fault) }
 {
     let mut out = Vec::new(alloc);
-    match fault {
-        WordFault::Word { word, kind } => push_fault(
-            alloc, &mut out, command, b" word ", word, kind,
-        )?,
-        WordFault::Line { line, kind } => push_fault(
-            alloc, &mut out, command, b" line ", line, kind,
-        )?,
-    }
+    push_malformed(alloc, &mut out, command, fault)?;
     Ok(out)
+}
+
+fn push_malformed(
+    alloc: Global,
+    out: &mut Vec<u8>,
+    command: Command,
+    fault: WordFault,
+) -> Result<(), Memory>
+    ensures { OnOk result (out.new.items ≡ out.old.items ++ malformed_text command fault) }
+{
+    match fault {
+        WordFault::Word { word, kind } => push_fault(alloc, out, command, b" word ", word, kind),
+        WordFault::Line { line, kind } => push_fault(alloc, out, command, b" line ", line, kind),
+    }
 }
 
 /// The text that answers a header which is no list of words: it is wrong at this byte, counted from 0 (own).

@@ -22,21 +22,32 @@ pub fn text(alloc: Global, request: &Request, reply: &Reply) -> Result<Vec<u8>, 
     ensures { IfOk result (λ text. text.items ≡ text_of request.now reply.now) }
 {
     let mut out = Vec::new(alloc);
+    push_reply(alloc, &mut out, request, reply)?;
+    Ok(out)
+}
+
+fn push_reply(
+    alloc: Global,
+    out: &mut Vec<u8>,
+    request: &Request,
+    reply: &Reply,
+) -> Result<(), Memory>
+    ensures { OnOk result (out.new.items ≡ out.old.items ++ text_of request.now reply.now) }
+{
     match reply {
-        Reply::Submitted { id } => push_submitted(&mut out, is_parsable(request), *id)?,
-        Reply::Done => {}
+        Reply::Submitted { id } => push_submitted(out, is_parsable(request), *id),
+        Reply::Done => Ok(()),
         Reply::Passed {
             ended,
             started,
             planned,
-        } => push_passed(&mut out, *ended, *started, *planned)?,
-        Reply::Orders(orders) => push_orders(&mut out, orders)?,
-        Reply::Idle => push_idle(&mut out, request)?,
-        Reply::Shown(view) => push_shown(alloc, &mut out, request, view)?,
-        Reply::Refused(refusal) => push_refusal(&mut out, command(request), refusal)?,
-        Reply::NotBuilt => push_text(&mut out, not_built())?,
+        } => push_passed(out, *ended, *started, *planned),
+        Reply::Orders(orders) => push_orders(out, orders),
+        Reply::Idle => push_idle(out, request),
+        Reply::Shown(view) => push_shown(alloc, out, request, view),
+        Reply::Refused(refusal) => push_refusal(out, command(request), refusal),
+        Reply::NotBuilt => push_text(out, not_built()),
     }
-    Ok(out)
 }
 
 // Whether the answer is the number alone: `--parsable` of sbatch(1).

@@ -1,13 +1,9 @@
-use Rattle.std.proofs.Common.{◌≡◌, ◌==◌, false, length, None, rules, sym}
-use Rattle.slurm_text.specs.Confs.{node_names}
-use Rattle.conf_reader.specs.Reader.{first_unknown, partitions_by}
-use Rattle.conf_reader.proofs.WholeLemmas.{draft-is-conf}
+use Rattle.std.proofs.Common.{◌≡◌, Ok, rules}
+use Rattle.conf_reader.specs.Reader.{conf_of_lines, whole_file}
+use Rattle.conf_reader.proofs.WholeLemmas.{whole-is-conf}
 use Rattle.conf_reader.proofs.reader.end_file.Goals as goal
 
-pub invariant_of-result : goal.invariant_of-result
-invariant_of-result c =
-    let nodes : c.into_items-nodes.result ≡ c.args.draft.nodes = search rules in
-    let made : c.in_ok-partitions.partitions ≡ partitions_by (node_names c.args.draft.nodes) c.args.draft.partitions = search rules in
-    let known : first_unknown (node_names c.args.draft.nodes) c.args.draft.partitions ≡ None = search rules in
-    let some : (length c.args.draft.partitions == 0) ≡ false = rw c.as_slice-2.ensures at (sym c.if-is_empty.ensures) in
-    rw (nodes, made) (draft-is-conf c.args.draft c.requires known some)
+pub make_conf-requires : goal.make_conf-requires
+make_conf-requires c =
+    let good : whole_file c.args.draft ≡ Ok (conf_of_lines c.args.draft) = search rules in
+    rw (c.into_parts-settings.ensures.nodes, c.into_parts-settings.ensures.partitions) (whole-is-conf c.args.draft (conf_of_lines c.args.draft) c.requires good)
