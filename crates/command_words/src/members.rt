@@ -44,7 +44,7 @@ pub(crate) fn read_members<M: Member>(
 
 /// The members of a list between commas.
 pub(crate) fn read_all<M: Member>(alloc: Global, list: &[u8]) -> Result<Option<Items<M>>, Memory>
-    ensures { IfOk result (λ members. members ≡ all_some (map M.meaning (fields 44 list.now))) }
+    ensures { IfOk result (λ members. members ≡ all_some (map M.meaning (fields (byte ",") list.now))) }
 {
     let texts = cut_at(alloc, list, b',')?;
     read_members(alloc, texts.as_slice())

@@ -1,9 +1,10 @@
 -- Fields of a fixed width.
 use Rattle.std.specs.Prelude.{ℕ, ◌-◌, Bool, true, false, if◌then◌else◌, List, ◌++◌, length, take, replicate, codes}
+use Rattle.std.specs.Str.{byte}
 
--- the blanks (32) that a text lacks
+-- the blanks that a text lacks
 abbrev pub padding : ℕ → List ℕ → List ℕ
-padding width text = replicate (width - length text) 32
+padding width text = replicate (width - length text) (byte " ")
 
 -- a text cut to its first `width` bytes and padded, on the left with the dot, else on the right
 unfoldable pub field : ℕ → Bool → List ℕ → List ℕ

@@ -1,6 +1,7 @@
 //! Fields of a fixed width.
 
 ghost use Rattle.std.specs.Prelude.{◌≡◌, ◌≤◌, ◌+◌, ◌-◌, ◌++◌, OnOk, IfOk, length, take, drop, replicate};
+ghost use Rattle.std.specs.Str.{byte};
 ghost use Rattle.slurm_print.specs.Field.{field, cell, left_cell};
 ghost use Rattle.slurm_print.specs.Squeue.{sized};
 
@@ -25,7 +26,7 @@ pub(crate) fn fit(out: &mut Vec<u8>, start: usize, width: usize, dot: bool) -> R
 
 // Cuts the bytes to so many, or pads them with blanks up to there. Answers how many blanks that took.
 fn set_end(out: &mut Vec<u8>, end: usize) -> Result<usize, Memory>
-    ensures items { OnOk result (out.new.items ≡ take end out.old.items ++ replicate (end - length out.old.items) 32) }
+    ensures items { OnOk result (out.new.items ≡ take end out.old.items ++ replicate (end - length out.old.items) (byte " ")) }
     ensures blanks { IfOk result (λ blanks. blanks ≡ end - length out.old.items) }
 {
     let blanks = end.saturating_sub(out.len());

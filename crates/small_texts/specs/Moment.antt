@@ -60,7 +60,7 @@ wait_of text = do
 
 -- by its fields at a plus (43): `now`, or a date and a time of day parted by 84, a T; `now` and a wait behind the plus
 unfoldable pub moment_of_parts : ℕ → List (List ℕ) → Option ℕ
-moment_of_parts now (text ∷ []) = if bytes_eq text (codes "now") then Some now else civil_moment (fields 84 text)
+moment_of_parts now (text ∷ []) = if bytes_eq text (codes "now") then Some now else civil_moment (fields (byte "T") text)
 moment_of_parts now (text ∷ wait ∷ []) =
     if bytes_eq text (codes "now") then (wait_of wait >>= λ seconds. Some (now + seconds)) else None
 moment_of_parts now _ = None

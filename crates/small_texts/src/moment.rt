@@ -131,7 +131,7 @@ fn parse_unit(text: &[u8]) -> Option<u64>
 // The moment of a date and a time of day.
 #[tactic(auto, unfolding(crate::specs::Moment::civil_moment))]
 fn parse_civil(text: &[u8]) -> Option<u64>
-    ensures { result ≡ civil_moment (fields 84 text.now) }
+    ensures { result ≡ civil_moment (fields (byte "T") text.now) }
 {
     match up_to_three(text, b'T') {
         UpToThree::Two(date, clock) => Some(86_400 * parse_date(date)? + parse_clock(clock)?),
