@@ -11,7 +11,8 @@ pub record IsAttachment (bytes : List ℕ) : Type 0 where
 -- bytes, at the beginning of a line or within one, with one more dot in front of each line that begins with a dot
 abbrev pub dotted : Bool → List ℕ → List ℕ
 dotted begins [] = []
-dotted begins (b ∷ bytes) = (if begins && b == byte "." then byte "." ∷ [] else []) ++ b ∷ dotted (b == byte "\n") bytes
+dotted begins (b ∷ bytes) =
+    (if begins && b == byte "." then byte "." ∷ [] else []) ++ b ∷ dotted (b == byte "\n") bytes
 
 -- the lines behind the header line of a block; the last line of an attachment is a dot alone
 abbrev pub attachment_lines : Option (List ℕ) → List ℕ
@@ -49,7 +50,9 @@ place_of false = InLine
 unfoldable pub reading_at : Place → List ℕ → Reading
 reading_at at [] = Unended at []
 reading_at LineStart (b ∷ bytes) =
-    if b == byte "." then reading_at FirstDot bytes else behind (b ∷ []) (reading_at (place_of (b == byte "\n")) bytes)
+    if b == byte "."
+    then reading_at FirstDot bytes
+    else behind (b ∷ []) (reading_at (place_of (b == byte "\n")) bytes)
 reading_at FirstDot (b ∷ bytes) =
     if b == byte "\n" then Ended [] else (if b == byte "." then behind (b ∷ []) (reading_at InLine bytes) else Off)
 reading_at InLine (b ∷ bytes) = behind (b ∷ []) (reading_at (place_of (b == byte "\n")) bytes)

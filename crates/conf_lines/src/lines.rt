@@ -58,7 +58,8 @@ fn without_return(line: &[u8]) -> &[u8]
 
 // What stands before a backslash at the line's end.
 fn before_backslash(line: &[u8]) -> Option<&[u8]>
-    ensures cut { option_copied result ≡ (if ends_with (byte "\\") line.now then Some (without_last line.now) else None) }
+    ensures cut { option_copied result
+        ≡ (if ends_with (byte "\\") line.now then Some (without_last line.now) else None) }
     ensures size { IfSome result (λ front. length front.now ≤ length line.now) }
 {
     match line.split_last() {

@@ -23,7 +23,8 @@ abbrev pub mode_outside : ℕ → Mode
 mode_outside b =
     if is_blank b
     then Between
-    else (if b == byte "'" then Single else (if b == byte "\"" then Double else (if b == byte "\\" then Escaped else Plain)))
+    else (if b == byte "'" then Single
+    else (if b == byte "\"" then Double else (if b == byte "\\" then Escaped else Plain)))
 
 -- where a line stands behind a byte
 abbrev pub mode_after : Mode → ℕ → Mode
