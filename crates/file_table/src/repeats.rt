@@ -18,17 +18,12 @@ struct Repeat<'a> {
 }
 
 fn read_repeat(line: &[u8]) -> Option<Repeat<'_>> {
-    let (mark, rest) = first_field(line, b' ');
-    let (from, rest) = first_field(rest?, b' ');
+    let (from, rest) = first_field(line.strip_prefix(b"@ ")?, b' ');
     let (to, text) = first_field(rest?, b' ');
-    if mark != b"@".as_slice() {
-        return None;
-    }
-    Some(Repeat {
-        from: parse_number(from, MOST_DIGITS, GREATEST)?,
-        to: parse_number(to, MOST_DIGITS, GREATEST)?,
-        text: text?,
-    })
+    let from = parse_number(from, MOST_DIGITS, GREATEST)?;
+    let to = parse_number(to, MOST_DIGITS, GREATEST)?;
+    let text = text?;
+    Some(Repeat { from, to, text })
 }
 
 // Puts the text for one number behind what was written.
@@ -52,20 +47,24 @@ fn push_repeat(alloc: Global, out: &mut Vec<u8>, repeat: Repeat) -> Result<(), A
     push_text(alloc, out, repeat.to, repeat.text)
 }
 
+// Puts what a line stands for behind what was written.
+fn push_line(alloc: Global, out: &mut Vec<u8>, line: &[u8]) -> Result<(), AllocError> {
+    match read_repeat(line) {
+        Some(repeat) => push_repeat(alloc, out, repeat),
+        None => Ok(out.extend_from_slice(line)?),
+    }
+}
+
 /// A file, with what its lines stand for.
 pub(crate) fn expand(alloc: Global, file: &[u8]) -> Result<Vec<u8>, AllocError> {
     let mut out = Vec::with_capacity(alloc, file.len())?;
-    let mut rest = Some(file);
-    while let Some(text) = rest {
-        let (line, behind) = first_field(text, b'\n');
-        match read_repeat(line) {
-            Some(repeat) => push_repeat(alloc, &mut out, repeat)?,
-            None => out.extend_from_slice(line)?,
-        }
-        if behind.is_some() {
+    let mut begun = false;
+    for line in file.split(|byte| *byte == b'\n') {
+        if begun {
             out.push(b'\n')?;
         }
-        rest = behind;
+        begun = true;
+        push_line(alloc, &mut out, line)?;
     }
     Ok(out)
 }
