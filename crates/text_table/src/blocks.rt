@@ -1,6 +1,5 @@
 // The blocks of a text, fed in pieces.
 
-use crate::Called;
 use block_frame::{Blocks, Form, Next};
 use std::alloc::Global;
 use table_lines::answer::{Unanswered, push};
@@ -26,8 +25,11 @@ fn take_blocks(
     Ok(None)
 }
 
-// The headers of the blocks, and up to which byte they go, or at which one a bad block begins.
-fn cut(alloc: Global, piece: &[u8], text: &[u8]) -> Result<Vec<u8>, Unanswered> {
+/// The headers of the blocks, and up to which byte they go, or at which one a bad block begins.
+pub fn cut(alloc: Global, arguments: &[&[u8]]) -> Result<Vec<u8>, Unanswered> {
+    let [piece, text] = *arguments else {
+        return Err(Unanswered::Arguments);
+    };
     let piece = number(piece)?.max(1) as usize;
     let mut out = Vec::new(alloc);
     let mut blocks = Blocks::new(alloc, Form::Plain)?;
@@ -45,12 +47,4 @@ fn cut(alloc: Global, piece: &[u8], text: &[u8]) -> Result<Vec<u8>, Unanswered> 
         push(&mut out, &" and more")?;
     }
     Ok(out)
-}
-
-/// `cut`.
-pub fn call(alloc: Global, function: &str, arguments: &[&[u8]]) -> Called {
-    match (function, arguments) {
-        ("cut", [piece, text]) => Some(cut(alloc, piece, text)),
-        _ => None,
-    }
 }

@@ -1,6 +1,5 @@
 // Host expressions.
 
-use crate::Called;
 use slurm_text::folding::fold_hosts;
 use slurm_text::hosts::{HostRefusal, expand_hosts};
 use slurm_text::name::Name;
@@ -25,7 +24,11 @@ fn listed(alloc: Global, names: &[Name]) -> Result<Vec<u8>, Unanswered> {
     Ok(out)
 }
 
-fn expand(alloc: Global, text: &[u8]) -> Result<Vec<u8>, Unanswered> {
+/// The names that a host expression means.
+pub fn expand(alloc: Global, arguments: &[&[u8]]) -> Result<Vec<u8>, Unanswered> {
+    let [text] = *arguments else {
+        return Err(Unanswered::Arguments);
+    };
     if text.len() > LONGEST {
         return Err(Unanswered::Arguments);
     }
@@ -36,7 +39,7 @@ fn expand(alloc: Global, text: &[u8]) -> Result<Vec<u8>, Unanswered> {
 }
 
 // How many names there are, of no more than so many.
-fn count(alloc: Global, text: &[u8], most: u64) -> Result<Vec<u8>, Unanswered> {
+fn counted(alloc: Global, text: &[u8], most: u64) -> Result<Vec<u8>, Unanswered> {
     if text.len() > LONGEST {
         return Err(Unanswered::Arguments);
     }
@@ -46,28 +49,28 @@ fn count(alloc: Global, text: &[u8], most: u64) -> Result<Vec<u8>, Unanswered> {
     }
 }
 
-fn count_within(alloc: Global, text: &[u8], most: &[u8]) -> Result<Vec<u8>, Unanswered> {
-    count(alloc, text, number(most)?)
+/// How many names a host expression means; its second argument, if it has one, is the most that may be.
+pub fn count(alloc: Global, arguments: &[&[u8]]) -> Result<Vec<u8>, Unanswered> {
+    match *arguments {
+        [text] => counted(alloc, text, u64::MAX),
+        [text, most] => {
+            let most = number(most)?;
+            counted(alloc, text, most)
+        }
+        _ => Err(Unanswered::Arguments),
+    }
 }
 
-// The names of the text, folded.
-fn fold(alloc: Global, text: &[u8]) -> Result<Vec<u8>, Unanswered> {
+/// The names of the text, folded.
+pub fn fold(alloc: Global, arguments: &[&[u8]]) -> Result<Vec<u8>, Unanswered> {
+    let [text] = *arguments else {
+        return Err(Unanswered::Arguments);
+    };
     if text.len() > LONGEST {
         return Err(Unanswered::Arguments);
     }
     match expand_hosts(alloc, text, usize::MAX) {
         Ok(names) => Ok(fold_hosts(alloc, names.as_slice())?),
         Err(refusal) => refused_hosts(alloc, refusal),
-    }
-}
-
-/// `expand`, `count` and `fold`.
-pub fn call(alloc: Global, function: &str, arguments: &[&[u8]]) -> Called {
-    match (function, arguments) {
-        ("expand", [text]) => Some(expand(alloc, text)),
-        ("count", [text]) => Some(count(alloc, text, u64::MAX)),
-        ("count", [text, most]) => Some(count_within(alloc, text, most)),
-        ("fold", [text]) => Some(fold(alloc, text)),
-        _ => None,
     }
 }

@@ -4,10 +4,12 @@
 mod blocks;
 mod hosts;
 mod lines;
+mod numbers;
 mod priorities;
 mod rows;
 mod texts;
 mod times;
+mod views;
 mod words;
 
 use std::alloc::Global;
@@ -15,23 +17,42 @@ use std::io;
 use table_lines::answer::Unanswered;
 use table_lines::table::{answers, print_answers};
 
-/// What the functions of a module answer: nothing where the call is none of theirs.
-type Called = Option<Result<Vec<u8>, Unanswered>>;
-
-// The functions of texts.
-fn call_of_texts(alloc: Global, function: &str, arguments: &[&[u8]]) -> Called {
-    texts::call(alloc, function, arguments)
-        .or_else(|| hosts::call(alloc, function, arguments))
-        .or_else(|| words::call(alloc, function, arguments))
-        .or_else(|| times::call(alloc, function, arguments))
+fn answer(alloc: Global, function: &str, arguments: &[&[u8]]) -> Result<Vec<u8>, Unanswered> {
+    match function {
+        "name" => texts::name(alloc, arguments),
+        "job_name" => texts::job_name(alloc, arguments),
+        "number" => texts::number(alloc, arguments),
+        "memory" => texts::memory(alloc, arguments),
+        "moment" => texts::moment(alloc, arguments),
+        "print_moment" => texts::print_moment(alloc, arguments),
+        "expand" => hosts::expand(alloc, arguments),
+        "count" => hosts::count(alloc, arguments),
+        "fold" => hosts::fold(alloc, arguments),
+        "split" => words::split(alloc, arguments),
+        "quote" => words::quote(alloc, arguments),
+        _ => answer_of_others(alloc, function, arguments),
+    }
 }
 
-fn answer(alloc: Global, function: &str, arguments: &[&[u8]]) -> Result<Vec<u8>, Unanswered> {
-    call_of_texts(alloc, function, arguments)
-        .or_else(|| blocks::call(alloc, function, arguments))
-        .or_else(|| lines::call(alloc, function, arguments))
-        .or_else(|| priorities::call(alloc, function, arguments))
-        .unwrap_or(Err(Unanswered::Arguments))
+// The functions of times and of whole lines and blocks.
+fn answer_of_others(
+    alloc: Global,
+    function: &str,
+    arguments: &[&[u8]],
+) -> Result<Vec<u8>, Unanswered> {
+    match function {
+        "limit" => times::limit(alloc, arguments),
+        "elapsed" => times::elapsed(alloc, arguments),
+        "compare" => times::compare(alloc, arguments),
+        "scaled" => times::scaled(alloc, arguments),
+        "cut" => blocks::cut(alloc, arguments),
+        "row" => lines::row(alloc, arguments),
+        "line" => lines::line(alloc, arguments),
+        "titles" => lines::titles(alloc, arguments),
+        "priority" => priorities::priority(alloc, arguments),
+        "titled_priority" => priorities::titled_priority(alloc, arguments),
+        _ => Err(Unanswered::Arguments),
+    }
 }
 
 fn main(rt: HostRuntime) -> io::Result<()> {

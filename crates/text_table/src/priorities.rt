@@ -1,104 +1,100 @@
 // Lines of sprio.
 
-use crate::Called;
-use crate::rows::number_or_none;
-use slurm_print::text::text;
-use slurm_text::items::Items;
+use crate::numbers::{number_or_none, ranged};
+use crate::views::query_text;
 use slurm_text::name::Name;
 use slurm_text::plain::nice::Nice;
 use slurm_text::plain::priority::{PriorityParts, PriorityRow};
 use slurm_text::plain::query::{Query, Who};
-use slurm_text::plain::reply::Reply;
-use slurm_text::plain::request::Request;
-use slurm_text::plain::view::{Row, View};
-use slurm_text::ranged::Ranged;
+use slurm_text::plain::view::Row;
 use std::alloc::Global;
 use table_lines::answer::Unanswered;
 use table_lines::fields::{narrow_number, number, parts};
 
-// What sprio shows of these rows.
-fn shown(alloc: Global, titles: bool, rows: Vec<Row>) -> Result<Vec<u8>, Unanswered> {
-    let request = Request::Show(Query::Sprio {
-        who: Who::Anyone,
-        jobs: None,
-        titles,
-    });
-    let reply = Reply::Shown(View {
-        rows: Items::from_vec(rows),
-    });
-    Ok(text(alloc, &request, &reply)?)
-}
-
 // A number, behind a minus sign where the priority is raised.
 fn nice(text: &[u8]) -> Result<Nice, Unanswered> {
-    match text {
-        [b'-', digits @ ..] => {
-            let raised = number(digits)?;
-            if raised == 0 || raised > 2_147_483_645 {
-                return Err(Unanswered::Arguments);
-            }
-            Ok(Nice::Raise(Ranged::new(raised)))
-        }
-        _ => {
-            let lowered = number(text)?;
-            if lowered > 2_147_483_645 {
-                return Err(Unanswered::Arguments);
-            }
-            Ok(Nice::Lower(Ranged::new(lowered)))
-        }
+    match text.split_first() {
+        Some((b'-', digits)) => Ok(Nice::Raise(ranged(digits)?)),
+        _ => Ok(Nice::Lower(ranged(text)?)),
     }
 }
 
 // `SUM/AGE/FAIRSHARE/JOBSIZE/PARTITION/QOS/NICE`.
-fn priority_parts(alloc: Global, text: &[u8]) -> Result<PriorityParts, Unanswered> {
-    let words = parts(alloc, text, b'/')?;
-    let [sum, age, fair_share, job_size, partition, qos, niceness] = *words.as_slice() else {
+fn priority_parts(words: &[&[u8]]) -> Result<PriorityParts, Unanswered> {
+    let [sum, age, fair_share, job_size, partition, qos, niceness] = *words else {
         return Err(Unanswered::Arguments);
     };
+    let sum = narrow_number(sum)?;
+    let age = number(age)?;
+    let fair_share = number(fair_share)?;
+    let job_size = number(job_size)?;
+    let partition = number(partition)?;
+    let qos = number(qos)?;
+    let nice = nice(niceness)?;
     Ok(PriorityParts {
-        age: number(age)?,
-        fair_share: number(fair_share)?,
-        job_size: number(job_size)?,
-        partition: number(partition)?,
-        qos: number(qos)?,
-        nice: nice(niceness)?,
-        sum: narrow_number(sum)?,
+        age,
+        fair_share,
+        job_size,
+        partition,
+        qos,
+        nice,
+        sum,
     })
 }
 
 // The job of `ID/ARRAY/INDEX/PARTITION/USER`, with `-/-` where it is no task, and its priority.
-fn priority_row(alloc: Global, job: &[u8], priority: &[u8]) -> Result<PriorityRow, Unanswered> {
-    let words = parts(alloc, job, b'/')?;
-    let [id, array, index, partition, user] = *words.as_slice() else {
+fn priority_row(
+    alloc: Global,
+    words: &[&[u8]],
+    parts: PriorityParts,
+) -> Result<PriorityRow, Unanswered> {
+    let [id, array, index, partition, user] = *words else {
         return Err(Unanswered::Arguments);
     };
+    let id = narrow_number(id)?;
+    let array = number_or_none(array)?;
+    let index = number_or_none(index)?;
+    let partition = Name::read(alloc, partition)?;
+    let user = Name::read(alloc, user)?;
     Ok(PriorityRow {
-        id: narrow_number(id)?,
-        array: number_or_none(array)?,
-        index: number_or_none(index)?,
-        parts: priority_parts(alloc, priority)?,
-        partition: Name::read(alloc, partition)?,
-        user: Name::read(alloc, user)?,
+        id,
+        array,
+        index,
+        parts,
+        partition,
+        user,
     })
 }
 
-// What sprio shows of one job.
-fn priority(
-    alloc: Global,
-    titles: bool,
-    job: &[u8],
-    priority: &[u8],
-) -> Result<Vec<u8>, Unanswered> {
-    let mut rows = Vec::new(alloc);
-    rows.push(Row::Priority(priority_row(alloc, job, priority)?))?;
-    shown(alloc, titles, rows)
+fn row_of(alloc: Global, job: &[u8], priority: &[u8]) -> Result<PriorityRow, Unanswered> {
+    let words = parts(alloc, priority, b'/')?;
+    let priority = priority_parts(words.as_slice())?;
+    let words = parts(alloc, job, b'/')?;
+    priority_row(alloc, words.as_slice(), priority)
 }
 
-/// `priority`, as `sprio -h` shows it, and `titled_priority`, as `sprio` does.
-pub fn call(alloc: Global, function: &str, arguments: &[&[u8]]) -> Called {
-    match (function, arguments) {
-        ("priority", [job, parts]) => Some(priority(alloc, false, job, parts)),
-        ("titled_priority", [job, parts]) => Some(priority(alloc, true, job, parts)),
-        _ => None,
-    }
+// What sprio shows of one job.
+fn shown_job(alloc: Global, titles: bool, arguments: &[&[u8]]) -> Result<Vec<u8>, Unanswered> {
+    let [job, priority] = *arguments else {
+        return Err(Unanswered::Arguments);
+    };
+    let row = row_of(alloc, job, priority)?;
+    let mut rows = Vec::new(alloc);
+    rows.push(Row::Priority(row))?;
+    let query = Query::Sprio {
+        who: Who::Anyone,
+        jobs: None,
+        titles,
+    };
+    query_text(alloc, query, rows)
+}
+
+/// What `sprio -h` shows of one job.
+pub fn priority(alloc: Global, arguments: &[&[u8]]) -> Result<Vec<u8>, Unanswered> {
+    shown_job(alloc, false, arguments)
+}
+
+/// What `sprio` shows of one job.
+pub fn titled_priority(alloc: Global, arguments: &[&[u8]]) -> Result<Vec<u8>, Unanswered> {
+    shown_job(alloc, true, arguments)
 }

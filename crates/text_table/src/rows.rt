@@ -1,5 +1,6 @@
 // Jobs as squeue shows them.
 
+use crate::numbers::{number_or_none, ranged};
 use slurm_num::parse_limit;
 use slurm_text::hosts::expand_hosts;
 use slurm_text::items::Items;
@@ -14,23 +15,18 @@ use table_lines::fields::{LONGEST, narrow_number, number, parts};
 
 // A job that waits for a reason, or `R`, `CG` or `TO`.
 fn state(text: &[u8]) -> Result<(JobState, Option<Reason>), Unanswered> {
+    let Ok(text) = str::from_utf8(text) else {
+        return Err(Unanswered::Arguments);
+    };
     match text {
-        b"Resources" => Ok((JobState::Pending, Some(Reason::Resources))),
-        b"Priority" => Ok((JobState::Pending, Some(Reason::Priority))),
-        b"JobHeldUser" => Ok((JobState::Pending, Some(Reason::JobHeldUser))),
-        b"R" => Ok((JobState::Running, None)),
-        b"CG" => Ok((JobState::Completing(Final::Timeout), None)),
-        b"TO" => Ok((JobState::Ended(Final::Timeout), None)),
+        "Resources" => Ok((JobState::Pending, Some(Reason::Resources))),
+        "Priority" => Ok((JobState::Pending, Some(Reason::Priority))),
+        "JobHeldUser" => Ok((JobState::Pending, Some(Reason::JobHeldUser))),
+        "R" => Ok((JobState::Running, None)),
+        "CG" => Ok((JobState::Completing(Final::Timeout), None)),
+        "TO" => Ok((JobState::Ended(Final::Timeout), None)),
         _ => Err(Unanswered::Arguments),
     }
-}
-
-fn elapsed(text: &[u8]) -> Result<Ranged<0, 1000000000000>, Unanswered> {
-    let seconds = number(text)?;
-    if seconds > 1_000_000_000_000 {
-        return Err(Unanswered::Arguments);
-    }
-    Ok(Ranged::new(seconds))
 }
 
 // A second, or `-`.
@@ -38,11 +34,8 @@ fn start(text: &[u8]) -> Result<Option<Ranged<0, 253402300799>>, Unanswered> {
     if text == b"-".as_slice() {
         return Ok(None);
     }
-    let second = number(text)?;
-    if second > 253_402_300_799 {
-        return Err(Unanswered::Arguments);
-    }
-    Ok(Some(Ranged::new(second)))
+    let second = ranged(text)?;
+    Ok(Some(second))
 }
 
 fn node_names(alloc: Global, text: &[u8]) -> Result<Items<Name>, Unanswered> {
@@ -65,81 +58,172 @@ fn limit(text: &[u8]) -> Result<Limit, Unanswered> {
     }
 }
 
-// Of a task the number of its array and its index, `-/-` of another job; the account, the quality of service, the
-// priority, the limit and the processors: what the usual formats don't tell.
-#[derive(Drop)]
-struct Extras {
+// Of a task the number of its array and its index; the priority, the limit and the processors.
+#[derive(Clone, Copy)]
+struct Numbers {
     array: Option<u32>,
     index: Option<u32>,
-    account: Name,
-    qos: Name,
     priority: u32,
     limit: Limit,
     cpus: u64,
 }
 
-/// A number of 32 bits, or `-`.
-pub fn number_or_none(text: &[u8]) -> Result<Option<u32>, Unanswered> {
-    if text == b"-".as_slice() {
-        return Ok(None);
-    }
-    Ok(Some(narrow_number(text)?))
+// `ARRAY/INDEX/PRIORITY/LIMIT/CPUS`, with `-/-` where the job is no task.
+fn numbers_of(words: [&[u8]; 5]) -> Result<Numbers, Unanswered> {
+    let [array, index, priority, minutes, cpus] = words;
+    let array = number_or_none(array)?;
+    let index = number_or_none(index)?;
+    let priority = narrow_number(priority)?;
+    let limit = limit(minutes)?;
+    let cpus = number(cpus)?;
+    Ok(Numbers {
+        array,
+        index,
+        priority,
+        limit,
+        cpus,
+    })
+}
+
+// What the usual formats don't tell.
+#[derive(Drop)]
+struct Extras {
+    numbers: Numbers,
+    account: Name,
+    qos: Name,
 }
 
 // `ARRAY/INDEX/ACCOUNT/QOS/PRIORITY/LIMIT/CPUS`.
-fn extras_of(alloc: Global, text: &[u8]) -> Result<Extras, Unanswered> {
-    let words = parts(alloc, text, b'/')?;
-    let [array, index, account, qos, priority, minutes, cpus] = *words.as_slice() else {
+fn extras_of(alloc: Global, words: &[&[u8]]) -> Result<Extras, Unanswered> {
+    let [array, index, account, qos, priority, minutes, cpus] = *words else {
         return Err(Unanswered::Arguments);
     };
+    let numbers = numbers_of([array, index, priority, minutes, cpus])?;
+    let account = Name::read(alloc, account)?;
+    let qos = Name::read(alloc, qos)?;
     Ok(Extras {
-        array: number_or_none(array)?,
-        index: number_or_none(index)?,
-        priority: narrow_number(priority)?,
-        limit: limit(minutes)?,
-        cpus: number(cpus)?,
-        account: Name::read(alloc, account)?,
-        qos: Name::read(alloc, qos)?,
+        numbers,
+        account,
+        qos,
     })
+}
+
+// A job's number and state, how long it has run, on how many nodes, and when it starts.
+#[derive(Clone, Copy)]
+struct Standing {
+    id: u32,
+    state: JobState,
+    reason: Option<Reason>,
+    elapsed: Ranged<0, 1000000000000>,
+    nodes: u64,
+    start: Option<Ranged<0, 253402300799>>,
+}
+
+// `ID/STATE/SECONDS/NODES/START`.
+fn standing_of(words: [&[u8]; 5]) -> Result<Standing, Unanswered> {
+    let [id, word, seconds, nodes, second] = words;
+    let id = narrow_number(id)?;
+    let (state, reason) = state(word)?;
+    let elapsed = ranged(seconds)?;
+    let nodes = number(nodes)?;
+    let start = start(second)?;
+    Ok(Standing {
+        id,
+        state,
+        reason,
+        elapsed,
+        nodes,
+        start,
+    })
+}
+
+// What a job is called, whose it is, and where it runs.
+#[derive(Drop)]
+struct Names {
+    name: JobName,
+    user: Name,
+    partition: Name,
+    node_names: Items<Name>,
+}
+
+fn names_of(
+    alloc: Global,
+    name: &[u8],
+    user: &[u8],
+    partition: &[u8],
+    nodes: &[u8],
+) -> Result<Names, Unanswered> {
+    let name = JobName::read(alloc, name)?;
+    let user = Name::read(alloc, user)?;
+    let partition = Name::read(alloc, partition)?;
+    let node_names = node_names(alloc, nodes)?;
+    Ok(Names {
+        name,
+        user,
+        partition,
+        node_names,
+    })
+}
+
+fn joined(standing: Standing, names: Names, extras: Extras) -> JobRow {
+    let Names {
+        name,
+        user,
+        partition,
+        node_names,
+    } = names;
+    let Extras {
+        numbers,
+        account,
+        qos,
+    } = extras;
+    JobRow {
+        id: standing.id,
+        array: numbers.array,
+        index: numbers.index,
+        elapsed: standing.elapsed,
+        nodes: standing.nodes,
+        start: standing.start,
+        name,
+        user,
+        partition,
+        node_names,
+        account,
+        qos,
+        state: standing.state,
+        reason: standing.reason,
+        priority: numbers.priority,
+        limit: numbers.limit,
+        cpus: numbers.cpus,
+    }
+}
+
+// The job of `ID/NAME/USER/PARTITION/STATE/SECONDS/NODES/NAMES/START` and of `more`.
+fn row_of(alloc: Global, words: &[&[u8]], more: &[&[u8]]) -> Result<JobRow, Unanswered> {
+    let [
+        id,
+        name,
+        user,
+        partition,
+        state,
+        seconds,
+        nodes,
+        hosts,
+        second,
+    ] = *words
+    else {
+        return Err(Unanswered::Arguments);
+    };
+    let standing = standing_of([id, state, seconds, nodes, second])?;
+    let names = names_of(alloc, name, user, partition, hosts)?;
+    let extras = extras_of(alloc, more)?;
+    Ok(joined(standing, names, extras))
 }
 
 /// The job of `ID/NAME/USER/PARTITION/STATE/SECONDS/NODES/NAMES/START` and of
 /// `ARRAY/INDEX/ACCOUNT/QOS/PRIORITY/LIMIT/CPUS`.
 pub fn job_row(alloc: Global, job: &[u8], more: &[u8]) -> Result<JobRow, Unanswered> {
     let words = parts(alloc, job, b'/')?;
-    let [
-        id,
-        name,
-        user,
-        partition,
-        state_word,
-        seconds,
-        nodes,
-        names,
-        second,
-    ] = *words.as_slice()
-    else {
-        return Err(Unanswered::Arguments);
-    };
-    let (state, reason) = state(state_word)?;
-    let extras = extras_of(alloc, more)?;
-    Ok(JobRow {
-        id: narrow_number(id)?,
-        array: extras.array,
-        index: extras.index,
-        elapsed: elapsed(seconds)?,
-        nodes: number(nodes)?,
-        start: start(second)?,
-        name: JobName::read(alloc, name)?,
-        user: Name::read(alloc, user)?,
-        partition: Name::read(alloc, partition)?,
-        node_names: node_names(alloc, names)?,
-        account: extras.account,
-        qos: extras.qos,
-        state,
-        reason,
-        priority: extras.priority,
-        limit: extras.limit,
-        cpus: extras.cpus,
-    })
+    let more = parts(alloc, more, b'/')?;
+    row_of(alloc, words.as_slice(), more.as_slice())
 }

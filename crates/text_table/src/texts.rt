@@ -1,6 +1,5 @@
 // Names, numbers, amounts of memory and moments.
 
-use crate::Called;
 use slurm_text::digits::parse_number;
 use slurm_text::memory::parse_mem;
 use slurm_text::moment;
@@ -25,48 +24,69 @@ fn refused_name(alloc: Global, refusal: NameRefusal) -> Result<Vec<u8>, Unanswer
     }
 }
 
-fn name(alloc: Global, text: &[u8]) -> Result<Vec<u8>, Unanswered> {
+/// The name that the bytes are.
+pub fn name(alloc: Global, arguments: &[&[u8]]) -> Result<Vec<u8>, Unanswered> {
+    let [text] = *arguments else {
+        return Err(Unanswered::Arguments);
+    };
     match Name::read(alloc, text) {
         Ok(name) => quoted(alloc, name.as_bytes()),
         Err(refusal) => refused_name(alloc, refusal),
     }
 }
 
-fn job_name(alloc: Global, text: &[u8]) -> Result<Vec<u8>, Unanswered> {
+/// The name of a job that the bytes are.
+pub fn job_name(alloc: Global, arguments: &[&[u8]]) -> Result<Vec<u8>, Unanswered> {
+    let [text] = *arguments else {
+        return Err(Unanswered::Arguments);
+    };
     match JobName::read(alloc, text) {
         Ok(name) => quoted(alloc, name.as_bytes()),
         Err(refusal) => refused_name(alloc, refusal),
     }
 }
 
-fn number(
-    alloc: Global,
-    text: &[u8],
-    most_digits: &[u8],
-    greatest: &[u8],
-) -> Result<Vec<u8>, Unanswered> {
-    let (most_digits, greatest) = (argument(most_digits)?, argument(greatest)?);
+/// The number of at most so many digits, and no greater than the last argument.
+pub fn number(alloc: Global, arguments: &[&[u8]]) -> Result<Vec<u8>, Unanswered> {
+    let [text, most_digits, greatest] = *arguments else {
+        return Err(Unanswered::Arguments);
+    };
+    let most_digits = argument(most_digits)?;
+    let greatest = argument(greatest)?;
     match parse_number(text, most_digits as usize, greatest) {
         Some(number) => taken(alloc, &number),
         None => taken(alloc, &"none"),
     }
 }
 
-fn memory(alloc: Global, text: &[u8]) -> Result<Vec<u8>, Unanswered> {
+/// An amount of memory in megabytes.
+pub fn memory(alloc: Global, arguments: &[&[u8]]) -> Result<Vec<u8>, Unanswered> {
+    let [text] = *arguments else {
+        return Err(Unanswered::Arguments);
+    };
     match parse_mem(text) {
         Ok(megabytes) => taken(alloc, &megabytes),
         Err(refusal) => refused(alloc, &refusal),
     }
 }
 
-fn moment(alloc: Global, text: &[u8], now: &[u8]) -> Result<Vec<u8>, Unanswered> {
-    match parse_moment(text, argument(now)?) {
+/// The second that a text means at another.
+pub fn moment(alloc: Global, arguments: &[&[u8]]) -> Result<Vec<u8>, Unanswered> {
+    let [text, now] = *arguments else {
+        return Err(Unanswered::Arguments);
+    };
+    let now = argument(now)?;
+    match parse_moment(text, now) {
         Ok(moment) => taken(alloc, &moment),
         Err(refusal) => refused(alloc, &refusal),
     }
 }
 
-fn print_moment(alloc: Global, moment: &[u8]) -> Result<Vec<u8>, Unanswered> {
+/// A second as a date and a time.
+pub fn print_moment(alloc: Global, arguments: &[&[u8]]) -> Result<Vec<u8>, Unanswered> {
+    let [moment] = *arguments else {
+        return Err(Unanswered::Arguments);
+    };
     let moment = argument(moment)?;
     if moment > 253_402_300_799 {
         return Err(Unanswered::Arguments);
@@ -74,17 +94,4 @@ fn print_moment(alloc: Global, moment: &[u8]) -> Result<Vec<u8>, Unanswered> {
     let mut out = [0; 19];
     moment::print_moment(moment, &mut out);
     Ok(Vec::from_slice(alloc, &out)?)
-}
-
-/// `name`, `job_name`, `number`, `memory`, `moment` and `print_moment`.
-pub fn call(alloc: Global, function: &str, arguments: &[&[u8]]) -> Called {
-    match (function, arguments) {
-        ("name", [text]) => Some(name(alloc, text)),
-        ("job_name", [text]) => Some(job_name(alloc, text)),
-        ("number", [text, most, greatest]) => Some(number(alloc, text, most, greatest)),
-        ("memory", [text]) => Some(memory(alloc, text)),
-        ("moment", [text, now]) => Some(moment(alloc, text, now)),
-        ("print_moment", [moment]) => Some(print_moment(alloc, moment)),
-        _ => None,
-    }
 }

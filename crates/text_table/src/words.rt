@@ -1,6 +1,5 @@
 // Words of a line, as a shell reads and writes them.
 
-use crate::Called;
 use slurm_text::words::{Words, WordsRefusal, quote_words, split_words, words_of};
 use std::alloc::Global;
 use table_lines::answer::{Unanswered, refused};
@@ -24,7 +23,11 @@ fn bracketed(alloc: Global, words: &Words) -> Result<Vec<u8>, Unanswered> {
     Ok(out)
 }
 
-fn split(alloc: Global, line: &[u8]) -> Result<Vec<u8>, Unanswered> {
+/// The words of a line.
+pub fn split(alloc: Global, arguments: &[&[u8]]) -> Result<Vec<u8>, Unanswered> {
+    let [line] = *arguments else {
+        return Err(Unanswered::Arguments);
+    };
     if line.len() > LONGEST {
         return Err(Unanswered::Arguments);
     }
@@ -50,8 +53,11 @@ fn list_of(alloc: Global, list: &[u8]) -> Result<Vec<String>, Unanswered> {
     Ok(texts)
 }
 
-// The line that the words, each ended by `;`, are quoted as.
-fn quote(alloc: Global, list: &[u8]) -> Result<Vec<u8>, Unanswered> {
+/// The line that the words, each ended by `;`, are quoted as.
+pub fn quote(alloc: Global, arguments: &[&[u8]]) -> Result<Vec<u8>, Unanswered> {
+    let [list] = *arguments else {
+        return Err(Unanswered::Arguments);
+    };
     let list = list_of(alloc, list)?;
     if list.len() > LONGEST {
         return Err(Unanswered::Arguments);
@@ -59,14 +65,5 @@ fn quote(alloc: Global, list: &[u8]) -> Result<Vec<u8>, Unanswered> {
     match words_of(alloc, list.as_slice()) {
         Ok(words) => Ok(quote_words(alloc, &words)?),
         Err(refusal) => refused_words(alloc, refusal),
-    }
-}
-
-/// `split` and `quote`.
-pub fn call(alloc: Global, function: &str, arguments: &[&[u8]]) -> Called {
-    match (function, arguments) {
-        ("split", [line]) => Some(split(alloc, line)),
-        ("quote", [list]) => Some(quote(alloc, list)),
-        _ => None,
     }
 }
