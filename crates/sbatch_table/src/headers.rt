@@ -1,7 +1,7 @@
 // Headers of blocks.
 
 use crate::requests::push_request;
-use crate::show::Show;
+use crate::show::push_marked;
 use command_words::command::Command;
 use command_words::fault::{WordFault, WordKind};
 use command_words::header::{Asked, Meaning, read_header};
@@ -10,22 +10,19 @@ use table_lines::answer::{Unanswered, push};
 use table_lines::fields::LONGEST;
 
 fn push_asked(out: &mut Vec<u8>, asked: &Asked) -> Result<(), Unanswered> {
-    out.extend_from_slice(b"Asks ")?;
-    push(out, &asked.moment)?;
-    out.push(b' ')?;
-    asked.user.show(out)?;
+    push_marked(out, b"Asks ", &asked.moment)?;
+    push_marked(out, b" ", &asked.user)?;
     out.push(b' ')?;
     push_request(out, &asked.request)
 }
 
 fn push_place(
     out: &mut Vec<u8>,
-    place: &str,
+    place: &[u8],
     number: u32,
     kind: WordKind,
 ) -> Result<(), Unanswered> {
-    out.extend_from_slice(place.as_bytes())?;
-    push(out, &number)?;
+    push_marked(out, place, &number)?;
     out.push(b' ')?;
     push(out, &kind)
 }
@@ -34,8 +31,8 @@ fn push_malformed(out: &mut Vec<u8>, command: Command, fault: WordFault) -> Resu
     out.extend_from_slice(b"Malformed ")?;
     out.extend_from_slice(command.name())?;
     match fault {
-        WordFault::Word { word, kind } => push_place(out, ": word ", word, kind),
-        WordFault::Line { line, kind } => push_place(out, ": line ", line, kind),
+        WordFault::Word { word, kind } => push_place(out, b": word ", word, kind),
+        WordFault::Line { line, kind } => push_place(out, b": line ", line, kind),
     }
 }
 
@@ -44,24 +41,30 @@ fn push_meaning(out: &mut Vec<u8>, meaning: &Meaning) -> Result<(), Unanswered> 
         Meaning::Asks(asked) => push_asked(out, asked),
         Meaning::Malformed { command, fault } => push_malformed(out, *command, *fault),
         Meaning::NotBuilt => push(out, &"NotBuilt"),
-        Meaning::BadWords { place } => {
-            out.extend_from_slice(b"BadWords ")?;
-            push(out, place)
-        }
+        Meaning::BadWords { place } => push_marked(out, b"BadWords ", place),
         Meaning::BadHeader => push(out, &"BadHeader"),
     }
 }
 
-/// What a header and its attachment mean.
-pub fn header(
-    alloc: Global,
-    header: &[u8],
-    attachment: Option<&[u8]>,
-) -> Result<Vec<u8>, Unanswered> {
+fn meaning_text(alloc: Global, meaning: &Meaning) -> Result<Vec<u8>, Unanswered> {
+    let mut out = Vec::new(alloc);
+    push_meaning(&mut out, meaning)?;
+    Ok(out)
+}
+
+fn told(alloc: Global, header: &[u8], attachment: Option<&[u8]>) -> Result<Vec<u8>, Unanswered> {
     if header.len() > LONGEST {
         return Err(Unanswered::Arguments);
     }
-    let mut out = Vec::new(alloc);
-    push_meaning(&mut out, &read_header(alloc, header, attachment)?)?;
-    Ok(out)
+    let meaning = read_header(alloc, header, attachment)?;
+    meaning_text(alloc, &meaning)
+}
+
+/// What a header means, with its attachment where there is one.
+pub fn header(alloc: Global, arguments: &[&[u8]]) -> Result<Vec<u8>, Unanswered> {
+    match *arguments {
+        [header] => told(alloc, header, None),
+        [header, attachment] => told(alloc, header, Some(attachment)),
+        _ => Err(Unanswered::Arguments),
+    }
 }

@@ -31,8 +31,8 @@ fn refused_job(alloc: Global, refusal: JobRefusal) -> Result<Vec<u8>, Unanswered
     Ok(out)
 }
 
-/// The job that a command and its script ask for.
-pub fn job(alloc: Global, line: &[u8], script: Option<&[u8]>) -> Result<Vec<u8>, Unanswered> {
+// The job that a command and its script ask for.
+fn asked(alloc: Global, line: &[u8], script: Option<&[u8]>) -> Result<Vec<u8>, Unanswered> {
     let words = words_in(alloc, line)?;
     match read_job(alloc, &words, script, NOW) {
         Ok(job) => described(alloc, &job),
@@ -40,8 +40,20 @@ pub fn job(alloc: Global, line: &[u8], script: Option<&[u8]>) -> Result<Vec<u8>,
     }
 }
 
+/// The job that a command asks for, with its script where there is one.
+pub fn job(alloc: Global, arguments: &[&[u8]]) -> Result<Vec<u8>, Unanswered> {
+    match *arguments {
+        [line] => asked(alloc, line, None),
+        [line, script] => asked(alloc, line, Some(script)),
+        _ => Err(Unanswered::Arguments),
+    }
+}
+
 /// The number of the word that names the script.
-pub fn script(alloc: Global, line: &[u8]) -> Result<Vec<u8>, Unanswered> {
+pub fn script(alloc: Global, arguments: &[&[u8]]) -> Result<Vec<u8>, Unanswered> {
+    let [line] = *arguments else {
+        return Err(Unanswered::Arguments);
+    };
     let words = words_in(alloc, line)?;
     let mut out = Vec::new(alloc);
     match script_word(&words) {

@@ -13,26 +13,16 @@ use std::io;
 use table_lines::answer::Unanswered;
 use table_lines::table::{answers, print_answers};
 
-// The functions of one text.
-fn text_answer(alloc: Global, function: &str, text: &[u8]) -> Result<Vec<u8>, Unanswered> {
-    match function {
-        "array" => texts::array(alloc, text),
-        "array_size" => texts::array_size(alloc, text),
-        "dependency" => texts::dependency(alloc, text),
-        "dependency_size" => texts::dependency_size(alloc, text),
-        "features" => texts::features(alloc, text),
-        "script_word" => jobs::script(alloc, text),
-        _ => Err(Unanswered::Arguments),
-    }
-}
-
 fn answer(alloc: Global, function: &str, arguments: &[&[u8]]) -> Result<Vec<u8>, Unanswered> {
-    match (function, arguments) {
-        ("job", [words]) => jobs::job(alloc, words, None),
-        ("job", [words, script]) => jobs::job(alloc, words, Some(script)),
-        ("header", [header]) => headers::header(alloc, header, None),
-        ("header", [header, attachment]) => headers::header(alloc, header, Some(attachment)),
-        (_, [text]) => text_answer(alloc, function, text),
+    match function {
+        "job" => jobs::job(alloc, arguments),
+        "header" => headers::header(alloc, arguments),
+        "array" => texts::array(alloc, arguments),
+        "array_size" => texts::array_size(alloc, arguments),
+        "dependency" => texts::dependency(alloc, arguments),
+        "dependency_size" => texts::dependency_size(alloc, arguments),
+        "features" => texts::features(alloc, arguments),
+        "script_word" => jobs::script(alloc, arguments),
         _ => Err(Unanswered::Arguments),
     }
 }

@@ -1,23 +1,23 @@
 // What requests ask.
 
 use crate::description::described;
-use crate::show::{Show, or_dash, push_field, push_variant, show_joined};
+use crate::show::{
+    Show, or_dash, push_field, push_if_some, push_marked, push_variant, show_joined,
+};
 use slurm_text::items::Items;
+use slurm_text::plain::job::JobDesc;
 use slurm_text::plain::query::{JobColumn, JobQuery, Piece, Query, StateCode, Who};
 use slurm_text::plain::report::{Done, Report, Start};
 use slurm_text::plain::request::Request;
 use slurm_text::plain::target::{Target, Targets};
 use slurm_text::ranged::Ranged;
+use std::alloc::Global;
 use table_lines::answer::{Unanswered, push};
 
 impl Show for Target {
     fn show(&self, out: &mut Vec<u8>) -> Result<(), Unanswered> {
         self.id.show(out)?;
-        if let Some(index) = self.index {
-            out.push(b'_')?;
-            index.show(out)?;
-        }
-        Ok(())
+        push_if_some(out, b"_", self.index.as_ref())
     }
 }
 
@@ -46,10 +46,8 @@ fn push_column(
     width: Option<Ranged<1, 1024>>,
     dot: bool,
 ) -> Result<(), Unanswered> {
-    out.push(b'{')?;
-    if dot {
-        out.push(b'.')?;
-    }
+    let opening = if dot { "{." } else { "{" };
+    out.extend_from_slice(opening.as_bytes())?;
     if let Some(width) = width {
         width.show(out)?;
         out.push(b' ')?;
@@ -80,16 +78,14 @@ impl Show for Items<Piece> {
 impl Show for Start {
     fn show(&self, out: &mut Vec<u8>) -> Result<(), Unanswered> {
         self.id.show(out)?;
-        out.push(b'.')?;
-        self.number.show(out)
+        push_marked(out, b".", &self.number)
     }
 }
 
 impl Show for Done {
     fn show(&self, out: &mut Vec<u8>) -> Result<(), Unanswered> {
         self.start.show(out)?;
-        out.push(b'.')?;
-        self.exit.show(out)
+        push_marked(out, b".", &self.exit)
     }
 }
 
@@ -139,52 +135,65 @@ fn push_query_fields(out: &mut Vec<u8>, query: &Query) -> Result<(), Unanswered>
     }
 }
 
-fn push_query(out: &mut Vec<u8>, query: &Query) -> Result<(), Unanswered> {
-    let mut fields = Vec::new(*out.allocator());
+// The fields of a query, or `-`.
+fn query_fields(alloc: Global, query: &Query) -> Result<Vec<u8>, Unanswered> {
+    let mut fields = Vec::new(alloc);
     push_query_fields(&mut fields, query)?;
-    let command = match query {
-        Query::Squeue(_) => "squeue ",
-        Query::Sinfo { .. } => "sinfo ",
-        Query::Sprio { .. } => "sprio ",
-    };
-    out.extend_from_slice(command.as_bytes())?;
-    out.extend_from_slice(or_dash(fields)?.as_slice())?;
+    or_dash(fields)
+}
+
+// What begins a query's command.
+fn command_of(query: &Query) -> &'static [u8] {
+    match query {
+        Query::Squeue(_) => b"squeue ",
+        Query::Sinfo { .. } => b"sinfo ",
+        Query::Sprio { .. } => b"sprio ",
+    }
+}
+
+// Puts a command and its fields behind an answer.
+fn push_command(out: &mut Vec<u8>, command: &[u8], fields: &[u8]) -> Result<(), Unanswered> {
+    out.extend_from_slice(command)?;
+    out.extend_from_slice(fields)?;
     Ok(())
+}
+
+fn push_query(out: &mut Vec<u8>, query: &Query) -> Result<(), Unanswered> {
+    let fields = query_fields(*out.allocator(), query)?;
+    push_command(out, command_of(query), fields.as_slice())
 }
 
 fn push_targets(out: &mut Vec<u8>, targets: &Targets) -> Result<(), Unanswered> {
     out.extend_from_slice(b"scancel ")?;
     match targets {
         Targets::List(targets) => targets.show(out),
-        Targets::User(user) => {
-            out.extend_from_slice(b"user=")?;
-            user.show(out)
-        }
+        Targets::User(user) => push_marked(out, b"user=", user),
     }
 }
 
+// Puts a mark and starts, which run or are over, behind an answer.
+fn push_starts<T: Show>(out: &mut Vec<u8>, mark: &[u8], starts: &[T]) -> Result<(), Unanswered> {
+    out.extend_from_slice(mark)?;
+    show_joined(out, starts, b",")
+}
+
 fn push_report(out: &mut Vec<u8>, report: &Report) -> Result<(), Unanswered> {
-    out.extend_from_slice(b"report ")?;
-    report.node.show(out)?;
-    out.push(b' ')?;
-    push(out, &report.boot)?;
-    out.push(b' ')?;
-    push(out, &report.number)?;
-    out.extend_from_slice(b" run=")?;
-    show_joined(out, report.running.as_slice(), b",")?;
-    out.extend_from_slice(b" done=")?;
-    show_joined(out, report.done.as_slice(), b",")
+    push_marked(out, b"report ", &report.node)?;
+    push_marked(out, b" ", &report.boot)?;
+    push_marked(out, b" ", &report.number)?;
+    push_starts(out, b" run=", report.running.as_slice())?;
+    push_starts(out, b" done=", report.done.as_slice())
+}
+
+fn push_submit(out: &mut Vec<u8>, job: &JobDesc) -> Result<(), Unanswered> {
+    let fields = described(*out.allocator(), job)?;
+    push_command(out, b"sbatch ", fields.as_slice())
 }
 
 /// Puts a request's command behind an answer, with what it says.
 pub fn push_request(out: &mut Vec<u8>, request: &Request) -> Result<(), Unanswered> {
     match request {
-        Request::Submit(job) => {
-            let fields = described(*out.allocator(), job)?;
-            out.extend_from_slice(b"sbatch ")?;
-            out.extend_from_slice(fields.as_slice())?;
-            Ok(())
-        }
+        Request::Submit(job) => push_submit(out, job),
         Request::Cancel(targets) => push_targets(out, targets),
         Request::Report(report) => push_report(out, report),
         Request::Pass => push(out, &"pass"),

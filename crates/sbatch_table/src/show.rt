@@ -40,6 +40,24 @@ pub fn show_joined<T: Show>(
     Ok(())
 }
 
+/// Puts a mark and a value behind an answer.
+pub fn push_marked<T: Show>(out: &mut Vec<u8>, mark: &[u8], value: &T) -> Result<(), Unanswered> {
+    out.extend_from_slice(mark)?;
+    value.show(out)
+}
+
+/// Puts a mark and a value behind an answer, where there is a value.
+pub fn push_if_some<T: Show>(
+    out: &mut Vec<u8>,
+    mark: &[u8],
+    value: Option<&T>,
+) -> Result<(), Unanswered> {
+    match value {
+        Some(value) => push_marked(out, mark, value),
+        None => Ok(()),
+    }
+}
+
 /// Puts a field behind others, where it has a value.
 pub fn push_field<T: Show>(
     out: &mut Vec<u8>,
@@ -67,6 +85,12 @@ pub fn or_dash(fields: Vec<u8>) -> Result<Vec<u8>, Unanswered> {
 }
 
 impl Show for u32 {
+    fn show(&self, out: &mut Vec<u8>) -> Result<(), Unanswered> {
+        push(out, self)
+    }
+}
+
+impl Show for u64 {
     fn show(&self, out: &mut Vec<u8>) -> Result<(), Unanswered> {
         push(out, self)
     }
@@ -100,16 +124,11 @@ impl Show for JobName {
 
 impl Show for MemAsk {
     fn show(&self, out: &mut Vec<u8>) -> Result<(), Unanswered> {
-        let (kind, megabytes) = match self {
-            MemAsk::All => {
-                out.extend_from_slice(b"all")?;
-                return Ok(());
-            }
-            MemAsk::PerNode(megabytes) => ("node:", megabytes),
-            MemAsk::PerCpu(megabytes) => ("cpu:", megabytes),
-        };
-        out.extend_from_slice(kind.as_bytes())?;
-        megabytes.show(out)
+        match self {
+            MemAsk::All => push(out, &"all"),
+            MemAsk::PerNode(megabytes) => push_marked(out, b"node:", megabytes),
+            MemAsk::PerCpu(megabytes) => push_marked(out, b"cpu:", megabytes),
+        }
     }
 }
 
@@ -126,10 +145,7 @@ impl Show for Nice {
     fn show(&self, out: &mut Vec<u8>) -> Result<(), Unanswered> {
         match self {
             Nice::Lower(number) => number.show(out),
-            Nice::Raise(number) => {
-                out.push(b'-')?;
-                number.show(out)
-            }
+            Nice::Raise(number) => push_marked(out, b"-", number),
         }
     }
 }
@@ -154,22 +170,14 @@ impl Show for ArraySpec {
             }
             index.show(out)?;
         }
-        if let Some(most) = self.most {
-            out.extend_from_slice(b" most ")?;
-            most.show(out)?;
-        }
-        Ok(())
+        push_if_some(out, b" most ", self.most.as_ref())
     }
 }
 
 impl Show for DepId {
     fn show(&self, out: &mut Vec<u8>) -> Result<(), Unanswered> {
         self.id.show(out)?;
-        if let Some(index) = self.index {
-            out.push(b'_')?;
-            index.show(out)?;
-        }
-        Ok(())
+        push_if_some(out, b"_", self.index.as_ref())
     }
 }
 
@@ -186,7 +194,7 @@ impl Show for DepItem {
 
 impl Show for DepSpec {
     fn show(&self, out: &mut Vec<u8>) -> Result<(), Unanswered> {
-        out.extend_from_slice(quantifier(self).as_bytes())?;
+        push(out, &quantifier(self))?;
         out.extend_from_slice(b"; ")?;
         show_joined(out, self.items.as_slice(), b"; ")
     }

@@ -36,14 +36,22 @@ fn refused_features(alloc: Global, refusal: FeaturesRefusal) -> Result<Vec<u8>, 
     }
 }
 
-pub fn array(alloc: Global, text: &[u8]) -> Result<Vec<u8>, Unanswered> {
+/// The indices of an array.
+pub fn array(alloc: Global, arguments: &[&[u8]]) -> Result<Vec<u8>, Unanswered> {
+    let [text] = *arguments else {
+        return Err(Unanswered::Arguments);
+    };
     match read_array(alloc, text) {
         Ok(array) => shown(alloc, &array),
         Err(refusal) => refused_array(alloc, refusal),
     }
 }
 
-pub fn array_size(alloc: Global, text: &[u8]) -> Result<Vec<u8>, Unanswered> {
+/// How many indices an array has, the least and the greatest.
+pub fn array_size(alloc: Global, arguments: &[&[u8]]) -> Result<Vec<u8>, Unanswered> {
+    let [text] = *arguments else {
+        return Err(Unanswered::Arguments);
+    };
     match read_array(alloc, text) {
         Ok(array) => size_of_array(alloc, &array),
         Err(refusal) => refused_array(alloc, refusal),
@@ -65,14 +73,22 @@ fn size_of_array(alloc: Global, array: &ArraySpec) -> Result<Vec<u8>, Unanswered
     Ok(out)
 }
 
-pub fn dependency(alloc: Global, text: &[u8]) -> Result<Vec<u8>, Unanswered> {
+/// The jobs that a job waits for.
+pub fn dependency(alloc: Global, arguments: &[&[u8]]) -> Result<Vec<u8>, Unanswered> {
+    let [text] = *arguments else {
+        return Err(Unanswered::Arguments);
+    };
     match read_dependency(alloc, text) {
         Ok(dependency) => shown(alloc, &dependency),
         Err(refusal) => refused_dependency(alloc, refusal),
     }
 }
 
-pub fn dependency_size(alloc: Global, text: &[u8]) -> Result<Vec<u8>, Unanswered> {
+/// How many items and ids a dependency has.
+pub fn dependency_size(alloc: Global, arguments: &[&[u8]]) -> Result<Vec<u8>, Unanswered> {
+    let [text] = *arguments else {
+        return Err(Unanswered::Arguments);
+    };
     match read_dependency(alloc, text) {
         Ok(dependency) => size_of_dependency(alloc, &dependency),
         Err(refusal) => refused_dependency(alloc, refusal),
@@ -98,7 +114,11 @@ fn count_ids(dependency: &DepSpec) -> usize {
     count
 }
 
-pub fn features(alloc: Global, text: &[u8]) -> Result<Vec<u8>, Unanswered> {
+/// The features that a job asks for.
+pub fn features(alloc: Global, arguments: &[&[u8]]) -> Result<Vec<u8>, Unanswered> {
+    let [text] = *arguments else {
+        return Err(Unanswered::Arguments);
+    };
     match read_features(alloc, text) {
         Ok(features) => shown(alloc, &features),
         Err(refusal) => refused_features(alloc, refusal),
