@@ -8,6 +8,7 @@ use small_texts::memory_error::Memory;
 pub mod query;
 pub mod report;
 pub mod request;
+pub mod reservation;
 pub mod state;
 pub mod target;
 

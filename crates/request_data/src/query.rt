@@ -118,6 +118,14 @@ pub enum Query {
         /// Whether a line of titles comes first.
         titles: bool,
     },
+    /// All of the jobs that this names, or all jobs. "show job" in scontrol(1).
+    ShowJob(Option<Target>),
+    /// One node, or all. "show node" in scontrol(1).
+    ShowNode(Option<Name>),
+    /// One partition, or all. "show partition" in scontrol(1).
+    ShowPartition(Option<Name>),
+    /// One reservation, or all. "show reservation" in scontrol(1).
+    ShowReservation(Option<Name>),
 }
 
 impl Plain for StateCode {
@@ -178,6 +186,10 @@ impl Query {
                 jobs: jobs.copy()?,
                 titles: *titles,
             }),
+            Query::ShowJob(target) => Ok(Query::ShowJob(*target)),
+            Query::ShowNode(name) => Ok(Query::ShowNode(name.copy()?)),
+            Query::ShowPartition(name) => Ok(Query::ShowPartition(name.copy()?)),
+            Query::ShowReservation(name) => Ok(Query::ShowReservation(name.copy()?)),
         }
     }
 }

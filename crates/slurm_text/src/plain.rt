@@ -2,4 +2,4 @@
 
 pub use plain_data::{Plain, array, assoc, conf, dependency, features, job, limit, mem_ask, nice};
 pub use reply_data::{orders, priority, refusal, reply, view};
-pub use request_data::{query, report, request, state, target};
+pub use request_data::{query, report, request, reservation, state, target};
