@@ -1,10 +1,8 @@
 pub mod Cancel
 pub mod Command
-pub mod Cut
 pub mod Header
-pub mod Names
 pub mod Queries
 pub mod Report
 pub mod Sbatch
-pub mod Targets
+pub mod Starts
 pub mod Wanted

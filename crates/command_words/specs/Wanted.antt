@@ -1,6 +1,10 @@
 -- What the words of a command want.
-use Rattle.std.specs.Prelude.{ℕ, ◌==◌, if◌then◌else◌, List, length, drop, Option, Some, None, option_map}
+use Rattle.std.specs.Prelude.{ℕ, List, Option, Some, None, Result, Ok, Err}
+use Rattle.operands.specs.BadWord.{bad, given}
+use Rattle.operands.specs.Operands.{closed_at}
+use Rattle.operands.specs.declared.bad_word.BadWord.{BadWord}
 use Rattle.option_words.specs.declared.refusal.WordKind.TheVariants.{StrayWord}
+use Rattle.scontrol_words.specs.Scontrol.{scontrol_by}
 use Rattle.slurm_text.specs.declared.plain.request.Request.{Request}
 use Rattle.slurm_text.specs.declared.plain.request.Request.TheVariants.{Cancel, Report, Pass, Show}
 use Rattle.command_words.specs.Cancel.{scancel_by}
@@ -13,27 +17,29 @@ use Rattle.command_words.specs.declared.fault.WordFault.TheVariants.{Word}
 use Rattle.command_words.specs.declared.wanted.Wanted.{Wanted}
 use Rattle.command_words.specs.declared.wanted.Wanted.TheVariants as wanted
 
--- `pass` stands alone
-abbrev pub pass_by : List (List ℕ) → Option Request
-pass_by words = if length words == 1 then Some Pass else None
+-- The request of a command that has no attachment, or its first bad word. The words begin with the command's name.
+-- `pass` stands alone.
+unfoldable pub lone_by : Command → ℕ → List (List ℕ) → Result Request BadWord
+lone_by command.Sbatch now words = bad 1 StrayWord
+lone_by command.Squeue now words = given Show (squeue_by words)
+lone_by command.Scancel now words = given Cancel (scancel_by words)
+lone_by command.Scontrol now words = scontrol_by now words
+lone_by command.Sinfo now words = given Show (sinfo_by words)
+lone_by command.Sprio now words = given Show (sprio_by words)
+lone_by command.Report now words = given Report (report_by words)
+lone_by command.Pass now words = closed_at words 1 Pass
 
--- the request of a command that has no attachment; its words begin with its name
-unfoldable pub lone_by : Command → List (List ℕ) → Option Request
-lone_by command.Sbatch words = None
-lone_by command.Squeue words = option_map Show (squeue_by words)
-lone_by command.Scancel words = option_map Cancel (scancel_by words)
-lone_by command.Sinfo words = option_map Show (sinfo_by words)
-lone_by command.Sprio words = option_map Show (sprio_by words)
-lone_by command.Report words = option_map Report (report_by (drop 1 words))
-lone_by command.Pass words = pass_by words
+-- what is wanted without an attachment
+abbrev pub alone : Result Request BadWord → Wanted
+alone (Ok request) = wanted.Request request
+alone (Err fault) = wanted.Malformed (Word fault.word fault.kind)
 
--- an attachment is off where none belongs
-abbrev pub without : Option (List ℕ) → Option Request → Wanted
-without attachment None = wanted.NotBuilt
-without None (Some request) = wanted.Request request
-without (Some text) (Some request) = wanted.Malformed (Word 1 StrayWord)
+-- an attachment is off where none belongs, before all else
+abbrev pub without : Option (List ℕ) → Result Request BadWord → Wanted
+without None asked = alone asked
+without (Some text) asked = wanted.Malformed (Word 1 StrayWord)
 
 -- what the words of a command and its attachment want at the moment `now`
 unfoldable pub wanted_by : Command → ℕ → List (List ℕ) → Option (List ℕ) → Wanted
 wanted_by command.Sbatch now words attachment = sbatch_by now words attachment
-wanted_by command now words attachment = without attachment (lone_by command words)
+wanted_by command now words attachment = without attachment (lone_by command now words)

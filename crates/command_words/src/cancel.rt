@@ -1,11 +1,12 @@
 //! The words of scancel(1).
 
-ghost use Rattle.std.specs.Prelude.{◌≡◌, IfOk};
-ghost use Rattle.option_words.specs.Arguments.{rows};
-ghost use Rattle.command_words.specs.Cancel.{cancel_words, scancel_by, scancel_options};
+ghost use Rattle.std.specs.Prelude.{◌≡◌, ◌+◌, IfOk};
+ghost use Rattle.option_words.specs.Arguments.{part_of, rows};
+ghost use Rattle.command_words.specs.Cancel.{cancel_parts, cancel_words, is_user, names_user, said_by, nothing_said, scancel_by, scancel_options, targets_of};
 
-use crate::names::read_name;
-use crate::targets::read_target;
+use operands::bad_word::{BadWord, WordKind, fault_at, fault_of};
+use operands::names::read_name;
+use operands::targets::read_target;
 use option_words::arguments::Takes::{self, Value};
 use option_words::arguments::{Argument, Cursor, next_argument};
 use slurm_text::items::Items;
@@ -40,44 +41,47 @@ pub(crate) struct CancelWords {
 }
 
 impl CancelWords {
-    ghost use Rattle.std.specs.Prelude.{◌≡◌, [], ◌∷◌, ◌++◌, IfOk};
-    ghost use Rattle.option_words.specs.Arguments.{part_of};
+    ghost use Rattle.std.specs.Prelude.{◌≡◌, ◌+◌, [], ◌∷◌, ◌++◌, IfOk};
+    ghost use Rattle.option_words.specs.Arguments.{part_of, plain, valued};
+    ghost use Rattle.option_words.specs.declared.refusal.WordKind.TheVariants.{BadValue};
     ghost use Rattle.command_words.specs.Cancel.{targets_of, with_part};
 
-    // With what an argument says on top. None where that isn't good.
+    // With what an argument says on top, or what is wrong with it. Where a user is named, no target may be.
     fn with(
         self,
         alloc: Global,
+        by_user: bool,
         argument: Argument<'_, CancelFlag, CancelOption>,
-    ) -> Result<Option<CancelWords>, Memory>
-        ensures { IfOk result (λ said. said ≡ with_part self (part_of argument.entry)) }
+    ) -> Result<Result<CancelWords, BadWord>, Memory>
+        ensures { IfOk result (λ said. said ≡ with_part by_user self (part_of argument.entry)) }
     {
         match argument {
-            Argument::Plain { text, .. } => {
-                let Some(target) = read_target(text) else {
-                    return Ok(None);
-                };
-                Ok(Some(self.with_target(target)?))
+            Argument::Plain { number, .. } if by_user => {
+                Ok(Err(fault_of(number, WordKind::StrayWord)))
             }
-            Argument::Valued {
-                option: CancelOption::User,
-                text,
-                ..
-            } => {
-                let Some(user) = read_name(alloc, text)? else {
-                    return Ok(None);
-                };
-                Ok(Some(CancelWords {
-                    user: Some(user),
-                    targets: self.targets,
-                }))
-            }
-            _ => Ok(None),
+            Argument::Plain { number, text } => self.with_target(number, text),
+            Argument::Valued { place, text, .. } => self.with_user(alloc, place, text),
+            Argument::Bad { number, kind } => Ok(Err(fault_of(number, kind))),
+            Argument::Lacking { number, .. } => Ok(Err(fault_at(number, WordKind::MissingValue))),
+            Argument::Flag { .. } => Ok(Ok(self)),
         }
     }
 
-    // With a target behind the others.
-    fn with_target(self, target: Target) -> Result<CancelWords, Memory>
+    // With the target that a word names behind the others.
+    fn with_target(
+        self,
+        number: usize,
+        text: &[u8],
+    ) -> Result<Result<CancelWords, BadWord>, Memory>
+        ensures { IfOk result (λ said. said ≡ with_part false self (plain number text.now)) }
+    {
+        let Some(target) = read_target(text) else {
+            return Ok(Err(fault_of(number, WordKind::BadValue)));
+        };
+        Ok(Ok(self.push(target)?))
+    }
+
+    fn push(self, target: Target) -> Result<CancelWords, Memory>
         ensures { IfOk result (λ said. said ≡ record self { targets = self.targets ++ target ∷ [] }) }
     {
         let mut targets = self.targets.into_vec();
@@ -88,26 +92,74 @@ impl CancelWords {
         })
     }
 
-    // The targets, or the user where there are none.
-    fn into_targets(self) -> Option<Targets>
-        ensures { result ≡ targets_of self.user self.targets }
+    // With the user that a value names.
+    fn with_user(
+        self,
+        alloc: Global,
+        place: usize,
+        text: &[u8],
+    ) -> Result<Result<CancelWords, BadWord>, Memory>
+        ensures { (by_user : Bool) → (number : ℕ) → (wanted : CancelOption)
+            → IfOk result (λ said. said ≡ with_part by_user self (valued number wanted place text.now)) }
+    {
+        match read_name(alloc, text)? {
+            Some(name) => Ok(Ok(CancelWords {
+                user: Some(name),
+                targets: self.targets,
+            })),
+            None => Ok(Err(fault_of(place, WordKind::BadValue))),
+        }
+    }
+
+    // The targets, or the user; `end` is the place after the last word.
+    fn into_targets(self, end: usize) -> Result<Targets, BadWord>
+        ensures { result ≡ targets_of (end + 1) self.user self.targets }
     {
         match (self.user, self.targets.as_slice().is_empty()) {
-            (None, false) => Some(Targets::List(self.targets)),
-            (Some(user), true) => Some(Targets::User(user)),
-            _ => None,
+            (None, false) => Ok(Targets::List(self.targets)),
+            (Some(user), _) => Ok(Targets::User(user)),
+            (None, true) => Err(fault_at(end, WordKind::MissingWord)),
         }
     }
 }
 
-// What the words behind the command's name say.
-#[tactic(auto, unfolding(crate::specs::Cancel::cancel_words))]
-fn read_words(
+// Whether a user is named in place of targets.
+#[tactic(auto, unfolding(crate::specs::Cancel::names_user))]
+fn names_user(
+    table: &[(&[u8], Option<u8>, Takes<CancelFlag, CancelOption>)],
+    words: &Words,
+) -> bool
+    ensures { result ≡ names_user (rows table.now) words.now }
+{
+    let mut cursor = Cursor {
+        place: 1,
+        ended: false,
+    };
+    while let Some(argument) = next_argument(table, words, &mut cursor) {
+        if is_user(argument) {
+            return true;
+        }
+    }
+    false
+}
+
+fn is_user(argument: Argument<'_, CancelFlag, CancelOption>) -> bool
+    ensures { result ≡ is_user (part_of argument.entry) }
+{
+    matches!(
+        argument,
+        Argument::Valued { .. } | Argument::Lacking { .. }
+    )
+}
+
+// What the words behind the command's name say, where a user is named in place of targets or isn't.
+fn read_said(
     alloc: Global,
     table: &[(&[u8], Option<u8>, Takes<CancelFlag, CancelOption>)],
     words: &Words,
-) -> Result<Option<CancelWords>, Memory>
-    ensures { IfOk result (λ said. said ≡ cancel_words (rows table.now) words.now) }
+    by_user: bool,
+) -> Result<Result<CancelWords, BadWord>, Memory>
+    ensures { IfOk result (λ said. said ≡ said_by by_user nothing_said (cancel_parts (rows table.now) words.now)) }
 {
     let mut said = CancelWords {
         user: None,
@@ -118,28 +170,42 @@ fn read_words(
         ended: false,
     };
     while let Some(argument) = next_argument(table, words, &mut cursor) {
-        let Some(more) = said.with(alloc, argument)? else {
-            return Ok(None);
-        };
-        said = more;
+        match said.with(alloc, by_user, argument)? {
+            Ok(more) => said = more,
+            Err(fault) => return Ok(Err(fault)),
+        }
     }
-    Ok(Some(said))
+    Ok(Ok(said))
+}
+
+#[tactic(auto, unfolding(crate::specs::Cancel::cancel_words))]
+fn read_words(
+    alloc: Global,
+    table: &[(&[u8], Option<u8>, Takes<CancelFlag, CancelOption>)],
+    words: &Words,
+) -> Result<Result<CancelWords, BadWord>, Memory>
+    ensures { IfOk result (λ said. said ≡ cancel_words (rows table.now) words.now) }
+{
+    read_said(alloc, table, words, names_user(table, words))
 }
 
 #[tactic(auto, unfolding(crate::specs::Cancel::scancel_options))]
-fn scancel_words(alloc: Global, words: &Words) -> Result<Option<CancelWords>, Memory>
+fn scancel_words(alloc: Global, words: &Words) -> Result<Result<CancelWords, BadWord>, Memory>
     ensures { IfOk result (λ said. said ≡ cancel_words scancel_options words.now) }
 {
     read_words(alloc, &SCANCEL_OPTIONS, words)
 }
 
-/// The jobs that the words of scancel(1) name.
+/// The jobs that the words of scancel(1) name, or the first bad word.
 #[tactic(auto, unfolding(crate::specs::Cancel::scancel_by))]
-pub(crate) fn read_scancel(alloc: Global, words: &Words) -> Result<Option<Targets>, Memory>
+pub(crate) fn read_scancel(
+    alloc: Global,
+    words: &Words,
+) -> Result<Result<Targets, BadWord>, Memory>
     ensures { IfOk result (λ targets. targets ≡ scancel_by words.now) }
 {
     match scancel_words(alloc, words)? {
-        Some(said) => Ok(said.into_targets()),
-        None => Ok(None),
+        Ok(said) => Ok(said.into_targets(words.len())),
+        Err(fault) => Ok(Err(fault)),
     }
 }

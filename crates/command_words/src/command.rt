@@ -12,6 +12,8 @@ pub enum Command {
     Squeue,
     /// scancel(1).
     Scancel,
+    /// scontrol(1).
+    Scontrol,
     /// sinfo(1).
     Sinfo,
     /// sprio(1).
@@ -34,6 +36,7 @@ impl Command {
             Command::Sbatch => b"sbatch",
             Command::Squeue => b"squeue",
             Command::Scancel => b"scancel",
+            Command::Scontrol => b"scontrol",
             Command::Sinfo => b"sinfo",
             Command::Sprio => b"sprio",
             Command::Report => b"report",
@@ -53,6 +56,8 @@ pub(crate) fn command_named(word: &[u8]) -> Option<Command>
         Some(Command::Squeue)
     } else if word == b"scancel".as_slice() {
         Some(Command::Scancel)
+    } else if word == b"scontrol".as_slice() {
+        Some(Command::Scontrol)
     } else if word == b"sinfo".as_slice() {
         Some(Command::Sinfo)
     } else if word == b"sprio".as_slice() {

@@ -1,12 +1,15 @@
 //! The header of a block, with its attachment.
 
-ghost use Rattle.std.specs.Prelude.{◌≡◌, ◌≤◌, length, option_copied, option_map, IfOk, OnSome};
+ghost use Rattle.std.specs.Prelude.{◌≡◌, ◌≤◌, length, option_copied, option_map, None, IfOk, OnSome};
+ghost use Rattle.option_words.specs.declared.refusal.WordKind.TheVariants.{UnknownCommand};
+ghost use Rattle.command_words.specs.declared.fault.WordFault.TheVariants.{Word};
+ghost use Rattle.command_words.specs.declared.header.Meaning.TheVariants.{Malformed};
 ghost use Rattle.command_words.specs.Header.{head_in, command_in, asked_by, meaning_by, meaning_in};
 
 use crate::command::{Command, command_named};
-use crate::fault::WordFault;
-use crate::names::read_name;
+use crate::fault::{WordFault, WordKind};
 use crate::wanted::{Wanted, read_command};
+use operands::names::read_name;
 use slurm_text::digits::parse_number;
 use slurm_text::memory_error::Memory;
 use slurm_text::name::Name;
@@ -29,9 +32,12 @@ pub struct Asked {
 #[derive(Drop)]
 pub enum Meaning {
     Asks(Asked),
-    /// The command's words or its script are wrong.
-    Malformed { command: Command, fault: WordFault },
-    /// Nothing that is built yet.
+    /// The command's words or its script are wrong; there is no such command where it is None.
+    Malformed {
+        command: Option<Command>,
+        fault: WordFault,
+    },
+    /// A job, in a way that isn't built yet.
     NotBuilt,
     /// The header is no list of words: it has a bad byte at this place, counted in bytes from 0, or a quote or
     /// backslash there that stays open.
@@ -103,6 +109,18 @@ fn command_in(words: &Words) -> Option<Command>
     command_named(words.get(0)?)
 }
 
+fn no_such_command() -> Meaning
+    ensures { result ≡ Malformed None (Word 1 UnknownCommand) }
+{
+    Meaning::Malformed {
+        command: None,
+        fault: WordFault::Word {
+            word: 1,
+            kind: WordKind::UnknownCommand,
+        },
+    }
+}
+
 #[tactic(auto, unfolding(crate::specs::Header::asked_by))]
 fn read_asked(
     alloc: Global,
@@ -113,7 +131,7 @@ fn read_asked(
     ensures { IfOk result (λ meaning. meaning ≡ asked_by head words.now (option_copied attachment.entry)) }
 {
     let Some(command) = command_in(words) else {
-        return Ok(Meaning::NotBuilt);
+        return Ok(no_such_command());
     };
     match read_command(alloc, command, head.moment, words, attachment)? {
         Wanted::Request(request) => Ok(Meaning::Asks(Asked {
@@ -121,7 +139,10 @@ fn read_asked(
             user: head.user,
             request,
         })),
-        Wanted::Malformed(fault) => Ok(Meaning::Malformed { command, fault }),
+        Wanted::Malformed(fault) => Ok(Meaning::Malformed {
+            command: Some(command),
+            fault,
+        }),
         Wanted::NotBuilt => Ok(Meaning::NotBuilt),
     }
 }

@@ -3,13 +3,9 @@
 
 mod cancel;
 pub mod command;
-mod cut;
 pub mod fault;
 pub mod header;
-mod members;
-mod names;
 mod queries;
 mod report;
 mod sbatch;
-mod targets;
 mod wanted;

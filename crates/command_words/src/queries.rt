@@ -1,11 +1,13 @@
 //! The options of squeue(1), sinfo(1) and sprio(1).
 
-ghost use Rattle.std.specs.Prelude.{◌≡◌, IfOk};
+ghost use Rattle.std.specs.Prelude.{◌≡◌, Some, IfOk};
 ghost use Rattle.option_words.specs.Arguments.{part_of, rows};
-ghost use Rattle.command_words.specs.Queries.{entry_of, flag_entry, format_by, nothing_said, query_words, squeue_options, sinfo_options, sprio_options, squeue_by, sinfo_by, sprio_by, value_of, with_entry};
+ghost use Rattle.command_words.specs.declared.queries.QueryOption.TheVariants as option;
+ghost use Rattle.command_words.specs.Queries.{entry_of, flag_entry, format_by, unless_long, nothing_said, query_words, squeue_options, sinfo_options, sprio_options, squeue_by, sinfo_by, sprio_by, value_of, with_entry};
 
-use crate::names::read_name;
-use crate::targets::{read_states, read_targets};
+use operands::bad_word::{BadWord, WordKind, at_word, fault_at, fault_of};
+use operands::names::read_name;
+use operands::targets::{read_states, read_targets};
 use option_words::arguments::Takes::{self, Nothing, Value};
 use option_words::arguments::{Argument, Cursor, next_argument};
 use slurm_text::items::Items;
@@ -105,17 +107,24 @@ fn put_entry(query: &mut JobQuery, entry: QueryEntry)
     }
 }
 
-// What an argument says. No other words are wanted than options with good values.
+// What an argument says, or what is wrong with it.
 fn read_entry(
     alloc: Global,
     argument: Argument<'_, QueryFlag, QueryOption>,
-) -> Result<Option<QueryEntry>, Memory>
+) -> Result<Result<QueryEntry, BadWord>, Memory>
     ensures { IfOk result (λ entry. entry ≡ entry_of (part_of argument.entry)) }
 {
     match argument {
-        Argument::Flag { flag, .. } => Ok(Some(flag_entry(flag))),
-        Argument::Valued { option, text, .. } => read_value(alloc, option, text),
-        _ => Ok(None),
+        Argument::Flag { flag, .. } => Ok(Ok(flag_entry(flag))),
+        Argument::Valued {
+            option,
+            place,
+            text,
+            ..
+        } => Ok(at_word(place, read_value(alloc, option, text)?)),
+        Argument::Plain { number, .. } => Ok(Err(fault_of(number, WordKind::StrayWord))),
+        Argument::Bad { number, kind } => Ok(Err(fault_of(number, kind))),
+        Argument::Lacking { number, .. } => Ok(Err(fault_at(number, WordKind::MissingValue))),
     }
 }
 
@@ -129,31 +138,76 @@ fn flag_entry(flag: QueryFlag) -> QueryEntry
     }
 }
 
-fn read_value(alloc: Global, option: QueryOption, text: &[u8]) -> Result<Option<QueryEntry>, Memory>
+fn read_value(
+    alloc: Global,
+    option: QueryOption,
+    text: &[u8],
+) -> Result<Result<QueryEntry, WordKind>, Memory>
     ensures { IfOk result (λ entry. entry ≡ value_of option text.now) }
 {
     match option {
-        QueryOption::User => {
-            let user = read_name(alloc, text)?;
-            Ok(user.map(|name| QueryEntry::Whose(Who::User(name))))
-        }
-        QueryOption::Jobs => Ok(read_targets(alloc, text)?.map(QueryEntry::Jobs)),
-        QueryOption::Partition => Ok(read_name(alloc, text)?.map(QueryEntry::Partition)),
-        QueryOption::States => Ok(read_states(alloc, text)?.map(QueryEntry::States)),
+        QueryOption::User => read_user(alloc, text),
+        QueryOption::Jobs => read_jobs(alloc, text),
+        QueryOption::Partition => read_partition(alloc, text),
+        QueryOption::States => read_codes(alloc, text),
         QueryOption::Format => Ok(read_pieces(alloc, text)?.map(QueryEntry::Format)),
     }
 }
 
-fn read_pieces(alloc: Global, text: &[u8]) -> Result<Option<Items<Piece>>, Memory>
+fn read_user(alloc: Global, text: &[u8]) -> Result<Result<QueryEntry, WordKind>, Memory>
+    ensures { IfOk result (λ entry. entry ≡ value_of option.User text.now) }
+{
+    match read_name(alloc, text)? {
+        Some(name) => Ok(Ok(QueryEntry::Whose(Who::User(name)))),
+        None => Ok(Err(WordKind::BadValue)),
+    }
+}
+
+fn read_jobs(alloc: Global, text: &[u8]) -> Result<Result<QueryEntry, WordKind>, Memory>
+    ensures { IfOk result (λ entry. entry ≡ value_of option.Jobs text.now) }
+{
+    match read_targets(alloc, text)? {
+        Some(targets) => Ok(Ok(QueryEntry::Jobs(targets))),
+        None => Ok(Err(WordKind::BadValue)),
+    }
+}
+
+fn read_partition(alloc: Global, text: &[u8]) -> Result<Result<QueryEntry, WordKind>, Memory>
+    ensures { IfOk result (λ entry. entry ≡ value_of option.Partition text.now) }
+{
+    match read_name(alloc, text)? {
+        Some(name) => Ok(Ok(QueryEntry::Partition(name))),
+        None => Ok(Err(WordKind::BadValue)),
+    }
+}
+
+fn read_codes(alloc: Global, text: &[u8]) -> Result<Result<QueryEntry, WordKind>, Memory>
+    ensures { IfOk result (λ entry. entry ≡ value_of option.States text.now) }
+{
+    match read_states(alloc, text)? {
+        Some(states) => Ok(Ok(QueryEntry::States(states))),
+        None => Ok(Err(WordKind::BadValue)),
+    }
+}
+
+// A format that is off the grammar is that first, and then too long.
+fn read_pieces(alloc: Global, text: &[u8]) -> Result<Result<Items<Piece>, WordKind>, Memory>
     ensures { IfOk result (λ pieces. pieces ≡ format_by text.now) }
 {
-    if text.len() > LONGEST_FORMAT {
-        return Ok(None);
-    }
     match read_format(alloc, text) {
-        Ok(pieces) => Ok(Some(pieces)),
-        Err(FormatRefusal::BadFormat) => Ok(None),
+        Ok(pieces) => Ok(unless_long(text, pieces)),
+        Err(FormatRefusal::BadFormat) => Ok(Err(WordKind::BadValue)),
         Err(FormatRefusal::Memory) => Err(Memory),
+    }
+}
+
+fn unless_long(text: &[u8], pieces: Items<Piece>) -> Result<Items<Piece>, WordKind>
+    ensures { result ≡ unless_long text.now (Some pieces) }
+{
+    if text.len() > LONGEST_FORMAT {
+        Err(WordKind::TooLong)
+    } else {
+        Ok(pieces)
     }
 }
 
@@ -163,7 +217,7 @@ fn read_options(
     alloc: Global,
     table: &[(&[u8], Option<u8>, Takes<QueryFlag, QueryOption>)],
     words: &Words,
-) -> Result<Option<JobQuery>, Memory>
+) -> Result<Result<JobQuery, BadWord>, Memory>
     ensures { IfOk result (λ said. said ≡ query_words (rows table.now) words.now) }
 {
     let mut said = nothing_said();
@@ -172,30 +226,30 @@ fn read_options(
         ended: false,
     };
     while let Some(argument) = next_argument(table, words, &mut cursor) {
-        let Some(entry) = read_entry(alloc, argument)? else {
-            return Ok(None);
-        };
-        put_entry(&mut said, entry);
+        match read_entry(alloc, argument)? {
+            Ok(entry) => put_entry(&mut said, entry),
+            Err(fault) => return Ok(Err(fault)),
+        }
     }
-    Ok(Some(said))
+    Ok(Ok(said))
 }
 
 #[tactic(auto, unfolding(crate::specs::Queries::squeue_options))]
-fn squeue_words(alloc: Global, words: &Words) -> Result<Option<JobQuery>, Memory>
+fn squeue_words(alloc: Global, words: &Words) -> Result<Result<JobQuery, BadWord>, Memory>
     ensures { IfOk result (λ said. said ≡ query_words squeue_options words.now) }
 {
     read_options(alloc, &SQUEUE_OPTIONS, words)
 }
 
 #[tactic(auto, unfolding(crate::specs::Queries::sinfo_options))]
-fn sinfo_words(alloc: Global, words: &Words) -> Result<Option<JobQuery>, Memory>
+fn sinfo_words(alloc: Global, words: &Words) -> Result<Result<JobQuery, BadWord>, Memory>
     ensures { IfOk result (λ said. said ≡ query_words sinfo_options words.now) }
 {
     read_options(alloc, &SINFO_OPTIONS, words)
 }
 
 #[tactic(auto, unfolding(crate::specs::Queries::sprio_options))]
-fn sprio_words(alloc: Global, words: &Words) -> Result<Option<JobQuery>, Memory>
+fn sprio_words(alloc: Global, words: &Words) -> Result<Result<JobQuery, BadWord>, Memory>
     ensures { IfOk result (λ said. said ≡ query_words sprio_options words.now) }
 {
     read_options(alloc, &SPRIO_OPTIONS, words)
@@ -203,40 +257,40 @@ fn sprio_words(alloc: Global, words: &Words) -> Result<Option<JobQuery>, Memory>
 
 /// The query that the words of squeue(1) make.
 #[tactic(auto, unfolding(crate::specs::Queries::squeue_by))]
-pub(crate) fn read_squeue(alloc: Global, words: &Words) -> Result<Option<Query>, Memory>
+pub(crate) fn read_squeue(alloc: Global, words: &Words) -> Result<Result<Query, BadWord>, Memory>
     ensures { IfOk result (λ query. query ≡ squeue_by words.now) }
 {
     match squeue_words(alloc, words)? {
-        Some(said) => Ok(Some(Query::Squeue(said))),
-        None => Ok(None),
+        Ok(said) => Ok(Ok(Query::Squeue(said))),
+        Err(fault) => Ok(Err(fault)),
     }
 }
 
 /// The query that the words of sinfo(1) make.
 #[tactic(auto, unfolding(crate::specs::Queries::sinfo_by))]
-pub(crate) fn read_sinfo(alloc: Global, words: &Words) -> Result<Option<Query>, Memory>
+pub(crate) fn read_sinfo(alloc: Global, words: &Words) -> Result<Result<Query, BadWord>, Memory>
     ensures { IfOk result (λ query. query ≡ sinfo_by words.now) }
 {
     match sinfo_words(alloc, words)? {
-        Some(said) => Ok(Some(Query::Sinfo {
+        Ok(said) => Ok(Ok(Query::Sinfo {
             partition: said.partition,
             titles: said.titles,
         })),
-        None => Ok(None),
+        Err(fault) => Ok(Err(fault)),
     }
 }
 
 /// The query that the words of sprio(1) make.
 #[tactic(auto, unfolding(crate::specs::Queries::sprio_by))]
-pub(crate) fn read_sprio(alloc: Global, words: &Words) -> Result<Option<Query>, Memory>
+pub(crate) fn read_sprio(alloc: Global, words: &Words) -> Result<Result<Query, BadWord>, Memory>
     ensures { IfOk result (λ query. query ≡ sprio_by words.now) }
 {
     match sprio_words(alloc, words)? {
-        Some(said) => Ok(Some(Query::Sprio {
+        Ok(said) => Ok(Ok(Query::Sprio {
             who: said.who,
             jobs: said.jobs,
             titles: said.titles,
         })),
-        None => Ok(None),
+        Err(fault) => Ok(Err(fault)),
     }
 }

@@ -1,15 +1,22 @@
 //! What a daemon reports.
 
-ghost use Rattle.std.specs.Prelude.{◌≡◌, [], ◌∷◌, drop, IfOk};
-ghost use Rattle.command_words.specs.Cut.{texts_of};
-ghost use Rattle.command_words.specs.Report.{report_by, pair_by, named, nothing_named, with_listed, listed_by, start_of, start_by, done_by};
+ghost use Rattle.std.specs.Prelude.{◌≡◌, ◌∷◌, [], drop, IfOk};
+ghost use Rattle.operands.specs.Names.{name_by, u64_by};
+ghost use Rattle.operands.specs.Operands.{value_at};
+ghost use Rattle.operands.specs.Pairs.{pairs_say};
+ghost use Rattle.command_words.specs.Report.{listed_adding, nothing_named, pair_in, numbers_by, report_by};
+ghost use Rattle.command_words.specs.Starts.{start_of, start_by, done_by};
 
-use crate::members::{Member, read_all};
-use crate::names::{read_name, read_u32};
+use operands::bad_word::{BadWord, WordKind};
+use operands::members::{Member, read_all};
+use operands::names::{read_name, read_u32};
+use operands::operand::{good_at, word_at};
+use operands::pairs::{Pairs, read_pairs};
 use slurm_text::digits::parse_number;
 use slurm_text::fields::{UpToThree, up_to_three};
 use slurm_text::items::Items;
 use slurm_text::memory_error::Memory;
+use slurm_text::name::Name;
 use slurm_text::plain::report::{Done, Report, Start};
 use slurm_text::words::Words;
 use std::alloc::Global;
@@ -21,101 +28,129 @@ pub(crate) struct Named {
     pub(crate) done: Items<Done>,
 }
 
-// What one word names.
-#[derive(Drop)]
-pub(crate) enum Listed {
-    Running(Items<Start>),
-    Done(Items<Done>),
-}
-
 impl Named {
-    // The list takes the place of an earlier one of its kind.
-    fn put(&mut self, listed: Listed)
-        ensures { self.new ≡ with_listed self.old listed }
+    ghost use Rattle.std.specs.Prelude.{◌≡◌, codes, IfOk};
+    ghost use Rattle.operands.specs.Pairs.{now_said};
+    ghost use Rattle.command_words.specs.Report.{listed_adding};
+
+    fn set_running(&mut self, alloc: Global, list: &[u8]) -> Result<Result<(), WordKind>, Memory>
+        ensures { IfOk result (λ added. now_said added self.new ≡ listed_adding self.old (codes "run") list.now) }
     {
-        match listed {
-            Listed::Running(starts) => self.running = starts,
-            Listed::Done(starts) => self.done = starts,
+        match read_all(alloc, list)? {
+            Some(starts) => {
+                self.running = starts;
+                Ok(Ok(()))
+            }
+            None => Ok(Err(WordKind::BadValue)),
+        }
+    }
+
+    fn set_done(&mut self, alloc: Global, list: &[u8]) -> Result<Result<(), WordKind>, Memory>
+        ensures { IfOk result (λ added. now_said added self.new ≡ listed_adding self.old (codes "done") list.now) }
+    {
+        match read_all(alloc, list)? {
+            Some(starts) => {
+                self.done = starts;
+                Ok(Ok(()))
+            }
+            None => Ok(Err(WordKind::BadValue)),
         }
     }
 }
 
-/// The report that the words behind the command's name make.
-pub(crate) fn read_report(alloc: Global, words: &Words) -> Result<Option<Report>, Memory>
-    ensures { IfOk result (λ report. report ≡ report_by (drop 1 words.now)) }
-{
-    let texts = texts_behind(alloc, words)?;
-    read_texts(alloc, texts.as_slice())
-}
+impl Pairs for Named {
+    ghost use Rattle.command_words.specs.Report.{listed_adding};
 
-// The words behind the command's name.
-fn texts_behind(alloc: Global, words: &Words) -> Result<Vec<&[u8]>, Memory>
-    ensures { IfOk result (λ texts. texts_of texts.items ≡ drop 1 words.now) }
-{
-    let mut texts = Vec::with_capacity(alloc, words.len())?;
-    for place in 1..words.len() {
-        texts.push(words.get(place).unwrap())?;
+    ghost adding = { listed_adding };
+
+    fn add(
+        &mut self,
+        alloc: Global,
+        key: &[u8],
+        value: &[u8],
+    ) -> Result<Result<(), WordKind>, Memory> {
+        if key == b"run".as_slice() {
+            self.set_running(alloc, value)
+        } else if key == b"done".as_slice() {
+            self.set_done(alloc, value)
+        } else {
+            Ok(Err(WordKind::UnknownOption))
+        }
     }
-    Ok(texts)
 }
 
-#[tactic(auto, unfolding(crate::specs::Report::report_by))]
-fn read_texts(alloc: Global, words: &[&[u8]]) -> Result<Option<Report>, Memory>
-    ensures { IfOk result (λ report. report ≡ report_by (texts_of words.now)) }
+// The node in the second word.
+fn node_in(alloc: Global, words: &Words) -> Result<Result<Name, BadWord>, Memory>
+    ensures { IfOk result (λ node. node ≡ value_at name_by words.now 1) }
 {
-    let [node, boot, number, lists @ ..] = words else {
-        return Ok(None);
-    };
-    let Some((boot, number)) = read_pair(boot, number) else {
-        return Ok(None);
-    };
-    let Some(node) = read_name(alloc, node)? else {
-        return Ok(None);
-    };
-    let Some(Named { running, done }) = read_lists(alloc, lists)? else {
-        return Ok(None);
-    };
-    Ok(Some(Report {
-        node,
-        boot,
-        number,
-        running,
-        done,
-    }))
+    match word_at(words, 1) {
+        Ok(text) => Ok(good_at(1, read_name(alloc, text)?)),
+        Err(fault) => Ok(Err(fault)),
+    }
 }
 
-fn read_pair(boot: &[u8], number: &[u8]) -> Option<(u64, u64)>
-    ensures { result ≡ pair_by boot.now number.now }
+// The number in the word at a place.
+fn number_at(words: &Words, place: usize) -> Result<u64, BadWord>
+    ensures { result ≡ value_at u64_by words.now place }
 {
-    let boot = parse_number(boot, 20, u64::MAX)?;
-    let number = parse_number(number, 20, u64::MAX)?;
-    Some((boot, number))
+    let text = word_at(words, place)?;
+    good_at(place, parse_number(text, 20, u64::MAX))
 }
 
-fn read_lists(alloc: Global, words: &[&[u8]]) -> Result<Option<Named>, Memory>
-    ensures { IfOk result (λ lists. lists ≡ named nothing_named (texts_of words.now)) }
+fn numbers_in(words: &Words) -> Result<(u64, u64), BadWord>
+    ensures { result ≡ pair_in words.now }
 {
-    let mut named = Named {
+    let boot = number_at(words, 2)?;
+    let number = number_at(words, 3)?;
+    Ok((boot, number))
+}
+
+fn lists_in(alloc: Global, words: &Words) -> Result<Result<Named, BadWord>, Memory>
+    ensures { IfOk result (λ lists. lists ≡ pairs_say listed_adding 5 nothing_named (drop 4 words.now)) }
+{
+    let nothing = Named {
         running: Items::from_vec(Vec::new(alloc)),
         done: Items::from_vec(Vec::new(alloc)),
     };
-    for word in words {
-        let Some(listed) = read_list(alloc, word)? else {
-            return Ok(None);
-        };
-        named.put(listed);
-    }
-    Ok(Some(named))
+    read_pairs(alloc, nothing, words, 4)
 }
 
-#[tactic(auto, unfolding(crate::specs::Report::listed_of, crate::specs::Report::listed_by))]
-fn read_list(alloc: Global, word: &[u8]) -> Result<Option<Listed>, Memory>
-    ensures { IfOk result (λ list. list ≡ listed_by word.now) }
+// The numbers, and the lists behind them.
+#[tactic(auto, unfolding(crate::specs::Report::numbers_by))]
+fn read_numbers(
+    alloc: Global,
+    words: &Words,
+) -> Result<Result<(u64, u64, Named), BadWord>, Memory>
+    ensures { IfOk result (λ told. told ≡ numbers_by words.now) }
 {
-    match up_to_three(word, b'=') {
-        UpToThree::Two(b"run", list) => Ok(read_all(alloc, list)?.map(Listed::Running)),
-        UpToThree::Two(b"done", list) => Ok(read_all(alloc, list)?.map(Listed::Done)),
-        _ => Ok(None),
+    let (boot, number) = match numbers_in(words) {
+        Ok(pair) => pair,
+        Err(fault) => return Ok(Err(fault)),
+    };
+    match lists_in(alloc, words)? {
+        Ok(lists) => Ok(Ok((boot, number, lists))),
+        Err(fault) => Ok(Err(fault)),
+    }
+}
+
+/// The report that the words make, the first of which is the command's name, or the first bad word.
+#[tactic(auto, unfolding(crate::specs::Report::report_by))]
+pub(crate) fn read_report(alloc: Global, words: &Words) -> Result<Result<Report, BadWord>, Memory>
+    ensures { IfOk result (λ report. report ≡ report_by words.now) }
+{
+    let node = match node_in(alloc, words)? {
+        Ok(node) => node,
+        Err(fault) => return Ok(Err(fault)),
+    };
+    match read_numbers(alloc, words)? {
+        Ok((boot, number, lists)) => Ok(Ok(Report {
+            node,
+            boot,
+            number,
+            running: lists.running,
+            done: lists.done,
+        })),
+        Err(fault) => Ok(Err(fault)),
     }
 }
 
@@ -135,7 +170,7 @@ impl Member for Done {
     }
 }
 
-#[tactic(auto, unfolding(crate::specs::Report::start_of))]
+#[tactic(auto, unfolding(crate::specs::Starts::start_of))]
 fn read_start(text: &[u8]) -> Option<Start>
     ensures { result ≡ start_by text.now }
 {
@@ -146,7 +181,7 @@ fn read_start(text: &[u8]) -> Option<Start>
 }
 
 // The start of these two fields.
-#[tactic(auto, unfolding(crate::specs::Report::start_of))]
+#[tactic(auto, unfolding(crate::specs::Starts::start_of))]
 fn start_of(id: &[u8], number: &[u8]) -> Option<Start>
     ensures { result ≡ start_of (id.now ∷ number.now ∷ []) }
 {
@@ -155,7 +190,7 @@ fn start_of(id: &[u8], number: &[u8]) -> Option<Start>
     Some(Start { id, number })
 }
 
-#[tactic(auto, unfolding(crate::specs::Report::done_of))]
+#[tactic(auto, unfolding(crate::specs::Starts::done_of))]
 fn read_done(text: &[u8]) -> Option<Done>
     ensures { result ≡ done_by text.now }
 {

@@ -1,7 +1,7 @@
 //! What the words of a command want.
 
 ghost use Rattle.std.specs.Prelude.{◌≡◌, option_copied, IfOk};
-ghost use Rattle.command_words.specs.Wanted.{pass_by, lone_by, wanted_by, without};
+ghost use Rattle.command_words.specs.Wanted.{lone_by, wanted_by, alone, without};
 
 use crate::cancel::read_scancel;
 use crate::command::Command;
@@ -9,6 +9,9 @@ use crate::fault::{WordFault, WordKind};
 use crate::queries::{read_sinfo, read_sprio, read_squeue};
 use crate::report::read_report;
 use crate::sbatch::read_sbatch;
+use operands::bad_word::{BadWord, fault_of};
+use operands::operand::closed_at;
+use scontrol_words::scontrol::read_scontrol;
 use slurm_text::memory_error::Memory;
 use slurm_text::plain::request::Request;
 use slurm_text::words::Words;
@@ -20,7 +23,7 @@ pub(crate) enum Wanted {
     Request(Request),
     /// They, or the command's script, are wrong.
     Malformed(WordFault),
-    /// They are of no form that is built yet.
+    /// They ask for a job in a way that isn't built yet.
     NotBuilt,
 }
 
@@ -38,43 +41,50 @@ pub(crate) fn read_command(
     if let Command::Sbatch = command {
         return read_sbatch(alloc, words, attachment, now);
     }
-    let request = read_lone(alloc, command, words)?;
-    Ok(without(attachment, request))
+    let asked = read_lone(alloc, command, now, words)?;
+    Ok(without(attachment, asked))
 }
 
-// The request of a command that has no attachment.
+// The request of a command that has no attachment, or its first bad word.
 #[tactic(auto, unfolding(crate::specs::Wanted::lone_by))]
-fn read_lone(alloc: Global, command: Command, words: &Words) -> Result<Option<Request>, Memory>
-    ensures { IfOk result (λ request. request ≡ lone_by command words.now) }
+fn read_lone(
+    alloc: Global,
+    command: Command,
+    now: u64,
+    words: &Words,
+) -> Result<Result<Request, BadWord>, Memory>
+    ensures { IfOk result (λ asked. asked ≡ lone_by command now words.now) }
 {
     match command {
-        Command::Sbatch => Ok(None),
+        Command::Sbatch => Ok(Err(fault_of(1, WordKind::StrayWord))),
         Command::Squeue => Ok(read_squeue(alloc, words)?.map(Request::Show)),
         Command::Scancel => Ok(read_scancel(alloc, words)?.map(Request::Cancel)),
+        Command::Scontrol => read_scontrol(alloc, now, words),
         Command::Sinfo => Ok(read_sinfo(alloc, words)?.map(Request::Show)),
         Command::Sprio => Ok(read_sprio(alloc, words)?.map(Request::Show)),
         Command::Report => Ok(read_report(alloc, words)?.map(Request::Report)),
-        Command::Pass => Ok(read_pass(words)),
+        Command::Pass => Ok(closed_at(words, 1, Request::Pass)),
     }
 }
 
-fn read_pass(words: &Words) -> Option<Request>
-    ensures { result ≡ pass_by words.now }
+fn alone(asked: Result<Request, BadWord>) -> Wanted
+    ensures { result ≡ alone asked }
 {
-    if words.len() == 1 {
-        Some(Request::Pass)
-    } else {
-        None
+    match asked {
+        Ok(request) => Wanted::Request(request),
+        Err(fault) => Wanted::Malformed(WordFault::Word {
+            word: fault.word,
+            kind: fault.kind,
+        }),
     }
 }
 
-fn without(attachment: Option<&[u8]>, request: Option<Request>) -> Wanted
-    ensures { result ≡ without (option_copied attachment.entry) request }
+fn without(attachment: Option<&[u8]>, asked: Result<Request, BadWord>) -> Wanted
+    ensures { result ≡ without (option_copied attachment.entry) asked }
 {
-    match (request, attachment) {
-        (None, _) => Wanted::NotBuilt,
-        (Some(request), None) => Wanted::Request(request),
-        (Some(_), Some(_)) => Wanted::Malformed(WordFault::Word {
+    match attachment {
+        None => alone(asked),
+        Some(_) => Wanted::Malformed(WordFault::Word {
             word: 1,
             kind: WordKind::StrayWord,
         }),

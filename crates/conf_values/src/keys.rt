@@ -183,8 +183,8 @@ pub const PARTITION_KEYS: [(&[u8], PartitionKey); 18] = [
     (b"GraceTime", PartitionKey::WithoutEffect),
 ];
 
-// The key that a text names in a table.
-fn key_named<K: Copy>(table: &[(&[u8], K)], text: &[u8]) -> Option<K>
+/// The key that a text names in a table, in any case of letters. Linear in the table.
+pub fn key_named<K: Copy>(table: &[(&[u8], K)], text: &[u8]) -> Option<K>
     ensures { result ≡ key_named (map (λ row. (row.0.now, row.1)) table.now) text.now }
 {
     for (name, key) in table {

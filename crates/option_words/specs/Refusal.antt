@@ -1,7 +1,11 @@
 -- How faults of words are printed.
-use Rattle.std.specs.Prelude.{ℕ, List, codes}
+use Rattle.std.specs.Prelude.{ℕ, min, List, codes}
 use Rattle.option_words.specs.declared.refusal.WordKind.{WordKind}
 use Rattle.option_words.specs.declared.refusal.WordKind.TheVariants.{UnknownCommand, UnknownOption, MissingValue, MissingWord, BadValue, StrayWord, TooLong, NoHashBang}
+
+-- the number of a word or a line as it is told: one that 32 bits don't hold is told as the greatest
+abbrev pub told : ℕ → ℕ
+told number = min number 4_294_967_295
 
 abbrev pub kind_text : WordKind → List ℕ
 kind_text UnknownCommand = codes "UnknownCommand"

@@ -1,5 +1,8 @@
 //! What is wrong with a command.
 
+ghost use Rattle.std.specs.Prelude.{◌≡◌};
+ghost use Rattle.option_words.specs.Refusal.{told};
+
 use std::fmt;
 
 /// What is wrong with a word of a command or with a line of its script.
@@ -40,5 +43,16 @@ impl fmt::Display for WordKind {
             WordKind::TooLong => "TooLong",
             WordKind::NoHashBang => "NoHashBang",
         })
+    }
+}
+
+/// The number of a word or a line as it is told: one that 32 bits don't hold is told as the greatest.
+pub fn told(number: usize) -> u32
+    ensures { result ≡ told number }
+{
+    if number < 4_294_967_295 {
+        number as u32
+    } else {
+        4_294_967_295
     }
 }

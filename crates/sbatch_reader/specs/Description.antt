@@ -7,7 +7,8 @@ use Rattle.slurm_text.specs.declared.plain.job.JobDesc.{JobDesc}
 use Rattle.option_words.specs.declared.refusal.WordKind.TheVariants.{BadValue}
 use Rattle.sbatch_options.specs.declared.entries.JobWords.{JobWords}
 use Rattle.sbatch_options.specs.declared.values.NodeRange.{NodeRange}
-use Rattle.sbatch_reader.specs.Refusal.{told, refusal_at}
+use Rattle.option_words.specs.Refusal.{told}
+use Rattle.sbatch_reader.specs.Refusal.{refusal_at}
 use Rattle.sbatch_reader.specs.declared.refusal.JobRefusal.{JobRefusal}
 use Rattle.sbatch_reader.specs.declared.refusal.Place.TheVariants.{Word}
 

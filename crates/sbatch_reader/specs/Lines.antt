@@ -9,7 +9,7 @@ use Rattle.option_words.specs.declared.refusal.WordKind.TheVariants.{BadValue, N
 use Rattle.sbatch_options.specs.Values.{number_in}
 use Rattle.sbatch_options.specs.declared.entries.Entry.{Entry}
 use Rattle.sbatch_options.specs.declared.entries.Entry.TheVariants.{Run}
-use Rattle.sbatch_reader.specs.Refusal.{told}
+use Rattle.option_words.specs.Refusal.{told}
 use Rattle.sbatch_reader.specs.Said.{line_says}
 use Rattle.sbatch_reader.specs.declared.refusal.Place.TheVariants.{Line}
 use Rattle.sbatch_reader.specs.declared.said.Said.{Said}

@@ -8,7 +8,7 @@ use Rattle.sbatch_options.specs.Table.{options}
 use Rattle.sbatch_options.specs.declared.table.FlagOption.{FlagOption}
 use Rattle.sbatch_options.specs.declared.table.ValueOption.{ValueOption}
 use Rattle.sbatch_options.specs.declared.table.ValueOption.TheVariants.{Wrap}
-use Rattle.sbatch_reader.specs.Refusal.{told}
+use Rattle.option_words.specs.Refusal.{told}
 use Rattle.sbatch_reader.specs.declared.refusal.Place.{Place}
 use Rattle.sbatch_reader.specs.declared.refusal.Place.TheVariants.{Word, Line}
 use Rattle.sbatch_reader.specs.declared.said.Source.{Source}

@@ -2,7 +2,7 @@
 
 ghost use Rattle.std.specs.Prelude.{◌≡◌, fold, option_map, OnOk};
 ghost use Rattle.sbatch_reader.specs.Drafts.{after};
-ghost use Rattle.sbatch_reader.specs.Refusal.{told};
+ghost use Rattle.option_words.specs.Refusal.{told};
 ghost use Rattle.sbatch_reader.specs.Said.{command_parts, script_in, command_says, line_says};
 
 use crate::draft::Draft;

@@ -1,9 +1,7 @@
 //! Why a job wasn't read.
 
-ghost use Rattle.std.specs.Prelude.{◌≡◌};
-ghost use Rattle.sbatch_reader.specs.Refusal.{told};
-
 pub use option_words::refusal::WordKind;
+pub(crate) use option_words::refusal::told;
 use slurm_text::memory_error;
 use std::error::Error;
 use std::fmt;
@@ -51,17 +49,6 @@ impl From<memory_error::Memory> for JobRefusal {
 
     fn from(_error: memory_error::Memory) -> JobRefusal {
         JobRefusal::Memory
-    }
-}
-
-/// The number of a word or a line as it is told.
-pub(crate) fn told(number: usize) -> u32
-    ensures { result ≡ told number }
-{
-    if number < 4_294_967_295 {
-        number as u32
-    } else {
-        4_294_967_295
     }
 }
 

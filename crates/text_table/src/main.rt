@@ -9,6 +9,7 @@ mod priorities;
 mod rows;
 mod texts;
 mod times;
+mod trees;
 mod views;
 mod words;
 
@@ -51,6 +52,7 @@ fn answer_of_others(
         "titles" => lines::titles(alloc, arguments),
         "priority" => priorities::priority(alloc, arguments),
         "titled_priority" => priorities::titled_priority(alloc, arguments),
+        "ranks" => trees::ranks(alloc, arguments),
         _ => Err(Unanswered::Arguments),
     }
 }

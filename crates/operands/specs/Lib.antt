@@ -1,0 +1,6 @@
+pub mod BadWord
+pub mod Cut
+pub mod Names
+pub mod Operands
+pub mod Pairs
+pub mod Targets

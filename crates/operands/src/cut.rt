@@ -1,0 +1,15 @@
+//! A text cut at a byte.
+
+ghost use Rattle.std.specs.Prelude.{◌≡◌, IfOk};
+ghost use Rattle.slurm_text.specs.Fields.{fields};
+ghost use Rattle.operands.specs.Cut.{texts_of};
+
+use slurm_text::memory_error::Memory;
+use std::alloc::Global;
+
+/// What stands between the separators, one more than there are of these.
+pub(crate) fn cut_at(alloc: Global, text: &[u8], separator: u8) -> Result<Vec<&[u8]>, Memory>
+    ensures { IfOk result (λ parts. texts_of parts.items ≡ fields separator text.now) }
+{
+    Ok(text.split(|b| *b == separator).collect(alloc)?)
+}

@@ -1,0 +1,116 @@
+//! Jobs and states that words name.
+
+ghost use Rattle.std.specs.Prelude.{◌≡◌, map, IfOk};
+ghost use Rattle.operands.specs.Targets.{rows, state_among, state_by, states, states_by, target_by, targets_by};
+
+use crate::members::{Member, read_few};
+use crate::names::read_u32;
+use slurm_text::fields::{UpToThree, up_to_three};
+use slurm_text::items::Items;
+use slurm_text::memory_error::Memory;
+use slurm_text::plain::query::StateCode;
+use slurm_text::plain::target::Target;
+use std::alloc::Global;
+
+// The states and their codes. "JOB STATE CODES" in squeue(1).
+const STATES: [(&[u8], StateCode); 8] = [
+    (b"PD", StateCode::Pending),
+    (b"R", StateCode::Running),
+    (b"CG", StateCode::Completing),
+    (b"CD", StateCode::Completed),
+    (b"CA", StateCode::Cancelled),
+    (b"F", StateCode::Failed),
+    (b"TO", StateCode::Timeout),
+    (b"NF", StateCode::NodeFail),
+];
+
+/// A job, an array or one of its tasks.
+#[tactic(auto, unfolding(crate::specs::Targets::target_of))]
+pub fn read_target(text: &[u8]) -> Option<Target>
+    ensures { result ≡ target_by text.now }
+{
+    match up_to_three(text, b'_') {
+        UpToThree::One(id) => {
+            let id = read_u32(id)?;
+            Some(Target { id, index: None })
+        }
+        UpToThree::Two(id, index) => {
+            let id = read_u32(id)?;
+            let index = read_u32(index)?;
+            Some(Target {
+                id,
+                index: Some(index),
+            })
+        }
+        _ => None,
+    }
+}
+
+impl Member for Target {
+    ghost meaning = { target_by };
+
+    fn read_member(text: &[u8]) -> Option<Target> {
+        read_target(text)
+    }
+}
+
+impl Member for StateCode {
+    ghost meaning = { state_by };
+
+    fn read_member(text: &[u8]) -> Option<StateCode> {
+        read_state(text)
+    }
+}
+
+/// A list of targets.
+#[tactic(auto, unfolding(crate::specs::Targets::targets_by))]
+pub fn read_targets(alloc: Global, list: &[u8]) -> Result<Option<Items<Target>>, Memory>
+    ensures { IfOk result (λ targets. targets ≡ targets_by list.now) }
+{
+    read_few(alloc, list)
+}
+
+/// A list of states by their codes, or the word for all of them.
+#[tactic(auto, unfolding(crate::specs::Targets::states_by))]
+pub fn read_states(alloc: Global, list: &[u8]) -> Result<Option<Items<StateCode>>, Memory>
+    ensures { IfOk result (λ codes. codes ≡ states_by list.now) }
+{
+    if list == b"all".as_slice() {
+        Ok(Some(all_states(alloc)?))
+    } else {
+        read_few(alloc, list)
+    }
+}
+
+fn all_states(alloc: Global) -> Result<Items<StateCode>, Memory>
+    ensures { IfOk result (λ all. all ≡ map (λ row. row.1) states) }
+{
+    list_states(alloc, &STATES)
+}
+
+// The states of a table.
+fn list_states(alloc: Global, table: &[(&[u8], StateCode)]) -> Result<Items<StateCode>, Memory>
+    ensures { IfOk result (λ all. all ≡ map (λ row. row.1) table.now) }
+{
+    let all = table.iter().map(|row| row.1).collect(alloc)?;
+    Ok(Items::from_vec(all))
+}
+
+#[tactic(auto, unfolding(crate::specs::Targets::state_by))]
+fn read_state(code: &[u8]) -> Option<StateCode>
+    ensures { result ≡ state_by code.now }
+{
+    find_state(&STATES, code)
+}
+
+// The state of a code, by a table of codes and states.
+fn find_state(table: &[(&[u8], StateCode)], code: &[u8]) -> Option<StateCode>
+    ensures { result ≡ state_among (rows table.now) code.now }
+{
+    for (own, state) in table {
+        if code == *own {
+            return Some(*state);
+        }
+    }
+    None
+}

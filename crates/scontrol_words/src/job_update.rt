@@ -1,0 +1,128 @@
+//! Updates of jobs.
+
+ghost use Rattle.std.specs.Prelude.{◌≡◌, ◌+◌, Some, IfOk};
+ghost use Rattle.operands.specs.BadWord.{good};
+ghost use Rattle.operands.specs.Pairs.{now_said};
+ghost use Rattle.scontrol_words.specs.Updating.{job_key, job_said, job_update_by};
+ghost use Rattle.scontrol_words.specs.declared.keys.Key.TheVariants.{JobId, TimeLimit, Nice};
+
+use crate::keys::{Key, scontrol_key};
+use operands::bad_word::{BadWord, WordKind, fault_at};
+use operands::pairs::{Pairs, read_pairs};
+use operands::targets::read_target;
+use sbatch_options::values::{read_limit, read_nice};
+use slurm_text::memory_error::Memory;
+use slurm_text::plain::limit::Limit;
+use slurm_text::plain::nice::Nice;
+use slurm_text::plain::request::Request;
+use slurm_text::plain::target::Target;
+use slurm_text::words::Words;
+use std::alloc::Global;
+
+/// What the pairs of a job's update say.
+#[derive(Clone, Copy)]
+pub(crate) struct JobUpdate {
+    pub(crate) target: Option<Target>,
+    pub(crate) limit: Option<Limit>,
+    pub(crate) nice: Option<Nice>,
+}
+
+impl JobUpdate {
+    ghost use Rattle.std.specs.Prelude.{◌≡◌, Some};
+    ghost use Rattle.operands.specs.Pairs.{now_said};
+    ghost use Rattle.scontrol_words.specs.Updating.{job_key};
+    ghost use Rattle.scontrol_words.specs.declared.keys.Key.TheVariants.{JobId, TimeLimit, Nice};
+
+    // The job, which is named once.
+    fn name_job(&mut self, value: &[u8]) -> Result<(), WordKind>
+        ensures { now_said result self.new ≡ job_key self.old value.now (Some JobId) }
+    {
+        if self.target.is_some() {
+            return Err(WordKind::UnknownOption);
+        }
+        match read_target(value) {
+            Some(target) => {
+                self.target = Some(target);
+                Ok(())
+            }
+            None => Err(WordKind::BadValue),
+        }
+    }
+
+    fn set_limit(&mut self, value: &[u8]) -> Result<(), WordKind>
+        ensures { now_said result self.new ≡ job_key self.old value.now (Some TimeLimit) }
+    {
+        match read_limit(value) {
+            Some(limit) => {
+                self.limit = Some(limit);
+                Ok(())
+            }
+            None => Err(WordKind::BadValue),
+        }
+    }
+
+    fn set_nice(&mut self, value: &[u8]) -> Result<(), WordKind>
+        ensures { now_said result self.new ≡ job_key self.old value.now (Some Nice) }
+    {
+        match read_nice(value) {
+            Some(nice) => {
+                self.nice = Some(nice);
+                Ok(())
+            }
+            None => Err(WordKind::BadValue),
+        }
+    }
+}
+
+impl Pairs for JobUpdate {
+    ghost use Rattle.scontrol_words.specs.Updating.{job_adding};
+
+    ghost adding = { job_adding };
+
+    fn add(
+        &mut self,
+        _alloc: Global,
+        key: &[u8],
+        value: &[u8],
+    ) -> Result<Result<(), WordKind>, Memory> {
+        Ok(match scontrol_key(key) {
+            Some(Key::JobId) => self.name_job(value),
+            Some(Key::TimeLimit) => self.set_limit(value),
+            Some(Key::Nice) => self.set_nice(value),
+            _ => Err(WordKind::UnknownOption),
+        })
+    }
+}
+
+// The request, where a job is named; `end` is the place after the last word.
+fn job_said(end: usize, said: JobUpdate) -> Result<Request, BadWord>
+    ensures { result ≡ job_said (end + 1) said said.target }
+{
+    match said.target {
+        Some(target) => Ok(Request::UpdateJob {
+            target,
+            limit: said.limit,
+            nice: said.nice,
+        }),
+        None => Err(fault_at(end, WordKind::MissingWord)),
+    }
+}
+
+/// The update of jobs that the words ask for.
+#[tactic(auto, unfolding(crate::specs::Updating::job_update_by))]
+pub(crate) fn read_job_update(
+    alloc: Global,
+    words: &Words,
+) -> Result<Result<Request, BadWord>, Memory>
+    ensures { IfOk result (λ request. request ≡ job_update_by words.now) }
+{
+    let nothing = JobUpdate {
+        target: None,
+        limit: None,
+        nice: None,
+    };
+    match read_pairs(alloc, nothing, words, 2)? {
+        Ok(said) => Ok(job_said(words.len(), said)),
+        Err(fault) => Ok(Err(fault)),
+    }
+}

@@ -1,0 +1,271 @@
+//! The words of `scontrol create`.
+
+ghost use Rattle.std.specs.Prelude.{◌≡◌, ◌+◌, [], drop, unwrap_or, slice_get, option_copied, IfOk};
+ghost use Rattle.scontrol_words.specs.Reserving.{is_for_someone, end_of, whole, reservation_said, is_reservation, first_key, nothing_reserved, created_from, create_by};
+
+use crate::keys::{Key, scontrol_key};
+use crate::values::{read_few_names, read_hosts};
+use operands::bad_word::{BadWord, WordKind, fault_at};
+use operands::names::read_name;
+use operands::pairs::{Pairs, read_pairs};
+use sbatch_options::values::{read_begin, read_limit};
+use slurm_text::items::Items;
+use slurm_text::memory_error::Memory;
+use slurm_text::name::Name;
+use slurm_text::plain::limit::Limit;
+use slurm_text::plain::request::Request;
+use slurm_text::plain::reservation::ReservationDesc;
+use slurm_text::ranged::Ranged;
+use slurm_text::words::Words;
+use std::alloc::Global;
+
+// How many minutes a reservation stands that has no end (own).
+const YEAR: u64 = 525_600;
+
+/// When a reservation is over.
+#[derive(Clone, Copy)]
+pub(crate) enum Until {
+    /// At this second.
+    At(Ranged<0, 250000000000>),
+    /// So long after its start.
+    For(Limit),
+}
+
+/// What the pairs say of a reservation, at the moment `now`.
+#[derive(Drop)]
+pub(crate) struct Reserved {
+    pub(crate) now: u64,
+    pub(crate) name: Option<Name>,
+    pub(crate) start: Option<Ranged<0, 250000000000>>,
+    pub(crate) until: Option<Until>,
+    pub(crate) nodes: Option<Items<Name>>,
+    pub(crate) users: Option<Items<Name>>,
+    pub(crate) accounts: Option<Items<Name>>,
+}
+
+// Nothing is said yet.
+fn nothing_reserved(now: u64) -> Reserved
+    ensures { result ≡ nothing_reserved now }
+{
+    Reserved {
+        now,
+        name: None,
+        start: None,
+        until: None,
+        nodes: None,
+        users: None,
+        accounts: None,
+    }
+}
+
+impl Reserved {
+    ghost use Rattle.std.specs.Prelude.{◌≡◌, Some, IfOk};
+    ghost use Rattle.operands.specs.Pairs.{now_said};
+    ghost use Rattle.scontrol_words.specs.Reserving.{reserved_key};
+    ghost use Rattle.scontrol_words.specs.declared.keys.Key.TheVariants.{ReservationName, StartTime, EndTime, Duration, Nodes, Users, Accounts};
+
+    fn set_name(&mut self, alloc: Global, value: &[u8]) -> Result<Result<(), WordKind>, Memory>
+        ensures { IfOk result (λ added. now_said added self.new ≡ reserved_key self.old value.now (Some ReservationName)) }
+    {
+        match read_name(alloc, value)? {
+            Some(name) => {
+                self.name = Some(name);
+                Ok(Ok(()))
+            }
+            None => Ok(Err(WordKind::BadValue)),
+        }
+    }
+
+    fn set_start(&mut self, value: &[u8]) -> Result<(), WordKind>
+        ensures { now_said result self.new ≡ reserved_key self.old value.now (Some StartTime) }
+    {
+        match read_begin(value, self.now) {
+            Some(moment) => {
+                self.start = Some(moment);
+                Ok(())
+            }
+            None => Err(WordKind::BadValue),
+        }
+    }
+
+    fn set_end(&mut self, value: &[u8]) -> Result<(), WordKind>
+        ensures { now_said result self.new ≡ reserved_key self.old value.now (Some EndTime) }
+    {
+        match read_begin(value, self.now) {
+            Some(moment) => {
+                self.until = Some(Until::At(moment));
+                Ok(())
+            }
+            None => Err(WordKind::BadValue),
+        }
+    }
+
+    fn set_duration(&mut self, value: &[u8]) -> Result<(), WordKind>
+        ensures { now_said result self.new ≡ reserved_key self.old value.now (Some Duration) }
+    {
+        match read_limit(value) {
+            Some(limit) => {
+                self.until = Some(Until::For(limit));
+                Ok(())
+            }
+            None => Err(WordKind::BadValue),
+        }
+    }
+
+    fn set_nodes(&mut self, alloc: Global, value: &[u8]) -> Result<Result<(), WordKind>, Memory>
+        ensures { IfOk result (λ added. now_said added self.new ≡ reserved_key self.old value.now (Some Nodes)) }
+    {
+        match read_hosts(alloc, value)? {
+            Some(nodes) => {
+                self.nodes = Some(nodes);
+                Ok(Ok(()))
+            }
+            None => Ok(Err(WordKind::BadValue)),
+        }
+    }
+
+    fn set_users(&mut self, alloc: Global, value: &[u8]) -> Result<Result<(), WordKind>, Memory>
+        ensures { IfOk result (λ added. now_said added self.new ≡ reserved_key self.old value.now (Some Users)) }
+    {
+        match read_few_names(alloc, value)? {
+            Some(names) => {
+                self.users = Some(names);
+                Ok(Ok(()))
+            }
+            None => Ok(Err(WordKind::BadValue)),
+        }
+    }
+
+    fn set_accounts(&mut self, alloc: Global, value: &[u8]) -> Result<Result<(), WordKind>, Memory>
+        ensures { IfOk result (λ added. now_said added self.new ≡ reserved_key self.old value.now (Some Accounts)) }
+    {
+        match read_few_names(alloc, value)? {
+            Some(names) => {
+                self.accounts = Some(names);
+                Ok(Ok(()))
+            }
+            None => Ok(Err(WordKind::BadValue)),
+        }
+    }
+}
+
+impl Pairs for Reserved {
+    ghost use Rattle.scontrol_words.specs.Reserving.{reserved_adding};
+
+    ghost adding = { reserved_adding };
+
+    fn add(
+        &mut self,
+        alloc: Global,
+        key: &[u8],
+        value: &[u8],
+    ) -> Result<Result<(), WordKind>, Memory> {
+        match scontrol_key(key) {
+            Some(Key::ReservationName) => self.set_name(alloc, value),
+            Some(Key::StartTime) => Ok(self.set_start(value)),
+            Some(Key::EndTime) => Ok(self.set_end(value)),
+            Some(Key::Duration) => Ok(self.set_duration(value)),
+            Some(Key::Nodes) => self.set_nodes(alloc, value),
+            Some(Key::Users) => self.set_users(alloc, value),
+            Some(Key::Accounts) => self.set_accounts(alloc, value),
+            _ => Ok(Err(WordKind::UnknownOption)),
+        }
+    }
+}
+
+fn is_for_someone(said: &Reserved) -> bool
+    ensures { result ≡ is_for_someone said.now }
+{
+    said.users.is_some() || said.accounts.is_some()
+}
+
+// The second at which a reservation is over.
+fn end_of(start: Ranged<0, 250000000000>, until: Until) -> Ranged<0, 253153600000>
+    ensures { result ≡ end_of start until }
+{
+    match until {
+        Until::At(moment) => Ranged::new(moment.get()),
+        Until::For(Limit::Minutes(minutes)) => Ranged::new(start.get() + 60 * minutes.get()),
+        Until::For(Limit::Unlimited) => Ranged::new(start.get() + 60 * YEAR),
+    }
+}
+
+fn names_or_none(alloc: Global, names: Option<Items<Name>>) -> Items<Name>
+    ensures { result ≡ unwrap_or names [] }
+{
+    match names {
+        Some(names) => names,
+        None => Items::from_vec(Vec::new(alloc)),
+    }
+}
+
+// The request, where all that is wanted was said; `end` is the place after the last word.
+fn whole(alloc: Global, end: usize, said: Reserved) -> Result<Request, BadWord>
+    ensures { result ≡ whole (end + 1) said said.name said.start said.until said.nodes }
+{
+    match (said.name, said.start, said.until, said.nodes) {
+        (Some(name), Some(start), Some(until), Some(nodes)) => {
+            Ok(Request::CreateReservation(ReservationDesc {
+                name,
+                start,
+                end: end_of(start, until),
+                nodes,
+                users: names_or_none(alloc, said.users),
+                accounts: names_or_none(alloc, said.accounts),
+            }))
+        }
+        _ => Err(fault_at(end, WordKind::MissingWord)),
+    }
+}
+
+fn reservation_said(alloc: Global, end: usize, said: Reserved) -> Result<Request, BadWord>
+    ensures { result ≡ reservation_said (end + 1) said }
+{
+    if is_for_someone(&said) {
+        whole(alloc, end, said)
+    } else {
+        Err(fault_at(end, WordKind::MissingWord))
+    }
+}
+
+fn is_reservation(word: Option<&[u8]>) -> bool
+    ensures { result ≡ is_reservation (option_copied word) }
+{
+    match word {
+        Some(word) => word == b"reservation".as_slice(),
+        None => false,
+    }
+}
+
+// The place of the first key.
+fn first_key(words: &Words) -> usize
+    ensures { result ≡ first_key words.now }
+{
+    if is_reservation(words.get(2)) { 3 } else { 2 }
+}
+
+fn created_from(
+    alloc: Global,
+    now: u64,
+    first: usize,
+    words: &Words,
+) -> Result<Result<Request, BadWord>, Memory>
+    ensures { IfOk result (λ request. request ≡ created_from now first words.now) }
+{
+    match read_pairs(alloc, nothing_reserved(now), words, first)? {
+        Ok(said) => Ok(reservation_said(alloc, words.len(), said)),
+        Err(fault) => Ok(Err(fault)),
+    }
+}
+
+/// What the words ask for at the moment `now`, of which the first two are `scontrol create`.
+#[tactic(auto, unfolding(crate::specs::Reserving::create_by))]
+pub(crate) fn read_create(
+    alloc: Global,
+    now: u64,
+    words: &Words,
+) -> Result<Result<Request, BadWord>, Memory>
+    ensures { IfOk result (λ request. request ≡ create_by now words.now) }
+{
+    created_from(alloc, now, first_key(words), words)
+}

@@ -1,0 +1,67 @@
+//! Updates that don't name what they change.
+
+ghost use Rattle.std.specs.Prelude.{◌≡◌, ◌+◌, Some, IfOk};
+ghost use Rattle.operands.specs.BadWord.{good, given};
+ghost use Rattle.operands.specs.Pairs.{now_said};
+ghost use Rattle.scontrol_words.specs.Updating.{some_good, unnamed_update_by};
+
+use crate::keys::{Key, scontrol_key};
+use crate::values::{is_long, read_node_order, read_part_state};
+use operands::bad_word::{BadWord, WordKind, fault_at};
+use operands::pairs::{Pairs, read_pairs};
+use sbatch_options::values::{read_limit, read_nice};
+use slurm_text::memory_error::Memory;
+use slurm_text::plain::request::Request;
+use slurm_text::words::Words;
+use std::alloc::Global;
+
+/// Pairs of which none names what is changed: nothing of them is kept.
+#[derive(Clone, Copy)]
+pub(crate) struct UnnamedUpdate {}
+
+// A value that is good.
+fn checked(is_good: bool) -> Result<(), WordKind> {
+    if is_good {
+        Ok(())
+    } else {
+        Err(WordKind::BadValue)
+    }
+}
+
+impl Pairs for UnnamedUpdate {
+    ghost use Rattle.scontrol_words.specs.Updating.{unnamed_adding};
+
+    ghost adding = { unnamed_adding };
+
+    fn add(
+        &mut self,
+        _alloc: Global,
+        key: &[u8],
+        value: &[u8],
+    ) -> Result<Result<(), WordKind>, Memory> {
+        Ok(match scontrol_key(key) {
+            Some(Key::TimeLimit) => checked(read_limit(value).is_some()),
+            Some(Key::Nice) => checked(read_nice(value).is_some()),
+            Some(Key::State) => {
+                checked(read_node_order(value).is_some() || read_part_state(value).is_some())
+            }
+            Some(Key::Reason) if is_long(value) => Err(WordKind::TooLong),
+            Some(Key::Reason) => Ok(()),
+            _ => Err(WordKind::UnknownOption),
+        })
+    }
+}
+
+/// What is wrong with an update that doesn't name what it changes.
+#[tactic(auto, unfolding(crate::specs::Updating::unnamed_update_by))]
+pub(crate) fn read_unnamed_update(
+    alloc: Global,
+    words: &Words,
+) -> Result<Result<Request, BadWord>, Memory>
+    ensures { IfOk result (λ request. request ≡ unnamed_update_by words.now) }
+{
+    match read_pairs(alloc, UnnamedUpdate {}, words, 2)? {
+        Ok(_) => Ok(Err(fault_at(words.len(), WordKind::MissingWord))),
+        Err(fault) => Ok(Err(fault)),
+    }
+}
