@@ -22,16 +22,19 @@ is_user (valued number wanted place text) = true
 is_user (lacking number wanted) = true
 is_user part = false
 
--- a target, which is stray beside a user
-abbrev pub target_at : Bool → ℕ → List ℕ → Result Target BadWord
-target_at by_user number text = if by_user then bad number StrayWord else at_word number (good (target_by text))
+-- with the target that a word names behind the others
+abbrev pub with_target : CancelWords → ℕ → List ℕ → Result CancelWords BadWord
+with_target said number text =
+    given (λ target. record said { targets = said.targets ++ target ∷ [] }) (at_word number (good (target_by text)))
 
--- a word names a target, and an option a user, on top of what was said before
+-- with the user that a value names
+abbrev pub with_user : CancelWords → ℕ → List ℕ → Result CancelWords BadWord
+with_user said place text = given (λ name. record said { user = Some name }) (at_word place (good (name_by text)))
+
+-- a word names a target, which is stray beside a user, and an option a user, on top of what was said before
 abbrev pub with_part : Bool → CancelWords → Part CancelFlag CancelOption → Result CancelWords BadWord
-with_part by_user said (plain number text) =
-    given (λ target. record said { targets = said.targets ++ target ∷ [] }) (target_at by_user number text)
-with_part by_user said (valued number wanted place text) =
-    given (λ name. record said { user = Some name }) (at_word place (good (name_by text)))
+with_part by_user said (plain number text) = if by_user then bad number StrayWord else with_target said number text
+with_part by_user said (valued number wanted place text) = with_user said place text
 with_part by_user said (flag number none) = Ok said
 with_part by_user said (off number kind) = bad number kind
 with_part by_user said (lacking number wanted) = bad (number + 1) MissingValue

@@ -1,8 +1,8 @@
 //! The words of scancel(1).
 
-ghost use Rattle.std.specs.Prelude.{◌≡◌, ◌+◌, IfOk};
+ghost use Rattle.std.specs.Prelude.{◌≡◌, IfOk};
 ghost use Rattle.option_words.specs.Arguments.{part_of, rows};
-ghost use Rattle.command_words.specs.Cancel.{cancel_parts, cancel_words, is_user, names_user, said_by, nothing_said, scancel_by, scancel_options, targets_of};
+ghost use Rattle.command_words.specs.Cancel.{cancel_parts, cancel_words, is_user, names_user, said_by, nothing_said, scancel_by, scancel_options};
 
 use operands::bad_word::{BadWord, WordKind, fault_at, fault_of};
 use operands::names::read_name;
@@ -42,9 +42,8 @@ pub(crate) struct CancelWords {
 
 impl CancelWords {
     ghost use Rattle.std.specs.Prelude.{◌≡◌, ◌+◌, [], ◌∷◌, ◌++◌, IfOk};
-    ghost use Rattle.option_words.specs.Arguments.{part_of, plain, valued};
-    ghost use Rattle.option_words.specs.declared.refusal.WordKind.TheVariants.{BadValue};
-    ghost use Rattle.command_words.specs.Cancel.{targets_of, with_part};
+    ghost use Rattle.option_words.specs.Arguments.{part_of};
+    ghost use Rattle.command_words.specs.Cancel.{targets_of, with_part, with_target, with_user};
 
     // With what an argument says on top, or what is wrong with it. Where a user is named, no target may be.
     fn with(
@@ -68,12 +67,8 @@ impl CancelWords {
     }
 
     // With the target that a word names behind the others.
-    fn with_target(
-        self,
-        number: usize,
-        text: &[u8],
-    ) -> Result<Result<CancelWords, BadWord>, Memory>
-        ensures { IfOk result (λ said. said ≡ with_part false self (plain number text.now)) }
+    fn with_target(self, number: usize, text: &[u8]) -> Result<Result<CancelWords, BadWord>, Memory>
+        ensures { IfOk result (λ said. said ≡ with_target self number text.now) }
     {
         let Some(target) = read_target(text) else {
             return Ok(Err(fault_of(number, WordKind::BadValue)));
@@ -99,8 +94,7 @@ impl CancelWords {
         place: usize,
         text: &[u8],
     ) -> Result<Result<CancelWords, BadWord>, Memory>
-        ensures { (by_user : Bool) → (number : ℕ) → (wanted : CancelOption)
-            → IfOk result (λ said. said ≡ with_part by_user self (valued number wanted place text.now)) }
+        ensures { IfOk result (λ said. said ≡ with_user self place text.now) }
     {
         match read_name(alloc, text)? {
             Some(name) => Ok(Ok(CancelWords {
@@ -125,10 +119,7 @@ impl CancelWords {
 
 // Whether a user is named in place of targets.
 #[tactic(auto, unfolding(crate::specs::Cancel::names_user))]
-fn names_user(
-    table: &[(&[u8], Option<u8>, Takes<CancelFlag, CancelOption>)],
-    words: &Words,
-) -> bool
+fn names_user(table: &[(&[u8], Option<u8>, Takes<CancelFlag, CancelOption>)], words: &Words) -> bool
     ensures { result ≡ names_user (rows table.now) words.now }
 {
     let mut cursor = Cursor {
@@ -146,10 +137,7 @@ fn names_user(
 fn is_user(argument: Argument<'_, CancelFlag, CancelOption>) -> bool
     ensures { result ≡ is_user (part_of argument.entry) }
 {
-    matches!(
-        argument,
-        Argument::Valued { .. } | Argument::Lacking { .. }
-    )
+    matches!(argument, Argument::Valued { .. } | Argument::Lacking { .. })
 }
 
 // What the words behind the command's name say, where a user is named in place of targets or isn't.
@@ -198,10 +186,7 @@ fn scancel_words(alloc: Global, words: &Words) -> Result<Result<CancelWords, Bad
 
 /// The jobs that the words of scancel(1) name, or the first bad word.
 #[tactic(auto, unfolding(crate::specs::Cancel::scancel_by))]
-pub(crate) fn read_scancel(
-    alloc: Global,
-    words: &Words,
-) -> Result<Result<Targets, BadWord>, Memory>
+pub(crate) fn read_scancel(alloc: Global, words: &Words) -> Result<Result<Targets, BadWord>, Memory>
     ensures { IfOk result (λ targets. targets ≡ scancel_by words.now) }
 {
     match scancel_words(alloc, words)? {

@@ -117,10 +117,7 @@ fn lists_in(alloc: Global, words: &Words) -> Result<Result<Named, BadWord>, Memo
 
 // The numbers, and the lists behind them.
 #[tactic(auto, unfolding(crate::specs::Report::numbers_by))]
-fn read_numbers(
-    alloc: Global,
-    words: &Words,
-) -> Result<Result<(u64, u64, Named), BadWord>, Memory>
+fn read_numbers(alloc: Global, words: &Words) -> Result<Result<(u64, u64, Named), BadWord>, Memory>
     ensures { IfOk result (λ told. told ≡ numbers_by words.now) }
 {
     let (boot, number) = match numbers_in(words) {

@@ -26,10 +26,7 @@ pub trait Member: Drop {
 
 /// What the texts mean. None where one of them is off the grammar.
 #[tactic(auto, using(crate::proofs::Lists::listing))]
-pub fn read_members<M: Member>(
-    alloc: Global,
-    texts: &[&[u8]],
-) -> Result<Option<Items<M>>, Memory>
+pub fn read_members<M: Member>(alloc: Global, texts: &[&[u8]]) -> Result<Option<Items<M>>, Memory>
     ensures { IfOk result (λ members. members ≡ all_some (map M.meaning (texts_of texts.now))) }
 {
     let mut members = Vec::with_capacity(alloc, texts.len())?;

@@ -47,7 +47,13 @@ reserved_adding said key value = reserved_key said value (scontrol_key key)
 
 abbrev pub nothing_reserved : ℕ → Reserved
 nothing_reserved now = record {
-  now = now; name = None; start = None; until = None; nodes = None; users = None; accounts = None;
+  now = now;
+  name = None;
+  start = None;
+  until = None;
+  nodes = None;
+  users = None;
+  accounts = None;
 }
 
 -- how many minutes a reservation stands that has no end

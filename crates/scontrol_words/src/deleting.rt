@@ -68,10 +68,7 @@ fn deletion_said(end: usize, name: Option<Name>) -> Result<Request, BadWord>
 
 /// What the words ask for, of which the first two are `scontrol delete`.
 #[tactic(auto, unfolding(crate::specs::Reserving::delete_by))]
-pub(crate) fn read_delete(
-    alloc: Global,
-    words: &Words,
-) -> Result<Result<Request, BadWord>, Memory>
+pub(crate) fn read_delete(alloc: Global, words: &Words) -> Result<Result<Request, BadWord>, Memory>
     ensures { IfOk result (λ request. request ≡ delete_by words.now) }
 {
     match read_pairs(alloc, Deletion { name: None }, words, 2)? {

@@ -50,10 +50,7 @@ pub(crate) fn read_hold(
 
 /// What the words ask for, of which the first two are `scontrol release`.
 #[tactic(auto, unfolding(crate::specs::Holding::release_by))]
-pub(crate) fn read_release(
-    alloc: Global,
-    words: &Words,
-) -> Result<Result<Request, BadWord>, Memory>
+pub(crate) fn read_release(alloc: Global, words: &Words) -> Result<Result<Request, BadWord>, Memory>
     ensures { IfOk result (λ request. request ≡ release_by words.now) }
 {
     match listed_jobs(alloc, words)? {

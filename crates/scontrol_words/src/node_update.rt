@@ -29,11 +29,7 @@ impl NodeUpdate {
     ghost use Rattle.scontrol_words.specs.declared.keys.Key.TheVariants.{NodeName, State, Reason};
 
     // The nodes, which are named once.
-    fn name_nodes(
-        &mut self,
-        alloc: Global,
-        value: &[u8],
-    ) -> Result<Result<(), WordKind>, Memory>
+    fn name_nodes(&mut self, alloc: Global, value: &[u8]) -> Result<Result<(), WordKind>, Memory>
         ensures { IfOk result (λ added. now_said added self.new ≡ node_key self.old value.now (Some NodeName)) }
     {
         if self.nodes.is_some() {

@@ -73,10 +73,7 @@ fn read_form(
 
 /// What the words ask for, of which the first two are `scontrol update`.
 #[tactic(auto, unfolding(crate::specs::Updating::update_by))]
-pub(crate) fn read_update(
-    alloc: Global,
-    words: &Words,
-) -> Result<Result<Request, BadWord>, Memory>
+pub(crate) fn read_update(alloc: Global, words: &Words) -> Result<Result<Request, BadWord>, Memory>
     ensures { IfOk result (λ request. request ≡ update_by words.now) }
 {
     read_form(alloc, form_in(words), words)
