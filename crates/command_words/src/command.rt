@@ -16,6 +16,8 @@ pub enum Command {
     Sinfo,
     /// sprio(1).
     Sprio,
+    /// scontrol(1).
+    Scontrol,
     /// A node's daemon tells what it runs (own).
     Report,
     /// Jobs are ended, started and planned (own).
@@ -36,6 +38,7 @@ impl Command {
             Command::Scancel => b"scancel",
             Command::Sinfo => b"sinfo",
             Command::Sprio => b"sprio",
+            Command::Scontrol => b"scontrol",
             Command::Report => b"report",
             Command::Pass => b"pass",
         }
@@ -57,6 +60,8 @@ pub(crate) fn command_named(word: &[u8]) -> Option<Command>
         Some(Command::Sinfo)
     } else if word == b"sprio".as_slice() {
         Some(Command::Sprio)
+    } else if word == b"scontrol".as_slice() {
+        Some(Command::Scontrol)
     } else if word == b"report".as_slice() {
         Some(Command::Report)
     } else if word == b"pass".as_slice() {

@@ -63,6 +63,8 @@ pub fn refusal_of(cluster: &Cluster, query: &Query) -> Option<Refusal>
         Query::Squeue(query) => job_refusal(cluster, query),
         Query::Sinfo { partition, .. } => partition_refusal(cluster, partition),
         Query::Sprio { jobs, .. } => priority_refusal(cluster, jobs),
+        // What scontrol(1) shows isn't shown yet.
+        _ => None,
     }
 }
 
@@ -87,6 +89,8 @@ pub fn view_of(
         Query::Squeue(query) => job_rows(alloc, cluster, moment, asker, query)?,
         Query::Sinfo { partition, .. } => state_rows(alloc, cluster, partition)?,
         Query::Sprio { who, jobs, .. } => priority_rows(alloc, cluster, moment, asker, who, jobs)?,
+        // What scontrol(1) shows isn't shown yet.
+        _ => Vec::new(alloc),
     };
     Ok(View {
         rows: Items::from_vec(rows),
