@@ -13,7 +13,7 @@ use Rattle.slurm_text.specs.declared.plain.reply.Reply.{Reply}
 use Rattle.slurm_text.specs.declared.plain.reply.Reply.TheVariants.{Idle}
 use Rattle.slurm_text.specs.declared.plain.report.Report.{Report as Told}
 use Rattle.slurm_text.specs.declared.plain.request.Request.{Request}
-use Rattle.slurm_text.specs.declared.plain.request.Request.TheVariants.{Submit, Cancel, Report, Pass, Show}
+use Rattle.slurm_text.specs.declared.plain.request.Request.TheVariants.{Submit, Cancel, Report, Pass}
 use Rattle.slurm_text.specs.declared.plain.target.Targets.{Targets}
 use Rattle.node_state.specs.declared.record.NodeRecord.{NodeRecord}
 use Rattle.node_state.specs.Nodes.{is_named, place_named}
@@ -135,7 +135,7 @@ made-changes only s moment user (Report report) none makes same =
     [ None ↦ λ none. refl | Some refusal ↦ λ none. none ] known.1 in
     told-changes s moment report (node_of s report) refl fresh makes same
 made-changes only s moment user Pass none makes same = pass-changes only s moment makes same
-made-changes only s moment user (Show query) none makes same = absurd (cc)
+made-changes only s moment user request none makes same = absurd (cc)
 
 -- What an accepted request makes is another state.
 pub step-changes : OnlyIdle → (s : State) (now : ℕ) (user : List ℕ) (request : Request) {reply : Reply} {after : State}
@@ -189,7 +189,7 @@ made-idle keeps s moment user Pass idle = elim (cases_Bool (is_idle s moment)) [
   | inl stays ↦ keeps.passes s moment stays
   | inr busy ↦ let passed = rw busy at idle in absurd (cc)
 ]
-made-idle keeps s moment user (Show query) idle = absurd (cc)
+made-idle keeps s moment user request idle = absurd (cc)
 
 -- A request that is idle is one that would change nothing.
 pub step-idle : IdleKeeps → (s : State) (now : ℕ) (user : List ℕ) (request : Request)

@@ -4,7 +4,7 @@ use Rattle.std.specs.List.{list_any}
 use Rattle.std.proofs.lemmas.Bool.{cond_both}
 use Rattle.slurm_text.specs.declared.plain.refusal.Refusal.{Refusal}
 use Rattle.slurm_text.specs.declared.plain.request.Request.{Request}
-use Rattle.slurm_text.specs.declared.plain.request.Request.TheVariants.{Submit, Cancel, Report, Pass, Show}
+use Rattle.slurm_text.specs.declared.plain.request.Request.TheVariants.{Submit, Cancel, Report, Pass}
 use Rattle.ctl_state.specs.State.{State}
 use Rattle.ctl_state.specs.Refusals.{first_refusal, unless_refused}
 use Rattle.ctl_state.specs.Verdicts.{Verdict, Refuses, Tells, Stays, Unbuilt, Makes, reply_by, left_by}
@@ -35,7 +35,7 @@ made-sized s moment user (Report report) =
     elim (node_of s report) as (λ node. KeepsSize s (made_by_report s moment report node))
     [ None ↦ tt | Some node ↦ refl ]
 made-sized s moment user Pass = cond_both (is_idle s moment) Stays _ (KeepsSize s) (λ idle. tt) (λ busy. refl)
-made-sized s moment user (Show query) = tt
+made-sized s moment user request = tt
 
 full-sized : (s : State) (room : Bool) (verdict : Verdict) → KeepsSize s verdict
     → KeepsSize s (unless_full room verdict)

@@ -10,7 +10,7 @@ use Rattle.slurm_text.specs.declared.plain.refusal.Refusal.TheVariants.{MomentTo
 use Rattle.slurm_text.specs.declared.plain.reply.Reply.{Reply}
 use Rattle.slurm_text.specs.declared.plain.report.Report.{Report as Told}
 use Rattle.slurm_text.specs.declared.plain.request.Request.{Request}
-use Rattle.slurm_text.specs.declared.plain.request.Request.TheVariants.{Submit, Cancel, Report, Pass, Show}
+use Rattle.slurm_text.specs.declared.plain.request.Request.TheVariants.{Submit, Cancel, Report, Pass}
 use Rattle.slurm_text.specs.declared.plain.target.Targets.{Targets}
 use Rattle.ctl_state.specs.State.{State, last_moment, last_size}
 use Rattle.ctl_state.specs.Laws.{Sizing}
@@ -75,7 +75,7 @@ sound-made keep s moment user (Report report) sound later in_time ranges none =
 sound-made keep s moment user Pass sound later in_time ranges none =
     cond_both (is_idle s moment) Stays _ (MakesSound s moment) (λ idle. tt)
     (λ busy. keep.passes s moment sound later in_time)
-sound-made keep s moment user (Show query) sound later in_time ranges none = tt
+sound-made keep s moment user request sound later in_time ranges none = tt
 
 sound-full : (s : State) (moment : ℕ) (room : Bool) (verdict : Verdict)
     → MakesSound s moment verdict → MakesSound s moment (unless_full room verdict)

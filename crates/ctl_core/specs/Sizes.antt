@@ -1,7 +1,8 @@
 -- How much a request takes of the history's room.
 use Rattle.std.specs.Prelude.{ℕ, ◌+◌, ◌*◌, Bool, nat_le, List, length}
 use Rattle.slurm_text.specs.declared.plain.request.Request.{Request}
-use Rattle.slurm_text.specs.declared.plain.request.Request.TheVariants.{Submit, Cancel, Report, Pass, Show}
+use Rattle.slurm_text.specs.declared.plain.request.Request.TheVariants.{Submit, Cancel, Hold, Release, Requeue, UpdateJob, UpdateNode, UpdatePartition, CreateReservation, DeleteReservation, Report, Pass, Shutdown, Show}
+use Rattle.slurm_text.specs.declared.plain.reservation.ReservationDesc.{ReservationDesc}
 use Rattle.slurm_text.specs.declared.plain.target.Targets.{Targets}
 use Rattle.slurm_text.specs.declared.plain.target.Targets.TheVariants.{List as Listed, User}
 use Rattle.ctl_state.specs.State.{State, last_size}
@@ -14,12 +15,25 @@ abbrev pub targets_listed : Targets → ℕ
 targets_listed (Listed targets) = length targets
 targets_listed (User name) = 1
 
+-- a reservation lists its name, its nodes, and whom it is for
+abbrev pub reservation_listed : ReservationDesc → ℕ
+reservation_listed desc = 1 + (length desc.nodes + (length desc.users + length desc.accounts))
+
 -- the size of an entry: a submission's with 4 for each node that it names
 abbrev pub size_of : Request → ℕ
 size_of (Submit desc) = 2048 + 4 * (length desc.required + length desc.excluded)
 size_of (Cancel targets) = listing (targets_listed targets)
+size_of (Hold targets user) = listing (length targets)
+size_of (Release targets) = listing (length targets)
+size_of (Requeue target) = listing 1
+size_of (UpdateJob target limit nice) = listing 1
+size_of (UpdateNode nodes state) = listing (length nodes)
+size_of (UpdatePartition name state) = listing 1
+size_of (CreateReservation desc) = listing (reservation_listed desc)
+size_of (DeleteReservation name) = listing 1
 size_of (Report report) = listing (1 + (length report.running + length report.done))
 size_of Pass = listing 0
+size_of Shutdown = listing 0
 size_of (Show query) = listing 0
 
 -- the history can take it

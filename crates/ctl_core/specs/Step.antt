@@ -1,5 +1,7 @@
 -- One step of the controller: the reply to a request, and the state after it.
 use Rattle.std.specs.Prelude.{◌≡◌, ℕ, ◌+◌, Bool, true, false, ◌&&◌, not, if◌then◌else◌, nat_lt, max, List, [], ◌∷◌, Option, IfSome}
+use Rattle.slurm_text.specs.declared.plain.query.Query.{Query}
+use Rattle.slurm_text.specs.declared.plain.query.Query.TheVariants.{Squeue, Sinfo, Sprio}
 use Rattle.slurm_text.specs.declared.plain.request.Request.{Request}
 use Rattle.slurm_text.specs.declared.plain.request.Request.TheVariants.{Submit, Cancel, Report, Pass, Show}
 use Rattle.slurm_text.specs.declared.plain.refusal.Refusal.{Refusal}
@@ -21,13 +23,21 @@ use Rattle.ctl_core.specs.Sizes.{has_room, size_of}
 abbrev pub raised : State → ℕ → ℕ
 raised s now = max s.moment now
 
--- what the controller can't do yet: to work the report of a restarted daemon
+-- what the controller can't show yet: what scontrol(1) shows
+abbrev pub is_unbuilt_query : Query → Bool
+is_unbuilt_query (Squeue query) = false
+is_unbuilt_query (Sinfo partition titles) = false
+is_unbuilt_query (Sprio who jobs titles) = false
+is_unbuilt_query query = true
+
+-- what the controller can't do yet: what scontrol(1) asks, and to work the report of a restarted daemon
 abbrev pub is_unbuilt : State → Request → Bool
 is_unbuilt s (Submit desc) = false
 is_unbuilt s (Cancel targets) = false
 is_unbuilt s (Report report) = is_restarted s report
 is_unbuilt s Pass = false
-is_unbuilt s (Show query) = false
+is_unbuilt s (Show query) = is_unbuilt_query query
+is_unbuilt s request = true
 
 -- why a user's request may be refused at a moment that is none too large, in their order
 abbrev pub refusals_of : State → ℕ → List ℕ → Request → List (Option Refusal)
@@ -36,6 +46,7 @@ refusals_of s moment user (Cancel targets) = cancel_refusals s user targets
 refusals_of s moment user (Report report) = report_refusals s user report
 refusals_of s moment user Pass = pass_refusals s user
 refusals_of s moment user (Show query) = show_refusals s query
+refusals_of s moment user request = []
 
 -- what a request comes to that isn't refused
 abbrev pub made : State → ℕ → List ℕ → Request → Verdict
@@ -44,14 +55,13 @@ made s moment user (Cancel targets) = cancel_made s moment user targets
 made s moment user (Report report) = report_made s moment report
 made s moment user Pass = pass_made s moment
 made s moment user (Show query) = Tells (view_of s moment user query)
+made s moment user request = Unbuilt
 
 -- What an idle request is: a pass that leaves the state as it is, or, where all is sound, one that cancels no job.
 abbrev pub ChangesNothing : State → ℕ → List ℕ → Request → Type 0
-ChangesNothing s moment user (Submit desc) = ⊥
 ChangesNothing s moment user (Cancel targets) = IsSound s → cancel_after s moment user targets ≡ s
-ChangesNothing s moment user (Report report) = ⊥
 ChangesNothing s moment user Pass = pass_after s moment ≡ s
-ChangesNothing s moment user (Show query) = ⊥
+ChangesNothing s moment user request = ⊥
 
 -- what would make an entry is refused where the history can't take it
 abbrev pub unless_full : Bool → Verdict → Verdict
@@ -105,7 +115,4 @@ steps_of s now user =
 -- the request is in its ranges, as its type keeps them
 abbrev pub IsInRange : Request → Type 0
 IsInRange (Submit desc) = IsAsked desc × IfSome desc.limit IsLimit
-IsInRange (Cancel targets) = Unit {0}
-IsInRange (Report report) = Unit {0}
-IsInRange Pass = Unit {0}
-IsInRange (Show query) = Unit {0}
+IsInRange request = Unit {0}

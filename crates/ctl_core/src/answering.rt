@@ -8,7 +8,7 @@ ghost use Rattle.ctl_state.specs.Index.{IsIndexed};
 ghost use Rattle.ctl_state.specs.Soundness.{IsSound};
 ghost use Rattle.ctl_core.specs.Answering.{Answers};
 ghost use Rattle.ctl_core.specs.Sizes.{has_room};
-ghost use Rattle.ctl_core.specs.Step.{reply_of, state_after, entered, is_entered, is_unbuilt, raised, steps_of, worked};
+ghost use Rattle.ctl_core.specs.Step.{reply_of, state_after, entered, is_entered, is_unbuilt, is_unbuilt_query, raised, steps_of, worked};
 
 use crate::cancelling::cancel_jobs;
 use crate::laws::a_step_keeps_all_sound;
@@ -24,6 +24,7 @@ use ctl_state::cluster::Cluster;
 use resource_profile::{Steps, start};
 use slurm_text::memory_error::Memory;
 use slurm_text::name::Name;
+use slurm_text::plain::query::Query;
 use slurm_text::plain::refusal::Refusal;
 use slurm_text::plain::reply::Reply;
 use slurm_text::plain::request::Request;
@@ -78,6 +79,18 @@ fn work(
         Request::Report(told) => report(alloc, cluster, moment, user, told, room),
         Request::Pass => pass(alloc, cluster, moment, user, room, &mut start()),
         Request::Show(query) => show(alloc, cluster, moment, user, query),
+        // What scontrol(1) asks isn't worked yet.
+        _ => Ok(unbuilt()),
+    }
+}
+
+// Whether the query is one that isn't shown yet.
+fn is_unbuilt_query(query: &Query) -> bool
+    ensures { result ≡ is_unbuilt_query query.now }
+{
+    match query {
+        Query::Squeue(_) | Query::Sinfo { .. } | Query::Sprio { .. } => false,
+        _ => true,
     }
 }
 
@@ -86,8 +99,10 @@ fn is_unbuilt(cluster: &Cluster, request: &Request) -> bool
     ensures { result ≡ is_unbuilt (state_of cluster.now) request.now }
 {
     match request {
+        Request::Submit(_) | Request::Cancel(_) | Request::Pass => false,
         Request::Report(report) => is_restarted(cluster, report),
-        _ => false,
+        Request::Show(query) => is_unbuilt_query(query),
+        _ => true,
     }
 }
 

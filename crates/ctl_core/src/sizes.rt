@@ -5,17 +5,20 @@ ghost use Rattle.ctl_state.specs.State.{state_of, last_size};
 ghost use Rattle.ctl_core.specs.Sizes;
 
 use ctl_state::cluster::Cluster;
+use slurm_text::items::Items;
+use slurm_text::name::Name;
 use slurm_text::plain::job::JobDesc;
 use slurm_text::plain::report::Report;
 use slurm_text::plain::request::Request;
-use slurm_text::plain::target::Targets;
+use slurm_text::plain::reservation::ReservationDesc;
+use slurm_text::plain::target::{Target, Targets};
 
 // The greatest sum of the sizes of accepted requests.
 const LAST_SIZE: u128 = 1_073_741_824;
 
 // What is listed counts 32 each.
 fn listing(count: u128) -> u128
-    requires { count < 2 ^ 65 }
+    requires { count < 2 ^ 66 }
     ensures { result ≡ Sizes.listing count }
 {
     256 + 32 * count
@@ -49,6 +52,30 @@ fn size_of_report(report: &Report) -> u128
     listing(1 + (running + done))
 }
 
+fn size_of_targets(targets: &Items<Target>) -> u128
+    ensures value { result ≡ Sizes.listing (length targets.now) }
+    ensures small { result < 2 ^ 80 }
+{
+    listing(targets.as_slice().len() as u128)
+}
+
+fn size_of_names(names: &Items<Name>) -> u128
+    ensures value { result ≡ Sizes.listing (length names.now) }
+    ensures small { result < 2 ^ 80 }
+{
+    listing(names.as_slice().len() as u128)
+}
+
+fn size_of_reservation(desc: &ReservationDesc) -> u128
+    ensures value { result ≡ Sizes.listing (Sizes.reservation_listed desc.now) }
+    ensures small { result < 2 ^ 80 }
+{
+    let nodes = desc.nodes.as_slice().len() as u128;
+    let users = desc.users.as_slice().len() as u128;
+    let accounts = desc.accounts.as_slice().len() as u128;
+    listing(1 + (nodes + (users + accounts)))
+}
+
 // The size of an entry of the request.
 fn size_of(request: &Request) -> u128
     ensures value { result ≡ Sizes.size_of request.now }
@@ -57,8 +84,16 @@ fn size_of(request: &Request) -> u128
     match request {
         Request::Submit(desc) => size_of_job(desc),
         Request::Cancel(targets) => listing(listed(targets)),
+        Request::Hold { targets, .. } => size_of_targets(targets),
+        Request::Release { targets } => size_of_targets(targets),
+        Request::Requeue { .. } => listing(1),
+        Request::UpdateJob { .. } => listing(1),
+        Request::UpdateNode { nodes, .. } => size_of_names(nodes),
+        Request::UpdatePartition { .. } => listing(1),
+        Request::CreateReservation(desc) => size_of_reservation(desc),
+        Request::DeleteReservation { .. } => listing(1),
         Request::Report(report) => size_of_report(report),
-        Request::Pass | Request::Show(_) => listing(0),
+        Request::Pass | Request::Shutdown | Request::Show(_) => listing(0),
     }
 }
 

@@ -181,11 +181,16 @@ abbrev pub priority_rows : State → ℕ → List ℕ → Who → Option (List T
 priority_rows s now asker who jobs =
     map (λ job. Priority (priority_row_of s now job)) (filter (is_weighed asker who jobs) s.jobs)
 
+-- the rows that a user's query shows at a moment; what scontrol(1) shows isn't shown yet
+abbrev pub rows_of : State → ℕ → List ℕ → Query → List Row
+rows_of s now asker (Squeue query) = job_rows s now asker query
+rows_of s now asker (Sinfo partition titles) = state_rows s partition
+rows_of s now asker (Sprio who jobs titles) = priority_rows s now asker who jobs
+rows_of s now asker query = []
+
 -- what a user's query shows at a moment
 unfoldable pub view_of : State → ℕ → List ℕ → Query → View
-view_of s now asker (Squeue query) = record { rows = job_rows s now asker query }
-view_of s now asker (Sinfo partition titles) = record { rows = state_rows s partition }
-view_of s now asker (Sprio who jobs titles) = record { rows = priority_rows s now asker who jobs }
+view_of s now asker query = record { rows = rows_of s now asker query }
 
 -- a target names no job
 abbrev pub names_nothing : List JobRecord → Option (List Target) → Bool
@@ -197,7 +202,8 @@ abbrev pub is_unknown : State → Option (List ℕ) → Bool
 is_unknown s None = false
 is_unknown s (Some name) = is_none (place_meant (Some name) s.partitions)
 
--- why a query may be refused, in their order: it names a job or a partition that there isn't
+-- why a query may be refused, in their order: it names a job or a partition that there isn't; what isn't shown yet is
+-- refused for nothing
 abbrev pub show_refusals : State → Query → List (Option Refusal)
 show_refusals s (Squeue query) =
     refused_if (names_nothing s.jobs query.jobs) InvalidJobId
@@ -205,3 +211,4 @@ show_refusals s (Squeue query) =
     ∷ []
 show_refusals s (Sinfo partition titles) = refused_if (is_unknown s partition) InvalidPartition ∷ []
 show_refusals s (Sprio who jobs titles) = refused_if (names_nothing s.jobs jobs) InvalidJobId ∷ []
+show_refusals s query = []

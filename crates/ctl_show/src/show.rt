@@ -17,7 +17,7 @@ use slurm_text::name::Name;
 use slurm_text::plain::query::{JobQuery, Query};
 use slurm_text::plain::refusal::Refusal;
 use slurm_text::plain::target::Target;
-use slurm_text::plain::view::View;
+use slurm_text::plain::view::{Row, View};
 use std::alloc::Global;
 
 // Why a query is refused that asks for this partition.
@@ -63,6 +63,29 @@ pub fn refusal_of(cluster: &Cluster, query: &Query) -> Option<Refusal>
         Query::Squeue(query) => job_refusal(cluster, query),
         Query::Sinfo { partition, .. } => partition_refusal(cluster, partition),
         Query::Sprio { jobs, .. } => priority_refusal(cluster, jobs),
+        // What scontrol(1) shows isn't shown yet.
+        _ => None,
+    }
+}
+
+// The rows that a user's query shows.
+fn rows_of(
+    alloc: Global,
+    cluster: &Cluster,
+    moment: u64,
+    asker: &Name,
+    query: &Query,
+) -> Result<Vec<Row>, Memory>
+    requires sound { IsSound (state_of cluster.now) }
+    requires in_time { moment ≤ last_moment }
+    ensures { IfOk result (λ rows. rows.items ≡ Showing.rows_of (state_of cluster.now) moment asker.now query.now) }
+{
+    match query {
+        Query::Squeue(query) => job_rows(alloc, cluster, moment, asker, query),
+        Query::Sinfo { partition, .. } => state_rows(alloc, cluster, partition),
+        Query::Sprio { who, jobs, .. } => priority_rows(alloc, cluster, moment, asker, who, jobs),
+        // What scontrol(1) shows isn't shown yet.
+        _ => Ok(Vec::new(alloc)),
     }
 }
 
@@ -83,11 +106,7 @@ pub fn view_of(
     requires in_time { moment ≤ last_moment }
     ensures { IfOk result (λ view. view ≡ Showing.view_of (state_of cluster.now) moment asker.now query.now) }
 {
-    let rows = match query {
-        Query::Squeue(query) => job_rows(alloc, cluster, moment, asker, query)?,
-        Query::Sinfo { partition, .. } => state_rows(alloc, cluster, partition)?,
-        Query::Sprio { who, jobs, .. } => priority_rows(alloc, cluster, moment, asker, who, jobs)?,
-    };
+    let rows = rows_of(alloc, cluster, moment, asker, query)?;
     Ok(View {
         rows: Items::from_vec(rows),
     })

@@ -1,5 +1,6 @@
 -- The text of a reply, as a function of the request and the reply.
 use Rattle.std.specs.Prelude.{ℕ, List, [], ◌++◌, codes, decimal, Bool, false, if◌then◌else◌}
+use Rattle.slurm_text.specs.declared.plain.query.Query.{Query}
 use Rattle.slurm_text.specs.declared.plain.query.Query.TheVariants.{Squeue, Sinfo, Sprio}
 use Rattle.slurm_text.specs.declared.plain.reply.Reply.{Reply}
 use Rattle.slurm_text.specs.declared.plain.reply.Reply.TheVariants.{Submitted, Done, Passed, Orders, Idle, Shown, Refused, NotBuilt}
@@ -13,15 +14,21 @@ use Rattle.slurm_print.specs.Sinfo.{sinfo_text}
 use Rattle.slurm_print.specs.Sprio.{sprio_text}
 use Rattle.slurm_print.specs.Squeue.{squeue_text}
 
+-- the command that asks this
+abbrev pub command_asking : Query → List ℕ
+command_asking (Squeue query) = codes "squeue"
+command_asking (Sinfo partition titles) = codes "sinfo"
+command_asking (Sprio who jobs titles) = codes "sprio"
+command_asking query = codes "scontrol"
+
 -- the command that makes the request
 abbrev pub command_of : Request → List ℕ
 command_of (Submit desc) = codes "sbatch"
 command_of (Cancel targets) = codes "scancel"
 command_of (Report report) = codes "report"
 command_of Pass = codes "pass"
-command_of (Show (Squeue query)) = codes "squeue"
-command_of (Show (Sinfo partition titles)) = codes "sinfo"
-command_of (Show (Sprio who jobs titles)) = codes "sprio"
+command_of (Show query) = command_asking query
+command_of request = codes "scontrol"
 
 abbrev pub submitted_line : ℕ → List ℕ
 submitted_line id = codes "Submitted batch job " ++ decimal id ++ codes "\n"
@@ -29,10 +36,7 @@ submitted_line id = codes "Submitted batch job " ++ decimal id ++ codes "\n"
 -- the answer is the number alone where the submission asks for that
 abbrev pub is_parsable : Request → Bool
 is_parsable (Submit desc) = desc.parsable
-is_parsable (Cancel targets) = false
-is_parsable (Report report) = false
-is_parsable Pass = false
-is_parsable (Show query) = false
+is_parsable request = false
 
 abbrev pub submitted_text : Bool → ℕ → List ℕ
 submitted_text parsable id = if parsable then decimal id ++ codes "\n" else submitted_line id
@@ -47,11 +51,16 @@ abbrev pub idle_text : Request → List ℕ
 idle_text Pass = codes "pass: idle\n"
 idle_text request = []
 
+-- what a query shows; what scontrol(1) shows has no text yet
+abbrev pub query_text : Query → View → List ℕ
+query_text (Squeue query) view = squeue_text query view
+query_text (Sinfo partition titles) view = sinfo_text titles view
+query_text (Sprio who jobs titles) view = sprio_text titles view
+query_text query view = []
+
 -- only a query shows anything
 abbrev pub shown_text : Request → View → List ℕ
-shown_text (Show (Squeue query)) view = squeue_text query view
-shown_text (Show (Sinfo partition titles)) view = sinfo_text titles view
-shown_text (Show (Sprio who jobs titles)) view = sprio_text titles view
+shown_text (Show query) view = query_text query view
 shown_text request view = []
 
 abbrev pub text_of : Request → Reply → List ℕ

@@ -1,7 +1,7 @@
 //! The text of a reply.
 
 ghost use Rattle.std.specs.Prelude.{◌≡◌, ◌++◌, IfOk, OnOk};
-ghost use Rattle.slurm_print.specs.Text.{text_of, command_of, is_parsable, submitted_text, passed_line, idle_text, shown_text};
+ghost use Rattle.slurm_print.specs.Text.{text_of, command_of, command_asking, is_parsable, submitted_text, passed_line, idle_text, query_text, shown_text};
 
 use crate::line::{push_labelled, push_number, push_text};
 use crate::malformed::not_built;
@@ -100,10 +100,31 @@ fn push_shown(
     ensures { OnOk result (out.new.items ≡ out.old.items ++ shown_text request.now view.now) }
 {
     match request {
-        Request::Show(Query::Squeue(query)) => push_view(alloc, out, query, view),
-        Request::Show(Query::Sinfo { titles, .. }) => push_sinfo(alloc, out, *titles, view),
-        Request::Show(Query::Sprio { titles, .. }) => push_sprio(out, *titles, view),
+        Request::Show(query) => push_query(alloc, out, query, view),
         _ => Ok(()),
+    }
+}
+
+fn push_query(alloc: Global, out: &mut Vec<u8>, query: &Query, view: &View) -> Result<(), Memory>
+    ensures { OnOk result (out.new.items ≡ out.old.items ++ query_text query.now view.now) }
+{
+    match query {
+        Query::Squeue(query) => push_view(alloc, out, query, view),
+        Query::Sinfo { titles, .. } => push_sinfo(alloc, out, *titles, view),
+        Query::Sprio { titles, .. } => push_sprio(out, *titles, view),
+        // What scontrol(1) shows has no text yet.
+        _ => Ok(()),
+    }
+}
+
+fn command_asking(query: &Query) -> &'static [u8]
+    ensures { result.now ≡ command_asking query.now }
+{
+    match query {
+        Query::Squeue(_) => b"squeue",
+        Query::Sinfo { .. } => b"sinfo",
+        Query::Sprio { .. } => b"sprio",
+        _ => b"scontrol",
     }
 }
 
@@ -115,8 +136,7 @@ fn command(request: &Request) -> &'static [u8]
         Request::Cancel(_) => b"scancel",
         Request::Report(_) => b"report",
         Request::Pass => b"pass",
-        Request::Show(Query::Squeue(_)) => b"squeue",
-        Request::Show(Query::Sinfo { .. }) => b"sinfo",
-        Request::Show(Query::Sprio { .. }) => b"sprio",
+        Request::Show(query) => command_asking(query),
+        _ => b"scontrol",
     }
 }
