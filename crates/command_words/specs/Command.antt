@@ -1,7 +1,7 @@
 -- The commands, by their names.
 use Rattle.std.specs.Prelude.{ℕ, if◌then◌else◌, List, Option, Some, None, codes, bytes_eq}
 use Rattle.command_words.specs.declared.command.Command.{Command}
-use Rattle.command_words.specs.declared.command.Command.TheVariants.{Sbatch, Squeue, Scancel, Sinfo, Sprio, Report, Pass}
+use Rattle.command_words.specs.declared.command.Command.TheVariants.{Sbatch, Squeue, Scancel, Sinfo, Sprio, Scontrol, Report, Pass}
 
 abbrev pub name_of : Command → List ℕ
 name_of Sbatch = codes "sbatch"
@@ -9,6 +9,7 @@ name_of Squeue = codes "squeue"
 name_of Scancel = codes "scancel"
 name_of Sinfo = codes "sinfo"
 name_of Sprio = codes "sprio"
+name_of Scontrol = codes "scontrol"
 name_of Report = codes "report"
 name_of Pass = codes "pass"
 

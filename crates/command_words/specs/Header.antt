@@ -29,7 +29,7 @@ command_in words = slice_get words 0 >>= command_named
 abbrev pub meaning_for : Head → Command → Wanted → Meaning
 meaning_for head command (wanted.Request request) =
     Asks (record { moment = head.moment; user = head.user; request = request })
-meaning_for head command (wanted.Malformed fault) = Malformed command fault
+meaning_for head command (wanted.Malformed fault) = Malformed (Some command) fault
 meaning_for head command wanted.NotBuilt = NotBuilt
 
 abbrev pub asked_of : Option Command → Head → List (List ℕ) → Option (List ℕ) → Meaning

@@ -24,6 +24,7 @@ lone_by command.Squeue words = option_map Show (squeue_by words)
 lone_by command.Scancel words = option_map Cancel (scancel_by words)
 lone_by command.Sinfo words = option_map Show (sinfo_by words)
 lone_by command.Sprio words = option_map Show (sprio_by words)
+lone_by command.Scontrol words = None
 lone_by command.Report words = option_map Report (report_by (drop 1 words))
 lone_by command.Pass words = pass_by words
 

@@ -16,6 +16,8 @@ pub enum Command {
     Sinfo,
     /// sprio(1).
     Sprio,
+    /// scontrol(1).
+    Scontrol,
     /// A node's daemon tells what it runs (own).
     Report,
     /// Jobs are ended, started and planned (own).
@@ -36,6 +38,7 @@ impl Command {
             Command::Scancel => b"scancel",
             Command::Sinfo => b"sinfo",
             Command::Sprio => b"sprio",
+            Command::Scontrol => b"scontrol",
             Command::Report => b"report",
             Command::Pass => b"pass",
         }

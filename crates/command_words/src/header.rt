@@ -30,7 +30,11 @@ pub struct Asked {
 pub enum Meaning {
     Asks(Asked),
     /// The command's words or its script are wrong.
-    Malformed { command: Command, fault: WordFault },
+    Malformed {
+        /// None where there is no such command.
+        command: Option<Command>,
+        fault: WordFault,
+    },
     /// Nothing that is built yet.
     NotBuilt,
     /// The header is no list of words: it has a bad byte at this place, counted in bytes from 0, or a quote or
@@ -121,7 +125,10 @@ fn read_asked(
             user: head.user,
             request,
         })),
-        Wanted::Malformed(fault) => Ok(Meaning::Malformed { command, fault }),
+        Wanted::Malformed(fault) => Ok(Meaning::Malformed {
+            command: Some(command),
+            fault,
+        }),
         Wanted::NotBuilt => Ok(Meaning::NotBuilt),
     }
 }

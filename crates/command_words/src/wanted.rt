@@ -48,7 +48,7 @@ fn read_lone(alloc: Global, command: Command, words: &Words) -> Result<Option<Re
     ensures { IfOk result (λ request. request ≡ lone_by command words.now) }
 {
     match command {
-        Command::Sbatch => Ok(None),
+        Command::Sbatch | Command::Scontrol => Ok(None),
         Command::Squeue => Ok(read_squeue(alloc, words)?.map(Request::Show)),
         Command::Scancel => Ok(read_scancel(alloc, words)?.map(Request::Cancel)),
         Command::Sinfo => Ok(read_sinfo(alloc, words)?.map(Request::Show)),
