@@ -39,7 +39,9 @@ pub enum Meaning {
     NotBuilt,
     /// The header is no list of words: it has a bad byte at this place, counted in bytes from 0, or a quote or
     /// backslash there that stays open.
-    BadWords { place: u32 },
+    BadWords {
+        place: u32,
+    },
     /// The words don't begin with a moment, a user and a command.
     BadHeader,
 }
