@@ -66,7 +66,10 @@ pub(crate) fn push_partition_update(
 }
 
 /// Puts the command that makes a reservation behind an answer, with what it reserves, when and for whom.
-pub(crate) fn push_reservation(out: &mut Vec<u8>, desc: &ReservationDesc) -> Result<(), Unanswered> {
+pub(crate) fn push_reservation(
+    out: &mut Vec<u8>,
+    desc: &ReservationDesc,
+) -> Result<(), Unanswered> {
     push_marked(out, b"create name=", &desc.name)?;
     push_marked(out, b" start=", &desc.start)?;
     push_marked(out, b" end=", &desc.end)?;

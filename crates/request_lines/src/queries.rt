@@ -100,11 +100,7 @@ fn push_squeue(out: &mut Vec<u8>, query: &JobQuery) -> Result<(), Unanswered> {
     push_command(out, b"squeue ", fields)
 }
 
-fn push_sinfo(
-    out: &mut Vec<u8>,
-    partition: Option<&Name>,
-    titles: bool,
-) -> Result<(), Unanswered> {
+fn push_sinfo(out: &mut Vec<u8>, partition: Option<&Name>, titles: bool) -> Result<(), Unanswered> {
     let mut fields = Vec::new(*out.allocator());
     push_field(&mut fields, "partition", partition)?;
     push_titles(&mut fields, titles)?;

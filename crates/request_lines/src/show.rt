@@ -33,7 +33,11 @@ pub fn show_joined<T: Show>(
 }
 
 /// Puts a mark and values behind an answer, with a comma between two.
-pub fn push_listed<T: Show>(out: &mut Vec<u8>, mark: &[u8], values: &[T]) -> Result<(), Unanswered> {
+pub fn push_listed<T: Show>(
+    out: &mut Vec<u8>,
+    mark: &[u8],
+    values: &[T],
+) -> Result<(), Unanswered> {
     out.extend_from_slice(mark)?;
     show_joined(out, values, b",")
 }
