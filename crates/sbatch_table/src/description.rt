@@ -1,6 +1,6 @@
 // What a description of a job says.
 
-use crate::show::{Show, or_dash, push_field, show_joined};
+use request_lines::show::{Show, or_dash, push_field, show_joined};
 use slurm_text::items::Items;
 use slurm_text::name::Name;
 use slurm_text::plain::job::JobDesc;

@@ -1,19 +1,39 @@
 // Headers of blocks.
 
-use crate::requests::push_request;
-use crate::show::push_marked;
+use crate::description::described;
 use command_words::command::Command;
 use command_words::fault::{WordFault, WordKind};
 use command_words::header::{Asked, Meaning, read_header};
+use request_lines::requests::push_request;
+use request_lines::show::push_marked;
+use slurm_text::plain::job::JobDesc;
+use slurm_text::plain::request::Request;
 use std::alloc::Global;
 use table_lines::answer::{Unanswered, push};
 use table_lines::fields::LONGEST;
+
+// Puts what a job asks for behind the command that hands it in.
+fn push_job(out: &mut Vec<u8>, job: &JobDesc) -> Result<(), Unanswered> {
+    let fields = described(*out.allocator(), job)?;
+    out.push(b' ')?;
+    out.extend_from_slice(fields.as_slice())?;
+    Ok(())
+}
+
+// Puts a request behind an answer, and of a job that is handed in what it asks for.
+fn push_what(out: &mut Vec<u8>, request: &Request) -> Result<(), Unanswered> {
+    push_request(out, request)?;
+    match request {
+        Request::Submit(job) => push_job(out, job),
+        _ => Ok(()),
+    }
+}
 
 fn push_asked(out: &mut Vec<u8>, asked: &Asked) -> Result<(), Unanswered> {
     push_marked(out, b"Asks ", &asked.moment)?;
     push_marked(out, b" ", &asked.user)?;
     out.push(b' ')?;
-    push_request(out, &asked.request)
+    push_what(out, &asked.request)
 }
 
 fn push_place(
@@ -27,9 +47,21 @@ fn push_place(
     push(out, &kind)
 }
 
-fn push_malformed(out: &mut Vec<u8>, command: Command, fault: WordFault) -> Result<(), Unanswered> {
+// The command in which something is wrong, or `slurm` where there is none of that name.
+fn teller(command: Option<Command>) -> &'static [u8] {
+    match command {
+        Some(command) => command.name(),
+        None => b"slurm",
+    }
+}
+
+fn push_malformed(
+    out: &mut Vec<u8>,
+    command: Option<Command>,
+    fault: WordFault,
+) -> Result<(), Unanswered> {
     out.extend_from_slice(b"Malformed ")?;
-    out.extend_from_slice(command.name())?;
+    out.extend_from_slice(teller(command))?;
     match fault {
         WordFault::Word { word, kind } => push_place(out, b": word ", word, kind),
         WordFault::Line { line, kind } => push_place(out, b": line ", line, kind),

@@ -4,8 +4,6 @@
 mod description;
 mod headers;
 mod jobs;
-mod requests;
-mod show;
 mod texts;
 
 use std::alloc::Global;

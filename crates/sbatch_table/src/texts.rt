@@ -1,9 +1,10 @@
 // Texts of a job's options.
 
-use crate::show::{Show, quantifier};
 use job_texts::array::{ArrayRefusal, read_array};
 use job_texts::dependency::{DepRefusal, read_dependency};
 use job_texts::features::{FeaturesRefusal, read_features};
+use request_lines::show::Show;
+use request_lines::values::quantifier;
 use slurm_text::plain::array::ArraySpec;
 use slurm_text::plain::dependency::DepSpec;
 use std::alloc::Global;
