@@ -1,6 +1,6 @@
 -- What words of the form `KEY=VALUE` say together.
-use Rattle.std.specs.Prelude.{ℕ, ◌+◌, ◌==◌, List, [], ◌∷◌, take, drop, position, Option, Some, None, option_map, Result, Ok, Err}
-use Rattle.std.specs.Str.{byte}
+use Rattle.std.specs.Prelude.{ℕ, ◌+◌, List, [], ◌∷◌, take, drop, Option, Some, None, option_map, Result, Ok, Err}
+use Rattle.option_words.specs.Arguments.{equals_place}
 use Rattle.option_words.specs.declared.refusal.WordKind.{WordKind}
 use Rattle.option_words.specs.declared.refusal.WordKind.TheVariants.{StrayWord}
 use Rattle.operands.specs.BadWord.{at_word}
@@ -9,7 +9,7 @@ use Rattle.operands.specs.declared.bad_word.BadWord.{BadWord}
 
 -- the key and the value of a word, which its first equals sign parts
 unfoldable pub pair_of : List ℕ → Option (List ℕ × List ℕ)
-pair_of word = option_map (λ place. (take place word, drop (place + 1) word)) (position (λ b. b == byte "=") word)
+pair_of word = option_map (λ place. (take place word, drop (place + 1) word)) (equals_place word)
 
 -- what a pair says on top of what was said before, or what is wrong with it
 abbrev pub Adding : Type 0 → Type 0

@@ -4,6 +4,7 @@ ghost use Rattle.std.specs.Prelude.{◌≡◌, ◌+◌, drop, IfOk, option_map};
 ghost use Rattle.operands.specs.Pairs.{pair_of, pair_added, pairs_say, now_said};
 
 use crate::bad_word::{BadWord, WordKind, fault_at};
+use option_words::arguments::equals_place;
 use slurm_text::memory_error::Memory;
 use slurm_text::words::Words;
 use std::alloc::Global;
@@ -31,8 +32,10 @@ pub trait Pairs: Drop {
 pub fn cut_pair(word: &[u8]) -> Option<(&[u8], &[u8])>
     ensures { option_map (λ pair. (pair.0.now, pair.1.now)) result ≡ pair_of word.now }
 {
-    let place = word.iter().position(|b| *b == b'=')?;
-    Some((&word[..place], &word[place + 1..]))
+    match equals_place(word) {
+        Some(place) => Some((&word[..place], &word[place + 1..])),
+        None => None,
+    }
 }
 
 // Takes up what a word says, which must be a pair.

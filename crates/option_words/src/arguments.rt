@@ -103,7 +103,8 @@ fn is_end(word: &[u8]) -> bool
     word == b"--".as_slice()
 }
 
-fn equals_place(text: &[u8]) -> Option<usize>
+/// Where the first `=` of a text stands, counted from 0.
+pub fn equals_place(text: &[u8]) -> Option<usize>
     ensures { result ≡ equals_place text.now }
 {
     text.iter().position(|b| *b == b'=')
