@@ -63,8 +63,9 @@ pub fn read_pairs<S: Pairs>(
 {
     let mut said = said;
     for place in first..words.len() {
-        if let Err(kind) = add_word(alloc, &mut said, words.get(place).unwrap())? {
-            return Ok(Err(fault_at(place, kind)));
+        match add_word(alloc, &mut said, words.get(place).unwrap())? {
+            Ok(()) => {}
+            Err(kind) => return Ok(Err(fault_at(place, kind))),
         }
     }
     Ok(Ok(said))
