@@ -60,11 +60,15 @@ nothing_reserved now = record {
 abbrev pub year : ℕ
 year = 525_600
 
+-- how many minutes a duration has
+abbrev pub minutes_of : Limit → ℕ
+minutes_of (Minutes minutes) = minutes
+minutes_of Unlimited = year
+
 -- the second at which it is over
 abbrev pub end_of : ℕ → Until → ℕ
 end_of start (At moment) = moment
-end_of start (For (Minutes minutes)) = start + 60 * minutes
-end_of start (For Unlimited) = start + 60 * year
+end_of start (For duration) = start + 60 * minutes_of duration
 
 -- whether someone may use it
 abbrev pub is_for_someone : Reserved → Bool

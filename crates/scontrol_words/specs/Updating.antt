@@ -1,5 +1,5 @@
 -- What the words of `scontrol update` ask.
-use Rattle.std.specs.Prelude.{ℕ, ◌+◌, List, [], ◌∷◌, length, drop, Option, Some, None, option_and_then, Result, Ok, Err}
+use Rattle.std.specs.Prelude.{ℕ, ◌+◌, Bool, ◌||◌, if◌then◌else◌, List, [], ◌∷◌, length, drop, Option, Some, None, is_some, Result, Ok, Err}
 use Rattle.std.specs.Option.{option_or}
 use Rattle.conf_values.specs.Refusal.{◌>>=◌}
 use Rattle.operands.specs.BadWord.{bad, good, given}
@@ -64,17 +64,15 @@ partition_key said value key = Err UnknownOption
 abbrev pub partition_adding : PartitionUpdate → List ℕ → List ℕ → Result PartitionUpdate WordKind
 partition_adding said key value = partition_key said value (scontrol_key key)
 
--- a value that is good in some form that has its key
-abbrev pub some_good : {A B : Type 0} → UnnamedUpdate → Option A → Option B → Result UnnamedUpdate WordKind
-some_good said (Some a) other = Ok said
-some_good said None (Some b) = Ok said
-some_good said None None = Err BadValue
+abbrev pub if_good : {S : Type 0} → Bool → S → Result S WordKind
+if_good is_good said = if is_good then Ok said else Err BadValue
 
--- an update that names nothing: each key of some form is known
+-- An update that names nothing: each key of some form is known, and a value is good where it is in some form that has
+-- its key.
 abbrev pub unnamed_key : UnnamedUpdate → List ℕ → Option Key → Result UnnamedUpdate WordKind
-unnamed_key said value (Some TimeLimit) = given (λ limit. said) (good (limit_of value))
-unnamed_key said value (Some Nice) = given (λ nice. said) (good (nice_in value))
-unnamed_key said value (Some State) = some_good said (node_order value) (part_state value)
+unnamed_key said value (Some TimeLimit) = if_good (is_some (limit_of value)) said
+unnamed_key said value (Some Nice) = if_good (is_some (nice_in value)) said
+unnamed_key said value (Some State) = if_good (is_some (node_order value) || is_some (part_state value)) said
 unnamed_key said value (Some Reason) = unless_long value said
 unnamed_key said value key = Err UnknownOption
 

@@ -4,7 +4,6 @@ ghost use Rattle.std.specs.Prelude.{◌≡◌, ◌+◌, Some, IfOk};
 ghost use Rattle.operands.specs.BadWord.{good};
 ghost use Rattle.operands.specs.Pairs.{now_said};
 ghost use Rattle.scontrol_words.specs.Updating.{job_key, job_said, job_update_by};
-ghost use Rattle.scontrol_words.specs.declared.keys.Key.TheVariants.{JobId, TimeLimit, Nice};
 
 use crate::keys::{Key, scontrol_key};
 use operands::bad_word::{BadWord, WordKind, fault_at};
@@ -31,11 +30,11 @@ impl JobUpdate {
     ghost use Rattle.std.specs.Prelude.{◌≡◌, Some};
     ghost use Rattle.operands.specs.Pairs.{now_said};
     ghost use Rattle.scontrol_words.specs.Updating.{job_key};
-    ghost use Rattle.scontrol_words.specs.declared.keys.Key.TheVariants.{JobId, TimeLimit, Nice};
+    ghost use Rattle.scontrol_words.specs.declared.keys.Key.TheVariants as key;
 
     // The job, which is named once.
     fn name_job(&mut self, value: &[u8]) -> Result<(), WordKind>
-        ensures { now_said result self.new ≡ job_key self.old value.now (Some JobId) }
+        ensures { now_said result self.new ≡ job_key self.old value.now (Some key.JobId) }
     {
         if self.target.is_some() {
             return Err(WordKind::UnknownOption);
@@ -50,7 +49,7 @@ impl JobUpdate {
     }
 
     fn set_limit(&mut self, value: &[u8]) -> Result<(), WordKind>
-        ensures { now_said result self.new ≡ job_key self.old value.now (Some TimeLimit) }
+        ensures { now_said result self.new ≡ job_key self.old value.now (Some key.TimeLimit) }
     {
         match read_limit(value) {
             Some(limit) => {
@@ -62,7 +61,7 @@ impl JobUpdate {
     }
 
     fn set_nice(&mut self, value: &[u8]) -> Result<(), WordKind>
-        ensures { now_said result self.new ≡ job_key self.old value.now (Some Nice) }
+        ensures { now_said result self.new ≡ job_key self.old value.now (Some key.Nice) }
     {
         match read_nice(value) {
             Some(nice) => {

@@ -1,7 +1,7 @@
 //! The words of `scontrol create`.
 
-ghost use Rattle.std.specs.Prelude.{◌≡◌, ◌+◌, [], drop, unwrap_or, slice_get, option_copied, IfOk};
-ghost use Rattle.scontrol_words.specs.Reserving.{is_for_someone, end_of, whole, reservation_said, is_reservation, first_key, nothing_reserved, created_from, create_by};
+ghost use Rattle.std.specs.Prelude.{◌≡◌, ◌≤◌, ◌+◌, [], drop, unwrap_or, slice_get, option_copied, IfOk};
+ghost use Rattle.scontrol_words.specs.Reserving.{is_for_someone, minutes_of, end_of, whole, reservation_said, is_reservation, first_key, nothing_reserved, created_from, create_by};
 
 use crate::keys::{Key, scontrol_key};
 use crate::values::{read_few_names, read_hosts};
@@ -174,19 +174,30 @@ impl Pairs for Reserved {
 }
 
 fn is_for_someone(said: &Reserved) -> bool
-    ensures { result ≡ is_for_someone said.now }
+    ensures { result ≡ is_for_someone said.entry.now }
 {
     said.users.is_some() || said.accounts.is_some()
 }
 
+// How many minutes a duration has.
+fn minutes_of(duration: Limit) -> u64
+    ensures value { result ≡ minutes_of duration }
+    ensures range { result ≤ 52_560_000 }
+{
+    match duration {
+        Limit::Minutes(minutes) => minutes.get(),
+        Limit::Unlimited => YEAR,
+    }
+}
+
 // The second at which a reservation is over.
-fn end_of(start: Ranged<0, 250000000000>, until: Until) -> Ranged<0, 253153600000>
-    ensures { result ≡ end_of start until }
+fn second_of_end(start: Ranged<0, 250000000000>, until: Until) -> u64
+    ensures value { result ≡ end_of start until }
+    ensures range { result ≤ 253_153_600_000 }
 {
     match until {
-        Until::At(moment) => Ranged::new(moment.get()),
-        Until::For(Limit::Minutes(minutes)) => Ranged::new(start.get() + 60 * minutes.get()),
-        Until::For(Limit::Unlimited) => Ranged::new(start.get() + 60 * YEAR),
+        Until::At(moment) => moment.get(),
+        Until::For(duration) => start.get() + 60 * minutes_of(duration),
     }
 }
 
@@ -208,7 +219,7 @@ fn whole(alloc: Global, end: usize, said: Reserved) -> Result<Request, BadWord>
             Ok(Request::CreateReservation(ReservationDesc {
                 name,
                 start,
-                end: end_of(start, until),
+                end: Ranged::new(second_of_end(start, until)),
                 nodes,
                 users: names_or_none(alloc, said.users),
                 accounts: names_or_none(alloc, said.accounts),
@@ -229,7 +240,7 @@ fn reservation_said(alloc: Global, end: usize, said: Reserved) -> Result<Request
 }
 
 fn is_reservation(word: Option<&[u8]>) -> bool
-    ensures { result ≡ is_reservation (option_copied word) }
+    ensures { result ≡ is_reservation (option_copied word.entry) }
 {
     match word {
         Some(word) => word == b"reservation".as_slice(),

@@ -1,9 +1,7 @@
 //! Updates that don't name what they change.
 
-ghost use Rattle.std.specs.Prelude.{◌≡◌, ◌+◌, Some, IfOk};
-ghost use Rattle.operands.specs.BadWord.{good, given};
-ghost use Rattle.operands.specs.Pairs.{now_said};
-ghost use Rattle.scontrol_words.specs.Updating.{some_good, unnamed_update_by};
+ghost use Rattle.std.specs.Prelude.{◌≡◌, IfOk};
+ghost use Rattle.scontrol_words.specs.Updating.{unnamed_update_by};
 
 use crate::keys::{Key, scontrol_key};
 use crate::values::{is_long, read_node_order, read_part_state};
@@ -19,12 +17,37 @@ use std::alloc::Global;
 #[derive(Clone, Copy)]
 pub(crate) struct UnnamedUpdate {}
 
-// A value that is good.
-fn checked(is_good: bool) -> Result<(), WordKind> {
-    if is_good {
-        Ok(())
-    } else {
-        Err(WordKind::BadValue)
+impl UnnamedUpdate {
+    ghost use Rattle.std.specs.Prelude.{◌≡◌, Some};
+    ghost use Rattle.operands.specs.Pairs.{now_said};
+    ghost use Rattle.scontrol_words.specs.Updating.{if_good, unnamed_key};
+    ghost use Rattle.scontrol_words.specs.declared.keys.Key.TheVariants as key;
+
+    fn check(&mut self, is_good: bool) -> Result<(), WordKind>
+        ensures { now_said result self.new ≡ if_good is_good self.old }
+    {
+        if is_good {
+            Ok(())
+        } else {
+            Err(WordKind::BadValue)
+        }
+    }
+
+    fn check_state(&mut self, value: &[u8]) -> Result<(), WordKind>
+        ensures { now_said result self.new ≡ unnamed_key self.old value.now (Some key.State) }
+    {
+        let is_good = read_node_order(value).is_some() || read_part_state(value).is_some();
+        self.check(is_good)
+    }
+
+    fn check_reason(&mut self, value: &[u8]) -> Result<(), WordKind>
+        ensures { now_said result self.new ≡ unnamed_key self.old value.now (Some key.Reason) }
+    {
+        if is_long(value) {
+            Err(WordKind::TooLong)
+        } else {
+            Ok(())
+        }
     }
 }
 
@@ -40,13 +63,10 @@ impl Pairs for UnnamedUpdate {
         value: &[u8],
     ) -> Result<Result<(), WordKind>, Memory> {
         Ok(match scontrol_key(key) {
-            Some(Key::TimeLimit) => checked(read_limit(value).is_some()),
-            Some(Key::Nice) => checked(read_nice(value).is_some()),
-            Some(Key::State) => {
-                checked(read_node_order(value).is_some() || read_part_state(value).is_some())
-            }
-            Some(Key::Reason) if is_long(value) => Err(WordKind::TooLong),
-            Some(Key::Reason) => Ok(()),
+            Some(Key::TimeLimit) => self.check(read_limit(value).is_some()),
+            Some(Key::Nice) => self.check(read_nice(value).is_some()),
+            Some(Key::State) => self.check_state(value),
+            Some(Key::Reason) => self.check_reason(value),
             _ => Err(WordKind::UnknownOption),
         })
     }

@@ -48,9 +48,9 @@ fn form_in(words: &Words) -> Option<Form>
     ensures { result ≡ form_in (drop 2 words.now) }
 {
     for place in 2..words.len() {
-        let form = form_of_word(words.get(place).unwrap());
-        if form.is_some() {
-            return form;
+        match form_of_word(words.get(place).unwrap()) {
+            Some(form) => return Some(form),
+            None => {}
         }
     }
     None
