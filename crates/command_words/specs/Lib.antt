@@ -4,5 +4,4 @@ pub mod Header
 pub mod Queries
 pub mod Report
 pub mod Sbatch
-pub mod Starts
 pub mod Wanted

@@ -1,19 +1,17 @@
 //! What a daemon reports.
 
-ghost use Rattle.std.specs.Prelude.{◌≡◌, ◌∷◌, [], drop, IfOk};
+ghost use Rattle.std.specs.Prelude.{◌≡◌, drop, IfOk};
 ghost use Rattle.operands.specs.Names.{name_by, u64_by};
 ghost use Rattle.operands.specs.Operands.{value_at};
 ghost use Rattle.operands.specs.Pairs.{pairs_say};
 ghost use Rattle.command_words.specs.Report.{listed_adding, nothing_named, pair_in, numbers_by, report_by};
-ghost use Rattle.command_words.specs.Starts.{start_of, start_by, done_by};
 
 use operands::bad_word::{BadWord, WordKind};
-use operands::members::{Member, read_all};
-use operands::names::{read_name, read_u32};
+use operands::members::read_all;
+use operands::names::read_name;
 use operands::operand::{good_at, word_at};
 use operands::pairs::{Pairs, read_pairs};
 use slurm_text::digits::parse_number;
-use slurm_text::fields::{UpToThree, up_to_three};
 use slurm_text::items::Items;
 use slurm_text::memory_error::Memory;
 use slurm_text::name::Name;
@@ -148,55 +146,5 @@ pub(crate) fn read_report(alloc: Global, words: &Words) -> Result<Result<Report,
             done: lists.done,
         })),
         Err(fault) => Ok(Err(fault)),
-    }
-}
-
-impl Member for Start {
-    ghost meaning = { start_by };
-
-    fn read_member(text: &[u8]) -> Option<Start> {
-        read_start(text)
-    }
-}
-
-impl Member for Done {
-    ghost meaning = { done_by };
-
-    fn read_member(text: &[u8]) -> Option<Done> {
-        read_done(text)
-    }
-}
-
-#[tactic(auto, unfolding(crate::specs::Starts::start_of))]
-fn read_start(text: &[u8]) -> Option<Start>
-    ensures { result ≡ start_by text.now }
-{
-    match up_to_three(text, b'.') {
-        UpToThree::Two(id, number) => start_of(id, number),
-        _ => None,
-    }
-}
-
-// The start of these two fields.
-#[tactic(auto, unfolding(crate::specs::Starts::start_of))]
-fn start_of(id: &[u8], number: &[u8]) -> Option<Start>
-    ensures { result ≡ start_of (id.now ∷ number.now ∷ []) }
-{
-    let id = read_u32(id)?;
-    let number = read_u32(number)?;
-    Some(Start { id, number })
-}
-
-#[tactic(auto, unfolding(crate::specs::Starts::done_of))]
-fn read_done(text: &[u8]) -> Option<Done>
-    ensures { result ≡ done_by text.now }
-{
-    match up_to_three(text, b'.') {
-        UpToThree::Three(id, number, exit) => {
-            let start = start_of(id, number)?;
-            let exit = read_u32(exit)?;
-            Some(Done { start, exit })
-        }
-        _ => None,
     }
 }

@@ -3,4 +3,5 @@ pub mod Cut
 pub mod Names
 pub mod Operands
 pub mod Pairs
+pub mod Starts
 pub mod Targets

@@ -7,4 +7,5 @@ pub mod members;
 pub mod names;
 pub mod operand;
 pub mod pairs;
+mod starts;
 pub mod targets;

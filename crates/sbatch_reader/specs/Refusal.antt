@@ -1,5 +1,5 @@
 -- Where a command or its script is wrong.
-use Rattle.std.specs.Prelude.{List, ◌++◌, codes, decimal}
+use Rattle.std.specs.Prelude.{ℕ, List, ◌++◌, codes, decimal}
 use Rattle.option_words.specs.declared.refusal.WordKind.{WordKind}
 use Rattle.option_words.specs.Refusal.{kind_text}
 use Rattle.sbatch_reader.specs.declared.refusal.Place.{Place}
