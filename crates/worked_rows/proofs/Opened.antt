@@ -43,9 +43,12 @@ use Rattle.sbatch_reader.specs.Description.{least_nodes, are_crossed, all_tasks,
 use Rattle.sbatch_reader.specs.Drafts.{nothing_said as no_option_said, after, draft_job}
 use Rattle.sbatch_reader.specs.Job.{all_said, job_in}
 use Rattle.sbatch_reader.specs.Lines.{split_text, one_line_says, script_says}
-use Rattle.command_words.specs.Report.{start_of, done_of, listed_of, listed_by, report_by}
-use Rattle.command_words.specs.Targets.{target_of, targets_by, state_by, states_by}
-use Rattle.command_words.specs.Cancel.{cancel_words, scancel_options, scancel_by}
+use Rattle.command_words.specs.Report.{numbers_by, report_by}
+use Rattle.command_words.specs.Cancel.{names_user, cancel_words, scancel_options, scancel_by}
+use Rattle.operands.specs.Operands.{word_at, closed_at}
+use Rattle.operands.specs.Pairs.{pair_of}
+use Rattle.operands.specs.Starts.{start_of, done_of}
+use Rattle.operands.specs.Targets.{target_of, targets_by, state_by, states_by}
 use Rattle.squeue_format.specs.Format.{column_of, width_of, column_by, part_in, format_in, usual}
 use Rattle.command_words.specs.Queries.{query_words, squeue_options, sinfo_options, sprio_options, squeue_by, sinfo_by, sprio_by}
 use Rattle.node_pick.specs.Choosing.{numbers_from, filled_sets, sets, fits, chosen}
@@ -111,9 +114,9 @@ headers = tt
 
 -- what reports and queries say
 unfoldable pub told : Unit {0}
-unfolding start_of done_of listed_of listed_by report_by query_words squeue_options sinfo_options sprio_options squeue_by
+unfolding word_at closed_at pair_of start_of done_of numbers_by report_by query_words squeue_options sinfo_options sprio_options squeue_by
     sinfo_by sprio_by
-    target_of targets_by state_by states_by cancel_words scancel_options scancel_by column_of width_of column_by
+    target_of targets_by state_by states_by names_user cancel_words scancel_options scancel_by column_of width_of column_by
     part_in format_in usual
 told = tt
 
