@@ -43,12 +43,15 @@ use Rattle.sbatch_reader.specs.Description.{least_nodes, are_crossed, all_tasks,
 use Rattle.sbatch_reader.specs.Drafts.{nothing_said as no_option_said, after, draft_job}
 use Rattle.sbatch_reader.specs.Job.{all_said, job_in}
 use Rattle.sbatch_reader.specs.Lines.{split_text, one_line_says, script_says}
-use Rattle.command_words.specs.Report.{numbers_by, report_by}
-use Rattle.command_words.specs.Cancel.{names_user, cancel_words, scancel_options, scancel_by}
 use Rattle.operands.specs.Operands.{word_at, closed_at}
 use Rattle.operands.specs.Pairs.{pair_of}
-use Rattle.operands.specs.Starts.{start_of, done_of}
 use Rattle.operands.specs.Targets.{target_of, targets_by, state_by, states_by}
+use Rattle.operands.specs.Starts.{start_of, done_of}
+use Rattle.command_words.specs.Report.{numbers_by, report_by}
+use Rattle.command_words.specs.Cancel.{names_user, cancel_words, scancel_options, scancel_by}
+use Rattle.scontrol_words.specs.Scontrol.{action_named, action_in, scontrol_by}
+use Rattle.scontrol_words.specs.Holding.{listed_jobs, hold_by}
+use Rattle.scontrol_words.specs.Showing.{shown_named, job_query, shown_in, show_by}
 use Rattle.squeue_format.specs.Format.{column_of, width_of, column_by, part_in, format_in, usual}
 use Rattle.command_words.specs.Queries.{query_words, squeue_options, sinfo_options, sprio_options, squeue_by, sinfo_by, sprio_by}
 use Rattle.node_pick.specs.Choosing.{numbers_from, filled_sets, sets, fits, chosen}
@@ -106,7 +109,7 @@ clusters = tt
 -- blocks, and what their words ask
 unfoldable pub headers : Unit {0}
 unfolding first_block blocks_within blocks_of reading_at line_words_in before_comment open_place first_bad
-    command_named head_in asked_by meaning_by meaning_in lone_by wanted_by is_built sbatch_by parts_left options
+    command_named head_in asked_by meaning_by meaning_in word_at closed_at lone_by wanted_by is_built sbatch_by parts_left options
     value_entry option_entry with_option no_words option_number least_nodes are_crossed all_tasks last_part job_of
     no_option_said after draft_job all_said job_in split_text one_line_says script_says number_within is_name
     is_job_name seconds_of_clock seconds_of_day seconds_of_parts seconds_of limit_of_minutes limit_of
@@ -114,11 +117,17 @@ headers = tt
 
 -- what reports and queries say
 unfoldable pub told : Unit {0}
-unfolding word_at closed_at pair_of start_of done_of numbers_by report_by query_words squeue_options sinfo_options sprio_options squeue_by
-    sinfo_by sprio_by
+unfolding start_of done_of pair_of numbers_by report_by query_words squeue_options sinfo_options sprio_options
+    squeue_by sinfo_by sprio_by
     target_of targets_by state_by states_by names_user cancel_words scancel_options scancel_by column_of width_of column_by
     part_in format_in usual
 told = tt
+
+-- what scontrol says
+unfoldable pub asked : Unit {0}
+unfolding target_of targets_by action_named action_in scontrol_by listed_jobs hold_by shown_named job_query shown_in
+    show_by
+asked = tt
 
 -- plans, and what starts by them
 unfoldable pub plans : Unit {0}

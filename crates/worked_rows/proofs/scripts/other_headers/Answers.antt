@@ -30,3 +30,7 @@ returns-clause-twice c = refl
 pub returns-clause-more : goal.returns-clause-more
 unfolding clusters headers plans
 returns-clause-more c = refl
+
+pub returns-clause-other_command : goal.returns-clause-other_command
+unfolding clusters headers plans
+returns-clause-other_command c = refl
