@@ -4,10 +4,8 @@ use Rattle.slurm_text.specs.Options.{◌>>=◌}
 use Rattle.slurm_text.specs.Words.{first_bad, words_in}
 use Rattle.command_words.specs.Command.{command_named}
 use Rattle.operands.specs.Names.{name_by, u64_by}
-use Rattle.option_words.specs.declared.refusal.WordKind.TheVariants.{UnknownCommand}
 use Rattle.command_words.specs.Wanted.{wanted_by}
 use Rattle.command_words.specs.declared.command.Command.{Command}
-use Rattle.command_words.specs.declared.fault.WordFault.TheVariants.{Word}
 use Rattle.command_words.specs.declared.header.Head.{Head}
 use Rattle.command_words.specs.declared.header.Meaning.{Meaning}
 use Rattle.command_words.specs.declared.header.Meaning.TheVariants.{Asks, Malformed, NotBuilt, BadWords, BadHeader}
@@ -31,12 +29,11 @@ command_in words = slice_get words 0 >>= command_named
 abbrev pub meaning_for : Head → Command → Wanted → Meaning
 meaning_for head command (wanted.Request request) =
     Asks (record { moment = head.moment; user = head.user; request = request })
-meaning_for head command (wanted.Malformed fault) = Malformed (Some command) fault
+meaning_for head command (wanted.Malformed fault) = Malformed command fault
 meaning_for head command wanted.NotBuilt = NotBuilt
 
--- without such a command the first word is bad, whatever is attached
 abbrev pub asked_of : Option Command → Head → List (List ℕ) → Option (List ℕ) → Meaning
-asked_of None head words attachment = Malformed None (Word 1 UnknownCommand)
+asked_of None head words attachment = NotBuilt
 asked_of (Some command) head words attachment =
     meaning_for head command (wanted_by command head.moment words attachment)
 

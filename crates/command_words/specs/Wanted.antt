@@ -19,27 +19,24 @@ use Rattle.command_words.specs.declared.wanted.Wanted.TheVariants as wanted
 
 -- The request of a command that has no attachment, or its first bad word. The words begin with the command's name.
 -- `pass` stands alone.
-unfoldable pub lone_by : Command → ℕ → List (List ℕ) → Result Request BadWord
-lone_by command.Sbatch now words = bad 1 StrayWord
-lone_by command.Squeue now words = given Show (squeue_by words)
-lone_by command.Scancel now words = given Cancel (scancel_by words)
-lone_by command.Scontrol now words = scontrol_by now words
-lone_by command.Sinfo now words = given Show (sinfo_by words)
-lone_by command.Sprio now words = given Show (sprio_by words)
-lone_by command.Report now words = given Report (report_by words)
-lone_by command.Pass now words = closed_at words 1 Pass
+unfoldable pub alone_by : Command → ℕ → List (List ℕ) → Result Request BadWord
+alone_by command.Sbatch now words = bad 1 StrayWord
+alone_by command.Squeue now words = given Show (squeue_by words)
+alone_by command.Scancel now words = given Cancel (scancel_by words)
+alone_by command.Scontrol now words = scontrol_by now words
+alone_by command.Sinfo now words = given Show (sinfo_by words)
+alone_by command.Sprio now words = given Show (sprio_by words)
+alone_by command.Report now words = given Report (report_by words)
+alone_by command.Pass now words = closed_at words 1 Pass
 
--- what is wanted without an attachment
-abbrev pub alone : Result Request BadWord → Wanted
-alone (Ok request) = wanted.Request request
-alone (Err fault) = wanted.Malformed (Word fault.word fault.kind)
-
--- an attachment is off where none belongs, before all else
+-- An attachment is off where none belongs. As long as not all commands are built, words that are wrong are answered as
+-- what isn't built.
 abbrev pub without : Option (List ℕ) → Result Request BadWord → Wanted
-without None asked = alone asked
-without (Some text) asked = wanted.Malformed (Word 1 StrayWord)
+without attachment (Err fault) = wanted.NotBuilt
+without None (Ok request) = wanted.Request request
+without (Some text) (Ok request) = wanted.Malformed (Word 1 StrayWord)
 
 -- what the words of a command and its attachment want at the moment `now`
 unfoldable pub wanted_by : Command → ℕ → List (List ℕ) → Option (List ℕ) → Wanted
 wanted_by command.Sbatch now words attachment = sbatch_by now words attachment
-wanted_by command now words attachment = without attachment (lone_by command now words)
+wanted_by command now words attachment = without attachment (alone_by command now words)

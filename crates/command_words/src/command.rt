@@ -47,7 +47,7 @@ impl Command {
 
 /// The command of this name.
 #[tactic(auto, unfolding(crate::specs::Command::command_named))]
-pub(crate) fn command_named(word: &[u8]) -> Option<Command>
+pub fn command_named(word: &[u8]) -> Option<Command>
     ensures { result ≡ command_named word.now }
 {
     if word == b"sbatch".as_slice() {

@@ -1,13 +1,10 @@
 //! The header of a block, with its attachment.
 
-ghost use Rattle.std.specs.Prelude.{◌≡◌, ◌≤◌, length, option_copied, option_map, None, IfOk, OnSome};
-ghost use Rattle.option_words.specs.declared.refusal.WordKind.TheVariants.{UnknownCommand};
-ghost use Rattle.command_words.specs.declared.fault.WordFault.TheVariants.{Word};
-ghost use Rattle.command_words.specs.declared.header.Meaning.TheVariants.{Malformed};
+ghost use Rattle.std.specs.Prelude.{◌≡◌, ◌≤◌, length, option_copied, option_map, IfOk, OnSome};
 ghost use Rattle.command_words.specs.Header.{head_in, command_in, asked_by, meaning_by, meaning_in};
 
 use crate::command::{Command, command_named};
-use crate::fault::{WordFault, WordKind};
+use crate::fault::WordFault;
 use crate::wanted::{Wanted, read_command};
 use operands::names::read_name;
 use slurm_text::digits::parse_number;
@@ -32,18 +29,13 @@ pub struct Asked {
 #[derive(Drop)]
 pub enum Meaning {
     Asks(Asked),
-    /// The command's words or its script are wrong; there is no such command where it is None.
-    Malformed {
-        command: Option<Command>,
-        fault: WordFault,
-    },
-    /// A job, in a way that isn't built yet.
+    /// The command's words or its script are wrong.
+    Malformed { command: Command, fault: WordFault },
+    /// Nothing that is built yet.
     NotBuilt,
     /// The header is no list of words: it has a bad byte at this place, counted in bytes from 0, or a quote or
     /// backslash there that stays open.
-    BadWords {
-        place: u32,
-    },
+    BadWords { place: u32 },
     /// The words don't begin with a moment, a user and a command.
     BadHeader,
 }
@@ -111,18 +103,6 @@ fn command_in(words: &Words) -> Option<Command>
     command_named(words.get(0)?)
 }
 
-fn no_such_command() -> Meaning
-    ensures { result ≡ Malformed None (Word 1 UnknownCommand) }
-{
-    Meaning::Malformed {
-        command: None,
-        fault: WordFault::Word {
-            word: 1,
-            kind: WordKind::UnknownCommand,
-        },
-    }
-}
-
 #[tactic(auto, unfolding(crate::specs::Header::asked_by))]
 fn read_asked(
     alloc: Global,
@@ -133,7 +113,7 @@ fn read_asked(
     ensures { IfOk result (λ meaning. meaning ≡ asked_by head words.now (option_copied attachment.entry)) }
 {
     let Some(command) = command_in(words) else {
-        return Ok(no_such_command());
+        return Ok(Meaning::NotBuilt);
     };
     match read_command(alloc, command, head.moment, words, attachment)? {
         Wanted::Request(request) => Ok(Meaning::Asks(Asked {
@@ -141,10 +121,7 @@ fn read_asked(
             user: head.user,
             request,
         })),
-        Wanted::Malformed(fault) => Ok(Meaning::Malformed {
-            command: Some(command),
-            fault,
-        }),
+        Wanted::Malformed(fault) => Ok(Meaning::Malformed { command, fault }),
         Wanted::NotBuilt => Ok(Meaning::NotBuilt),
     }
 }

@@ -1,6 +1,7 @@
 //! What a header asks the controller: its words, of which the last are a command's.
 #![tactic(auto)]
 
+pub mod alone;
 mod cancel;
 pub mod command;
 pub mod fault;

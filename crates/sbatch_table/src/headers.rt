@@ -36,7 +36,8 @@ fn push_asked(out: &mut Vec<u8>, asked: &Asked) -> Result<(), Unanswered> {
     push_what(out, &asked.request)
 }
 
-fn push_place(
+/// Puts a bad place and what is wrong there behind an answer.
+pub fn push_place(
     out: &mut Vec<u8>,
     place: &[u8],
     number: u32,
@@ -47,21 +48,9 @@ fn push_place(
     push(out, &kind)
 }
 
-// The command in which something is wrong, or `slurm` where there is none of that name.
-fn teller(command: Option<Command>) -> &'static [u8] {
-    match command {
-        Some(command) => command.name(),
-        None => b"slurm",
-    }
-}
-
-fn push_malformed(
-    out: &mut Vec<u8>,
-    command: Option<Command>,
-    fault: WordFault,
-) -> Result<(), Unanswered> {
+fn push_malformed(out: &mut Vec<u8>, command: Command, fault: WordFault) -> Result<(), Unanswered> {
     out.extend_from_slice(b"Malformed ")?;
-    out.extend_from_slice(teller(command))?;
+    out.extend_from_slice(command.name())?;
     match fault {
         WordFault::Word { word, kind } => push_place(out, b": word ", word, kind),
         WordFault::Line { line, kind } => push_place(out, b": line ", line, kind),

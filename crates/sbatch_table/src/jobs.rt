@@ -11,7 +11,8 @@ use table_lines::fields::LONGEST;
 // The moment at which words are read.
 const NOW: u64 = 1000;
 
-fn words_in(alloc: Global, line: &[u8]) -> Result<Words, Unanswered> {
+/// The words of a line.
+pub fn words_in(alloc: Global, line: &[u8]) -> Result<Words, Unanswered> {
     if line.len() > LONGEST {
         return Err(Unanswered::Arguments);
     }

@@ -1,6 +1,7 @@
 //! Reads the words of commands that the lines of a table hold, and prints each line with what they mean.
 #![tactic(auto)]
 
+mod commands;
 mod description;
 mod headers;
 mod jobs;
@@ -15,6 +16,7 @@ fn answer(alloc: Global, function: &str, arguments: &[&[u8]]) -> Result<Vec<u8>,
     match function {
         "job" => jobs::job(alloc, arguments),
         "header" => headers::header(alloc, arguments),
+        "command" => commands::command(alloc, arguments),
         "array" => texts::array(alloc, arguments),
         "array_size" => texts::array_size(alloc, arguments),
         "dependency" => texts::dependency(alloc, arguments),

@@ -1,5 +1,5 @@
 -- What is told of blocks that ask nothing.
-use Rattle.std.specs.Prelude.{ℕ, List, ◌++◌, Option, Some, None, codes, decimal}
+use Rattle.std.specs.Prelude.{ℕ, List, ◌++◌, codes, decimal}
 use Rattle.option_words.specs.Refusal.{kind_text}
 use Rattle.option_words.specs.declared.refusal.WordKind.{WordKind}
 use Rattle.option_words.specs.declared.refusal.WordKind.TheVariants.{UnknownCommand}
@@ -9,17 +9,16 @@ use Rattle.command_words.specs.declared.fault.WordFault.{WordFault}
 use Rattle.command_words.specs.declared.fault.WordFault.TheVariants.{Word, Line}
 
 -- who tells what is wrong: no command does where there is no such command
-abbrev pub teller : Option Command → WordKind → List ℕ
-teller None kind = codes "slurm"
-teller (Some command) UnknownCommand = codes "slurm"
-teller (Some command) kind = name_of command
+abbrev pub teller : Command → WordKind → List ℕ
+teller command UnknownCommand = codes "slurm"
+teller command kind = name_of command
 
 -- `COMMAND: error: word NUMBER: KIND`, or the same of a line
-abbrev pub fault_line : Option Command → List ℕ → ℕ → WordKind → List ℕ
+abbrev pub fault_line : Command → List ℕ → ℕ → WordKind → List ℕ
 fault_line command place number kind =
     teller command kind ++ codes ": error:" ++ place ++ decimal number ++ codes ": " ++ kind_text kind ++ codes "\n"
 
-abbrev pub malformed_text : Option Command → WordFault → List ℕ
+abbrev pub malformed_text : Command → WordFault → List ℕ
 malformed_text command (Word word kind) = fault_line command (codes " word ") word kind
 malformed_text command (Line line kind) = fault_line command (codes " line ") line kind
 

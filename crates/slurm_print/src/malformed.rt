@@ -11,11 +11,7 @@ use slurm_text::memory_error::Memory;
 use std::alloc::Global;
 
 /// The text that answers malformed words, or a malformed script (own).
-pub fn malformed(
-    alloc: Global,
-    command: Option<Command>,
-    fault: WordFault,
-) -> Result<Vec<u8>, Memory>
+pub fn malformed(alloc: Global, command: Command, fault: WordFault) -> Result<Vec<u8>, Memory>
     ensures { IfOk result (λ text. text.items ≡ malformed_text command fault) }
 {
     let mut out = Vec::new(alloc);
@@ -26,7 +22,7 @@ pub fn malformed(
 fn push_malformed(
     alloc: Global,
     out: &mut Vec<u8>,
-    command: Option<Command>,
+    command: Command,
     fault: WordFault,
 ) -> Result<(), Memory>
     ensures { OnOk result (out.new.items ≡ out.old.items ++ malformed_text command fault) }
@@ -61,12 +57,9 @@ pub fn not_built() -> &'static [u8]
     b"slurm: error: NotBuilt\n"
 }
 
-fn teller(command: Option<Command>, kind: WordKind) -> &'static [u8]
+fn teller(command: Command, kind: WordKind) -> &'static [u8]
     ensures { result.now ≡ teller command kind }
 {
-    let Some(command) = command else {
-        return b"slurm";
-    };
     match kind {
         WordKind::UnknownCommand => b"slurm",
         _ => command.name(),
@@ -83,7 +76,7 @@ fn push_kind(alloc: Global, out: &mut Vec<u8>, kind: WordKind) -> Result<(), Mem
 fn push_fault(
     alloc: Global,
     out: &mut Vec<u8>,
-    command: Option<Command>,
+    command: Command,
     place: &[u8],
     number: u32,
     kind: WordKind,

@@ -143,12 +143,8 @@ pub fn other_headers()
     ensures twice { script_of on_one_node
         (codes "100 alice sbatch -n 5 -n 1 -t 1\n")
         ≡ codes "Submitted batch job 1\n" }
-    ensures more { script_of on_one_node
-        (codes "100 root pass now\n")
-        ≡ codes "pass: error: word 2: StrayWord\n" }
-    ensures other_command { script_of on_one_node
-        (codes "100 alice salloc\n")
-        ≡ codes "slurm: error: word 1: UnknownCommand\n" }
+    ensures more { script_of on_one_node (codes "100 root pass now\n") ≡ not_built_text }
+    ensures other_command { script_of on_one_node (codes "100 alice salloc\n") ≡ not_built_text }
 {}
 
 /// What isn't built yet is answered so, and leaves the state.
@@ -159,7 +155,5 @@ pub fn unbuilt()
         ≡ codes "Submitted batch job 1\nslurm: error: NotBuilt\npass: ended 0 started 1 planned 0\n" }
     ensures show { script_of on_one_node (codes "0 alice scontrol show job\n") ≡ not_built_text }
     ensures shutdown { script_of on_one_node (codes "0 root scontrol shutdown\n") ≡ not_built_text }
-    ensures other_action { script_of on_one_node
-        (codes "0 root scontrol reboot\n")
-        ≡ codes "slurm: error: word 2: UnknownCommand\n" }
+    ensures other_action { script_of on_one_node (codes "0 root scontrol reboot\n") ≡ not_built_text }
 {}
