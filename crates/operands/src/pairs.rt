@@ -1,6 +1,7 @@
 //! Words of the form `KEY=VALUE`.
 
-ghost use Rattle.std.specs.Prelude.{◌≡◌, ◌+◌, drop, IfOk, option_map};
+ghost use Rattle.std.specs.Prelude.{◌≡◌, ◌+◌, drop, Some, IfOk, option_map};
+ghost use Rattle.operands.specs.BadWord.{good, given};
 ghost use Rattle.operands.specs.Pairs.{pair_of, pair_added, pairs_say, now_said};
 
 use crate::bad_word::{BadWord, WordKind, fault_at};
@@ -25,6 +26,19 @@ pub trait Pairs: Drop {
         value: &[u8],
     ) -> Result<Result<(), WordKind>, Memory>
         ensures { IfOk result (λ added. now_said added self.new ≡ adding self.old key.now value.now) };
+}
+
+/// Takes up a value in place of an earlier one, or tells that there is none that is good.
+pub fn put<T: Drop>(place: &mut Option<T>, value: Option<T>) -> Result<(), WordKind>
+    ensures { now_said result place.new ≡ given Some (good value) }
+{
+    match value {
+        Some(value) => {
+            *place = Some(value);
+            Ok(())
+        }
+        None => Err(WordKind::BadValue),
+    }
 }
 
 /// The key and the value of a word, which its first `=` parts.

@@ -6,7 +6,7 @@ ghost use Rattle.scontrol_words.specs.Reserving.{deletion_said, delete_by};
 use crate::keys::{Key, scontrol_key};
 use operands::bad_word::{BadWord, WordKind, fault_at};
 use operands::names::read_name;
-use operands::pairs::{Pairs, read_pairs};
+use operands::pairs::{Pairs, put, read_pairs};
 use slurm_text::memory_error::Memory;
 use slurm_text::name::Name;
 use slurm_text::plain::request::Request;
@@ -17,25 +17,6 @@ use std::alloc::Global;
 #[derive(Drop)]
 pub(crate) struct Deletion {
     pub(crate) name: Option<Name>,
-}
-
-impl Deletion {
-    ghost use Rattle.std.specs.Prelude.{◌≡◌, Some, IfOk};
-    ghost use Rattle.operands.specs.Pairs.{now_said};
-    ghost use Rattle.scontrol_words.specs.Reserving.{deletion_key};
-    ghost use Rattle.scontrol_words.specs.declared.keys.Key.TheVariants.{ReservationName};
-
-    fn set_name(&mut self, alloc: Global, value: &[u8]) -> Result<Result<(), WordKind>, Memory>
-        ensures { IfOk result (λ added. now_said added self.new ≡ deletion_key self.old value.now (Some ReservationName)) }
-    {
-        match read_name(alloc, value)? {
-            Some(name) => {
-                self.name = Some(name);
-                Ok(Ok(()))
-            }
-            None => Ok(Err(WordKind::BadValue)),
-        }
-    }
 }
 
 impl Pairs for Deletion {
@@ -50,7 +31,7 @@ impl Pairs for Deletion {
         value: &[u8],
     ) -> Result<Result<(), WordKind>, Memory> {
         match scontrol_key(key) {
-            Some(Key::ReservationName) => self.set_name(alloc, value),
+            Some(Key::ReservationName) => Ok(put(&mut self.name, read_name(alloc, value)?)),
             _ => Ok(Err(WordKind::UnknownOption)),
         }
     }

@@ -7,7 +7,7 @@ ghost use Rattle.scontrol_words.specs.Updating.{job_key, job_said, job_update_by
 
 use crate::keys::{Key, scontrol_key};
 use operands::bad_word::{BadWord, WordKind, fault_at};
-use operands::pairs::{Pairs, read_pairs};
+use operands::pairs::{Pairs, put, read_pairs};
 use operands::targets::read_target;
 use sbatch_options::values::{read_limit, read_nice};
 use slurm_text::memory_error::Memory;
@@ -39,37 +39,7 @@ impl JobUpdate {
         if self.target.is_some() {
             return Err(WordKind::UnknownOption);
         }
-        match read_target(value) {
-            Some(target) => {
-                self.target = Some(target);
-                Ok(())
-            }
-            None => Err(WordKind::BadValue),
-        }
-    }
-
-    fn set_limit(&mut self, value: &[u8]) -> Result<(), WordKind>
-        ensures { now_said result self.new ≡ job_key self.old value.now (Some key.TimeLimit) }
-    {
-        match read_limit(value) {
-            Some(limit) => {
-                self.limit = Some(limit);
-                Ok(())
-            }
-            None => Err(WordKind::BadValue),
-        }
-    }
-
-    fn set_nice(&mut self, value: &[u8]) -> Result<(), WordKind>
-        ensures { now_said result self.new ≡ job_key self.old value.now (Some key.Nice) }
-    {
-        match read_nice(value) {
-            Some(nice) => {
-                self.nice = Some(nice);
-                Ok(())
-            }
-            None => Err(WordKind::BadValue),
-        }
+        put(&mut self.target, read_target(value))
     }
 }
 
@@ -86,8 +56,8 @@ impl Pairs for JobUpdate {
     ) -> Result<Result<(), WordKind>, Memory> {
         Ok(match scontrol_key(key) {
             Some(Key::JobId) => self.name_job(value),
-            Some(Key::TimeLimit) => self.set_limit(value),
-            Some(Key::Nice) => self.set_nice(value),
+            Some(Key::TimeLimit) => put(&mut self.limit, read_limit(value)),
+            Some(Key::Nice) => put(&mut self.nice, read_nice(value)),
             _ => Err(WordKind::UnknownOption),
         })
     }

@@ -7,7 +7,7 @@ ghost use Rattle.scontrol_words.specs.Updating.{node_said, node_update_by};
 use crate::keys::{Key, scontrol_key};
 use crate::values::{is_long, read_hosts, read_node_order};
 use operands::bad_word::{BadWord, WordKind, fault_at};
-use operands::pairs::{Pairs, read_pairs};
+use operands::pairs::{Pairs, put, read_pairs};
 use slurm_text::items::Items;
 use slurm_text::memory_error::Memory;
 use slurm_text::name::Name;
@@ -26,7 +26,7 @@ impl NodeUpdate {
     ghost use Rattle.std.specs.Prelude.{◌≡◌, Some, IfOk};
     ghost use Rattle.operands.specs.Pairs.{now_said};
     ghost use Rattle.scontrol_words.specs.Updating.{node_key};
-    ghost use Rattle.scontrol_words.specs.declared.keys.Key.TheVariants.{NodeName, State, Reason};
+    ghost use Rattle.scontrol_words.specs.declared.keys.Key.TheVariants.{NodeName, Reason};
 
     // The nodes, which are named once.
     fn name_nodes(&mut self, alloc: Global, value: &[u8]) -> Result<Result<(), WordKind>, Memory>
@@ -35,25 +35,7 @@ impl NodeUpdate {
         if self.nodes.is_some() {
             return Ok(Err(WordKind::UnknownOption));
         }
-        match read_hosts(alloc, value)? {
-            Some(nodes) => {
-                self.nodes = Some(nodes);
-                Ok(Ok(()))
-            }
-            None => Ok(Err(WordKind::BadValue)),
-        }
-    }
-
-    fn set_state(&mut self, value: &[u8]) -> Result<(), WordKind>
-        ensures { now_said result self.new ≡ node_key self.old value.now (Some State) }
-    {
-        match read_node_order(value) {
-            Some(state) => {
-                self.state = Some(state);
-                Ok(())
-            }
-            None => Err(WordKind::BadValue),
-        }
+        Ok(put(&mut self.nodes, read_hosts(alloc, value)?))
     }
 
     // Why is kept nowhere.
@@ -81,7 +63,7 @@ impl Pairs for NodeUpdate {
     ) -> Result<Result<(), WordKind>, Memory> {
         match scontrol_key(key) {
             Some(Key::NodeName) => self.name_nodes(alloc, value),
-            Some(Key::State) => Ok(self.set_state(value)),
+            Some(Key::State) => Ok(put(&mut self.state, read_node_order(value))),
             Some(Key::Reason) => Ok(self.pass_over_reason(value)),
             _ => Ok(Err(WordKind::UnknownOption)),
         }

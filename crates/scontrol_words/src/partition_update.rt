@@ -8,7 +8,7 @@ use crate::keys::{Key, scontrol_key};
 use crate::values::read_part_state;
 use operands::bad_word::{BadWord, WordKind, fault_at};
 use operands::names::read_name;
-use operands::pairs::{Pairs, read_pairs};
+use operands::pairs::{Pairs, put, read_pairs};
 use slurm_text::memory_error::Memory;
 use slurm_text::name::Name;
 use slurm_text::plain::conf::PartState;
@@ -27,7 +27,7 @@ impl PartitionUpdate {
     ghost use Rattle.std.specs.Prelude.{◌≡◌, Some, IfOk};
     ghost use Rattle.operands.specs.Pairs.{now_said};
     ghost use Rattle.scontrol_words.specs.Updating.{partition_key};
-    ghost use Rattle.scontrol_words.specs.declared.keys.Key.TheVariants.{PartitionName, State};
+    ghost use Rattle.scontrol_words.specs.declared.keys.Key.TheVariants.{PartitionName};
 
     // The partition, which is named once.
     fn name_partition(
@@ -40,25 +40,7 @@ impl PartitionUpdate {
         if self.name.is_some() {
             return Ok(Err(WordKind::UnknownOption));
         }
-        match read_name(alloc, value)? {
-            Some(name) => {
-                self.name = Some(name);
-                Ok(Ok(()))
-            }
-            None => Ok(Err(WordKind::BadValue)),
-        }
-    }
-
-    fn set_state(&mut self, value: &[u8]) -> Result<(), WordKind>
-        ensures { now_said result self.new ≡ partition_key self.old value.now (Some State) }
-    {
-        match read_part_state(value) {
-            Some(state) => {
-                self.state = Some(state);
-                Ok(())
-            }
-            None => Err(WordKind::BadValue),
-        }
+        Ok(put(&mut self.name, read_name(alloc, value)?))
     }
 }
 
@@ -75,7 +57,7 @@ impl Pairs for PartitionUpdate {
     ) -> Result<Result<(), WordKind>, Memory> {
         match scontrol_key(key) {
             Some(Key::PartitionName) => self.name_partition(alloc, value),
-            Some(Key::State) => Ok(self.set_state(value)),
+            Some(Key::State) => Ok(put(&mut self.state, read_part_state(value))),
             _ => Ok(Err(WordKind::UnknownOption)),
         }
     }

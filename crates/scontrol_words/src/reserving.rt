@@ -7,7 +7,7 @@ use crate::keys::{Key, scontrol_key};
 use crate::values::{read_few_names, read_hosts};
 use operands::bad_word::{BadWord, WordKind, fault_at};
 use operands::names::read_name;
-use operands::pairs::{Pairs, read_pairs};
+use operands::pairs::{Pairs, put, read_pairs};
 use sbatch_options::values::{read_begin, read_limit};
 use slurm_text::items::Items;
 use slurm_text::memory_error::Memory;
@@ -59,33 +59,16 @@ fn nothing_reserved(now: u64) -> Reserved
 }
 
 impl Reserved {
-    ghost use Rattle.std.specs.Prelude.{◌≡◌, Some, IfOk};
+    ghost use Rattle.std.specs.Prelude.{◌≡◌, Some};
     ghost use Rattle.operands.specs.Pairs.{now_said};
     ghost use Rattle.scontrol_words.specs.Reserving.{reserved_key};
-    ghost use Rattle.scontrol_words.specs.declared.keys.Key.TheVariants.{ReservationName, StartTime, EndTime, Duration, Nodes, Users, Accounts};
-
-    fn set_name(&mut self, alloc: Global, value: &[u8]) -> Result<Result<(), WordKind>, Memory>
-        ensures { IfOk result (λ added. now_said added self.new ≡ reserved_key self.old value.now (Some ReservationName)) }
-    {
-        match read_name(alloc, value)? {
-            Some(name) => {
-                self.name = Some(name);
-                Ok(Ok(()))
-            }
-            None => Ok(Err(WordKind::BadValue)),
-        }
-    }
+    ghost use Rattle.scontrol_words.specs.declared.keys.Key.TheVariants.{StartTime, EndTime, Duration};
 
     fn set_start(&mut self, value: &[u8]) -> Result<(), WordKind>
         ensures { now_said result self.new ≡ reserved_key self.old value.now (Some StartTime) }
     {
-        match read_begin(value, self.now) {
-            Some(moment) => {
-                self.start = Some(moment);
-                Ok(())
-            }
-            None => Err(WordKind::BadValue),
-        }
+        let start = read_begin(value, self.now);
+        put(&mut self.start, start)
     }
 
     fn set_end(&mut self, value: &[u8]) -> Result<(), WordKind>
@@ -104,47 +87,11 @@ impl Reserved {
         ensures { now_said result self.new ≡ reserved_key self.old value.now (Some Duration) }
     {
         match read_limit(value) {
-            Some(limit) => {
-                self.until = Some(Until::For(limit));
+            Some(duration) => {
+                self.until = Some(Until::For(duration));
                 Ok(())
             }
             None => Err(WordKind::BadValue),
-        }
-    }
-
-    fn set_nodes(&mut self, alloc: Global, value: &[u8]) -> Result<Result<(), WordKind>, Memory>
-        ensures { IfOk result (λ added. now_said added self.new ≡ reserved_key self.old value.now (Some Nodes)) }
-    {
-        match read_hosts(alloc, value)? {
-            Some(nodes) => {
-                self.nodes = Some(nodes);
-                Ok(Ok(()))
-            }
-            None => Ok(Err(WordKind::BadValue)),
-        }
-    }
-
-    fn set_users(&mut self, alloc: Global, value: &[u8]) -> Result<Result<(), WordKind>, Memory>
-        ensures { IfOk result (λ added. now_said added self.new ≡ reserved_key self.old value.now (Some Users)) }
-    {
-        match read_few_names(alloc, value)? {
-            Some(names) => {
-                self.users = Some(names);
-                Ok(Ok(()))
-            }
-            None => Ok(Err(WordKind::BadValue)),
-        }
-    }
-
-    fn set_accounts(&mut self, alloc: Global, value: &[u8]) -> Result<Result<(), WordKind>, Memory>
-        ensures { IfOk result (λ added. now_said added self.new ≡ reserved_key self.old value.now (Some Accounts)) }
-    {
-        match read_few_names(alloc, value)? {
-            Some(names) => {
-                self.accounts = Some(names);
-                Ok(Ok(()))
-            }
-            None => Ok(Err(WordKind::BadValue)),
         }
     }
 }
@@ -161,13 +108,13 @@ impl Pairs for Reserved {
         value: &[u8],
     ) -> Result<Result<(), WordKind>, Memory> {
         match scontrol_key(key) {
-            Some(Key::ReservationName) => self.set_name(alloc, value),
+            Some(Key::ReservationName) => Ok(put(&mut self.name, read_name(alloc, value)?)),
             Some(Key::StartTime) => Ok(self.set_start(value)),
             Some(Key::EndTime) => Ok(self.set_end(value)),
             Some(Key::Duration) => Ok(self.set_duration(value)),
-            Some(Key::Nodes) => self.set_nodes(alloc, value),
-            Some(Key::Users) => self.set_users(alloc, value),
-            Some(Key::Accounts) => self.set_accounts(alloc, value),
+            Some(Key::Nodes) => Ok(put(&mut self.nodes, read_hosts(alloc, value)?)),
+            Some(Key::Users) => Ok(put(&mut self.users, read_few_names(alloc, value)?)),
+            Some(Key::Accounts) => Ok(put(&mut self.accounts, read_few_names(alloc, value)?)),
             _ => Ok(Err(WordKind::UnknownOption)),
         }
     }
