@@ -144,15 +144,29 @@ fn enter(
         entered,
         moment,
     } = decided;
-    if let Some(reply) = entered {
-        let entry = Entry {
-            session,
-            moment,
-            user,
-            request,
-            reply,
-        };
-        entries.push(entry).unwrap();
+    match entered {
+        Some(reply) => push(
+            entries,
+            Entry {
+                session,
+                moment,
+                user,
+                request,
+                reply,
+            },
+        ),
+        None => let_go(user, request),
     }
     Answer { reply, place }
 }
+
+// Puts an entry behind the others, which have room for it.
+fn push(entries: &mut Vec<Entry>, entry: Entry)
+    requires { vec_len entries.old < vec_capacity entries.old }
+    ensures { entries.new.items ≡ entries.old.items ++ entry ∷ [] }
+{
+    entries.push(entry).unwrap();
+}
+
+// Lets go of what isn't entered.
+fn let_go(_user: Name, _request: Request) {}
