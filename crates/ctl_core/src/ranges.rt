@@ -15,6 +15,9 @@ fn is_asked(desc: &JobDesc)
     let _ = desc.cpus_per_task.get();
     let _ = desc.run.get();
     let _ = desc.exit.get();
+    if let Some(begin) = &desc.begin {
+        let _ = begin.get();
+    }
 }
 
 fn is_limit(desc: &JobDesc)

@@ -4,7 +4,7 @@ use Rattle.slurm_text.specs.declared.plain.report.Report.{Report}
 use Rattle.slurm_text.specs.declared.plain.refusal.Refusal.{Refusal}
 use Rattle.slurm_text.specs.declared.plain.refusal.Refusal.TheVariants.{AccessDenied, UnknownNode, StaleReport}
 use Rattle.slurm_text.specs.declared.plain.reply.Reply.TheVariants.{Orders}
-use Rattle.node_state.specs.declared.record.Heard.{Heard}
+use Rattle.slurm_text.specs.declared.plain.report.Heard.{Heard}
 use Rattle.ctl_state.specs.State.{State}
 use Rattle.ctl_state.specs.Verdicts.{Verdict, Refuses, Makes}
 use Rattle.ctl_state.specs.Refusals.{refused_if, is_privileged}

@@ -6,7 +6,7 @@ use Rattle.slurm_text.specs.declared.plain.report.Done.{Done}
 use Rattle.slurm_text.specs.declared.plain.report.Report.{Report}
 use Rattle.slurm_text.specs.declared.plain.state.Final.{Final}
 use Rattle.slurm_text.specs.declared.plain.state.Final.TheVariants.{Completed, Failed}
-use Rattle.node_state.specs.declared.record.Heard.{Heard}
+use Rattle.slurm_text.specs.declared.plain.report.Heard.{Heard}
 use Rattle.job_table.specs.declared.record.Part.{Part}
 use Rattle.node_state.specs.declared.record.NodeRecord.{NodeRecord}
 use Rattle.node_state.specs.declared.record.NodeChange.TheVariants.{Heard as HeardFrom}

@@ -13,12 +13,11 @@ use crate::jobs::report_jobs;
 use crate::nodes::{hear, heard_of, is_after};
 use crate::ordering::{forgets, kills, launches};
 use ctl_state::cluster::Cluster;
-use node_state::record::Heard;
 use slurm_text::memory_error::Memory;
 use slurm_text::name::Name;
 use slurm_text::plain::orders::Orders;
 use slurm_text::plain::refusal::Refusal;
-use slurm_text::plain::report::Report;
+use slurm_text::plain::report::{Heard, Report};
 use std::alloc::Global;
 
 /// The place of the node that reports, in constant time.

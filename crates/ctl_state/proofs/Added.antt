@@ -4,8 +4,9 @@ use Rattle.std.specs.Prelude.{IfSome}
 use Rattle.std.proofs.lemmas.Option.{IfSome_then}
 use Rattle.std.proofs.lemmas.List.{get_or-map, length-map, map-append, append-nil}
 use Rattle.std.proofs.lemmas.List.Concat.{flat_map-append}
-use Rattle.std.proofs.lemmas.List.Elements.{All-append, All-weaker, Contains-append_left, filter-append}
+use Rattle.std.proofs.lemmas.List.Elements.{All-append, All-cons, All-head, All-tail, All-weaker, Contains-append_left, filter-append}
 use Rattle.slurm_text.specs.declared.plain.conf.NodeConf.{NodeConf}
+use Rattle.slurm_text.specs.declared.plain.conf.PartState.{PartState}
 use Rattle.resource_profile.specs.declared.NodeRoom.{NodeRoom}
 use Rattle.backfill_planner.specs.declared.Placed.{Placed}
 use Rattle.job_table.specs.declared.record.Part.{Part}
@@ -18,8 +19,10 @@ use Rattle.ctl_state.specs.State.{State, last_job_id, last_moment}
 use Rattle.job_table.specs.JobStates.{is_pending}
 use Rattle.ctl_state.specs.Holding.{IsHeldOnce, IsPartOf, cpus_of, mem_of, parts_of}
 use Rattle.ctl_state.specs.Planning.{room_of}
-use Rattle.partitions.specs.Partitions.{IsOnNodes}
-use Rattle.ctl_state.specs.Soundness.{AreNodes, AreOfPartitions, IsOfAccounts, AreUp, IsKept, IsSound, PlansPending, is_up_at, pending_ids}
+use Rattle.partitions.specs.declared.record.PartRecord.{PartRecord}
+use Rattle.partitions.specs.Laws.{OnNodesStays}
+use Rattle.partitions.specs.Partitions.{IsOnNodes, in_state, in_state_at}
+use Rattle.ctl_state.specs.Soundness.{AreNodes, AreOfPartitions, HasLimits, IsOfAccounts, AreUp, IsKept, IsSound, PlansPending, is_up_at, pending_ids}
 use Rattle.ctl_state.proofs.Kept.{kept-later, pending-nothing}
 use Rattle.ctl_state.proofs.Lists.{flat_map-nothing, pairs-append}
 
@@ -71,13 +74,44 @@ held-stays nodes old parts same held =
       mem = λ place. rw (mem place) (held.mem place);
     }
 
-pub sound-nodes : (s : State) (nodes : List NodeRecord) → IsSound s → map conf_of nodes ≡ map conf_of s.nodes
-    → ((place : ℕ) → is_up_at s.nodes place ≡ true → is_up_at nodes place ≡ true) → IsSound (record s { nodes = nodes })
-sound-nodes s nodes sound same stay =
+pub sound-held : (s : State) (nodes : List NodeRecord) → IsSound s → map conf_of nodes ≡ map conf_of s.nodes
+    → AreUp nodes (parts_of s.jobs) → IsSound (record s { nodes = nodes })
+sound-held s nodes sound same up =
     let are = nodes-stay nodes s.nodes same sound.nodes in
     let held = held-stays nodes s.nodes (parts_of s.jobs) same sound.held in
     let partitions : All (IsOnNodes (length nodes)) s.partitions = rw (long-stays nodes s.nodes same) sound.partitions in
-    let up : AreUp nodes (parts_of s.jobs) = λ k d below. stay (get_or (parts_of s.jobs) k d).node (sound.up k d below) in
+    search rules
+
+pub sound-nodes : (s : State) (nodes : List NodeRecord) → IsSound s → map conf_of nodes ≡ map conf_of s.nodes
+    → ((place : ℕ) → is_up_at s.nodes place ≡ true → is_up_at nodes place ≡ true) → IsSound (record s { nodes = nodes })
+sound-nodes s nodes sound same stay =
+    sound-held s nodes sound same (λ k d below. stay (get_or (parts_of s.jobs) k d).node (sound.up k d below))
+
+-- a partition in another state is as it was configured
+length-states : (place : ℕ) (state : PartState) (partitions : List PartRecord)
+    → length (in_state_at place state partitions) ≡ length partitions
+length-states place state [] = refl
+length-states zero state (partition ∷ later) = refl
+length-states (suc place) state (partition ∷ later) = ap suc (length-states place state later)
+
+limits-stay : (place : ℕ) (state : PartState) (partitions : List PartRecord) → All HasLimits partitions
+    → All HasLimits (in_state_at place state partitions)
+limits-stay place state [] all = all
+limits-stay zero state (partition ∷ later) all =
+    let first = All-head HasLimits partition later all in
+    All-cons HasLimits (in_state state partition) later (record { longest = first.longest; unasked = first.unasked })
+    (All-tail HasLimits partition later all)
+limits-stay (suc place) state (partition ∷ later) all =
+    All-cons HasLimits partition (in_state_at place state later) (All-head HasLimits partition later all)
+    (limits-stay place state later (All-tail HasLimits partition later all))
+
+pub sound-states : OnNodesStays → (s : State) (place : ℕ) (state : PartState) → IsSound s
+    → IsSound (record s { partitions = in_state_at place state s.partitions })
+sound-states on_nodes s place state sound =
+    let partitions = on_nodes (length s.nodes) place state s.partitions sound.partitions in
+    let limits = limits-stay place state s.partitions sound.limits in
+    let of_partitions : AreOfPartitions (in_state_at place state s.partitions) s.jobs =
+    rw (length-states place state s.partitions) sound.of_partitions in
     search rules
 
 -- jobs that hold nothing add no parts; and pending jobs hold nothing

@@ -6,7 +6,8 @@ use Rattle.backfill_planner.specs.declared.Placed.{Placed}
 use Rattle.job_table.specs.declared.record.Part.{Part}
 use Rattle.node_state.specs.declared.record.NodeRecord.{NodeRecord}
 use Rattle.partitions.specs.declared.record.PartRecord.{PartRecord}
-use Rattle.partitions.specs.Partitions.{IsOnNodes}
+use Rattle.partitions.specs.Partitions.{IsOnNodes, in_state_at}
+use Rattle.slurm_text.specs.declared.plain.conf.PartState.{PartState}
 use Rattle.job_table.specs.declared.record.JobRecord.{JobRecord}
 use Rattle.job_table.specs.declared.change.Change.{Change}
 use Rattle.ctl_state.specs.declared.record.ArrayRecord.{ArrayRecord}
@@ -23,7 +24,7 @@ use Rattle.ctl_state.specs.Planning.{plan_job}
 use Rattle.ctl_state.specs.Events.{FitsChange, LetsGo, MayTake, plan_left, started_as, those_left}
 use Rattle.ctl_state.specs.Counted.{counted_of, holding}
 use Rattle.run_limits.specs.Tallies.{HaveSameSums}
-use Rattle.ctl_state.specs.Soundness.{AreOfPartitions, IsOfAccounts, IsSound, IsKept, PlansPending, is_up_at, pending_ids}
+use Rattle.ctl_state.specs.Soundness.{AreOfPartitions, AreUp, IsOfAccounts, IsSound, IsKept, PlansPending, is_up_at, pending_ids}
 use Rattle.job_table.specs.Table.{HaveRisingIds, job_with}
 
 -- An event that starts nothing keeps all sound: each job that stays keeps some of its parts.
@@ -81,6 +82,22 @@ NodesStay = (s : State) (nodes : List NodeRecord)
     → IsSound s → map (λ (node : NodeRecord). node.conf) nodes ≡ map (λ (node : NodeRecord). node.conf) s.nodes
     → ((place : ℕ) → is_up_at s.nodes place ≡ true → is_up_at nodes place ≡ true)
     → IsSound (record s { nodes = nodes })
+
+-- The same of any that stay as they are configured, where nothing is held of those that are down.
+abbrev pub NodesHold : Type 0
+NodesHold = (s : State) (nodes : List NodeRecord)
+    → IsSound s → map (λ (node : NodeRecord). node.conf) nodes ≡ map (λ (node : NodeRecord). node.conf) s.nodes
+    → AreUp nodes (parts_of s.jobs)
+    → IsSound (record s { nodes = nodes })
+
+-- A partition in another state keeps all sound.
+abbrev pub PartitionStates : Type 0
+PartitionStates = (s : State) (place : ℕ) (state : PartState)
+    → IsSound s → IsSound (record s { partitions = in_state_at place state s.partitions })
+
+-- A shutdown keeps all sound.
+abbrev pub Shutting : Type 0
+Shutting = (s : State) → IsSound s → IsSound (record s { is_shut = true })
 
 -- Pending jobs that are added with the next numbers keep all sound.
 abbrev pub Adding : Type 0

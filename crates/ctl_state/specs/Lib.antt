@@ -8,4 +8,5 @@ pub mod Verdicts
 pub mod Refusals
 pub mod Laws
 pub mod Counted
+pub mod Limits
 pub mod Index

@@ -44,11 +44,13 @@ pub record IsAsked (desc : JobDesc) : Type 0 where
   pub cpus : (1 ≤ desc.cpus_per_task) × (desc.cpus_per_task ≤ 1024)
   pub run : (1 ≤ desc.run) × (desc.run ≤ 2000000000)
   pub exit : desc.exit ≤ 255
+  pub begin : unwrap_or desc.begin 0 ≤ last_moment
 
 -- The job's times fit its state: what runs or completes has a start, what has left Running has an end, none comes
 -- before the other or lies ahead.
 pub record IsWellRun (moment : ℕ) (job : JobRecord) : Type 0 where
   pub submitted : job.submit ≤ moment
+  pub eligible : job.eligible ≤ last_moment
   pub started : is_holding job.state ≡ true → is_some job.started ≡ true
   pub ended : (is_completing job.state || is_ended job.state) ≡ true → is_some job.ended ≡ true
   pub start_passed : unwrap_or job.started 0 ≤ moment

@@ -1,5 +1,5 @@
 -- The state of the cluster, as plain lists.
-use Rattle.std.specs.Prelude.{ℕ, List, [], length, map, replicate, slice_get, Option}
+use Rattle.std.specs.Prelude.{ℕ, Bool, false, List, [], length, map, replicate, slice_get, Option}
 use Rattle.slurm_text.specs.declared.plain.conf.Settings.{Settings}
 use Rattle.slurm_text.specs.Confs.{ConfView}
 use Rattle.slurm_text.specs.Assocs.{AssocView}
@@ -37,6 +37,8 @@ pub record State : Type 0 where
   pub next_id : ℕ
   -- the sizes of the requests accepted so far, in sum
   pub size : ℕ
+  -- whether a shutdown was accepted
+  pub is_shut : Bool
   -- the moment of the last request that was accepted
   pub moment : ℕ
 
@@ -66,6 +68,7 @@ opening conf file = record {
   plan = [];
   next_id = conf.settings.first_job_id;
   size = 0;
+  is_shut = false;
   moment = 0;
 }
 
@@ -83,6 +86,7 @@ state_of c = record {
   plan = c.plan.items;
   next_id = c.next_id;
   size = c.size;
+  is_shut = c.is_shut;
   moment = c.moment;
 }
 

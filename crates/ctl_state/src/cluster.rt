@@ -33,6 +33,8 @@ pub struct Cluster {
     pub next_id: u32,
     /// The sizes of the requests accepted so far, in sum (own).
     pub size: u64,
+    /// Whether a shutdown was accepted.
+    pub is_shut: bool,
     /// The moment of the last accepted request.
     pub moment: u64,
 }

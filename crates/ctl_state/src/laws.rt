@@ -6,6 +6,8 @@ ghost use Rattle.ctl_state.specs.Holding.{AreApart, parts_of};
 ghost use Rattle.ctl_state.specs.Laws;
 ghost use Rattle.ctl_state.specs.Soundness.{IsSound};
 
+use partitions::laws::a_state_leaves_the_rest;
+
 /// An event that starts nothing keeps all sound: each job that stays keeps some of its parts.
 pub fn letting_go_keeps_all_sound()
     ensures { Laws.LettingGo }
@@ -28,9 +30,22 @@ pub fn others_wait_on()
     ensures { Laws.OthersWait }
 {}
 
-/// Nodes that stay as they are configured, of which none goes down, keep all sound.
+/// Nodes that stay as they are configured keep all sound, where none goes down, or nothing is held of those that are.
 pub fn nodes_that_stay_keep_all_sound()
-    ensures { Laws.NodesStay }
+    ensures stay { Laws.NodesStay }
+    ensures hold { Laws.NodesHold }
+{}
+
+/// A partition in another state keeps all sound.
+pub fn states_of_partitions_keep_all_sound()
+    ensures { Laws.PartitionStates }
+{
+    a_state_leaves_the_rest();
+}
+
+/// A shutdown keeps all sound.
+pub fn a_shutdown_keeps_all_sound()
+    ensures { Laws.Shutting }
 {}
 
 /// The same where every job stays, and what is left of the plan then.

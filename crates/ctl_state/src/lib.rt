@@ -7,5 +7,6 @@ pub mod counting;
 mod job_nodes;
 pub mod jobs;
 pub mod laws;
+pub mod limits;
 pub mod planning;
 pub mod record;

@@ -1,5 +1,5 @@
 -- An accepted submission keeps all sound, and makes another state.
-use Rattle.std.proofs.Common.{◌≡◌, ◌≢◌, ℕ, ◌+◌, ◌<◌, ◌≤◌, ◌∙◌, true, List, [], ◌∷◌, ◌++◌, length, Option, Some, None, refl, ap, subst, arith, rules, tests, length-append}
+use Rattle.std.proofs.Common.{◌≡◌, ◌≢◌, ℕ, ◌+◌, ◌<◌, ◌≤◌, ◌∙◌, true, List, [], ◌∷◌, ◌++◌, length, max, Option, Some, None, refl, ap, subst, arith, rules, tests, length-append}
 use Rattle.std.specs.Prelude.{IfSome, is_none, option_and_then, option_map, slice_get, unwrap_or}
 use Rattle.std.specs.Option.{option_or}
 use Rattle.std.proofs.lemmas.Option.{slice_get_within}
@@ -32,12 +32,14 @@ limit-in (Some limit) unasked longest range left most = range
 
 -- a job that a submission makes in a partition that there is
 kept-new_job : (s : State) (moment : ℕ) (user : List ℕ) (desc : JobDesc) (terms : Terms) (id : ℕ) (of : Option ℕ)
-    (own : Option ArraySpec) → HasLimits terms.partition → IsAsked desc → IfSome desc.limit IsLimit
+    (own : Option ArraySpec) → moment ≤ last_moment → HasLimits terms.partition → IsAsked desc
+    → IfSome desc.limit IsLimit
     → IsKept moment (new_job s moment user desc terms id of own)
-kept-new_job s moment user desc terms id of own limits asked range =
+kept-new_job s moment user desc terms id of own in_time limits asked range =
     let conf = terms.partition.conf in
+    let early : max moment (unwrap_or desc.begin 0) ≤ last_moment = omega (arith, in_time, asked.begin) in
     record {
-      asked = record { tasks = asked.tasks; cpus = asked.cpus; run = asked.run; exit = asked.exit };
+      asked = record { tasks = asked.tasks; cpus = asked.cpus; run = asked.run; exit = asked.exit; begin = asked.begin };
       limit = limit-in desc.limit conf.default_time conf.max_time range limits.unasked limits.longest;
       run = search (rules, tests);
       parts = record { some = refl; apart = λ i j d before within. absurd (omega (arith, within)) };
@@ -71,7 +73,7 @@ submitted adding s now user desc terms sound later in_time asked range his good 
     (All-new_jobs (IsOfAccounts s.assocs s.qos) s now user desc terms desc.array
     (λ id of own least below first. record { assoc = his; qos = good }))
     (All-new_jobs (IsKept now) s now user desc terms desc.array
-    (λ id of own least below first. kept-new_job s now user desc terms id of own limits asked range))
+    (λ id of own least below first. kept-new_job s now user desc terms id of own in_time limits asked range))
     (All-new_jobs (λ (job : JobRecord). is_pending job.state ≡ true) s now user desc terms desc.array
     (λ id of own least below first. refl))
     added.rising added.above

@@ -1,11 +1,10 @@
 -- Why a pending job can't be planned.
-use Rattle.std.specs.Prelude.{ℕ, Bool, true, false, not, nat_lt, is_none, unwrap_or, List, [], ◌∷◌, ◌++◌, Option, Some, None, option_map, option_and_then}
+use Rattle.std.specs.Prelude.{ℕ, Bool, true, false, not, is_none, unwrap_or, List, [], ◌∷◌, ◌++◌, Option, Some, None, option_map, option_and_then}
 use Rattle.std.specs.List.{list_any}
 use Rattle.slurm_text.specs.declared.plain.array.ArraySpec.{ArraySpec}
 use Rattle.slurm_text.specs.declared.plain.conf.PartState.{PartState}
 use Rattle.slurm_text.specs.declared.plain.conf.PartState.TheVariants.{Up, Down, Drain, Inactive}
 use Rattle.slurm_text.specs.declared.plain.limit.Limit.{Limit}
-use Rattle.slurm_text.specs.declared.plain.limit.Limit.TheVariants.{Minutes, Unlimited}
 use Rattle.slurm_text.specs.declared.plain.state.Reason.{Reason}
 use Rattle.slurm_text.specs.declared.plain.state.Reason.TheVariants.{JobHeldAdmin, JobHeldUser, PartitionInactive, PartitionDown, PartitionTimeLimit, PartitionNodeLimit, QosMaxWallDurationPerJobLimit, ReqNodeNotAvail}
 use Rattle.slurm_text.specs.declared.plain.state.HeldBy.{HeldBy}
@@ -18,6 +17,7 @@ use Rattle.node_state.specs.Nodes.{is_available, place_named}
 use Rattle.accounts_qos.specs.Accounts.{qos_limits_at}
 use Rattle.run_limits.specs.Limits.{first_reason, limits_reached, reason_if}
 use Rattle.ctl_state.specs.Counted.{beside, counted_of}
+use Rattle.ctl_state.specs.Limits.{exceeds}
 use Rattle.ctl_state.specs.Planning.{is_at}
 use Rattle.ctl_state.specs.State.{State, partition_of}
 
@@ -32,12 +32,6 @@ is_down Up = false
 is_down Down = true
 is_down Drain = false
 is_down Inactive = false
-
--- the limit is above the longest one; none is above every number
-abbrev pub exceeds : Limit → Limit → Bool
-exceeds (Minutes minutes) (Minutes longest) = nat_lt longest minutes
-exceeds Unlimited (Minutes longest) = true
-exceeds limit Unlimited = false
 
 -- the limit is above the longest one, if there is a longest one
 abbrev pub exceeds_longest : Limit → Option Limit → Bool

@@ -10,6 +10,7 @@ ghost use Rattle.ctl_waiting.specs.Reasons;
 
 use ctl_state::cluster::Cluster;
 use ctl_state::counting::counted_of;
+use ctl_state::limits::exceeds;
 use job_table::record::JobRecord;
 use node_state::nodes::Nodes;
 use partitions::bounds::bounds_of;
@@ -18,21 +19,7 @@ use run_limits::reasons::limit_reached as first_limit_reached;
 use run_limits::tally::Tally;
 use slurm_text::name::Name;
 use slurm_text::plain::conf::PartState;
-use slurm_text::plain::limit::Limit;
 use slurm_text::plain::state::{HeldBy, Reason};
-
-// Whether the limit is above the longest one.
-fn exceeds(limit: &Limit, longest: &Limit) -> bool
-    ensures { result ≡ Reasons.exceeds limit.now longest.now }
-{
-    match longest {
-        Limit::Minutes(longest) => match limit {
-            Limit::Minutes(minutes) => minutes.get() > longest.get(),
-            Limit::Unlimited => true,
-        },
-        Limit::Unlimited => false,
-    }
-}
 
 // Who holds the job back.
 fn held_reason(held_by: HeldBy) -> Option<Reason>

@@ -3,7 +3,7 @@ use Rattle.std.proofs.Common.{◌≡◌, ◌≢◌, ℕ, zero, suc, ◌+◌, ◌
 use Rattle.std.specs.List.{AllZip, position_or_len}
 use Rattle.std.proofs.lemmas.List.{length-map, get_or-map}
 use Rattle.slurm_text.specs.declared.plain.conf.NodeConf.{NodeConf}
-use Rattle.node_state.specs.declared.record.Heard.{Heard}
+use Rattle.slurm_text.specs.declared.plain.report.Heard.{Heard}
 use Rattle.node_state.specs.declared.record.DownBy.{DownBy}
 use Rattle.node_state.specs.declared.record.DownBy.TheVariants as down
 use Rattle.node_state.specs.declared.record.NodeRecord.{NodeRecord}

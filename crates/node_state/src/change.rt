@@ -3,7 +3,8 @@
 ghost use Rattle.std.specs.Prelude.{◌≡◌, ◌↔◌, IsFalse};
 ghost use Rattle.node_state.specs.Nodes;
 
-use crate::record::{DownBy, Heard, NodeChange, NodeRecord};
+use crate::record::{DownBy, NodeChange, NodeRecord};
+use slurm_text::plain::report::Heard;
 
 // What may change of a node.
 #[derive(Clone, Copy, PartialEq)]

@@ -2,17 +2,7 @@
 
 use cpu_ids::CpuIds;
 use slurm_text::plain::conf::NodeConf;
-
-/// The last report of a node that was accepted.
-#[derive(Clone, Copy, Debug, PartialEq, Eq)]
-pub struct Heard {
-    /// The boot number of the daemon.
-    pub boot: u64,
-    /// The number of the report.
-    pub number: u64,
-    /// The second at which it was accepted.
-    pub moment: u64,
-}
+use slurm_text::plain::report::Heard;
 
 /// By whom a node is down.
 #[derive(Clone, Copy, Debug, PartialEq, Eq)]

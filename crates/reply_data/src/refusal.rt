@@ -44,6 +44,12 @@ pub enum Refusal {
     AccessDenied,
     /// 12: the job has ended, or completes.
     AlreadyDone,
+    /// 13: a job is named that isn't kept, or by aftercorr one that is no array of the same indices.
+    BadDependency,
+    /// 14: there is no such reservation, or the user may not use it; or it can't be made so.
+    InvalidReservation,
+    /// 15: its nodes are kept for others, or jobs hold them, within its time.
+    ReservationOverlap,
     /// 16: a name is no node.
     UnknownNode,
     /// 17: the node's last accepted report, which is given, isn't before this one.
@@ -54,6 +60,12 @@ pub enum Refusal {
     JobIdsSpent,
     /// 20: the request's moment is past the last one that the controller counts.
     MomentTooLarge,
+    /// 21: the job's state doesn't allow it.
+    WrongState,
+    /// 22: the controller was shut down.
+    ShuttingDown,
+    /// 23: the job may not be started again.
+    NotRequeueable,
 }
 
 impl Refusal {
@@ -77,6 +89,9 @@ impl Refusal {
             Refusal::InvalidJobId => Ok(Refusal::InvalidJobId),
             Refusal::AccessDenied => Ok(Refusal::AccessDenied),
             Refusal::AlreadyDone => Ok(Refusal::AlreadyDone),
+            Refusal::BadDependency => Ok(Refusal::BadDependency),
+            Refusal::InvalidReservation => Ok(Refusal::InvalidReservation),
+            Refusal::ReservationOverlap => Ok(Refusal::ReservationOverlap),
             Refusal::UnknownNode => Ok(Refusal::UnknownNode),
             Refusal::StaleReport { boot, number } => Ok(Refusal::StaleReport {
                 boot: *boot,
@@ -85,6 +100,9 @@ impl Refusal {
             Refusal::HistoryFull => Ok(Refusal::HistoryFull),
             Refusal::JobIdsSpent => Ok(Refusal::JobIdsSpent),
             Refusal::MomentTooLarge => Ok(Refusal::MomentTooLarge),
+            Refusal::WrongState => Ok(Refusal::WrongState),
+            Refusal::ShuttingDown => Ok(Refusal::ShuttingDown),
+            Refusal::NotRequeueable => Ok(Refusal::NotRequeueable),
         }
     }
 }

@@ -3,16 +3,50 @@
 ghost use Rattle.std.specs.Prelude.{◌≡◌, IfOk};
 
 use crate::priority::PriorityRow;
+use cpu_ids::CpuIds;
 use plain_data::Plain;
 use plain_data::conf::PartState;
+use plain_data::dependency::DepSpec;
 use plain_data::items::Items;
 use plain_data::limit::Limit;
+use plain_data::nice::Nice;
 use plain_data::ranged::Ranged;
+use request_data::report::Heard;
 use request_data::state::{JobState, Reason};
 use small_texts::memory_error::Memory;
 use small_texts::name::{JobName, Name};
 
-/// What is shown of a job. squeue(1).
+/// When a job is over. `EndTime` under "show job" in scontrol(1).
+#[derive(Clone, Copy, PartialEq, Eq, Debug)]
+pub enum EndAt {
+    /// It never ran.
+    Nothing,
+    /// It runs, and has no limit.
+    Unknown,
+    /// The second at which it ended, or reaches its limit.
+    At(Ranged<0, 253402300799>),
+}
+
+/// What a job holds of a node.
+#[derive(PartialEq, Debug, Drop)]
+pub struct NamedPart {
+    pub node: Name,
+    pub cpus: CpuIds,
+    /// In megabytes.
+    pub mem: u64,
+}
+
+impl Plain for NamedPart {
+    fn copy(&self) -> Result<NamedPart, Memory> {
+        Ok(NamedPart {
+            node: self.node.copy()?,
+            cpus: self.cpus.copy(),
+            mem: self.mem,
+        })
+    }
+}
+
+/// What is shown of a job. squeue(1), "show job" in scontrol(1).
 #[derive(PartialEq, Debug, Drop)]
 pub struct JobRow {
     pub id: u32,
@@ -40,6 +74,24 @@ pub struct JobRow {
     pub limit: Limit,
     /// How many processors it holds, or asks for while it is pending.
     pub cpus: u64,
+    /// How many tasks it has.
+    pub tasks: u64,
+    pub nice: Nice,
+    /// What it waits for.
+    pub dependency: Option<DepSpec>,
+    /// Whether it may be started again.
+    pub requeue: bool,
+    /// How often it was started again.
+    pub restarts: u32,
+    /// Its exit code, where it told one.
+    pub exit: Option<u32>,
+    /// The second at which it was handed in.
+    pub submit: Ranged<0, 253402300799>,
+    /// The second from which it may run.
+    pub eligible: Ranged<0, 253402300799>,
+    pub end: EndAt,
+    /// What it holds of each of its nodes.
+    pub parts: Items<NamedPart>,
 }
 
 impl JobRow {
@@ -65,6 +117,16 @@ impl JobRow {
             priority: self.priority,
             limit: self.limit,
             cpus: self.cpus,
+            tasks: self.tasks,
+            nice: self.nice,
+            dependency: self.dependency.copy()?,
+            requeue: self.requeue,
+            restarts: self.restarts,
+            exit: self.exit,
+            submit: self.submit,
+            eligible: self.eligible,
+            end: self.end,
+            parts: self.parts.copy()?,
         })
     }
 }
@@ -115,12 +177,127 @@ impl StateRow {
     }
 }
 
+/// What is shown of a node. "show node" in scontrol(1).
+#[derive(PartialEq, Debug, Drop)]
+pub struct NodeRow {
+    pub name: Name,
+    /// How many of its processors are held.
+    pub held: u64,
+    /// How many processors it has.
+    pub cpus: u64,
+    /// Its memory, in megabytes.
+    pub mem: u64,
+    /// How much of that is held.
+    pub held_mem: u64,
+    pub group: NodeGroup,
+    pub weight: u64,
+    pub features: Items<Name>,
+    /// Its last report that was accepted.
+    pub heard: Option<Heard>,
+}
+
+impl NodeRow {
+    /// An equal row.
+    pub fn copy(&self) -> Result<NodeRow, Memory>
+        ensures { IfOk result (λ row. row ≡ self.now) }
+    {
+        Ok(NodeRow {
+            name: self.name.copy()?,
+            held: self.held,
+            cpus: self.cpus,
+            mem: self.mem,
+            held_mem: self.held_mem,
+            group: self.group,
+            weight: self.weight,
+            features: self.features.copy()?,
+            heard: self.heard,
+        })
+    }
+}
+
+/// What is shown of a partition. "show partition" in scontrol(1).
+#[derive(PartialEq, Debug, Drop)]
+pub struct PartRow {
+    pub name: Name,
+    /// Whether it is the default partition.
+    pub is_default: bool,
+    pub state: PartState,
+    /// The longest limit that a job may have there.
+    pub max_time: Limit,
+    /// The limit of jobs that ask for none.
+    pub default_time: Option<Limit>,
+    /// How many nodes a job has there at least.
+    pub min_nodes: u32,
+    /// How many it may have at most.
+    pub max_nodes: Option<u32>,
+    /// Jobs of a partition of a higher tier come first.
+    pub tier: u64,
+    /// What it counts towards priorities.
+    pub factor: u64,
+    pub nodes: Items<Name>,
+    /// How many processors its nodes have.
+    pub cpus: u64,
+}
+
+impl PartRow {
+    /// An equal row.
+    pub fn copy(&self) -> Result<PartRow, Memory>
+        ensures { IfOk result (λ row. row ≡ self.now) }
+    {
+        Ok(PartRow {
+            name: self.name.copy()?,
+            is_default: self.is_default,
+            state: self.state,
+            max_time: self.max_time,
+            default_time: self.default_time,
+            min_nodes: self.min_nodes,
+            max_nodes: self.max_nodes,
+            tier: self.tier,
+            factor: self.factor,
+            nodes: self.nodes.copy()?,
+            cpus: self.cpus,
+        })
+    }
+}
+
+/// What is shown of a reservation. "show reservation" in scontrol(1).
+#[derive(PartialEq, Debug, Drop)]
+pub struct ResRow {
+    pub name: Name,
+    /// The second at which it begins.
+    pub start: Ranged<0, 253402300799>,
+    /// The second at which it is over.
+    pub end: Ranged<0, 253402300799>,
+    pub nodes: Items<Name>,
+    pub users: Items<Name>,
+    pub accounts: Items<Name>,
+}
+
+impl ResRow {
+    /// An equal row.
+    pub fn copy(&self) -> Result<ResRow, Memory>
+        ensures { IfOk result (λ row. row ≡ self.now) }
+    {
+        Ok(ResRow {
+            name: self.name.copy()?,
+            start: self.start,
+            end: self.end,
+            nodes: self.nodes.copy()?,
+            users: self.users.copy()?,
+            accounts: self.accounts.copy()?,
+        })
+    }
+}
+
 /// A record that is shown.
 #[derive(PartialEq, Debug, Drop)]
 pub enum Row {
     Job(JobRow),
     States(StateRow),
     Priority(PriorityRow),
+    Node(NodeRow),
+    Partition(PartRow),
+    Reservation(ResRow),
 }
 
 impl Plain for Row {
@@ -129,6 +306,9 @@ impl Plain for Row {
             Row::Job(row) => Ok(Row::Job(row.copy()?)),
             Row::States(row) => Ok(Row::States(row.copy()?)),
             Row::Priority(row) => Ok(Row::Priority(row.copy()?)),
+            Row::Node(row) => Ok(Row::Node(row.copy()?)),
+            Row::Partition(row) => Ok(Row::Partition(row.copy()?)),
+            Row::Reservation(row) => Ok(Row::Reservation(row.copy()?)),
         }
     }
 }

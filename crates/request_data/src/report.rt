@@ -23,6 +23,17 @@ pub struct Done {
     pub exit: u32,
 }
 
+/// The last report of a node that was accepted.
+#[derive(Clone, Copy, PartialEq, Eq, Debug)]
+pub struct Heard {
+    /// The boot number of the daemon.
+    pub boot: u64,
+    /// The number of the report.
+    pub number: u64,
+    /// The second at which it was accepted.
+    pub moment: u64,
+}
+
 /// What a node's daemon reports of itself (own).
 #[derive(PartialEq, Debug, Drop)]
 pub struct Report {

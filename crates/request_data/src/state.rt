@@ -44,6 +44,12 @@ pub enum Reason {
     JobHeldAdmin,
     /// Its owner holds it back.
     JobHeldUser,
+    /// What it waits for can never come to be.
+    DependencyNeverSatisfied,
+    /// It waits for other jobs.
+    Dependency,
+    /// It isn't to begin yet.
+    BeginTime,
     /// Its partition neither takes nor starts jobs.
     PartitionInactive,
     /// Its partition starts no jobs.
@@ -70,6 +76,8 @@ pub enum Reason {
     QosMaxJobsPerUserLimit,
     /// These jobs would have more processors than they may at once.
     QosMaxCpuPerUserLimit,
+    /// Its reservation is gone, or is over before its limit.
+    Reservation,
     /// A node that it must have is down or drained.
     ReqNodeNotAvail,
     /// It is the next in rank.

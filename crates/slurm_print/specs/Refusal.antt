@@ -1,7 +1,7 @@
 -- The text of a refusal.
 use Rattle.std.specs.Prelude.{ℕ, List, [], ◌++◌, codes, decimal}
 use Rattle.slurm_text.specs.declared.plain.refusal.Refusal.{Refusal}
-use Rattle.slurm_text.specs.declared.plain.refusal.Refusal.TheVariants.{PartitionClosed, InvalidAccount, InvalidPartition, InvalidQos, NodesNotAvailable, NotAllowedHere, SubmitLimit, JobTableFull, ArrayTooLarge, InvalidJobId, AccessDenied, AlreadyDone, UnknownNode, StaleReport, HistoryFull, JobIdsSpent, MomentTooLarge}
+use Rattle.slurm_text.specs.declared.plain.refusal.Refusal.TheVariants.{PartitionClosed, InvalidAccount, InvalidPartition, InvalidQos, NodesNotAvailable, NotAllowedHere, SubmitLimit, JobTableFull, ArrayTooLarge, InvalidJobId, AccessDenied, AlreadyDone, BadDependency, InvalidReservation, ReservationOverlap, UnknownNode, StaleReport, HistoryFull, JobIdsSpent, MomentTooLarge, WrongState, ShuttingDown, NotRequeueable}
 use Rattle.slurm_text.specs.declared.plain.refusal.Which.{Which}
 use Rattle.slurm_text.specs.declared.plain.refusal.Which.TheVariants.{AssocMaxSubmitJobs, AssocGrpSubmitJobs, QosGrpSubmitJobs, QosMaxSubmitJobsPerUser}
 
@@ -18,11 +18,17 @@ refusal_name ArrayTooLarge = codes "ArrayTooLarge"
 refusal_name InvalidJobId = codes "InvalidJobId"
 refusal_name AccessDenied = codes "AccessDenied"
 refusal_name AlreadyDone = codes "AlreadyDone"
+refusal_name BadDependency = codes "BadDependency"
+refusal_name InvalidReservation = codes "InvalidReservation"
+refusal_name ReservationOverlap = codes "ReservationOverlap"
 refusal_name UnknownNode = codes "UnknownNode"
 refusal_name (StaleReport boot number) = codes "StaleReport"
 refusal_name HistoryFull = codes "HistoryFull"
 refusal_name JobIdsSpent = codes "JobIdsSpent"
 refusal_name MomentTooLarge = codes "MomentTooLarge"
+refusal_name WrongState = codes "WrongState"
+refusal_name ShuttingDown = codes "ShuttingDown"
+refusal_name NotRequeueable = codes "NotRequeueable"
 
 abbrev pub refusal_number : Refusal → ℕ
 refusal_number PartitionClosed = 1
@@ -37,11 +43,17 @@ refusal_number ArrayTooLarge = 9
 refusal_number InvalidJobId = 10
 refusal_number AccessDenied = 11
 refusal_number AlreadyDone = 12
+refusal_number BadDependency = 13
+refusal_number InvalidReservation = 14
+refusal_number ReservationOverlap = 15
 refusal_number UnknownNode = 16
 refusal_number (StaleReport boot number) = 17
 refusal_number HistoryFull = 18
 refusal_number JobIdsSpent = 19
 refusal_number MomentTooLarge = 20
+refusal_number WrongState = 21
+refusal_number ShuttingDown = 22
+refusal_number NotRequeueable = 23
 
 -- a limit of submitted jobs, as squeue(1) names such limits in "JOB REASON CODES"
 abbrev pub which_name : Which → List ℕ

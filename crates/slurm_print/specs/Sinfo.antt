@@ -10,7 +10,7 @@ use Rattle.slurm_text.specs.declared.plain.view.NodeGroup.{NodeGroup}
 use Rattle.slurm_text.specs.declared.plain.view.NodeGroup.TheVariants.{Down, Draining, Drained, Allocated, Mixed, Idle}
 use Rattle.slurm_text.specs.declared.plain.view.StateRow.{StateRow}
 use Rattle.slurm_text.specs.declared.plain.view.Row.{Row}
-use Rattle.slurm_text.specs.declared.plain.view.Row.TheVariants.{Job, States, Priority}
+use Rattle.slurm_text.specs.declared.plain.view.Row.TheVariants.{States}
 use Rattle.slurm_text.specs.declared.plain.view.View.{View}
 use Rattle.slurm_print.specs.Field.{cell, left_cell}
 
@@ -52,9 +52,8 @@ state_line row =
     (decimal (length row.nodes)) (group_code row.group) (folded row.nodes)
 
 abbrev pub sinfo_row : Row → List ℕ
-sinfo_row (Job row) = []
 sinfo_row (States row) = state_line row
-sinfo_row (Priority row) = []
+sinfo_row row = []
 
 -- the lines, below their titles where these are wanted
 abbrev pub sinfo_text : Bool → View → List ℕ

@@ -5,7 +5,7 @@ use Rattle.slurm_text.specs.declared.plain.nice.Nice.TheVariants.{Lower, Raise}
 use Rattle.slurm_text.specs.declared.plain.priority.PriorityParts.{PriorityParts}
 use Rattle.slurm_text.specs.declared.plain.priority.PriorityRow.{PriorityRow}
 use Rattle.slurm_text.specs.declared.plain.view.Row.{Row}
-use Rattle.slurm_text.specs.declared.plain.view.Row.TheVariants.{Job, States, Priority}
+use Rattle.slurm_text.specs.declared.plain.view.Row.TheVariants.{Priority}
 use Rattle.slurm_text.specs.declared.plain.view.View.{View}
 use Rattle.slurm_print.specs.Field.{field, cell}
 use Rattle.slurm_print.specs.Squeue.{id_of}
@@ -45,9 +45,8 @@ priority_line row =
     ++ flat_map number_cell (numbers_of row.parts) ++ nice_end (nice_text row.parts.nice)
 
 abbrev pub sprio_row : Row → List ℕ
-sprio_row (Job row) = []
-sprio_row (States row) = []
 sprio_row (Priority row) = priority_line row
+sprio_row row = []
 
 -- the lines, below their titles where these are wanted
 abbrev pub sprio_text : Bool → View → List ℕ

@@ -14,7 +14,7 @@ use Rattle.slurm_text.specs.declared.plain.state.JobState.{JobState}
 use Rattle.slurm_text.specs.declared.plain.state.JobState.TheVariants.{Pending, Running, Completing, Ended}
 use Rattle.slurm_text.specs.declared.plain.state.Final.TheVariants.{Completed, Cancelled, Failed, Timeout, NodeFail, Requeue}
 use Rattle.slurm_text.specs.declared.plain.state.Reason.{Reason}
-use Rattle.slurm_text.specs.declared.plain.state.Reason.TheVariants.{JobHeldAdmin, JobHeldUser, PartitionInactive, PartitionDown, PartitionTimeLimit, PartitionNodeLimit, QosMaxWallDurationPerJobLimit, JobArrayTaskLimit, AssocGrpJobsLimit, AssocGrpCpuLimit, AssocMaxJobsLimit, QosGrpJobsLimit, QosGrpCpuLimit, QosMaxJobsPerUserLimit, QosMaxCpuPerUserLimit, ReqNodeNotAvail, Resources, Priority}
+use Rattle.slurm_text.specs.declared.plain.state.Reason.TheVariants.{JobHeldAdmin, JobHeldUser, DependencyNeverSatisfied, Dependency, BeginTime, PartitionInactive, PartitionDown, PartitionTimeLimit, PartitionNodeLimit, QosMaxWallDurationPerJobLimit, JobArrayTaskLimit, AssocGrpJobsLimit, AssocGrpCpuLimit, AssocMaxJobsLimit, QosGrpJobsLimit, QosGrpCpuLimit, QosMaxJobsPerUserLimit, QosMaxCpuPerUserLimit, Reservation, ReqNodeNotAvail, Resources, Priority}
 use Rattle.slurm_text.specs.declared.plain.view.JobRow.{JobRow}
 use Rattle.slurm_text.specs.declared.plain.view.Row.{Row}
 use Rattle.slurm_text.specs.declared.plain.view.Row.TheVariants as shown
@@ -48,6 +48,9 @@ state_word (Ended Requeue) = codes "REQUEUED"
 abbrev pub reason_name : Reason → List ℕ
 reason_name JobHeldAdmin = codes "JobHeldAdmin"
 reason_name JobHeldUser = codes "JobHeldUser"
+reason_name DependencyNeverSatisfied = codes "DependencyNeverSatisfied"
+reason_name Dependency = codes "Dependency"
+reason_name BeginTime = codes "BeginTime"
 reason_name PartitionInactive = codes "PartitionInactive"
 reason_name PartitionDown = codes "PartitionDown"
 reason_name PartitionTimeLimit = codes "PartitionTimeLimit"
@@ -61,6 +64,7 @@ reason_name QosGrpJobsLimit = codes "QOSGrpJobsLimit"
 reason_name QosGrpCpuLimit = codes "QOSGrpCpuLimit"
 reason_name QosMaxJobsPerUserLimit = codes "QOSMaxJobsPerUserLimit"
 reason_name QosMaxCpuPerUserLimit = codes "QOSMaxCpuPerUserLimit"
+reason_name Reservation = codes "Reservation"
 reason_name ReqNodeNotAvail = codes "ReqNodeNotAvail"
 reason_name Resources = codes "Resources"
 reason_name Priority = codes "Priority"
@@ -134,8 +138,7 @@ line tells pieces = flat_map (piece_text tells) pieces ++ codes "\n"
 
 abbrev pub row_line : List Piece → Row → List ℕ
 row_line pieces (shown.Job row) = line (told row) pieces
-row_line pieces (shown.States row) = []
-row_line pieces (shown.Priority row) = []
+row_line pieces row = []
 
 -- the format of a query
 abbrev pub format_of : Bool → Option (List Piece) → List Piece

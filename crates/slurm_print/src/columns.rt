@@ -170,6 +170,9 @@ fn reason_name(reason: Reason) -> &'static [u8]
     match reason {
         Reason::JobHeldAdmin => b"JobHeldAdmin",
         Reason::JobHeldUser => b"JobHeldUser",
+        Reason::DependencyNeverSatisfied => b"DependencyNeverSatisfied",
+        Reason::Dependency => b"Dependency",
+        Reason::BeginTime => b"BeginTime",
         Reason::PartitionInactive => b"PartitionInactive",
         Reason::PartitionDown => b"PartitionDown",
         Reason::PartitionTimeLimit => b"PartitionTimeLimit",
@@ -183,6 +186,7 @@ fn reason_name(reason: Reason) -> &'static [u8]
         Reason::QosGrpCpuLimit => b"QOSGrpCpuLimit",
         Reason::QosMaxJobsPerUserLimit => b"QOSMaxJobsPerUserLimit",
         Reason::QosMaxCpuPerUserLimit => b"QOSMaxCpuPerUserLimit",
+        Reason::Reservation => b"Reservation",
         Reason::ReqNodeNotAvail => b"ReqNodeNotAvail",
         Reason::Resources => b"Resources",
         Reason::Priority => b"Priority",

@@ -41,11 +41,17 @@ fn name(refusal: &Refusal) -> &'static [u8]
         Refusal::InvalidJobId => b"InvalidJobId",
         Refusal::AccessDenied => b"AccessDenied",
         Refusal::AlreadyDone => b"AlreadyDone",
+        Refusal::BadDependency => b"BadDependency",
+        Refusal::InvalidReservation => b"InvalidReservation",
+        Refusal::ReservationOverlap => b"ReservationOverlap",
         Refusal::UnknownNode => b"UnknownNode",
         Refusal::StaleReport { .. } => b"StaleReport",
         Refusal::HistoryFull => b"HistoryFull",
         Refusal::JobIdsSpent => b"JobIdsSpent",
         Refusal::MomentTooLarge => b"MomentTooLarge",
+        Refusal::WrongState => b"WrongState",
+        Refusal::ShuttingDown => b"ShuttingDown",
+        Refusal::NotRequeueable => b"NotRequeueable",
     }
 }
 
@@ -65,11 +71,17 @@ fn number(refusal: &Refusal) -> u64
         Refusal::InvalidJobId => 10,
         Refusal::AccessDenied => 11,
         Refusal::AlreadyDone => 12,
+        Refusal::BadDependency => 13,
+        Refusal::InvalidReservation => 14,
+        Refusal::ReservationOverlap => 15,
         Refusal::UnknownNode => 16,
         Refusal::StaleReport { .. } => 17,
         Refusal::HistoryFull => 18,
         Refusal::JobIdsSpent => 19,
         Refusal::MomentTooLarge => 20,
+        Refusal::WrongState => 21,
+        Refusal::ShuttingDown => 22,
+        Refusal::NotRequeueable => 23,
     }
 }
 

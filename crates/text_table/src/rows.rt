@@ -6,8 +6,9 @@ use slurm_text::hosts::expand_hosts;
 use slurm_text::items::Items;
 use slurm_text::name::{JobName, Name};
 use slurm_text::plain::limit::Limit;
+use slurm_text::plain::nice::Nice;
 use slurm_text::plain::state::{Final, JobState, Reason};
-use slurm_text::plain::view::JobRow;
+use slurm_text::plain::view::{EndAt, JobRow};
 use slurm_text::ranged::Ranged;
 use std::alloc::Global;
 use table_lines::answer::Unanswered;
@@ -165,7 +166,8 @@ fn names_of(
     })
 }
 
-fn joined(standing: Standing, names: Names, extras: Extras) -> JobRow {
+// What squeue doesn't show is as of a job that never ran.
+fn joined(alloc: Global, standing: Standing, names: Names, extras: Extras) -> JobRow {
     let Names {
         name,
         user,
@@ -195,6 +197,16 @@ fn joined(standing: Standing, names: Names, extras: Extras) -> JobRow {
         priority: numbers.priority,
         limit: numbers.limit,
         cpus: numbers.cpus,
+        tasks: 1,
+        nice: Nice::Lower(Ranged::new(0)),
+        dependency: None,
+        requeue: false,
+        restarts: 0,
+        exit: None,
+        submit: Ranged::new(0),
+        eligible: Ranged::new(0),
+        end: EndAt::Nothing,
+        parts: Items::from_vec(Vec::new(alloc)),
     }
 }
 
@@ -217,7 +229,7 @@ fn row_of(alloc: Global, words: &[&[u8]], more: &[&[u8]]) -> Result<JobRow, Unan
     let standing = standing_of([id, state, seconds, nodes, second])?;
     let names = names_of(alloc, name, user, partition, hosts)?;
     let extras = extras_of(alloc, more)?;
-    Ok(joined(standing, names, extras))
+    Ok(joined(alloc, standing, names, extras))
 }
 
 /// The job of `ID/NAME/USER/PARTITION/STATE/SECONDS/NODES/NAMES/START` and of
