@@ -1,20 +1,23 @@
--- What an accepted request makes is another state, before it bears its moment: a submission adds jobs, cancelling
--- changes one, a report is heard that comes after the last one, and a pass that would change nothing is idle.
-use Rattle.std.proofs.Common.{◌≡◌, ◌≢◌, ℕ, zero, suc, ◌<◌, ◌∙◌, Bool, true, false, List, [], ◌∷◌, length, drop, get_or, Option, Some, None, refl, ap, arith, inl, inr, if◌then◌else◌}
-use Rattle.std.specs.Prelude.{nat_lt, not, is_none, option_and_then}
+-- What an accepted request makes is another state, before it bears its moment: a submission adds jobs, what is done to
+-- jobs changes one, a report is heard that comes after the last one, a partition gets another state, and a pass that would
+-- change nothing is idle.
+use Rattle.std.proofs.Common.{◌≡◌, ◌≢◌, ℕ, zero, suc, ◌<◌, ◌∙◌, Bool, true, false, List, [], ◌∷◌, length, drop, get_or, Option, Some, None, refl, sym, ap, arith, inl, inr, if◌then◌else◌}
+use Rattle.std.specs.Prelude.{nat_lt, not, is_none, option_and_then, slice_get, IfSome}
 use Rattle.std.specs.List.{list_any}
 use Rattle.std.proofs.lemmas.Bool.{cases_Bool, both_ways}
 use Rattle.std.proofs.lemmas.Bool.Decides.{nat_tests}
 use Rattle.std.proofs.lemmas.List.Quantifiers.{position-Some}
 use Rattle.slurm_text.specs.declared.plain.job.JobDesc.{JobDesc}
 use Rattle.slurm_text.specs.declared.plain.refusal.Refusal.{Refusal}
-use Rattle.slurm_text.specs.declared.plain.refusal.Refusal.TheVariants.{AccessDenied, UnknownNode, MomentTooLarge}
+use Rattle.slurm_text.specs.declared.plain.refusal.Refusal.TheVariants.{AccessDenied, UnknownNode, MomentTooLarge, ShuttingDown}
 use Rattle.slurm_text.specs.declared.plain.reply.Reply.{Reply}
-use Rattle.slurm_text.specs.declared.plain.reply.Reply.TheVariants.{Idle}
+use Rattle.slurm_text.specs.declared.plain.reply.Reply.TheVariants.{Done, Idle}
 use Rattle.slurm_text.specs.declared.plain.report.Report.{Report as Told}
 use Rattle.slurm_text.specs.declared.plain.request.Request.{Request}
-use Rattle.slurm_text.specs.declared.plain.request.Request.TheVariants.{Submit, Cancel, Report, Pass}
-use Rattle.slurm_text.specs.declared.plain.target.Targets.{Targets}
+use Rattle.slurm_text.specs.declared.plain.request.Request.TheVariants.{Submit, Cancel, Hold, Release, Requeue, UpdateJob, UpdatePartition, Report, Pass, Shutdown}
+use Rattle.slurm_text.specs.declared.plain.conf.PartState.{PartState}
+use Rattle.partitions.specs.Partitions.{place_meant}
+use Rattle.job_table.specs.declared.record.JobRecord.{JobRecord}
 use Rattle.node_state.specs.declared.record.NodeRecord.{NodeRecord}
 use Rattle.node_state.specs.Nodes.{is_named, place_named}
 use Rattle.ctl_state.specs.State.{State, last_moment}
@@ -25,16 +28,20 @@ use Rattle.ctl_pass.specs.Passing.{pass_after, pass_made, is_idle}
 use Rattle.ctl_report.specs.Reporting.{heard_of, heard_nodes}
 use Rattle.ctl_report.specs.Answering.{node_of, last_heard, staleness, made_by_report}
 use Rattle.ctl_submit.specs.Submission.{made_under, submit_made, terms_of}
-use Rattle.ctl_cancel.specs.Cancelling.{cancel_after, cancel_made, goes}
+use Rattle.ctl_jobs.specs.declared.action.Action.{Action}
+use Rattle.ctl_jobs.specs.declared.action.Action.TheVariants as act
+use Rattle.ctl_jobs.specs.Changing.{are_meant, are_naming, change_after, change_made, goes}
+use Rattle.ctl_core.specs.Operating.{is_in_state, partition_after, partition_made, shut}
 use Rattle.ctl_core.specs.Sizes.{has_room}
-use Rattle.ctl_core.specs.Step.{raised, refusals_of, made, worked, ChangesNothing, unless_full, verdict_of, reply_of, is_unbuilt}
+use Rattle.ctl_core.specs.Step.{raised, refusals_of, made, worked, ChangesNothing, early_refusals, unless_full, verdict_of, reply_of, is_closed, is_unbuilt}
+use Rattle.ctl_core.proofs.Partitions.{in-state-had, in-state-stays}
 
 -- what is known of requests that change nothing
 pub record OnlyIdle : Type 0 where
   pub submissions : (s after : State) (now : ℕ) (user : List ℕ) (desc : JobDesc) (reply : Reply)
       → submit_made s now user desc ≡ Makes reply after → after ≢ s
-  pub cancelling : (s : State) (now : ℕ) (user : List ℕ) (targets : Targets)
-      → cancel_after s now user targets ≡ s → list_any (goes s user targets) s.jobs ≡ false
+  pub jobs : (s : State) (now : ℕ) (user : List ℕ) (action : Action) (named : JobRecord → Bool)
+      → change_after s now user action named ≡ s → list_any (goes s user action named) s.jobs ≡ false
   pub passes : (s : State) (now : ℕ) → pass_after s now ≡ s → is_idle s now ≡ true
 
 -- the first of refusals that come to none: none of them stands
@@ -98,12 +105,17 @@ pub pass-stays : ((s : State) (now : ℕ) → pass_after s now ≡ s → is_idle
     → (s : State) (now : ℕ) → pass_after s now ≡ s → pass_made s now ≡ Stays
 pass-stays only s now same = rw (only s now same)
 
--- cancelling that would change nothing cancels no job
-pub cancel-stays : ((s : State) (now : ℕ) (user : List ℕ) (targets : Targets)
-    → cancel_after s now user targets ≡ s → list_any (goes s user targets) s.jobs ≡ false)
-    → (s : State) (now : ℕ) (user : List ℕ) (targets : Targets)
-    → cancel_after s now user targets ≡ s → cancel_made s now user targets ≡ Stays
-cancel-stays only s now user targets same = rw (only s now user targets same)
+-- what is done to jobs and would change nothing changes no job
+pub jobs-stay : ((s : State) (now : ℕ) (user : List ℕ) (action : Action) (named : JobRecord → Bool)
+    → change_after s now user action named ≡ s → list_any (goes s user action named) s.jobs ≡ false)
+    → (s : State) (now : ℕ) (user : List ℕ) (action : Action) (named : JobRecord → Bool)
+    → change_after s now user action named ≡ s → change_made s now user action named ≡ Stays
+jobs-stay only s now user action named same = rw (only s now user action named same)
+
+-- a partition that would be as it was is in its state
+pub partition-stays : (s : State) (place : ℕ) (state : PartState)
+    → partition_after s place state ≡ s → partition_made s state (Some place) ≡ Stays
+partition-stays s place state same = rw (in-state-had place state s.partitions (ap (λ (t : State). t.partitions) same))
 
 pass-changes : OnlyIdle → (s : State) (now : ℕ) {reply : Reply} {after : State}
     → pass_made s now ≡ Makes reply after → after ≢ s
@@ -112,30 +124,61 @@ pass-changes only s now makes same = elim (cases_Bool (is_idle s now)) [
   | inr busy ↦ both_ways (is_idle s now) busy (only.passes s now (made-after (rw busy at makes) ∙ same))
 ]
 
-cancel-changes : OnlyIdle → (s : State) (now : ℕ) (user : List ℕ) (targets : Targets) {reply : Reply} {after : State}
-    → cancel_made s now user targets ≡ Makes reply after → after ≢ s
-cancel-changes only s now user targets makes same = elim (cases_Bool (list_any (goes s user targets) s.jobs)) [
-  | inl some ↦
-      both_ways (list_any (goes s user targets) s.jobs)
-      (only.cancelling s now user targets (made-after (rw some at makes) ∙ same)) some
-  | inr none ↦ let stays = rw none at makes in absurd (cc)
-]
+jobs-change : OnlyIdle → (s : State) (now : ℕ) (user : List ℕ) (action : Action) (named : JobRecord → Bool)
+    {reply : Reply} {after : State}
+    → change_made s now user action named ≡ Makes reply after → after ≢ s
+jobs-change only s now user action named makes same =
+    elim (cases_Bool (list_any (goes s user action named) s.jobs)) [
+      | inl some ↦
+          both_ways (list_any (goes s user action named) s.jobs)
+          (only.jobs s now user action named (made-after (rw some at makes) ∙ same)) some
+      | inr none ↦ let stays = rw none at makes in absurd (cc)
+    ]
+
+partition-changes : (s : State) (state : PartState) (place : Option ℕ) {reply : Reply} {after : State}
+    → partition_made s state place ≡ Makes reply after → after ≢ s
+partition-changes s state None makes same = absurd (cc)
+partition-changes s state (Some place) makes same =
+    elim (cases_Bool (is_in_state state (slice_get s.partitions place))) [
+      | inl in ↦ let stays = rw in at makes in absurd (cc)
+      | inr out ↦
+          let had = in-state-had place state s.partitions
+          (ap (λ (t : State). t.partitions) (made-after (rw out at makes) ∙ same)) in
+          both_ways (is_in_state state (slice_get s.partitions place)) out had
+    ]
+
+shut-changes : (s : State) {reply : Reply} {after : State} → s.is_shut ≡ false
+    → Makes Done (shut s) ≡ Makes reply after → after ≢ s
+shut-changes s open makes same =
+    both_ways s.is_shut open (sym (ap (λ (t : State). t.is_shut) (made-after makes ∙ same)))
 
 made-changes : OnlyIdle → (s : State) (moment : ℕ) (user : List ℕ) (request : Request) {reply : Reply} {after : State}
-    → first_refusal (refusals_of s moment user request) ≡ None
+    → is_closed s request ≡ false → first_refusal (refusals_of s moment user request) ≡ None
     → made s moment user request ≡ Makes reply after → after ≢ s
-made-changes only s moment user (Submit desc) {reply} {after} none makes same =
+made-changes only s moment user (Submit desc) {reply} {after} open none makes same =
     only.submissions s after moment user desc reply makes same
-made-changes only s moment user (Cancel targets) none makes same = cancel-changes only s moment user targets makes same
-made-changes only s moment user (Report report) none makes same =
+made-changes only s moment user (Cancel targets) open none makes same =
+    jobs-change only s moment user act.Cancel (are_meant targets) makes same
+made-changes only s moment user (Hold targets for_owner) open none makes same =
+    jobs-change only s moment user (act.Hold for_owner) (are_naming targets) makes same
+made-changes only s moment user (Release targets) open none makes same =
+    jobs-change only s moment user act.Release (are_naming targets) makes same
+made-changes only s moment user (Requeue target) open none makes same =
+    jobs-change only s moment user act.Requeue (are_naming (target ∷ [])) makes same
+made-changes only s moment user (UpdateJob target limit nice) open none makes same =
+    jobs-change only s moment user (act.Update limit nice) (are_naming (target ∷ [])) makes same
+made-changes only s moment user (UpdatePartition name state) open none makes same =
+    partition-changes s state (place_meant (Some name) s.partitions) makes same
+made-changes only s moment user Shutdown open none makes same = shut-changes s open makes same
+made-changes only s moment user (Report report) open none makes same =
     let allowed = none-first AccessDenied (not (is_privileged s user)) _ none in
     let known = none-first UnknownNode (is_none (node_of s report)) _ allowed.1 in
     let fresh = elim (staleness report (last_heard s report))
     as (λ refusal. first_refusal (refusal ∷ []) ≡ None → refusal ≡ None)
     [ None ↦ λ none. refl | Some refusal ↦ λ none. none ] known.1 in
     told-changes s moment report (node_of s report) refl fresh makes same
-made-changes only s moment user Pass none makes same = pass-changes only s moment makes same
-made-changes only s moment user request none makes same = absurd (cc)
+made-changes only s moment user Pass open none makes same = pass-changes only s moment makes same
+made-changes only s moment user request open none makes same = absurd (cc)
 
 -- What an accepted request makes is another state.
 pub step-changes : OnlyIdle → (s : State) (now : ℕ) (user : List ℕ) (request : Request) {reply : Reply} {after : State}
@@ -144,17 +187,19 @@ step-changes only s now user request makes same = elim (cases_Bool (is_unbuilt s
   | inl unbuilt ↦ let never = rw unbuilt at makes in absurd (cc)
   | inr built ↦
       let moment = raised s now in
-      let early = judged (refused_if (nat_lt last_moment now) MomentTooLarge) (worked s moment user request)
+      let early = judged (first_refusal (early_refusals s now request)) (worked s moment user request)
       (rw built at makes) in
+      let late = none-first MomentTooLarge (nat_lt last_moment now) _ early.0 in
+      let open = none-first ShuttingDown (is_closed s request) _ late.1 in
       let judged = judged (first_refusal (refusals_of s moment user request)) _ early.1 in
       let made = full-made (has_room s request) (made s moment user request) judged.1 in
-      made-changes only s moment user request judged.0 made same
+      made-changes only s moment user request open.0 judged.0 made same
 ]
 
 -- what an idle request is known by
 pub record IdleKeeps : Type 0 where
-  pub cancelling : (s : State) (now : ℕ) (user : List ℕ) (targets : Targets)
-      → IsSound s → list_any (goes s user targets) s.jobs ≡ false → cancel_after s now user targets ≡ s
+  pub jobs : (s : State) (now : ℕ) (user : List ℕ) (action : Action) (named : JobRecord → Bool)
+      → IsSound s → list_any (goes s user action named) s.jobs ≡ false → change_after s now user action named ≡ s
   pub passes : (s : State) (now : ℕ) → is_idle s now ≡ true → pass_after s now ≡ s
 
 -- a verdict whose reply is that nothing changes is refused for nothing, and has room or needs none
@@ -171,16 +216,41 @@ full-idle false Stays idle = refl
 full-idle false Unbuilt idle = absurd (cc)
 full-idle false (Makes reply after) idle = absurd (cc)
 
+jobs-idle : IdleKeeps → (s : State) (moment : ℕ) (user : List ℕ) (action : Action) (named : JobRecord → Bool)
+    → reply_by (change_made s moment user action named) ≡ Idle → IsSound s → change_after s moment user action named ≡ s
+jobs-idle keeps s moment user action named idle =
+    elim (cases_Bool (list_any (goes s user action named) s.jobs)) [
+      | inl some ↦ let done = rw some at idle in absurd (cc)
+      | inr none ↦ λ sound. keeps.jobs s moment user action named sound none
+    ]
+
+partition-idle : (s : State) (state : PartState) (place : Option ℕ)
+    → reply_by (partition_made s state place) ≡ Idle → IfSome place (λ there. partition_after s there state ≡ s)
+partition-idle s state None idle = tt
+partition-idle s state (Some place) idle =
+    elim (cases_Bool (is_in_state state (slice_get s.partitions place))) [
+      | inl in ↦ ap (λ partitions. record s { partitions = partitions }) (in-state-stays place state s.partitions in)
+      | inr out ↦ let done = rw out at idle in absurd (cc)
+    ]
+
 made-idle : IdleKeeps → (s : State) (moment : ℕ) (user : List ℕ) (request : Request)
     → reply_by (made s moment user request) ≡ Idle → ChangesNothing s moment user request
 made-idle keeps s moment user (Submit desc) idle =
     elim (terms_of s user desc)
     as (λ terms. reply_by (made_under s moment user desc terms) ≡ Idle → ⊥)
     [ None ↦ λ idle. absurd (cc) | Some terms ↦ λ idle. absurd (cc) ] idle
-made-idle keeps s moment user (Cancel targets) idle = elim (cases_Bool (list_any (goes s user targets) s.jobs)) [
-  | inl some ↦ let done = rw some at idle in absurd (cc)
-  | inr none ↦ λ sound. keeps.cancelling s moment user targets sound none
-]
+made-idle keeps s moment user (Cancel targets) idle =
+    jobs-idle keeps s moment user act.Cancel (are_meant targets) idle
+made-idle keeps s moment user (Hold targets for_owner) idle =
+    jobs-idle keeps s moment user (act.Hold for_owner) (are_naming targets) idle
+made-idle keeps s moment user (Release targets) idle =
+    jobs-idle keeps s moment user act.Release (are_naming targets) idle
+made-idle keeps s moment user (Requeue target) idle =
+    jobs-idle keeps s moment user act.Requeue (are_naming (target ∷ [])) idle
+made-idle keeps s moment user (UpdateJob target limit nice) idle =
+    jobs-idle keeps s moment user (act.Update limit nice) (are_naming (target ∷ [])) idle
+made-idle keeps s moment user (UpdatePartition name state) idle =
+    partition-idle s state (place_meant (Some name) s.partitions) idle
 made-idle keeps s moment user (Report report) idle =
     elim (node_of s report)
     as (λ node. reply_by (made_by_report s moment report node) ≡ Idle → ⊥)
@@ -198,7 +268,7 @@ step-idle keeps s now user request idle = elim (cases_Bool (is_unbuilt s request
   | inl unbuilt ↦ let never = rw unbuilt at idle in absurd (cc)
   | inr built ↦
       let moment = raised s now in
-      let early = judged-idle (refused_if (nat_lt last_moment now) MomentTooLarge) (worked s moment user request)
+      let early = judged-idle (first_refusal (early_refusals s now request)) (worked s moment user request)
       (rw built at idle) in
       let judged = judged-idle (first_refusal (refusals_of s moment user request)) _ early in
       made-idle keeps s moment user request (full-idle (has_room s request) (made s moment user request) judged)

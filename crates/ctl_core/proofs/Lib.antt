@@ -3,4 +3,5 @@ pub mod Raised
 pub mod Sized
 pub mod Stamping
 pub mod Stepping
+pub mod Partitions
 pub mod Changing

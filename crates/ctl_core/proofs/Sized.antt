@@ -1,17 +1,23 @@
 -- What a request makes is as large as the state before, and there is room for what is entered.
-use Rattle.std.proofs.Common.{◌≡◌, Bool, true, false, Option, Some, None, ℕ, List, refl, if◌then◌else◌}
+use Rattle.std.proofs.Common.{◌≡◌, Bool, true, false, Option, Some, None, ℕ, List, [], ◌∷◌, refl, if◌then◌else◌}
 use Rattle.std.specs.List.{list_any}
+use Rattle.std.specs.Prelude.{slice_get}
 use Rattle.std.proofs.lemmas.Bool.{cond_both}
 use Rattle.slurm_text.specs.declared.plain.refusal.Refusal.{Refusal}
 use Rattle.slurm_text.specs.declared.plain.request.Request.{Request}
-use Rattle.slurm_text.specs.declared.plain.request.Request.TheVariants.{Submit, Cancel, Report, Pass}
+use Rattle.slurm_text.specs.declared.plain.request.Request.TheVariants.{Submit, Cancel, Hold, Release, Requeue, UpdateJob, UpdatePartition, Report, Pass, Shutdown}
 use Rattle.ctl_state.specs.State.{State}
 use Rattle.ctl_state.specs.Refusals.{first_refusal, unless_refused}
 use Rattle.ctl_state.specs.Verdicts.{Verdict, Refuses, Tells, Stays, Unbuilt, Makes, reply_by, left_by}
 use Rattle.ctl_pass.specs.Passing.{is_idle}
 use Rattle.ctl_report.specs.Answering.{made_by_report, node_of}
 use Rattle.ctl_submit.specs.Submission.{made_under, terms_of}
-use Rattle.ctl_cancel.specs.Cancelling.{goes}
+use Rattle.ctl_jobs.specs.declared.action.Action.{Action}
+use Rattle.ctl_jobs.specs.declared.action.Action.TheVariants as act
+use Rattle.ctl_jobs.specs.Changing.{are_meant, are_naming, change_made, goes}
+use Rattle.ctl_core.specs.Operating.{is_in_state, partition_made}
+use Rattle.partitions.specs.Partitions.{place_meant}
+use Rattle.job_table.specs.declared.record.JobRecord.{JobRecord}
 use Rattle.ctl_core.specs.declared.reply.Answered.{Answered}
 use Rattle.ctl_core.specs.Answering.{Answers}
 use Rattle.ctl_core.specs.Sizes.{has_room}
@@ -25,12 +31,25 @@ KeepsSize s Stays = Unit {0}
 KeepsSize s Unbuilt = Unit {0}
 KeepsSize s (Makes reply after) = after.size ≡ s.size
 
+jobs-sized : (s : State) (moment : ℕ) (user : List ℕ) (action : Action) (named : JobRecord → Bool)
+    → KeepsSize s (change_made s moment user action named)
+jobs-sized s moment user action named =
+    cond_both (list_any (goes s user action named) s.jobs) _ Stays (KeepsSize s) (λ some. refl) (λ none. tt)
+
 made-sized : (s : State) (moment : ℕ) (user : List ℕ) (request : Request) → KeepsSize s (made s moment user request)
 made-sized s moment user (Submit desc) =
     elim (terms_of s user desc) as (λ terms. KeepsSize s (made_under s moment user desc terms))
     [ None ↦ tt | Some terms ↦ refl ]
-made-sized s moment user (Cancel targets) =
-    cond_both (list_any (goes s user targets) s.jobs) _ Stays (KeepsSize s) (λ some. refl) (λ none. tt)
+made-sized s moment user (Cancel targets) = jobs-sized s moment user act.Cancel (are_meant targets)
+made-sized s moment user (Hold targets for_owner) = jobs-sized s moment user (act.Hold for_owner) (are_naming targets)
+made-sized s moment user (Release targets) = jobs-sized s moment user act.Release (are_naming targets)
+made-sized s moment user (Requeue target) = jobs-sized s moment user act.Requeue (are_naming (target ∷ []))
+made-sized s moment user (UpdateJob target limit nice) =
+    jobs-sized s moment user (act.Update limit nice) (are_naming (target ∷ []))
+made-sized s moment user (UpdatePartition name state) =
+    elim (place_meant (Some name) s.partitions) as (λ place. KeepsSize s (partition_made s state place))
+    [ None ↦ tt | Some place ↦ cond_both (is_in_state state (slice_get s.partitions place)) Stays _ (KeepsSize s) (λ in. tt) (λ out. refl) ]
+made-sized s moment user Shutdown = refl
 made-sized s moment user (Report report) =
     elim (node_of s report) as (λ node. KeepsSize s (made_by_report s moment report node))
     [ None ↦ tt | Some node ↦ refl ]

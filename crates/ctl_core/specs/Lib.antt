@@ -1,4 +1,5 @@
 pub mod Sizes
+pub mod Operating
 pub mod Step
 pub mod Answering
 pub mod Views

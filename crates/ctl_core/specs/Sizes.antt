@@ -1,11 +1,11 @@
 -- How much a request takes of the history's room.
-use Rattle.std.specs.Prelude.{ℕ, ◌+◌, ◌*◌, Bool, nat_le, List, length}
+use Rattle.std.specs.Prelude.{ℕ, ◌+◌, ◌*◌, Bool, true, false, ◌||◌, nat_le, List, length}
 use Rattle.slurm_text.specs.declared.plain.request.Request.{Request}
 use Rattle.slurm_text.specs.declared.plain.request.Request.TheVariants.{Submit, Cancel, Hold, Release, Requeue, UpdateJob, UpdateNode, UpdatePartition, CreateReservation, DeleteReservation, Report, Pass, Shutdown, Show}
 use Rattle.slurm_text.specs.declared.plain.reservation.ReservationDesc.{ReservationDesc}
 use Rattle.slurm_text.specs.declared.plain.target.Targets.{Targets}
 use Rattle.slurm_text.specs.declared.plain.target.Targets.TheVariants.{List as Listed, User}
-use Rattle.ctl_state.specs.State.{State, last_size}
+use Rattle.ctl_state.specs.State.{State, last_size, shutdown_size}
 
 -- what is listed counts 32 each
 abbrev pub listing : ℕ → ℕ
@@ -33,9 +33,13 @@ size_of (CreateReservation desc) = listing (reservation_listed desc)
 size_of (DeleteReservation name) = listing 1
 size_of (Report report) = listing (1 + (length report.running + length report.done))
 size_of Pass = listing 0
-size_of Shutdown = listing 0
+size_of Shutdown = shutdown_size
 size_of (Show query) = listing 0
 
--- the history can take it
+abbrev pub is_shutdown : Request → Bool
+is_shutdown Shutdown = true
+is_shutdown request = false
+
+-- the history can take it; a shutdown it always takes
 abbrev pub has_room : State → Request → Bool
-has_room s request = nat_le (s.size + size_of request) last_size
+has_room s request = is_shutdown request || nat_le (s.size + size_of request) last_size

@@ -1,13 +1,14 @@
 -- One step of the controller: the reply to a request, and the state after it.
-use Rattle.std.specs.Prelude.{◌≡◌, ℕ, ◌+◌, Bool, true, false, ◌&&◌, not, if◌then◌else◌, nat_lt, max, List, [], ◌∷◌, Option, IfSome}
+use Rattle.std.specs.Prelude.{◌≡◌, ℕ, ◌+◌, Bool, true, false, ◌&&◌, not, if◌then◌else◌, nat_lt, max, List, [], ◌∷◌, Option, Some, IfSome}
 use Rattle.slurm_text.specs.declared.plain.query.Query.{Query}
 use Rattle.slurm_text.specs.declared.plain.query.Query.TheVariants.{Squeue, Sinfo, Sprio}
 use Rattle.slurm_text.specs.declared.plain.request.Request.{Request}
-use Rattle.slurm_text.specs.declared.plain.request.Request.TheVariants.{Submit, Cancel, Report, Pass, Show}
+use Rattle.slurm_text.specs.declared.plain.request.Request.TheVariants.{Submit, Cancel, Hold, Release, Requeue, UpdateJob, UpdateNode, UpdatePartition, CreateReservation, DeleteReservation, Report, Pass, Shutdown, Show}
 use Rattle.slurm_text.specs.declared.plain.refusal.Refusal.{Refusal}
-use Rattle.slurm_text.specs.declared.plain.refusal.Refusal.TheVariants.{HistoryFull, MomentTooLarge}
+use Rattle.slurm_text.specs.declared.plain.refusal.Refusal.TheVariants.{HistoryFull, MomentTooLarge, ShuttingDown}
 use Rattle.slurm_text.specs.declared.plain.reply.Reply.{Reply}
 use Rattle.slurm_text.specs.declared.plain.reply.Reply.TheVariants.{Submitted, Done, Passed, Orders, Idle, Shown, Refused, NotBuilt}
+use Rattle.partitions.specs.Partitions.{place_meant}
 use Rattle.ctl_state.specs.State.{State, last_moment}
 use Rattle.ctl_state.specs.Soundness.{IsAsked, IsLimit, IsSound}
 use Rattle.ctl_state.specs.Refusals.{refused_if, first_refusal, unless_refused, is_privileged}
@@ -15,34 +16,47 @@ use Rattle.ctl_state.specs.Verdicts.{Verdict, Refuses, Unbuilt, Tells, Makes, re
 use Rattle.ctl_pass.specs.Passing.{pass_refusals, pass_after, pass_made, jobs_planned}
 use Rattle.ctl_report.specs.Answering.{is_restarted, report_refusals, report_made}
 use Rattle.ctl_submit.specs.Submission.{submit_refusals, submit_made}
-use Rattle.ctl_cancel.specs.Cancelling.{cancel_refusals, cancel_after, cancel_made}
+use Rattle.ctl_jobs.specs.declared.action.Action.TheVariants as act
+use Rattle.ctl_jobs.specs.Changing.{are_meant, are_naming, cancel_refusals, change_after, change_made, refusals}
 use Rattle.ctl_show.specs.Showing.{show_refusals, view_of}
+use Rattle.ctl_core.specs.Operating.{partition_after, partition_made, partition_refusals, shut, shutdown_refusals}
 use Rattle.ctl_core.specs.Sizes.{has_room, size_of}
 
 -- the moment of a request: the one handed in, or the last one where that is later
 abbrev pub raised : State → ℕ → ℕ
 raised s now = max s.moment now
 
--- what the controller can't show yet: what scontrol(1) shows
+-- what the controller can't show yet: some of what scontrol(1) shows
 abbrev pub is_unbuilt_query : Query → Bool
 is_unbuilt_query (Squeue query) = false
 is_unbuilt_query (Sinfo partition titles) = false
 is_unbuilt_query (Sprio who jobs titles) = false
 is_unbuilt_query query = true
 
--- what the controller can't do yet: what scontrol(1) asks, and to work the report of a restarted daemon
+-- what the controller can't do yet: reservations, what operators say of nodes, and the reports of restarted daemons
 abbrev pub is_unbuilt : State → Request → Bool
-is_unbuilt s (Submit desc) = false
-is_unbuilt s (Cancel targets) = false
+is_unbuilt s (UpdateNode nodes state) = true
+is_unbuilt s (CreateReservation desc) = true
+is_unbuilt s (DeleteReservation name) = true
 is_unbuilt s (Report report) = is_restarted s report
-is_unbuilt s Pass = false
 is_unbuilt s (Show query) = is_unbuilt_query query
-is_unbuilt s request = true
+is_unbuilt s request = false
+
+-- a controller that was shut down only shows things
+abbrev pub is_closed : State → Request → Bool
+is_closed s (Show query) = false
+is_closed s request = s.is_shut
 
 -- why a user's request may be refused at a moment that is none too large, in their order
 abbrev pub refusals_of : State → ℕ → List ℕ → Request → List (Option Refusal)
 refusals_of s moment user (Submit desc) = submit_refusals s moment user desc
 refusals_of s moment user (Cancel targets) = cancel_refusals s user targets
+refusals_of s moment user (Hold targets for_owner) = refusals s user (act.Hold for_owner) targets
+refusals_of s moment user (Release targets) = refusals s user act.Release targets
+refusals_of s moment user (Requeue target) = refusals s user act.Requeue (target ∷ [])
+refusals_of s moment user (UpdateJob target limit nice) = refusals s user (act.Update limit nice) (target ∷ [])
+refusals_of s moment user (UpdatePartition name state) = partition_refusals s user name
+refusals_of s moment user Shutdown = shutdown_refusals s user
 refusals_of s moment user (Report report) = report_refusals s user report
 refusals_of s moment user Pass = pass_refusals s user
 refusals_of s moment user (Show query) = show_refusals s query
@@ -51,15 +65,34 @@ refusals_of s moment user request = []
 -- what a request comes to that isn't refused
 abbrev pub made : State → ℕ → List ℕ → Request → Verdict
 made s moment user (Submit desc) = submit_made s moment user desc
-made s moment user (Cancel targets) = cancel_made s moment user targets
+made s moment user (Cancel targets) = change_made s moment user act.Cancel (are_meant targets)
+made s moment user (Hold targets for_owner) = change_made s moment user (act.Hold for_owner) (are_naming targets)
+made s moment user (Release targets) = change_made s moment user act.Release (are_naming targets)
+made s moment user (Requeue target) = change_made s moment user act.Requeue (are_naming (target ∷ []))
+made s moment user (UpdateJob target limit nice) =
+    change_made s moment user (act.Update limit nice) (are_naming (target ∷ []))
+made s moment user (UpdatePartition name state) = partition_made s state (place_meant (Some name) s.partitions)
+made s moment user Shutdown = Makes Done (shut s)
 made s moment user (Report report) = report_made s moment report
 made s moment user Pass = pass_made s moment
 made s moment user (Show query) = Tells (view_of s moment user query)
 made s moment user request = Unbuilt
 
--- What an idle request is: a pass that leaves the state as it is, or, where all is sound, one that cancels no job.
+-- What an idle request is: a pass, or another state of a partition, that leaves the state as it is, or, where all is
+-- sound, what is done to jobs and changes none.
 abbrev pub ChangesNothing : State → ℕ → List ℕ → Request → Type 0
-ChangesNothing s moment user (Cancel targets) = IsSound s → cancel_after s moment user targets ≡ s
+ChangesNothing s moment user (Cancel targets) =
+    IsSound s → change_after s moment user act.Cancel (are_meant targets) ≡ s
+ChangesNothing s moment user (Hold targets for_owner) =
+    IsSound s → change_after s moment user (act.Hold for_owner) (are_naming targets) ≡ s
+ChangesNothing s moment user (Release targets) =
+    IsSound s → change_after s moment user act.Release (are_naming targets) ≡ s
+ChangesNothing s moment user (Requeue target) =
+    IsSound s → change_after s moment user act.Requeue (are_naming (target ∷ [])) ≡ s
+ChangesNothing s moment user (UpdateJob target limit nice) =
+    IsSound s → change_after s moment user (act.Update limit nice) (are_naming (target ∷ [])) ≡ s
+ChangesNothing s moment user (UpdatePartition name state) =
+    IfSome (place_meant (Some name) s.partitions) (λ place. partition_after s place state ≡ s)
 ChangesNothing s moment user Pass = pass_after s moment ≡ s
 ChangesNothing s moment user request = ⊥
 
@@ -75,11 +108,18 @@ worked s moment user request =
     unless_refused (first_refusal (refusals_of s moment user request))
     (unless_full (has_room s request) (made s moment user request))
 
+-- why any request may be refused, before all else
+abbrev pub early_refusals : State → ℕ → Request → List (Option Refusal)
+early_refusals s now request =
+    refused_if (nat_lt last_moment now) MomentTooLarge
+    ∷ refused_if (is_closed s request) ShuttingDown
+    ∷ []
+
 -- What a user's request at a moment comes to.
 abbrev pub verdict_of : State → ℕ → List ℕ → Request → Verdict
 verdict_of s now user request =
     if is_unbuilt s request then Unbuilt else
-    unless_refused (refused_if (nat_lt last_moment now) MomentTooLarge) (worked s (raised s now) user request)
+    unless_refused (first_refusal (early_refusals s now request)) (worked s (raised s now) user request)
 
 -- the reply to it
 abbrev pub reply_of : State → ℕ → List ℕ → Request → Reply
@@ -110,9 +150,12 @@ state_after s now user request =
 -- how many steps a pass of this user counts: one for each job that it plans, where it is allowed
 abbrev pub steps_of : State → ℕ → List ℕ → ℕ
 steps_of s now user =
-    if not (nat_lt last_moment now) && is_privileged s user then jobs_planned s (raised s now) else 0
+    if not (nat_lt last_moment now) && (not s.is_shut && is_privileged s user)
+    then jobs_planned s (raised s now)
+    else 0
 
 -- the request is in its ranges, as its type keeps them
 abbrev pub IsInRange : Request → Type 0
 IsInRange (Submit desc) = IsAsked desc × IfSome desc.limit IsLimit
+IsInRange (UpdateJob target limit nice) = IfSome limit IsLimit
 IsInRange request = Unit {0}

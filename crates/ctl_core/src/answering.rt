@@ -8,10 +8,11 @@ ghost use Rattle.ctl_state.specs.Index.{IsIndexed};
 ghost use Rattle.ctl_state.specs.Soundness.{IsSound};
 ghost use Rattle.ctl_core.specs.Answering.{Answers};
 ghost use Rattle.ctl_core.specs.Sizes.{has_room};
-ghost use Rattle.ctl_core.specs.Step.{reply_of, state_after, entered, is_entered, is_unbuilt, is_unbuilt_query, raised, steps_of, worked};
+ghost use Rattle.ctl_core.specs.Step.{reply_of, state_after, entered, is_closed, is_entered, is_unbuilt, is_unbuilt_query, raised, steps_of, worked};
 
-use crate::cancelling::cancel_jobs;
+use crate::changing::{cancel_jobs, change_job, change_jobs};
 use crate::laws::a_step_keeps_all_sound;
+use crate::operating::{shut_down, update_partition};
 use crate::passing::pass;
 use crate::ranges::in_range;
 use crate::reply::{Answered, Decided};
@@ -19,6 +20,7 @@ use crate::reporting::report;
 use crate::showing::show;
 use crate::sizes::room_for;
 use crate::submitting::submit;
+use ctl_jobs::Action;
 use ctl_report::is_restarted;
 use ctl_state::cluster::Cluster;
 use resource_profile::{Steps, start};
@@ -76,11 +78,47 @@ fn work(
     match request {
         Request::Submit(desc) => submit(alloc, cluster, moment, user, desc, room),
         Request::Cancel(targets) => Ok(cancel_jobs(cluster, moment, user, targets, room)),
+        Request::Hold { targets, user: owned } => {
+            let action = Action::Hold { for_owner: *owned };
+            Ok(change_jobs(cluster, moment, user, action, targets.as_slice(), room))
+        }
+        Request::Release { targets } => {
+            let action = Action::Release;
+            Ok(change_jobs(cluster, moment, user, action, targets.as_slice(), room))
+        }
+        Request::Requeue { target } => {
+            Ok(change_job(cluster, moment, user, Action::Requeue, *target, room))
+        }
+        Request::UpdateJob {
+            target,
+            limit,
+            nice,
+        } => {
+            let action = Action::Update {
+                limit: *limit,
+                nice: *nice,
+            };
+            Ok(change_job(cluster, moment, user, action, *target, room))
+        }
+        Request::UpdatePartition { name, state } => {
+            Ok(update_partition(cluster, user, name, *state, room))
+        }
+        Request::Shutdown => Ok(shut_down(cluster, user)),
         Request::Report(told) => report(alloc, cluster, moment, user, told, room),
         Request::Pass => pass(alloc, cluster, moment, user, room, &mut start()),
         Request::Show(query) => show(alloc, cluster, moment, user, query),
-        // What scontrol(1) asks isn't worked yet.
+        // What operators say of nodes, and reservations, aren't worked yet.
         _ => Ok(unbuilt()),
+    }
+}
+
+// Whether a controller that was shut down refuses the request.
+fn is_closed(cluster: &Cluster, request: &Request) -> bool
+    ensures { result ≡ is_closed (state_of cluster.now) request.now }
+{
+    match request {
+        Request::Show(_) => false,
+        _ => cluster.is_shut,
     }
 }
 
@@ -99,10 +137,12 @@ fn is_unbuilt(cluster: &Cluster, request: &Request) -> bool
     ensures { result ≡ is_unbuilt (state_of cluster.now) request.now }
 {
     match request {
-        Request::Submit(_) | Request::Cancel(_) | Request::Pass => false,
+        Request::UpdateNode { .. }
+        | Request::CreateReservation(_)
+        | Request::DeleteReservation { .. } => true,
         Request::Report(report) => is_restarted(cluster, report),
         Request::Show(query) => is_unbuilt_query(query),
-        _ => true,
+        _ => false,
     }
 }
 
@@ -113,6 +153,17 @@ fn unbuilt() -> Answered
     Answered {
         reply: Reply::NotBuilt,
         entered: None,
+    }
+}
+
+/// The answer to a request that is done, and tells nothing.
+pub(crate) fn done() -> Answered
+    ensures reply { result.reply ≡ Reply.Done }
+    ensures entered { result.entered ≡ Some Reply.Done }
+{
+    Answered {
+        reply: Reply::Done,
+        entered: Some(Reply::Done),
     }
 }
 
@@ -163,6 +214,9 @@ fn answer(
     if now > LAST_MOMENT {
         return Ok(stamp(cluster, moment, 0, refused(Refusal::MomentTooLarge)));
     }
+    if is_closed(cluster, request) {
+        return Ok(stamp(cluster, moment, 0, refused(Refusal::ShuttingDown)));
+    }
     let size = room_for(cluster, request);
     let answered = work(alloc, cluster, moment, user, request, size.is_some())?;
     Ok(stamp(cluster, moment, size.unwrap_or(0), answered))
@@ -191,6 +245,9 @@ fn answer_pass<L>(
     let moment = cluster.moment.max(now);
     if now > LAST_MOMENT {
         return Ok(stamp(cluster, moment, 0, refused(Refusal::MomentTooLarge)));
+    }
+    if cluster.is_shut {
+        return Ok(stamp(cluster, moment, 0, refused(Refusal::ShuttingDown)));
     }
     let size = room_for(cluster, &Request::Pass);
     let answered = pass(alloc, cluster, moment, user, size.is_some(), steps)?;

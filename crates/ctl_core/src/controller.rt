@@ -70,6 +70,7 @@ impl Ctl {
             arrays: Vec::new(alloc),
             plan: Vec::new(alloc),
             size: 0,
+            is_shut: false,
             moment: 0,
         };
         Ok(Ctl { alloc, cluster })
@@ -78,8 +79,9 @@ impl Ctl {
     /// Decides one request, and changes the state where it is accepted. A submission is linear in associations,
     /// partitions and nodes, sorts the nodes of its partition, costs for each of these what it names of nodes and
     /// features, is linear in its tasks, and for each limit of submitted jobs that it counts towards in the jobs.
-    /// Cancelling is for each target logarithmic in the jobs and linear in the tasks of its array, of a user's jobs
-    /// linear in all, and then linear in the plan; it takes no memory. A report is linear in the jobs, and for each job
+    /// What is done to jobs is for each target logarithmic in the jobs and linear in the tasks of its array, of a user's
+    /// jobs linear in all, and then linear in the plan; it takes no memory, nor does another state of a partition, which
+    /// is linear in the partitions, or a shutdown. A report is linear in the jobs, and for each job
     /// of the node in what it tells. A pass costs what its plan costs. A query of jobs or priorities ranks the users, is
     /// linear in the jobs, the parts of those that run or are shown and the plan, and for each job in the targets and
     /// states that it names; one of partitions is linear in the nodes, the jobs' parts and the nodes of the partitions
@@ -94,6 +96,13 @@ impl Ctl {
         ensures sound { IsSound self.old.state × IsSound self.new.state }
     {
         ask(self.alloc, &mut self.cluster, now, user, request)
+    }
+
+    /// Whether a shutdown was accepted. It takes no memory.
+    pub fn is_shut(&self) -> bool
+        ensures { result ≡ self.now.state.is_shut }
+    {
+        self.cluster.is_shut
     }
 
     /// A pass, whatever plan is at hand. It counts a step for each job that it plans, where it is allowed, and

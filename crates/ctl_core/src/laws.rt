@@ -1,22 +1,28 @@
 //! What holds of every step. A law is the contract of a function that does nothing.
 
-ghost use Rattle.std.specs.Prelude.{◌≡◌, ◌≢◌, ℕ, List};
+ghost use Rattle.std.specs.Prelude.{◌≡◌, ◌≢◌, ℕ, Bool, List, Some};
 ghost use Rattle.slurm_text.specs.declared.plain.request.Request.{Request};
 ghost use Rattle.slurm_text.specs.declared.plain.request.Request.TheVariants.{Pass};
 ghost use Rattle.slurm_text.specs.declared.plain.reply.Reply.{Reply};
 ghost use Rattle.slurm_text.specs.declared.plain.reply.Reply.TheVariants.{Idle};
-ghost use Rattle.slurm_text.specs.declared.plain.target.Targets.{Targets};
+ghost use Rattle.slurm_text.specs.declared.plain.conf.PartState.{PartState};
+ghost use Rattle.job_table.specs.declared.record.JobRecord.{JobRecord};
 ghost use Rattle.ctl_state.specs.State.{State};
 ghost use Rattle.ctl_state.specs.Soundness.{IsSound};
 ghost use Rattle.ctl_state.specs.Verdicts.{Stays, Makes};
 ghost use Rattle.ctl_pass.specs.Passing.{pass_after, pass_made};
-ghost use Rattle.ctl_cancel.specs.Cancelling.{cancel_after, cancel_made};
+ghost use Rattle.ctl_jobs.specs.declared.action.Action.{Action};
+ghost use Rattle.ctl_jobs.specs.Changing.{change_after, change_made};
+ghost use Rattle.ctl_core.specs.Operating.{partition_after, partition_made};
 ghost use Rattle.ctl_core.specs.Step.{verdict_of, reply_of, state_after, raised, ChangesNothing, IsInRange};
 
-use ctl_cancel::laws::{cancelling_keeps_all_sound, cancelling_nothing_changes_nothing};
+use ctl_jobs::laws::{what_users_do_keeps_all_sound, where_no_job_changes_nothing_does};
 use ctl_pass::laws::{a_pass_keeps_all_sound, an_idle_pass_changes_nothing};
 use ctl_report::laws::a_report_keeps_all_sound;
-use ctl_state::laws::sizes_keep_all_sound;
+use ctl_state::laws::{
+    a_shutdown_keeps_all_sound, sizes_keep_all_sound, states_of_partitions_keep_all_sound,
+    time_keeps_all_sound,
+};
 use ctl_submit::laws::{a_submission_changes_the_state, a_submission_keeps_all_sound};
 
 /// Whatever is asked, what is sound stays sound.
@@ -25,10 +31,13 @@ pub fn a_step_keeps_all_sound()
         → IsSound (state_after s now user request) }
 {
     a_submission_keeps_all_sound();
-    cancelling_keeps_all_sound();
+    what_users_do_keeps_all_sound();
     a_report_keeps_all_sound();
     a_pass_keeps_all_sound();
     sizes_keep_all_sound();
+    states_of_partitions_keep_all_sound();
+    a_shutdown_keeps_all_sound();
+    time_keeps_all_sound();
 }
 
 /// A request is decided at its raised moment as at the one handed in.
@@ -39,18 +48,20 @@ pub fn raised_moments_decide_alike()
         → state_after s (raised s now) user request ≡ state_after s now user request }
 {}
 
-/// A request is idle only where it is a pass that would change nothing but the moment, or cancels no job; and such a
-/// request is idle. What an accepted request makes is another state, also before it bears its moment.
+/// A request is idle only where it would change nothing but the moment: a pass, what is done to jobs, another state of a
+/// partition; and such a request is idle. What an accepted request makes is another state, also before it bears its moment.
 pub fn idle_requests_change_nothing()
     ensures idle { (s : State) (now : ℕ) (user : List ℕ) (request : Request)
         → reply_of s now user request ≡ Idle → ChangesNothing s (raised s now) user request }
     ensures pass { (s : State) (moment : ℕ) → pass_after s moment ≡ s → pass_made s moment ≡ Stays }
-    ensures cancel { (s : State) (moment : ℕ) (user : List ℕ) (targets : Targets)
-        → cancel_after s moment user targets ≡ s → cancel_made s moment user targets ≡ Stays }
+    ensures jobs { (s : State) (moment : ℕ) (user : List ℕ) (action : Action) (named : JobRecord → Bool)
+        → change_after s moment user action named ≡ s → change_made s moment user action named ≡ Stays }
+    ensures partition { (s : State) (place : ℕ) (state : PartState)
+        → partition_after s place state ≡ s → partition_made s state (Some place) ≡ Stays }
     ensures made { (s after : State) (now : ℕ) (user : List ℕ) (request : Request) (reply : Reply)
         → verdict_of s now user request ≡ Makes reply after → after ≢ s }
 {
     a_submission_changes_the_state();
-    cancelling_nothing_changes_nothing();
+    where_no_job_changes_nothing_does();
     an_idle_pass_changes_nothing();
 }

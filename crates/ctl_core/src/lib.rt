@@ -2,9 +2,10 @@
 #![tactic(auto)]
 
 mod answering;
-mod cancelling;
+mod changing;
 pub mod controller;
 pub mod laws;
+mod operating;
 mod passing;
 mod ranges;
 pub mod reply;

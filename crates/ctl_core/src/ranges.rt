@@ -20,10 +20,10 @@ fn is_asked(desc: &JobDesc)
     }
 }
 
-fn is_limit(desc: &JobDesc)
-    ensures { IfSome desc.now.limit IsLimit }
+fn is_limit(limit: &Option<Limit>)
+    ensures { IfSome limit.now IsLimit }
 {
-    if let Some(Limit::Minutes(minutes)) = &desc.limit {
+    if let Some(Limit::Minutes(minutes)) = limit {
         let _ = minutes.get();
     }
 }
@@ -32,8 +32,12 @@ fn is_limit(desc: &JobDesc)
 pub(crate) fn in_range(request: &Request)
     ensures { IsInRange request.now }
 {
-    if let Request::Submit(desc) = request {
-        is_asked(desc);
-        is_limit(desc);
+    match request {
+        Request::Submit(desc) => {
+            is_asked(desc);
+            is_limit(&desc.limit);
+        }
+        Request::UpdateJob { limit, .. } => is_limit(limit),
+        _ => {}
     }
 }

@@ -1,7 +1,7 @@
 //! How much requests take of the history's room.
 
-ghost use Rattle.std.specs.Prelude.{◌≡◌, ◌+◌, ◌*◌, ◌<◌, ◌^◌, ◌≤◌, IfSome, is_some, length};
-ghost use Rattle.ctl_state.specs.State.{state_of, last_size};
+ghost use Rattle.std.specs.Prelude.{◌≡◌, ◌+◌, ◌*◌, ◌<◌, ◌^◌, ◌≤◌, IfSome, IsTrue, is_some, length, nat_le};
+ghost use Rattle.ctl_state.specs.State.{state_of, last_size, shutdown_size};
 ghost use Rattle.ctl_core.specs.Sizes;
 
 use ctl_state::cluster::Cluster;
@@ -15,6 +15,9 @@ use slurm_text::plain::target::{Target, Targets};
 
 // The greatest sum of the sizes of accepted requests.
 const LAST_SIZE: u128 = 1_073_741_824;
+
+// The size of a shutdown's entry.
+const SHUTDOWN_SIZE: u64 = 256;
 
 // What is listed counts 32 each.
 fn listing(count: u128) -> u128
@@ -97,16 +100,36 @@ fn size_of(request: &Request) -> u128
     }
 }
 
-/// The size of an entry of the request, where the history can take it.
-pub(crate) fn room_for(cluster: &Cluster, request: &Request) -> Option<u64>
-    ensures room { is_some result ≡ Sizes.has_room (state_of cluster.now) request.now }
-    ensures value { IfSome result (λ size. size ≡ Sizes.size_of request.now) }
-    ensures within { IfSome result (λ size. cluster.now.size + size ≤ last_size) }
+// Whether the request is a shutdown, which the history always takes.
+fn is_shutdown(request: &Request) -> bool
+    ensures value { result ≡ Sizes.is_shutdown request.now }
+    ensures size { IsTrue result → Sizes.size_of request.now ≡ shutdown_size }
 {
-    let size = size_of(request);
+    matches!(request, Request::Shutdown)
+}
+
+// The size, where the history has room for it.
+fn within(cluster: &Cluster, size: u128) -> Option<u64>
+    requires { size < 2 ^ 80 }
+    ensures room { is_some result ≡ nat_le (cluster.now.size + size) last_size }
+    ensures value { IfSome result (λ some. some ≡ size) }
+    ensures within { IfSome result (λ some. cluster.now.size + some ≤ last_size) }
+{
     if u128::from(cluster.size) + size <= LAST_SIZE {
         Some(size as u64)
     } else {
         None
     }
+}
+
+/// The size of an entry of the request, where the history can take it.
+pub(crate) fn room_for(cluster: &Cluster, request: &Request) -> Option<u64>
+    ensures room { is_some result ≡ Sizes.has_room (state_of cluster.now) request.now }
+    ensures value { IfSome result (λ size. size ≡ Sizes.size_of request.now) }
+    ensures fits { IfSome result (λ size. size ≤ last_size + shutdown_size) }
+{
+    if is_shutdown(request) {
+        return Some(SHUTDOWN_SIZE);
+    }
+    within(cluster, size_of(request))
 }

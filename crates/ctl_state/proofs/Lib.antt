@@ -5,6 +5,7 @@ pub mod Held
 pub mod LetGo
 pub mod Taken
 pub mod Added
+pub mod Shut
 pub mod Indexed
 pub mod Ordering
 pub mod Choosing

@@ -1,5 +1,5 @@
 -- What stays true of every state, whatever happens. Each is proved as the contract of a law.
-use Rattle.std.specs.Prelude.{◌≡◌, ◌≢◌, ℕ, ◌+◌, ◌<◌, ◌≤◌, Bool, true, IfSome, Some, List, [], ◌∷◌, length, map, ◌++◌, All, AllPairs, Contains}
+use Rattle.std.specs.Prelude.{◌≡◌, ◌≢◌, ℕ, ◌+◌, ◌<◌, ◌≤◌, Bool, true, false, IfSome, Some, List, [], ◌∷◌, length, map, ◌++◌, All, AllPairs, Contains}
 use Rattle.std.specs.Cmp.{IsStrictWeakOrder}
 use Rattle.std.specs.List.Sorted.{IsPermutation, IsSortedBy, IsStableBy}
 use Rattle.backfill_planner.specs.declared.Placed.{Placed}
@@ -11,7 +11,7 @@ use Rattle.slurm_text.specs.declared.plain.conf.PartState.{PartState}
 use Rattle.job_table.specs.declared.record.JobRecord.{JobRecord}
 use Rattle.job_table.specs.declared.change.Change.{Change}
 use Rattle.ctl_state.specs.declared.record.ArrayRecord.{ArrayRecord}
-use Rattle.ctl_state.specs.State.{State, last_moment, last_job_id, last_size}
+use Rattle.ctl_state.specs.State.{State, last_moment, last_job_id, last_size, shutdown_size}
 use Rattle.job_table.specs.JobStates.{is_pending}
 use Rattle.job_table.specs.Changes.{changed}
 use Rattle.job_table.specs.Targets.{AreTogether}
@@ -95,6 +95,10 @@ abbrev pub PartitionStates : Type 0
 PartitionStates = (s : State) (place : ℕ) (state : PartState)
     → IsSound s → IsSound (record s { partitions = in_state_at place state s.partitions })
 
+-- Time that passes keeps all sound.
+abbrev pub Passing : Type 0
+Passing = (s : State) (now : ℕ) → IsSound s → s.moment ≤ now → now ≤ last_moment → IsSound (record s { moment = now })
+
 -- A shutdown keeps all sound.
 abbrev pub Shutting : Type 0
 Shutting = (s : State) → IsSound s → IsSound (record s { is_shut = true })
@@ -116,7 +120,8 @@ Planning = (s : State) (plan : List Placed) → IsSound s → PlansPending s.job
 
 -- A sum of sizes within its bound keeps all sound.
 abbrev pub Sizing : Type 0
-Sizing = (s : State) (size : ℕ) → IsSound s → size ≤ last_size → IsSound (record s { size = size })
+Sizing = (s : State) (size : ℕ) → IsSound s → size ≤ last_size + shutdown_size → (s.is_shut ≡ false → size ≤ last_size)
+    → IsSound (record s { size = size })
 
 -- What associations have used may be anything.
 abbrev pub Charging : Type 0

@@ -1,5 +1,5 @@
 -- What every state keeps.
-use Rattle.std.specs.Prelude.{◌≡◌, ◌≢◌, ℕ, ◌+◌, ◌<◌, ◌≤◌, Bool, true, ◌||◌, is_some, IfSome, unwrap_or, List, length, map, filter, slice_get, All, AllPairs, Contains, Some, option_map}
+use Rattle.std.specs.Prelude.{◌≡◌, ◌≢◌, ℕ, ◌+◌, ◌<◌, ◌≤◌, Bool, true, false, ◌||◌, is_some, IfSome, unwrap_or, List, length, map, filter, slice_get, All, AllPairs, Contains, Some, option_map}
 use Rattle.slurm_text.specs.declared.plain.limit.Limit.{Limit}
 use Rattle.slurm_text.specs.declared.plain.limit.Limit.TheVariants.{Minutes, Unlimited}
 use Rattle.slurm_text.specs.declared.plain.conf.Settings.{Settings}
@@ -16,7 +16,7 @@ use Rattle.job_table.specs.declared.record.JobRecord.{JobRecord}
 use Rattle.accounts_qos.specs.declared.record.AssocRecord.{AssocRecord}
 use Rattle.accounts_qos.specs.declared.record.QosRecord.{QosRecord}
 use Rattle.accounts_qos.specs.Accounts.{is_of_user}
-use Rattle.ctl_state.specs.State.{State, last_job_id, last_moment, last_size}
+use Rattle.ctl_state.specs.State.{State, last_job_id, last_moment, last_size, shutdown_size}
 use Rattle.job_table.specs.Table.{HaveRisingIds}
 use Rattle.job_table.specs.Targets.{AreTogether}
 use Rattle.job_table.specs.JobStates.{is_pending, is_completing, is_ended, is_holding}
@@ -119,7 +119,9 @@ pub record IsSound (s : State) : Type 0 where
   pub below_next : All (λ (job : JobRecord). job.id < s.next_id) s.jobs
   pub together : AreTogether s.jobs
   pub next : (1 ≤ s.next_id) × (s.next_id ≤ last_job_id + 1)
-  pub size : s.size ≤ last_size
+  -- only a shutdown may lead past the greatest sum of sizes
+  pub size : s.size ≤ last_size + shutdown_size
+  pub open : s.is_shut ≡ false → s.size ≤ last_size
   pub moment : s.moment ≤ last_moment
   pub jobs : All (IsKept s.moment) s.jobs
   pub held : IsHeldOnce (map room_of s.nodes) (parts_of s.jobs)

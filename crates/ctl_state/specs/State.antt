@@ -50,9 +50,13 @@ last_moment = 250000000000
 abbrev pub last_job_id : ℕ
 last_job_id = 67043328
 
--- the greatest sum of the sizes of accepted requests
+-- the greatest sum of the sizes of accepted requests, beside that of a shutdown
 abbrev pub last_size : ℕ
 last_size = 1073741824
+
+-- the size of an entry that lists nothing: a shutdown's
+abbrev pub shutdown_size : ℕ
+shutdown_size = 256
 
 -- the state before any request: what the two files say, no job and no plan
 abbrev pub opening : ConfView → AssocView → State

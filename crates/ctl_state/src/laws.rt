@@ -43,6 +43,11 @@ pub fn states_of_partitions_keep_all_sound()
     a_state_leaves_the_rest();
 }
 
+/// Time that passes keeps all sound.
+pub fn time_keeps_all_sound()
+    ensures { Laws.Passing }
+{}
+
 /// A shutdown keeps all sound.
 pub fn a_shutdown_keeps_all_sound()
     ensures { Laws.Shutting }

@@ -9,5 +9,6 @@ stamp-requires-2-clause-room c =
     let s = state_of c.args.cluster.now in
     let same = same-size s (state_of c.work.new.cluster) c.max-moment.result c.args.user.now c.args.request.now
     c.in_ok-answered.answered c.in_ok-answered.ensures.ok in
-    let fits = size-fits c.room_for-size.result s.size c.requires.sound.size c.room_for-size.ensures.within in
-    omega (arith, same, fits, c.unwrap_or.ensures)
+    let fits = size-fits c.room_for-size.result c.room_for-size.ensures.fits in
+    let sum = c.requires.sound.size in
+    omega (arith, same, fits, sum, c.unwrap_or.ensures)

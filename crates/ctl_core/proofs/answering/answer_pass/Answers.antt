@@ -15,7 +15,7 @@ returns-clause-after g c =
     let moment : c.max-moment.result ≡ raised s c.args.now = search rules in
     let room : c.is_some.result ≡ has_room s Pass = c.is_some.ensures ∙ c.room_for-size.ensures.room in
     state-worked s (state_of c.pass.new.cluster) (state_of c.stamp-2.new.cluster) c.args.now c.unwrap_or.result
-    c.args.user.now Pass c.in_ok-answered.answered refl early
+    c.args.user.now Pass c.in_ok-answered.answered refl early c.if-is_shut.false
     (rw (room, moment) at c.in_ok-answered.ensures.ok)
     (λ has. c.unwrap_or.ensures
     ∙ size-asked c.room_for-size.result (has_room s Pass) (size_of Pass) c.room_for-size.ensures.room

@@ -4,7 +4,10 @@ use Rattle.ctl_core.proofs.laws.a_step_keeps_all_sound.Goals as goal
 pub returns : goal.returns
 returns c = sound-step (record {
   submissions = c.a_submission_keeps_all_sound.ensures;
-  cancelling = c.cancelling_keeps_all_sound.ensures;
+  jobs = c.what_users_do_keeps_all_sound.ensures;
+  partitions = c.states_of_partitions_keep_all_sound.ensures;
+  shutdown = c.a_shutdown_keeps_all_sound.ensures;
+  later = c.time_keeps_all_sound.ensures;
   reports = c.a_report_keeps_all_sound.ensures;
   passes = c.a_pass_keeps_all_sound.ensures;
   sizes = c.sizes_keep_all_sound.ensures;

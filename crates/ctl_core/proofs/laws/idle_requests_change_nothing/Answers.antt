@@ -1,21 +1,24 @@
-use Rattle.ctl_core.proofs.Changing.{pass-stays, cancel-stays, step-changes, step-idle}
+use Rattle.ctl_core.proofs.Changing.{pass-stays, jobs-stay, partition-stays, step-changes, step-idle}
 use Rattle.ctl_core.proofs.laws.idle_requests_change_nothing.Goals as goal
 
 pub returns-clause-idle : goal.returns-clause-idle
 returns-clause-idle c = step-idle (record {
-  cancelling = c.cancelling_nothing_changes_nothing.ensures.idle;
+  jobs = c.where_no_job_changes_nothing_does.ensures.idle;
   passes = c.an_idle_pass_changes_nothing.ensures.idle;
 })
 
 pub returns-clause-pass : goal.returns-clause-pass
 returns-clause-pass c = pass-stays c.an_idle_pass_changes_nothing.ensures.only
 
-pub returns-clause-cancel : goal.returns-clause-cancel
-returns-clause-cancel c = cancel-stays c.cancelling_nothing_changes_nothing.ensures.only
+pub returns-clause-jobs : goal.returns-clause-jobs
+returns-clause-jobs c = jobs-stay c.where_no_job_changes_nothing_does.ensures.only
+
+pub returns-clause-partition : goal.returns-clause-partition
+returns-clause-partition c = partition-stays
 
 pub returns-clause-made : goal.returns-clause-made
 returns-clause-made c s after now user request reply = step-changes (record {
   submissions = c.a_submission_changes_the_state.ensures;
-  cancelling = c.cancelling_nothing_changes_nothing.ensures.only;
+  jobs = c.where_no_job_changes_nothing_does.ensures.only;
   passes = c.an_idle_pass_changes_nothing.ensures.only;
 }) s now user request

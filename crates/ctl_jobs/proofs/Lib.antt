@@ -1,0 +1,6 @@
+pub mod Naming
+pub mod Refusing
+pub mod Changed
+pub mod Keeping
+pub mod Unlike
+pub mod Indexed
