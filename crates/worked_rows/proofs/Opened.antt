@@ -76,7 +76,8 @@ use Rattle.ctl_pass.specs.Readiness.{arrays_left, base_of, planned}
 use Rattle.ctl_pass.specs.Starting.{may_start, started}
 use Rattle.ctl_pass.specs.Passing.{is_idle}
 use Rattle.ctl_submit.specs.Submission.{is_placeable, new_jobs, terms_of, unended}
-use Rattle.ctl_cancel.specs.Cancelling.{job_refusal, target_refusal}
+use Rattle.ctl_jobs.specs.Actions.{job_refusal}
+use Rattle.ctl_jobs.specs.Changing.{target_refusal}
 use Rattle.ctl_report.specs.Ordering.{in_order, orders_of}
 use Rattle.slurm_print.specs.Ranges.{run_text}
 use Rattle.ctl_show.specs.Showing.{highest, is_shown, row_of, is_weighed, priority_row_of, view_of}

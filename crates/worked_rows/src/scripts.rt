@@ -150,10 +150,23 @@ pub fn other_headers()
 /// What isn't built yet is answered so, and leaves the state.
 #[tactic(none)]
 pub fn unbuilt()
+    ensures show { script_of on_one_node (codes "0 alice scontrol show job\n") ≡ not_built_text }
+    ensures other_action { script_of on_one_node (codes "0 root scontrol reboot\n") ≡ not_built_text }
+{}
+
+/// What scontrol(1) does to jobs, to partitions and to the controller.
+#[tactic(none)]
+pub fn operated()
     ensures hold { script_of on_one_node
         (codes "0 alice sbatch -n 4 -t 1\n0 alice scontrol hold 1\n1 root pass\n")
-        ≡ codes "Submitted batch job 1\nslurm: error: NotBuilt\npass: ended 0 started 1 planned 0\n" }
-    ensures show { script_of on_one_node (codes "0 alice scontrol show job\n") ≡ not_built_text }
-    ensures shutdown { script_of on_one_node (codes "0 root scontrol shutdown\n") ≡ not_built_text }
-    ensures other_action { script_of on_one_node (codes "0 root scontrol reboot\n") ≡ not_built_text }
+        ≡ codes "Submitted batch job 1\npass: idle\n" }
+    ensures release { script_of on_one_node
+        (codes "0 alice sbatch -H -t 1\n0 bob scontrol release 1\n0 alice scontrol release 1\n1 root pass\n")
+        ≡ codes "Submitted batch job 1\nscontrol: error: AccessDenied (11)\npass: ended 0 started 1 planned 0\n" }
+    ensures partition { script_of on_one_node
+        (codes "0 root scontrol update PartitionName=main State=DRAIN\n0 alice sbatch -t 1\n")
+        ≡ codes "sbatch: error: PartitionClosed (1)\n" }
+    ensures shutdown { script_of on_one_node
+        (codes "0 root scontrol shutdown\n0 alice sbatch -t 1\n")
+        ≡ codes "sbatch: error: ShuttingDown (22)\n" }
 {}

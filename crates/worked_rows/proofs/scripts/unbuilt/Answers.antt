@@ -3,17 +3,9 @@ use Rattle.std.proofs.Common.{refl}
 use Rattle.worked_rows.proofs.Opened.{clusters, headers, asked, plans}
 use Rattle.worked_rows.proofs.scripts.unbuilt.Goals as goal
 
-pub returns-clause-hold : goal.returns-clause-hold
-unfolding clusters headers asked plans
-returns-clause-hold c = refl
-
 pub returns-clause-show : goal.returns-clause-show
 unfolding clusters headers asked plans
 returns-clause-show c = refl
-
-pub returns-clause-shutdown : goal.returns-clause-shutdown
-unfolding clusters headers asked plans
-returns-clause-shutdown c = refl
 
 pub returns-clause-other_action : goal.returns-clause-other_action
 unfolding clusters headers asked plans
