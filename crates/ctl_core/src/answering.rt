@@ -80,14 +80,14 @@ fn work(
         Request::Cancel(targets) => Ok(cancel_jobs(cluster, moment, user, targets, room)),
         Request::Hold { targets, user: owned } => {
             let action = Action::Hold { for_owner: *owned };
-            Ok(change_jobs(cluster, moment, user, action, targets.as_slice(), room))
+            Ok(change_jobs(cluster, moment, user, &action, targets.as_slice(), room))
         }
         Request::Release { targets } => {
             let action = Action::Release;
-            Ok(change_jobs(cluster, moment, user, action, targets.as_slice(), room))
+            Ok(change_jobs(cluster, moment, user, &action, targets.as_slice(), room))
         }
         Request::Requeue { target } => {
-            Ok(change_job(cluster, moment, user, Action::Requeue, *target, room))
+            Ok(change_job(cluster, moment, user, &Action::Requeue, *target, room))
         }
         Request::UpdateJob {
             target,
@@ -98,7 +98,7 @@ fn work(
                 limit: *limit,
                 nice: *nice,
             };
-            Ok(change_job(cluster, moment, user, action, *target, room))
+            Ok(change_job(cluster, moment, user, &action, *target, room))
         }
         Request::UpdatePartition { name, state } => {
             Ok(update_partition(cluster, user, name, *state, room))

@@ -25,15 +25,15 @@ pub(crate) fn change_jobs(
     cluster: &mut Cluster,
     moment: u64,
     user: &Name,
-    action: Action,
+    action: &Action,
     targets: &[Target],
     room: bool,
 ) -> Answered
     requires sound { IsSound (state_of cluster.old) }
     requires indexed { IsIndexed cluster.old }
     ensures made { Answers (state_of cluster.old) (state_of cluster.new)
-        (unless_refused (first_refusal (Changing.refusals (state_of cluster.old) user.now action targets.now))
-        (unless_full room (Changing.change_made (state_of cluster.old) moment user.now action
+        (unless_refused (first_refusal (Changing.refusals (state_of cluster.old) user.now action.now targets.now))
+        (unless_full room (Changing.change_made (state_of cluster.old) moment user.now action.now
         (Changing.are_naming targets.now)))) result }
     ensures indexed { IsIndexed cluster.new }
 {
@@ -55,15 +55,15 @@ pub(crate) fn change_job(
     cluster: &mut Cluster,
     moment: u64,
     user: &Name,
-    action: Action,
+    action: &Action,
     target: Target,
     room: bool,
 ) -> Answered
     requires sound { IsSound (state_of cluster.old) }
     requires indexed { IsIndexed cluster.old }
     ensures made { Answers (state_of cluster.old) (state_of cluster.new)
-        (unless_refused (first_refusal (Changing.refusals (state_of cluster.old) user.now action (target ∷ [])))
-        (unless_full room (Changing.change_made (state_of cluster.old) moment user.now action
+        (unless_refused (first_refusal (Changing.refusals (state_of cluster.old) user.now action.now (target ∷ [])))
+        (unless_full room (Changing.change_made (state_of cluster.old) moment user.now action.now
         (Changing.are_naming (target ∷ []))))) result }
     ensures indexed { IsIndexed cluster.new }
 {
@@ -75,7 +75,7 @@ fn change_jobs_of(
     cluster: &mut Cluster,
     moment: u64,
     user: &Name,
-    action: Action,
+    action: &Action,
     owner: &Name,
     room: bool,
 ) -> Answered
@@ -83,7 +83,7 @@ fn change_jobs_of(
     requires indexed { IsIndexed cluster.old }
     ensures made { Answers (state_of cluster.old) (state_of cluster.new)
         (unless_refused (first_refusal (Changing.owner_refusals (state_of cluster.old) user.now owner.now))
-        (unless_full room (Changing.change_made (state_of cluster.old) moment user.now action
+        (unless_full room (Changing.change_made (state_of cluster.old) moment user.now action.now
         (Changing.is_owned owner.now)))) result }
     ensures indexed { IsIndexed cluster.new }
 {
@@ -118,7 +118,7 @@ pub(crate) fn cancel_jobs(
 {
     let action = Action::Cancel;
     match targets {
-        Targets::List(list) => change_jobs(cluster, moment, user, action, list.as_slice(), room),
-        Targets::User(owner) => change_jobs_of(cluster, moment, user, action, owner, room),
+        Targets::List(list) => change_jobs(cluster, moment, user, &action, list.as_slice(), room),
+        Targets::User(owner) => change_jobs_of(cluster, moment, user, &action, owner, room),
     }
 }

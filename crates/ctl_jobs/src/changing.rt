@@ -27,10 +27,10 @@ use slurm_text::name::Name;
 use slurm_text::plain::target::Target;
 
 /// Whether this changes a job that the targets name. Costs as the test of its refusals.
-pub fn changes_any(cluster: &Cluster, user: &Name, action: Action, targets: &[Target]) -> bool
+pub fn changes_any(cluster: &Cluster, user: &Name, action: &Action, targets: &[Target]) -> bool
     requires { IsSound (state_of cluster.now) }
     ensures { result ≡ list_any
-        (Changing.goes (state_of cluster.now) user.now action (Changing.are_naming targets.now))
+        (Changing.goes (state_of cluster.now) user.now action.now (Changing.are_naming targets.now))
         cluster.now.jobs.records }
 {
     for target in targets {
@@ -42,10 +42,10 @@ pub fn changes_any(cluster: &Cluster, user: &Name, action: Action, targets: &[Ta
 }
 
 // Whether this changes a job that the target names.
-fn changes_target(cluster: &Cluster, user: &Name, action: Action, target: &Target) -> bool
+fn changes_target(cluster: &Cluster, user: &Name, action: &Action, target: &Target) -> bool
     requires rising { HaveRisingIds cluster.now.jobs.records }
     requires together { AreTogether cluster.now.jobs.records }
-    ensures { result ≡ list_any (Changing.changes (state_of cluster.now) user.now action)
+    ensures { result ≡ list_any (Changing.changes (state_of cluster.now) user.now action.now)
         (filter (is_named target.now) cluster.now.jobs.records) }
 {
     let mut span = span_of(cluster, target).iter();
@@ -53,16 +53,16 @@ fn changes_target(cluster: &Cluster, user: &Name, action: Action, target: &Targe
 }
 
 // Whether the user may do this to the job, and it becomes another by it.
-fn changes(cluster: &Cluster, user: &Name, action: Action, job: &JobRecord) -> bool
-    ensures { result ≡ Changing.changes (state_of cluster.now) user.now action job.now }
+fn changes(cluster: &Cluster, user: &Name, action: &Action, job: &JobRecord) -> bool
+    ensures { result ≡ Changing.changes (state_of cluster.now) user.now action.now job.now }
 {
     may_do(cluster, user, action, job) && !leaves(user, action, job)
 }
 
 /// Whether this changes a job of the owner. Linear in the jobs.
-pub fn changes_owned(cluster: &Cluster, user: &Name, action: Action, owner: &Name) -> bool
+pub fn changes_owned(cluster: &Cluster, user: &Name, action: &Action, owner: &Name) -> bool
     ensures { result ≡ list_any
-        (Changing.goes (state_of cluster.now) user.now action (Changing.is_owned owner.now))
+        (Changing.goes (state_of cluster.now) user.now action.now (Changing.is_owned owner.now))
         cluster.now.jobs.records }
 {
     let mut jobs = cluster.jobs.records().iter();
@@ -75,12 +75,12 @@ pub fn change(
     cluster: &mut Cluster,
     moment: u64,
     user: &Name,
-    action: Action,
+    action: &Action,
     targets: &[Target],
 )
     requires { IsSound (state_of cluster.old) }
     ensures after { state_of cluster.new
-        ≡ Changing.change_after (state_of cluster.old) moment user.now action (Changing.are_naming targets.now) }
+        ≡ Changing.change_after (state_of cluster.old) moment user.now action.now (Changing.are_naming targets.now) }
     ensures indexed { IsIndexed cluster.old → IsIndexed cluster.new }
 {
     parts_stay();
@@ -94,12 +94,12 @@ pub fn change_owned(
     cluster: &mut Cluster,
     moment: u64,
     user: &Name,
-    action: Action,
+    action: &Action,
     owner: &Name,
 )
     requires { IsSound (state_of cluster.old) }
     ensures after { state_of cluster.new
-        ≡ Changing.change_after (state_of cluster.old) moment user.now action (Changing.is_owned owner.now) }
+        ≡ Changing.change_after (state_of cluster.old) moment user.now action.now (Changing.is_owned owner.now) }
     ensures indexed { IsIndexed cluster.old → IsIndexed cluster.new }
 {
     parts_stay();
@@ -112,14 +112,14 @@ fn change_targets(
     cluster: &mut Cluster,
     moment: u64,
     user: &Name,
-    action: Action,
+    action: &Action,
     targets: &[Target],
 )
     requires rising { HaveRisingIds cluster.old.jobs.records }
     requires together { AreTogether cluster.old.jobs.records }
     ensures after { state_of cluster.new ≡ record (state_of cluster.old) {
       jobs = map
-          (Changing.done_if (state_of cluster.old) moment user.now action (Changing.are_naming targets.now))
+          (Changing.done_if (state_of cluster.old) moment user.now action.now (Changing.are_naming targets.now))
           cluster.old.jobs.records;
       usage = cluster.new.jobs.usage;
     } }
@@ -137,13 +137,13 @@ fn change_target(
     cluster: &mut Cluster,
     moment: u64,
     user: &Name,
-    action: Action,
+    action: &Action,
     target: &Target,
 )
     requires rising { HaveRisingIds cluster.old.jobs.records }
     requires together { AreTogether cluster.old.jobs.records }
     ensures after { state_of cluster.new ≡ record (state_of cluster.old) {
-      jobs = map (λ job. done_where (state_of cluster.old) moment user.now action (is_named target.now job) job)
+      jobs = map (λ job. done_where (state_of cluster.old) moment user.now action.now (is_named target.now job) job)
           cluster.old.jobs.records;
       usage = cluster.new.jobs.usage;
     } }
@@ -165,11 +165,11 @@ fn change_jobs_of(
     cluster: &mut Cluster,
     moment: u64,
     user: &Name,
-    action: Action,
+    action: &Action,
     owner: &Name,
 )
     ensures after { state_of cluster.new ≡ record (state_of cluster.old) {
-      jobs = map (Changing.done_if (state_of cluster.old) moment user.now action (Changing.is_owned owner.now))
+      jobs = map (Changing.done_if (state_of cluster.old) moment user.now action.now (Changing.is_owned owner.now))
           cluster.old.jobs.records;
       usage = cluster.new.jobs.usage;
     } }
@@ -191,12 +191,12 @@ fn change_where(
     place: usize,
     moment: u64,
     user: &Name,
-    action: Action,
+    action: &Action,
     named: bool,
 )
     requires { place < length cluster.old.jobs.records }
     ensures after { state_of cluster.new ≡ record (state_of cluster.old) {
-      jobs = map_at place (done_where (state_of cluster.old) moment user.now action named)
+      jobs = map_at place (done_where (state_of cluster.old) moment user.now action.now named)
           cluster.old.jobs.records;
       usage = cluster.new.jobs.usage;
     } }

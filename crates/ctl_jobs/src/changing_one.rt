@@ -18,14 +18,14 @@ use slurm_text::plain::nice::Nice;
 use slurm_text::plain::state::{Final, HeldBy, JobState};
 
 /// Does this to the job at a place. It takes no memory.
-pub(crate) fn change_at(jobs: &mut Jobs, place: usize, moment: u64, user: &Name, action: Action)
+pub(crate) fn change_at(jobs: &mut Jobs, place: usize, moment: u64, user: &Name, action: &Action)
     requires { place < length jobs.old.records }
-    ensures jobs { jobs.new.records ≡ map_at place (Actions.done_to moment user.now action) jobs.old.records }
+    ensures jobs { jobs.new.records ≡ map_at place (Actions.done_to moment user.now action.now) jobs.old.records }
     ensures charges { Charges moment jobs.old jobs.new }
 {
     match action {
         Action::Cancel => cancel_at(jobs, place, moment),
-        Action::Hold { for_owner } => hold_at(jobs, place, user, for_owner),
+        Action::Hold { for_owner } => hold_at(jobs, place, user, *for_owner),
         Action::Release => jobs.change_at(place, Change::SetHold(HeldBy::Nobody)),
         Action::Requeue => requeue_at(jobs, place, moment),
         Action::Update { limit, nice } => update_at(jobs, place, limit, nice),
@@ -96,10 +96,10 @@ fn requeue_at(jobs: &mut Jobs, place: usize, moment: u64)
 }
 
 // Gives the job at a place another limit and another nice value, where there are such.
-fn update_at(jobs: &mut Jobs, place: usize, limit: Option<Limit>, nice: Option<Nice>)
+fn update_at(jobs: &mut Jobs, place: usize, limit: &Option<Limit>, nice: &Option<Nice>)
     requires { place < length jobs.old.records }
     ensures jobs { jobs.new.records
-        ≡ map_at place (λ job. Actions.with_nice nice (Actions.with_limit limit job)) jobs.old.records }
+        ≡ map_at place (λ job. Actions.with_nice nice.now (Actions.with_limit limit.now job)) jobs.old.records }
     ensures charges { (now : ℕ) → Charges now jobs.old jobs.new }
 {
     a_change_is_of_its_place::<JobRecord>();
@@ -108,27 +108,27 @@ fn update_at(jobs: &mut Jobs, place: usize, limit: Option<Limit>, nice: Option<N
     nice_at(jobs, place, nice);
 }
 
-fn limit_at(jobs: &mut Jobs, place: usize, limit: Option<Limit>)
+fn limit_at(jobs: &mut Jobs, place: usize, limit: &Option<Limit>)
     requires { place < length jobs.old.records }
-    ensures jobs { jobs.new.records ≡ map_at place (Actions.with_limit limit) jobs.old.records }
+    ensures jobs { jobs.new.records ≡ map_at place (Actions.with_limit limit.now) jobs.old.records }
     ensures length { length jobs.new.records ≡ length jobs.old.records }
     ensures charges { (now : ℕ) → Charges now jobs.old jobs.new }
 {
     a_change_is_of_its_place::<JobRecord>();
     who_leaves_is_charged();
     if let Some(limit) = limit {
-        jobs.change_at(place, Change::SetLimit(limit));
+        jobs.change_at(place, Change::SetLimit(*limit));
     }
 }
 
-fn nice_at(jobs: &mut Jobs, place: usize, nice: Option<Nice>)
+fn nice_at(jobs: &mut Jobs, place: usize, nice: &Option<Nice>)
     requires { place < length jobs.old.records }
-    ensures jobs { jobs.new.records ≡ map_at place (Actions.with_nice nice) jobs.old.records }
+    ensures jobs { jobs.new.records ≡ map_at place (Actions.with_nice nice.now) jobs.old.records }
     ensures charges { (now : ℕ) → Charges now jobs.old jobs.new }
 {
     a_change_is_of_its_place::<JobRecord>();
     who_leaves_is_charged();
     if let Some(nice) = nice {
-        jobs.change_at(place, Change::SetNice(nice));
+        jobs.change_at(place, Change::SetNice(*nice));
     }
 }

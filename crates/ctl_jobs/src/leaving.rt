@@ -12,12 +12,12 @@ use slurm_text::plain::nice::Nice;
 use slurm_text::plain::state::HeldBy;
 
 /// Whether this leaves the job as it is, to which the user may do it.
-pub(crate) fn leaves(user: &Name, action: Action, job: &JobRecord) -> bool
-    ensures { result ≡ Actions.leaves user.now action job.now }
+pub(crate) fn leaves(user: &Name, action: &Action, job: &JobRecord) -> bool
+    ensures { result ≡ Actions.leaves user.now action.now job.now }
 {
     match action {
         Action::Cancel | Action::Requeue => false,
-        Action::Hold { for_owner } => same_holder(held_after(user, for_owner, job), job.held_by),
+        Action::Hold { for_owner } => same_holder(held_after(user, *for_owner, job), job.held_by),
         Action::Release => same_holder(HeldBy::Nobody, job.held_by),
         Action::Update { limit, nice } => has_limit(limit, job) && has_nice(nice, job),
     }
@@ -34,8 +34,8 @@ fn same_holder(one: HeldBy, other: HeldBy) -> bool
     }
 }
 
-fn same_limit(one: Limit, other: Limit) -> bool
-    ensures { result ≡ Actions.same_limit one other }
+fn same_limit(one: &Limit, other: &Limit) -> bool
+    ensures { result ≡ Actions.same_limit one.now other.now }
 {
     match (one, other) {
         (Limit::Minutes(one), Limit::Minutes(other)) => one.get() == other.get(),
@@ -44,8 +44,8 @@ fn same_limit(one: Limit, other: Limit) -> bool
     }
 }
 
-fn same_nice(one: Nice, other: Nice) -> bool
-    ensures { result ≡ Actions.same_nice one other }
+fn same_nice(one: &Nice, other: &Nice) -> bool
+    ensures { result ≡ Actions.same_nice one.now other.now }
 {
     match (one, other) {
         (Nice::Lower(one), Nice::Lower(other)) => one.get() == other.get(),
@@ -55,8 +55,8 @@ fn same_nice(one: Nice, other: Nice) -> bool
 }
 
 // Whether a limit that was asked for, if one was, is this one.
-fn asks_for(limit: Limit, asked: Option<Limit>) -> bool
-    ensures { result ≡ Actions.asks_for limit asked }
+fn asks_for(limit: &Limit, asked: &Option<Limit>) -> bool
+    ensures { result ≡ Actions.asks_for limit.now asked.now }
 {
     match asked {
         Some(asked) => same_limit(asked, limit),
@@ -65,21 +65,21 @@ fn asks_for(limit: Limit, asked: Option<Limit>) -> bool
 }
 
 // Whether the job has this limit, if one is given.
-fn has_limit(limit: Option<Limit>, job: &JobRecord) -> bool
-    ensures { result ≡ Actions.has_limit limit job.now }
+fn has_limit(limit: &Option<Limit>, job: &JobRecord) -> bool
+    ensures { result ≡ Actions.has_limit limit.now job.now }
 {
     match limit {
-        Some(limit) => same_limit(job.limit, limit) && asks_for(limit, job.desc.limit),
+        Some(limit) => same_limit(&job.limit, limit) && asks_for(limit, &job.desc.limit),
         None => true,
     }
 }
 
 // Whether the job has this nice value, if one is given.
-fn has_nice(nice: Option<Nice>, job: &JobRecord) -> bool
-    ensures { result ≡ Actions.has_nice nice job.now }
+fn has_nice(nice: &Option<Nice>, job: &JobRecord) -> bool
+    ensures { result ≡ Actions.has_nice nice.now job.now }
 {
     match nice {
-        Some(nice) => same_nice(job.desc.nice, nice),
+        Some(nice) => same_nice(&job.desc.nice, nice),
         None => true,
     }
 }

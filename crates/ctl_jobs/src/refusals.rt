@@ -27,11 +27,11 @@ use slurm_text::plain::target::Target;
 pub fn refusal_of(
     cluster: &Cluster,
     user: &Name,
-    action: Action,
+    action: &Action,
     targets: &[Target],
 ) -> Option<Refusal>
     requires { IsSound (state_of cluster.now) }
-    ensures { result ≡ first_refusal (Changing.refusals (state_of cluster.now) user.now action targets.now) }
+    ensures { result ≡ first_refusal (Changing.refusals (state_of cluster.now) user.now action.now targets.now) }
 {
     for target in targets {
         if let Some(refusal) = target_refusal(cluster, user, action, target) {
@@ -56,12 +56,12 @@ pub fn refusal_of_owner(cluster: &Cluster, user: &Name, owner: &Name) -> Option<
 fn target_refusal(
     cluster: &Cluster,
     user: &Name,
-    action: Action,
+    action: &Action,
     target: &Target,
 ) -> Option<Refusal>
     requires rising { HaveRisingIds cluster.now.jobs.records }
     requires together { AreTogether cluster.now.jobs.records }
-    ensures { result ≡ Changing.target_refusal (state_of cluster.now) user.now action target.now }
+    ensures { result ≡ Changing.target_refusal (state_of cluster.now) user.now action.now target.now }
 {
     if is_possible(cluster, user, action, target) {
         return None;
@@ -73,10 +73,10 @@ fn target_refusal(
 }
 
 // Whether the target names a job to which the user may do this.
-fn is_possible(cluster: &Cluster, user: &Name, action: Action, target: &Target) -> bool
+fn is_possible(cluster: &Cluster, user: &Name, action: &Action, target: &Target) -> bool
     requires rising { HaveRisingIds cluster.now.jobs.records }
     requires together { AreTogether cluster.now.jobs.records }
-    ensures { result ≡ list_any (Changing.may_do (state_of cluster.now) user.now action)
+    ensures { result ≡ list_any (Changing.may_do (state_of cluster.now) user.now action.now)
         (filter (is_named target.now) cluster.now.jobs.records) }
 {
     let mut span = span_of(cluster, target).iter();
@@ -106,8 +106,8 @@ pub(crate) fn span_of<'a>(cluster: &'a Cluster, target: &Target) -> &'a [JobReco
 }
 
 /// Whether the user may do this to the job.
-pub(crate) fn may_do(cluster: &Cluster, user: &Name, action: Action, job: &JobRecord) -> bool
-    ensures { result ≡ Changing.may_do (state_of cluster.now) user.now action job.now }
+pub(crate) fn may_do(cluster: &Cluster, user: &Name, action: &Action, job: &JobRecord) -> bool
+    ensures { result ≡ Changing.may_do (state_of cluster.now) user.now action.now job.now }
 {
     job_refusal(cluster, user, action, job).is_none()
 }
@@ -117,10 +117,10 @@ pub(crate) fn may_do(cluster: &Cluster, user: &Name, action: Action, job: &JobRe
 fn job_refusal(
     cluster: &Cluster,
     user: &Name,
-    action: Action,
+    action: &Action,
     job: &JobRecord,
 ) -> Option<Refusal>
-    ensures { result ≡ Actions.job_refusal (state_of cluster.now) user.now action job.now }
+    ensures { result ≡ Actions.job_refusal (state_of cluster.now) user.now action.now job.now }
 {
     if is_denied(cluster, user, action, job) {
         return Some(Refusal::AccessDenied);
@@ -144,16 +144,16 @@ fn may_change(cluster: &Cluster, user: &Name, owner: &Name) -> bool
     cluster.is_privileged(user) || owner.is(user)
 }
 
-fn is_denied(cluster: &Cluster, user: &Name, action: Action, job: &JobRecord) -> bool
-    ensures { result ≡ Actions.is_denied (state_of cluster.now) user.now action job.now }
+fn is_denied(cluster: &Cluster, user: &Name, action: &Action, job: &JobRecord) -> bool
+    ensures { result ≡ Actions.is_denied (state_of cluster.now) user.now action.now job.now }
 {
     !may_change(cluster, user, &job.user)
         || (needs_privilege(action, job) && !cluster.is_privileged(user))
 }
 
 // Whether only privileged users may do this to the job.
-fn needs_privilege(action: Action, job: &JobRecord) -> bool
-    ensures { result ≡ Actions.needs_privilege action job.now }
+fn needs_privilege(action: &Action, job: &JobRecord) -> bool
+    ensures { result ≡ Actions.needs_privilege action.now job.now }
 {
     match action {
         Action::Release => is_by_admin(job.held_by),
@@ -170,24 +170,24 @@ pub(crate) fn is_by_admin(held_by: HeldBy) -> bool
 }
 
 // Whether the new limit, if there is one, is above the old one.
-fn raises(limit: Option<Limit>, old: &Limit) -> bool
-    ensures { result ≡ Actions.raises limit old.now }
+fn raises(limit: &Option<Limit>, old: &Limit) -> bool
+    ensures { result ≡ Actions.raises limit.now old.now }
 {
     match limit {
-        Some(limit) => exceeds(&limit, old),
+        Some(limit) => exceeds(limit, old),
         None => false,
     }
 }
 
-fn is_negative(nice: Option<Nice>) -> bool
-    ensures { result ≡ Actions.is_negative nice }
+fn is_negative(nice: &Option<Nice>) -> bool
+    ensures { result ≡ Actions.is_negative nice.now }
 {
     matches!(nice, Some(Nice::Raise(_)))
 }
 
 // Whether it is too late to do this to a job in this state.
-fn is_late(action: Action, state: JobState) -> bool
-    ensures { result ≡ Actions.is_late action state }
+fn is_late(action: &Action, state: JobState) -> bool
+    ensures { result ≡ Actions.is_late action.now state }
 {
     match action {
         Action::Cancel => is_done(state),
@@ -206,8 +206,8 @@ fn is_done(state: JobState) -> bool
 }
 
 // Whether the state of a job doesn't allow this.
-fn is_untimely(action: Action, state: JobState) -> bool
-    ensures { result ≡ Actions.is_untimely action state }
+fn is_untimely(action: &Action, state: JobState) -> bool
+    ensures { result ≡ Actions.is_untimely action.now state }
 {
     match action {
         Action::Cancel => false,
@@ -218,8 +218,8 @@ fn is_untimely(action: Action, state: JobState) -> bool
 }
 
 // Whether the job may not be started again, where it would be.
-fn is_barred(action: Action, job: &JobRecord) -> bool
-    ensures { result ≡ Actions.is_barred action job.now }
+fn is_barred(action: &Action, job: &JobRecord) -> bool
+    ensures { result ≡ Actions.is_barred action.now job.now }
 {
     match action {
         Action::Requeue => !job.desc.requeue.unwrap_or(false),

@@ -14,7 +14,7 @@ loop-place-preserved c =
       walk = step c.a_change_is_of_its_place.ensures.same c.a_walk_changes_all.ensures.goes_on
           c.a_walk_changes_all.ensures.length s
           (state_of c.loop-place.cluster) (state_of c.change_where.new.cluster) c.args.moment c.args.user.now
-          c.args.action owned
+          c.args.action.now owned
           c.loop-place.place
           c.is-named.result c.index-records-place.result _ _ held.walk (omega arith)
           (rw c.records.ensures.value at c.index-records-place.is)

@@ -15,7 +15,7 @@ loop-place-preserved c =
       walk = step c.a_change_is_of_its_place.ensures.same c.a_walk_changes_all.ensures.goes_on
           c.a_walk_changes_all.ensures.length s
           (state_of c.loop-place.cluster) (state_of c.change_where.new.cluster) c.args.moment c.args.user.now
-          c.args.action (is_named c.args.target.now) c.loop-place.place
+          c.args.action.now (is_named c.args.target.now) c.loop-place.place
           c.is_named-named.result c.index-records-place.result _ _ held.walk (omega arith)
           (rw c.records-in-loop-place.ensures.value at c.index-records-place.is)
           c.is_named-named.ensures c.change_where.ensures.after;
@@ -29,7 +29,7 @@ returns-clause-after c =
     let s = state_of c.args.cluster.now in
     let jobs = c.args.cluster.now.jobs.records in
     let target = c.args.target.now in
-    let change : JobRecord → JobRecord = λ job. done_where s c.args.moment c.args.user.now c.args.action
+    let change : JobRecord → JobRecord = λ job. done_where s c.args.moment c.args.user.now c.args.action.now
     (is_named target job) job in
     let within = c.places_of-places.ensures.within in
     let last : c.places_of-places.result.end ≡ c.loop-place.place = omega arith in

@@ -14,7 +14,7 @@ loop-target-preserved c =
     let held = c.loop-target.invariant in
     let now = c.args.moment in
     let user = c.args.user.now in
-    let action = c.args.action in
+    let action = c.args.action.now in
     record {
       others = others_stay s before after now user action _ jobs _ _ held.others c.change_target.ensures.after;
       rest = next_target s before after now user action c.args.targets.now c.loop-target.target-index _ jobs _ _ held.others
@@ -35,6 +35,6 @@ returns-clause-after c =
     c.loop-target.invariant.others
     ∙ ap (λ jobs. record s { jobs = jobs; usage = c.loop-target.cluster.jobs.usage })
     (sym (map-id jobs)
-    ∙ ap (λ later. map (done_if s c.args.moment c.args.user.now c.args.action (are_naming later)) jobs)
+    ∙ ap (λ later. map (done_if s c.args.moment c.args.user.now c.args.action.now (are_naming later)) jobs)
     (sym (drop_all c.loop-target.target-index targets c.loop-target-test.false))
     ∙ c.loop-target.invariant.rest)

@@ -14,9 +14,9 @@ returns-then-may_do-clause-after c =
     let free = sym c.may_do.ensures ∙ c.if-may_do.true in
     ap (λ jobs. record s { jobs = jobs; usage = c.change_at.new.jobs.usage })
     (c.change_at.ensures.jobs
-    ∙ c.a_change_is_of_its_place.ensures.same (done_to c.args.moment user c.args.action)
-    (done_where s c.args.moment user c.args.action c.args.named) c.args.place jobs
-    (goes_at s c.args.moment user c.args.action c.args.named jobs c.args.place c.index-records-place.result c.requires
+    ∙ c.a_change_is_of_its_place.ensures.same (done_to c.args.moment user c.args.action.now)
+    (done_where s c.args.moment user c.args.action.now c.args.named) c.args.place jobs
+    (goes_at s c.args.moment user c.args.action.now c.args.named jobs c.args.place c.index-records-place.result c.requires
     (rw c.records.ensures.value at c.index-records-place.is)
     c.if-named.true free))
 
@@ -26,12 +26,12 @@ returns-else-named-clause-after c =
     let jobs = c.args.cluster.now.jobs.records in
     let user = c.args.user.now in
     let stays = c.a_change_is_of_its_place.ensures.nothing
-    (done_where s c.args.moment user c.args.action c.args.named) c.args.place jobs in
+    (done_where s c.args.moment user c.args.action.now c.args.named) c.args.place jobs in
     elim c.else-named.branch [
       | else-named-via-then-named+else-may_do w ↦
           let refused = sym w.may_do.ensures ∙ w.if-may_do.false in
           ap (λ jobs. record s { jobs = jobs; usage = s.usage })
-          (sym (stays (stays_at s c.args.moment user c.args.action c.args.named jobs c.args.place
+          (sym (stays (stays_at s c.args.moment user c.args.action.now c.args.named jobs c.args.place
           w.index-records-place.result c.requires
           (rw w.records.ensures.value at w.index-records-place.is) refused)))
       | else-named-via-else-named w ↦ ap (λ jobs. record s { jobs = jobs; usage = s.usage })

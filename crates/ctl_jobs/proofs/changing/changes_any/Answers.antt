@@ -13,7 +13,7 @@ use Rattle.ctl_jobs.proofs.changing.changes_any.Goals as goal
 pub returns-then-changes_target : goal.returns-then-changes_target
 returns-then-changes_target c =
     let jobs = c.args.cluster.now.jobs.records in
-    let free : JobRecord → Bool = changes (state_of c.args.cluster.now) c.args.user.now c.args.action in
+    let free : JobRecord → Bool = changes (state_of c.args.cluster.now) c.args.user.now c.args.action.now in
     let names : Target → Bool = λ target. list_any free (filter (is_named target) jobs) in
     sym (any_named is_named free jobs c.args.targets.now
     ∙ list_any_at names c.args.targets.now c.loop-target.target-index _ c.loop-target-test.true
@@ -22,7 +22,7 @@ returns-then-changes_target c =
 pub returns : goal.returns
 returns c =
     let jobs = c.args.cluster.now.jobs.records in
-    let free : JobRecord → Bool = changes (state_of c.args.cluster.now) c.args.user.now c.args.action in
+    let free : JobRecord → Bool = changes (state_of c.args.cluster.now) c.args.user.now c.args.action.now in
     let names : Target → Bool = λ target. list_any free (filter (is_named target) jobs) in
     sym (any_named is_named free jobs c.args.targets.now
     ∙ c.loop-target.invariant

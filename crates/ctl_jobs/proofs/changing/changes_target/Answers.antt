@@ -12,7 +12,7 @@ use Rattle.ctl_jobs.proofs.changing.changes_target.Goals as goal
 pub returns : goal.returns
 returns c =
     let named = is_named c.args.target.now in
-    let free : JobRecord → Bool = changes (state_of c.args.cluster.now) c.args.user.now c.args.action in
+    let free : JobRecord → Bool = changes (state_of c.args.cluster.now) c.args.user.now c.args.action.now in
     any_from_yields_List (λ job. named job && free job) _ _ _ c.any.ensures.ran
     (YieldsList-from_slice c.span_of.result.now cc) (λ x b q k. search (rules, tests))
     ∙ any_filter named free c.span_of.result.now
