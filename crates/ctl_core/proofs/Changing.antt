@@ -140,45 +140,45 @@ partition-changes : (s : State) (state : PartState) (place : Option ℕ) {reply 
 partition-changes s state None makes same = absurd (cc)
 partition-changes s state (Some place) makes same =
     elim (cases_Bool (is_in_state state (slice_get s.partitions place))) [
-      | inl in ↦ let stays = rw in at makes in absurd (cc)
+      | inl had ↦ let stays = rw had at makes in absurd (cc)
       | inr out ↦
-          let had = in-state-had place state s.partitions
+          let was = in-state-had place state s.partitions
           (ap (λ (t : State). t.partitions) (made-after (rw out at makes) ∙ same)) in
-          both_ways (is_in_state state (slice_get s.partitions place)) out had
+          both_ways (is_in_state state (slice_get s.partitions place)) out was
     ]
 
 shut-changes : (s : State) {reply : Reply} {after : State} → s.is_shut ≡ false
     → Makes Done (shut s) ≡ Makes reply after → after ≢ s
-shut-changes s open makes same =
-    both_ways s.is_shut open (sym (ap (λ (t : State). t.is_shut) (made-after makes ∙ same)))
+shut-changes s accepts makes same =
+    both_ways s.is_shut accepts (sym (ap (λ (t : State). t.is_shut) (made-after makes ∙ same)))
 
 made-changes : OnlyIdle → (s : State) (moment : ℕ) (user : List ℕ) (request : Request) {reply : Reply} {after : State}
     → is_closed s request ≡ false → first_refusal (refusals_of s moment user request) ≡ None
     → made s moment user request ≡ Makes reply after → after ≢ s
-made-changes only s moment user (Submit desc) {reply} {after} open none makes same =
+made-changes only s moment user (Submit desc) {reply} {after} accepts none makes same =
     only.submissions s after moment user desc reply makes same
-made-changes only s moment user (Cancel targets) open none makes same =
+made-changes only s moment user (Cancel targets) accepts none makes same =
     jobs-change only s moment user act.Cancel (are_meant targets) makes same
-made-changes only s moment user (Hold targets for_owner) open none makes same =
+made-changes only s moment user (Hold targets for_owner) accepts none makes same =
     jobs-change only s moment user (act.Hold for_owner) (are_naming targets) makes same
-made-changes only s moment user (Release targets) open none makes same =
+made-changes only s moment user (Release targets) accepts none makes same =
     jobs-change only s moment user act.Release (are_naming targets) makes same
-made-changes only s moment user (Requeue target) open none makes same =
+made-changes only s moment user (Requeue target) accepts none makes same =
     jobs-change only s moment user act.Requeue (are_naming (target ∷ [])) makes same
-made-changes only s moment user (UpdateJob target limit nice) open none makes same =
+made-changes only s moment user (UpdateJob target limit nice) accepts none makes same =
     jobs-change only s moment user (act.Update limit nice) (are_naming (target ∷ [])) makes same
-made-changes only s moment user (UpdatePartition name state) open none makes same =
+made-changes only s moment user (UpdatePartition name state) accepts none makes same =
     partition-changes s state (place_meant (Some name) s.partitions) makes same
-made-changes only s moment user Shutdown open none makes same = shut-changes s open makes same
-made-changes only s moment user (Report report) open none makes same =
+made-changes only s moment user Shutdown accepts none makes same = shut-changes s accepts makes same
+made-changes only s moment user (Report report) accepts none makes same =
     let allowed = none-first AccessDenied (not (is_privileged s user)) _ none in
     let known = none-first UnknownNode (is_none (node_of s report)) _ allowed.1 in
     let fresh = elim (staleness report (last_heard s report))
     as (λ refusal. first_refusal (refusal ∷ []) ≡ None → refusal ≡ None)
     [ None ↦ λ none. refl | Some refusal ↦ λ none. none ] known.1 in
     told-changes s moment report (node_of s report) refl fresh makes same
-made-changes only s moment user Pass open none makes same = pass-changes only s moment makes same
-made-changes only s moment user request open none makes same = absurd (cc)
+made-changes only s moment user Pass accepts none makes same = pass-changes only s moment makes same
+made-changes only s moment user request accepts none makes same = absurd (cc)
 
 -- What an accepted request makes is another state.
 pub step-changes : OnlyIdle → (s : State) (now : ℕ) (user : List ℕ) (request : Request) {reply : Reply} {after : State}
@@ -190,10 +190,10 @@ step-changes only s now user request makes same = elim (cases_Bool (is_unbuilt s
       let early = judged (first_refusal (early_refusals s now request)) (worked s moment user request)
       (rw built at makes) in
       let late = none-first MomentTooLarge (nat_lt last_moment now) _ early.0 in
-      let open = none-first ShuttingDown (is_closed s request) _ late.1 in
+      let accepts = none-first ShuttingDown (is_closed s request) _ late.1 in
       let judged = judged (first_refusal (refusals_of s moment user request)) _ early.1 in
       let made = full-made (has_room s request) (made s moment user request) judged.1 in
-      made-changes only s moment user request open.0 judged.0 made same
+      made-changes only s moment user request accepts.0 judged.0 made same
 ]
 
 -- what an idle request is known by
@@ -229,7 +229,7 @@ partition-idle : (s : State) (state : PartState) (place : Option ℕ)
 partition-idle s state None idle = tt
 partition-idle s state (Some place) idle =
     elim (cases_Bool (is_in_state state (slice_get s.partitions place))) [
-      | inl in ↦ ap (λ partitions. record s { partitions = partitions }) (in-state-stays place state s.partitions in)
+      | inl had ↦ ap (λ partitions. record s { partitions = partitions }) (in-state-stays place state s.partitions had)
       | inr out ↦ let done = rw out at idle in absurd (cc)
     ]
 

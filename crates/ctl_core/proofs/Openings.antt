@@ -46,7 +46,7 @@ sound-opening s ranges nodes on_nodes limits no_jobs no_plan next size moment = 
     together = λ i j d before within. absurd (omega (arith, within));
   });
   size = omega (arith, size);
-  open = λ is_open. omega (arith, size);
+  accepts = λ is_open. omega (arith, size);
   next = (omega (arith, next), omega (arith, next));
   moment = omega (arith, moment);
   jobs = rw no_jobs (λ k d within. absurd (omega (arith, within)));

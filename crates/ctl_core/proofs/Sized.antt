@@ -48,7 +48,7 @@ made-sized s moment user (UpdateJob target limit nice) =
     jobs-sized s moment user (act.Update limit nice) (are_naming (target ∷ []))
 made-sized s moment user (UpdatePartition name state) =
     elim (place_meant (Some name) s.partitions) as (λ place. KeepsSize s (partition_made s state place))
-    [ None ↦ tt | Some place ↦ cond_both (is_in_state state (slice_get s.partitions place)) Stays _ (KeepsSize s) (λ in. tt) (λ out. refl) ]
+    [ None ↦ tt | Some place ↦ cond_both (is_in_state state (slice_get s.partitions place)) Stays _ (KeepsSize s) (λ had. tt) (λ out. refl) ]
 made-sized s moment user Shutdown = refl
 made-sized s moment user (Report report) =
     elim (node_of s report) as (λ node. KeepsSize s (made_by_report s moment report node))

@@ -34,15 +34,15 @@ stamped-as s middle after moment size asked verdict answered answers sized stamp
 verdict-worked : (s : State) (now : ℕ) (user : List ℕ) (request : Request)
     → is_unbuilt s request ≡ false → nat_lt last_moment now ≡ false → is_closed s request ≡ false
     → verdict_of s now user request ≡ worked s (raised s now) user request
-verdict-worked s now user request built early open = rw (built, early, open) refl
+verdict-worked s now user request built early accepts = rw (built, early, accepts) refl
 
 -- Where a request is worked, its answer is the step's reply.
 pub reply-worked : (s middle : State) (now : ℕ) (user : List ℕ) (request : Request) (answered : Answered)
     → is_unbuilt s request ≡ false → nat_lt last_moment now ≡ false → is_closed s request ≡ false
     → Answers s middle (worked s (raised s now) user request) answered
     → answered.reply ≡ reply_of s now user request
-reply-worked s middle now user request answered built early open answers =
-    answers.reply ∙ sym (ap reply_by (verdict-worked s now user request built early open))
+reply-worked s middle now user request answered built early accepts answers =
+    answers.reply ∙ sym (ap reply_by (verdict-worked s now user request built early accepts))
 
 -- Once it is stamped, the state is the step's.
 pub state-worked : (s middle after : State) (now size : ℕ) (user : List ℕ) (request : Request) (answered : Answered)
@@ -51,11 +51,11 @@ pub state-worked : (s middle after : State) (now size : ℕ) (user : List ℕ) (
     → (has_room s request ≡ true → size ≡ size_of request)
     → after ≡ (if is_entered answered.reply then entered (raised s now) size middle else middle)
     → after ≡ state_after s now user request
-state-worked s middle after now size user request answered built early open answers sized stamped =
+state-worked s middle after now size user request answered built early accepts answers sized stamped =
     let moment = raised s now in
     let P = λ (verdict : Verdict).
     after ≡ (if is_entered (reply_by verdict) then entered moment (size_of request) (left_by s verdict) else s) in
-    subst P (sym (verdict-worked s now user request built early open))
+    subst P (sym (verdict-worked s now user request built early accepts))
     (stamped-as s middle after moment size (size_of request) (worked s moment user request) answered answers
     (λ enters. sized (worked-entered s moment user request enters)) stamped)
 

@@ -81,7 +81,7 @@ sound-partition : AllKeep → (s : State) (moment : ℕ) (state : PartState) (pl
     → IsSound s → s.moment ≤ moment → moment ≤ last_moment → MakesSound s moment (partition_made s state place)
 sound-partition keep s moment state None sound later in_time = tt
 sound-partition keep s moment state (Some place) sound later in_time =
-    cond_both (is_in_state state (slice_get s.partitions place)) Stays _ (MakesSound s moment) (λ in. tt)
+    cond_both (is_in_state state (slice_get s.partitions place)) Stays _ (MakesSound s moment) (λ had. tt)
     (λ out. keep.partitions (stamped moment s) place state (keep.later s moment sound later in_time))
 
 -- what a request makes that isn't refused
@@ -148,7 +148,7 @@ fits-full s size verdict = elim (cases_Bool (nat_le (s.size + size) last_size)) 
     fits-within (Tells view) within = tt
     fits-within Stays within = tt
     fits-within Unbuilt within = tt
-    fits-within (Makes reply after) within = (omega (arith, within), λ open. within)
+    fits-within (Makes reply after) within = (omega (arith, within), λ accepts. within)
 
     fits-not : (verdict : Verdict) → Fits s size (unless_full false verdict)
     fits-not (Refuses refusal) = tt
@@ -164,11 +164,11 @@ fits-judged s size (Some refusal) verdict fits = tt
 
 worked-fits : (s : State) (moment : ℕ) (user : List ℕ) (request : Request) → IsSound s → is_closed s request ≡ false
     → Fits s (size_of request) (worked s moment user request)
-worked-fits s moment user Shutdown sound open =
-    let within = sound.open open in
+worked-fits s moment user Shutdown sound accepts =
+    let within = sound.accepts accepts in
     fits-judged s shutdown_size (first_refusal (shutdown_refusals s user)) (Makes Done (shut s))
     (omega (arith, within), λ never. absurd cc)
-worked-fits s moment user request sound open =
+worked-fits s moment user request sound accepts =
     fits-judged s (size_of request) (first_refusal (refusals_of s moment user request)) _
     (fits-full s (size_of request) (made s moment user request))
 
@@ -183,7 +183,7 @@ sound-left sizes s moment size Stays sound makes sized room = sound
 sound-left sizes s moment size Unbuilt sound makes sized room = sound
 sound-left sizes s moment size (Makes reply after) sound makes sized room =
     cond_both (is_entered reply) (entered moment size after) s IsSound
-    (λ enters. sizes (stamped moment after) (after.size + size) makes (rw sized room.0) (λ open. rw sized (room.1 open)))
+    (λ enters. sizes (stamped moment after) (after.size + size) makes (rw sized room.0) (λ accepts. rw sized (room.1 accepts)))
     (λ other. sound)
 
 -- what a request comes to at a moment that is none too large
@@ -208,13 +208,13 @@ kept-early : AllKeep → (s : State) (now : ℕ) (user : List ℕ) (request : Re
     (worked s (raised s now) user request))
 kept-early keep s now user request true closed sound ranges early shut = record { makes = tt; sized = tt; room = tt }
 kept-early keep s now user request false true sound ranges early shut = record { makes = tt; sized = tt; room = tt }
-kept-early keep s now user request false false sound ranges early open =
+kept-early keep s now user request false false sound ranges early accepts =
     let in_time = ltb-false last_moment now early in
     let moment = raised s now in
     record {
       makes = sound-worked keep s moment user request sound (omega arith) (omega (arith, sound.moment, in_time)) ranges;
       sized = worked-sized s moment user request;
-      room = worked-fits s moment user request sound open;
+      room = worked-fits s moment user request sound accepts;
     }
 
 kept-verdict : AllKeep → (s : State) (now : ℕ) (user : List ℕ) (request : Request)

@@ -1,5 +1,5 @@
 -- What users do to jobs keeps all sound, and changes nothing where no job changes.
-use Rattle.std.proofs.Common.{ℕ, zero, suc, ◌≡◌, ◌<◌, ◌≤◌, Bool, true, false, List, [], ◌∷◌, map, get_or, Option, None, Some, refl, sym, ap, ◌∙◌, arith, inl, inr, true≢false}
+use Rattle.std.proofs.Common.{ℕ, zero, suc, ◌≡◌, ◌<◌, ◌≤◌, Bool, true, false, ◌&&◌, List, [], ◌∷◌, map, get_or, Option, None, Some, refl, sym, ap, ◌∙◌, arith, inl, inr, true≢false}
 use Rattle.std.specs.List.{All, Contains, filter, list_any}
 use Rattle.std.proofs.lemmas.Bool.{and_parts, cases_Bool, cond_both, eqb-false, eqb-true, or_parts}
 use Rattle.std.proofs.lemmas.List.Elements.{All-head, All-tail, Contains-append_cases}
@@ -105,6 +105,10 @@ all_stay s now user action named (job ∷ jobs) none =
     let here = stays-one s now user action named job parts.0 in
     let rest = all_stay s now user action named jobs parts.1 in
     cc
+
+one-has : (a x k : ℕ) → k < 1 → get_or (a ∷ []) k x ≡ x → a ≡ x
+one-has a x zero below is = is
+one-has a x (suc k) below is = absurd (omega (arith, below))
 
 -- numbers of pending jobs are above what all numbers are above
 above : (low id : ℕ) (jobs : List JobRecord) → All (λ (job : JobRecord). low < job.id) jobs

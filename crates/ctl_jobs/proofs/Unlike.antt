@@ -1,7 +1,7 @@
 -- What is done to a job leaves it as it is exactly where it is said to.
 use Rattle.std.proofs.Common.{ℕ, ◌≡◌, Bool, true, false, ◌&&◌, ◌||◌, not, List, [], ◌∷◌, map, Option, Some, None, is_none, refl, sym, ap, ◌∙◌, arith, inl, inr, true≢false}
 use Rattle.std.specs.List.{list_any}
-use Rattle.std.proofs.lemmas.Bool.{and_parts, both_ways, cases_Bool, cond-true, eqb-refl, eqb-true, or_from}
+use Rattle.std.proofs.lemmas.Bool.{and_parts, both_ways, cases_Bool, cond-true, eq-eqb, eqb-true, or_from}
 use Rattle.std.proofs.lemmas.Bool.Decides.{nat_tests}
 use Rattle.slurm_text.specs.declared.plain.limit.Limit.{Limit}
 use Rattle.slurm_text.specs.declared.plain.limit.Limit.TheVariants.{Minutes, Unlimited}
@@ -48,12 +48,12 @@ holder-same held.User = refl
 holder-same held.Admin = refl
 
 limit-same : (one : Limit) → same_limit one one ≡ true
-limit-same (Minutes minutes) = eqb-refl minutes
+limit-same (Minutes minutes) = eq-eqb minutes minutes refl
 limit-same Unlimited = refl
 
 nice-same : (one : Nice) → same_nice one one ≡ true
-nice-same (Lower number) = eqb-refl number
-nice-same (Raise number) = eqb-refl number
+nice-same (Lower number) = eq-eqb number number refl
+nice-same (Raise number) = eq-eqb number number refl
 
 -- a job with the limit and the nice value that it has
 limited-alone : (limit : Option Limit) (job : JobRecord) → has_limit limit job ≡ true → with_limit limit job ≡ job

@@ -16,5 +16,5 @@ sound-later s now sound later in_time =
 
 pub sound-shut : (s : State) → IsSound s → IsSound (record s { is_shut = true })
 sound-shut s sound =
-    let open : true ≡ false → s.size ≤ last_size = λ never. absurd cc in
+    let accepts : true ≡ false → s.size ≤ last_size = λ never. absurd cc in
     search rules

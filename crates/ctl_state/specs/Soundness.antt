@@ -121,7 +121,7 @@ pub record IsSound (s : State) : Type 0 where
   pub next : (1 ≤ s.next_id) × (s.next_id ≤ last_job_id + 1)
   -- only a shutdown may lead past the greatest sum of sizes
   pub size : s.size ≤ last_size + shutdown_size
-  pub open : s.is_shut ≡ false → s.size ≤ last_size
+  pub accepts : s.is_shut ≡ false → s.size ≤ last_size
   pub moment : s.moment ≤ last_moment
   pub jobs : All (IsKept s.moment) s.jobs
   pub held : IsHeldOnce (map room_of s.nodes) (parts_of s.jobs)
