@@ -167,10 +167,10 @@ fn needs_of(
 }
 
 /// What the candidates at the factors' moment need, highest in rank first: the pending jobs that nothing hinders then.
-/// Linear in the jobs, and for each pending one in its association's way up to root and the nodes that it must have. The
-/// nodes of each partition are sorted once, and its candidates share them, so that a candidate that says nothing of its
-/// nodes costs no more; one that does costs the nodes of its partition, and for each of them what it names. What each
-/// candidate is ranked by is found once, and by that they are sorted.
+/// Linear in the jobs, and for each pending one in its association's way up to root and the nodes that it must have.
+/// The nodes of each partition are sorted once, and its candidates share them, so that a candidate that says nothing of
+/// its nodes costs no more; one that does costs the nodes of its partition, and for each of them what it names. What
+/// each candidate is ranked by is found once, and by that they are sorted.
 #[tactic(auto, unfolding(crate::specs::Candidates::ranked))]
 pub fn rank(
     alloc: Global,
@@ -204,8 +204,8 @@ fn is_higher(cluster: &Cluster, factors: &Factors, one: &JobRecord, other: &JobR
     )
 }
 
-/// The number of the candidate that is highest in rank at the factors' moment, None where there is no candidate then. One
-/// walk over the jobs, which looks at what each pending one is ranked by; each that is higher than the candidates
+/// The number of the candidate that is highest in rank at the factors' moment, None where there is no candidate then.
+/// One walk over the jobs, which looks at what each pending one is ranked by; each that is higher than the candidates
 /// before it costs its association's way up to root and the nodes that it must have besides.
 pub fn highest(cluster: &Cluster, tally: &Tally, factors: &Factors) -> Option<u32>
     requires counted { Shows cluster.now.assocs.records tally.now (holding cluster.now.jobs.records) }
