@@ -11,7 +11,7 @@ use Rattle.command_words.specs.declared.wanted.Wanted.TheVariants.{Request, Malf
 
 -- whether the controller can do for a job all that it asks for
 unfoldable pub is_built : JobDesc → Bool
-is_built job = is_none job.reservation && is_none job.begin && is_none job.dependency
+is_built job = is_none job.reservation && is_none job.dependency
 
 abbrev pub wanted_job : JobDesc → Wanted
 wanted_job job = if is_built job then Request (Submit job) else NotBuilt

@@ -18,7 +18,7 @@ use std::alloc::Global;
 fn is_built(job: &JobDesc) -> bool
     ensures { result ≡ is_built job.now }
 {
-    job.reservation.is_none() && job.begin.is_none() && job.dependency.is_none()
+    job.reservation.is_none() && job.dependency.is_none()
 }
 
 /// The job that the words and the script ask for at the moment `now`.

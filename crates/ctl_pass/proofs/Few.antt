@@ -60,14 +60,14 @@ pub few-planned : OrderMoves JobRecord → (s : State) (now : ℕ) → IsSound s
 unfolding planned plan_of ranked candidates
 few-planned moves s now sound =
     let r = ready s now in
-    let chosen = filter (is_candidate r) r.jobs in
+    let chosen = filter (is_candidate r now) r.jobs in
     let sorted = ordered_by (is_higher r now) chosen in
     omega (
       arith,
       plan-less (base_of r now) now (ranked r now) (base_of r now).holds,
       filter_map-less (needs_of r) sorted,
       length_permutation chosen sorted (moves (is_higher r now) chosen),
-      filter-less (is_candidate r) r.jobs,
+      filter-less (is_candidate r now) r.jobs,
       filter-less (λ job. not (is_old s.settings.min_job_age now job)) (map (timed_out now) s.jobs),
       length-map s.jobs (timed_out now),
       few-jobs s sound,

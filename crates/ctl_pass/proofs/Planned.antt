@@ -11,7 +11,7 @@ use Rattle.resource_profile.specs.Profiles.{AreWithin}
 use Rattle.slurm_text.specs.declared.plain.limit.Limit.{Limit}
 use Rattle.slurm_text.specs.declared.plain.limit.Limit.TheVariants.{Minutes, Unlimited}
 use Rattle.slurm_text.specs.declared.plain.state.Reason.{Reason}
-use Rattle.slurm_text.specs.declared.plain.state.Reason.TheVariants.{QosMaxWallDurationPerJobLimit, ReqNodeNotAvail}
+use Rattle.slurm_text.specs.declared.plain.state.Reason.TheVariants.{BeginTime, QosMaxWallDurationPerJobLimit, ReqNodeNotAvail}
 use Rattle.backfill_planner.specs.declared.Placed.{Placed}
 use Rattle.backfill_planner.specs.declared.job.PlanJob.{PlanJob}
 use Rattle.backfill_planner.specs.Bases.{BaseView}
@@ -46,7 +46,7 @@ use Rattle.ctl_pass.specs.Limits.{holds_of_job, hold_end, timed_out}
 use Rattle.ctl_waiting.specs.Candidates.{is_candidate, candidates, needs_of, ranked}
 use Rattle.ctl_pass.specs.Readiness.{jobs_left, ready, base_of, planned, placements}
 use Rattle.ctl_pass.specs.Taking.{CanStart}
-use Rattle.ctl_waiting.specs.Reasons.{exceeds_wall, held_reason, hindrance, hindrances_in, lacks_node, most_tasks}
+use Rattle.ctl_waiting.specs.Reasons.{exceeds_wall, held_reason, hindrance, hindrances_in, is_early, lacks_node, most_tasks}
 use Rattle.ctl_pass.proofs.Held.{held-counted, free-counted}
 use Rattle.ctl_pass.proofs.Lists.{sum_by-larger, sum_by-map, joined-larger, length-rising, at-place, All-joins, All-joined}
 use Rattle.ctl_pass.proofs.Ranks.{IsOfCandidate, waiting, candidates-wait, ordered-agree, ranked-all, ranked-candidates, ranked-waits, ranked-apart}
@@ -191,11 +191,11 @@ plan-waits moves ids s now k d below =
 
 -- and of candidates
 pub plan-candidates : OrderMoves JobRecord → PlanIds → (s : State) (now : ℕ)
-    → All (λ (placed : Placed). IsOfCandidate s placed.id) (planned s now)
+    → All (λ (placed : Placed). IsOfCandidate s now placed.id) (planned s now)
 unfolding planned
 plan-candidates moves ids s now k d below =
-    All-contains (IsOfCandidate s) (map (λ (job : PlanJob). job.id) (ranked s now)) _
-    (All-map (IsOfCandidate s) (λ (job : PlanJob). job.id) (ranked s now) (ranked-candidates moves s now))
+    All-contains (IsOfCandidate s now) (map (λ (job : PlanJob). job.id) (ranked s now)) _
+    (All-map (IsOfCandidate s now) (λ (job : PlanJob). job.id) (ranked s now) (ranked-candidates moves s now))
     (ids (base_of s now) (ranked s now) now k d below)
 
 -- The plan of a sound state can start.
@@ -243,19 +243,20 @@ pub base-rooms : (s : State) (now : ℕ) (base : BaseView) → base ≡ base_of 
 unfolding base_of
 base-rooms s now base is = ap (λ (one : BaseView). one.rooms) is
 
--- what hinders a job beside what is counted
-abbrev hindered : State → JobRecord → List Counted → Option Reason
-hindered s job counted =
+-- what hinders a job at a moment beside what is counted
+abbrev hindered : State → ℕ → JobRecord → List Counted → Option Reason
+hindered s now job counted =
     let beside : Beside = record { assocs = s.assocs; qos = s.qos; holding = counted } in
-    first_reason (held_reason job.held_by ∷ (hindrances_in (partition_of s job)
-    job ++ (reason_if (exceeds_wall s job)
-    QosMaxWallDurationPerJobLimit ∷ (limits_reached beside (counted_of job) (most_tasks job)
-    ++ reason_if (lacks_node s job) ReqNodeNotAvail ∷ []))))
+    first_reason (held_reason job.held_by ∷ (reason_if (is_early now job) BeginTime
+    ∷ (hindrances_in (partition_of s job) job
+    ++ (reason_if (exceeds_wall s job) QosMaxWallDurationPerJobLimit
+    ∷ (limits_reached beside (counted_of job) (most_tasks job)
+    ++ reason_if (lacks_node s job) ReqNodeNotAvail ∷ [])))))
 
 -- the same hinders a job before the first steps
-hindrance-ready : (s : State) (now : ℕ) (job : JobRecord) → hindrance (ready s now) job ≡ hindrance s job
+hindrance-ready : (s : State) (now : ℕ) (job : JobRecord) → hindrance (ready s now) now job ≡ hindrance s now job
 unfolding hindrance
-hindrance-ready s now job = ap (hindered s job) (holding-left s.settings.min_job_age now s.jobs)
+hindrance-ready s now job = ap (hindered s now job) (holding-left s.settings.min_job_age now s.jobs)
 
 -- the laws of ranks that a pass rests on
 pub record RankLaws : Type 0 where
@@ -277,14 +278,14 @@ pub ranked-stay : RankLaws → (s : State) (now : ℕ) → ranked (ready s now) 
 unfolding ranked candidates needs_of
 ranked-stay laws s now =
     let left = ready s now in
-    let same : filter (is_candidate left) left.jobs ≡ filter (is_candidate s) s.jobs =
-    filter_agree (is_candidate left) (is_candidate s)
+    let same : filter (is_candidate left now) left.jobs ≡ filter (is_candidate s now) s.jobs =
+    filter_agree (is_candidate left now) (is_candidate s now)
     (λ job. ap (λ some. is_pending job.state && is_none some) (hindrance-ready s now job)) left.jobs
-    ∙ candidates-wait s left.jobs ∙ ap (filter (λ job. is_none (hindrance s job)))
-    (pending-left s.settings.min_job_age now s.jobs) ∙ sym (candidates-wait s s.jobs) in
+    ∙ candidates-wait s now left.jobs ∙ ap (filter (λ job. is_none (hindrance s now job)))
+    (pending-left s.settings.min_job_age now s.jobs) ∙ sym (candidates-wait s now s.jobs) in
     ap (λ some. filter_map (needs_of s) (ordered_by (is_higher left now) some)) same
     ∙ ap (filter_map (needs_of s)) (ordered-agree (is_higher left now) (is_higher s now) (higher-ready laws s now)
-    (filter (is_candidate s) s.jobs))
+    (filter (is_candidate s now) s.jobs))
 
 pub plan-is : (s : State) (now : ℕ) (made : PlannedView) (base : BaseView) (jobs : List PlanJob)
     → made ≡ record { base = base; ranked = jobs; moment = now }

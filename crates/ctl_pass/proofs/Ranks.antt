@@ -74,10 +74,10 @@ filter_map-less {Y = Y} h (x ∷ xs) = by (h x) (filter_map-less h xs)
 abbrev pub waiting : List JobRecord → List JobRecord
 waiting jobs = filter (λ (job : JobRecord). is_pending job.state) jobs
 
-pub candidates-wait : (s : State) (jobs : List JobRecord)
-    → filter (is_candidate s) jobs ≡ filter (λ job. is_none (hindrance s job)) (waiting jobs)
-candidates-wait s [] = refl
-candidates-wait s (job ∷ jobs) = grind (arith, nat_tests, candidates-wait s jobs)
+pub candidates-wait : (s : State) (now : ℕ) (jobs : List JobRecord)
+    → filter (is_candidate s now) jobs ≡ filter (λ job. is_none (hindrance s now job)) (waiting jobs)
+candidates-wait s now [] = refl
+candidates-wait s now (job ∷ jobs) = grind (arith, nat_tests, candidates-wait s now jobs)
 
 -- what holds of what a job needs in its partition
 needs-all : (P : PlanJob → Type 0) (s : State) (job : JobRecord)
@@ -100,10 +100,10 @@ needs-all P s job each = by (partition_of s job) refl
 
 -- what holds of what each candidate may need
 ranked-of : OrderMoves JobRecord → (P : PlanJob → Type 0) (s : State) (now : ℕ)
-    → All (λ (job : JobRecord). IfSome (needs_of s job) P) (filter (is_candidate s) s.jobs) → All P (ranked s now)
+    → All (λ (job : JobRecord). IfSome (needs_of s job) P) (filter (is_candidate s now) s.jobs) → All P (ranked s now)
 unfolding ranked candidates
 ranked-of moves P s now each =
-    let chosen = filter (is_candidate s) s.jobs in
+    let chosen = filter (is_candidate s now) s.jobs in
     let sorted = ordered_by (is_higher s now) chosen in
     filter_map-all P (needs_of s) sorted (All-permutation (λ (job : JobRecord). IfSome (needs_of s job) P) chosen sorted
     (moves (is_higher s now) chosen) each)
@@ -116,21 +116,21 @@ pub ranked-all : OrderMoves JobRecord → (P : PlanJob → Type 0) (s : State) (
     → All P (ranked s now)
 ranked-all moves P s now each =
     let needs : JobRecord → Type 0 = λ job. IfSome (needs_of s job) P in
-    ranked-of moves P s now (rw (candidates-wait s s.jobs)
-    (All-filter (λ job. is_none (hindrance s job)) needs (waiting s.jobs)
+    ranked-of moves P s now (rw (candidates-wait s now s.jobs)
+    (All-filter (λ job. is_none (hindrance s now job)) needs (waiting s.jobs)
     (λ k d below. needs-all P s (get_or (waiting s.jobs) k d) (each k d below))))
 
--- the job with this number is a candidate
-abbrev pub IsOfCandidate : State → ℕ → Type 0
-IsOfCandidate s id = Any (λ (job : JobRecord). (job.id ≡ id) × (is_candidate s job ≡ true)) s.jobs
+-- the job with this number is a candidate at a moment
+abbrev pub IsOfCandidate : State → ℕ → ℕ → Type 0
+IsOfCandidate s now id = Any (λ (job : JobRecord). (job.id ≡ id) × (is_candidate s now job ≡ true)) s.jobs
 
 -- they are of candidates
 pub ranked-candidates : OrderMoves JobRecord → (s : State) (now : ℕ)
-    → All (λ (need : PlanJob). IsOfCandidate s need.id) (ranked s now)
+    → All (λ (need : PlanJob). IsOfCandidate s now need.id) (ranked s now)
 unfolding plan_job
 ranked-candidates moves s now =
-    let chosen = filter (is_candidate s) s.jobs in
-    let each : All (λ (job : JobRecord). is_candidate s job ≡ true → IsOfCandidate s job.id) s.jobs =
+    let chosen = filter (is_candidate s now) s.jobs in
+    let each : All (λ (job : JobRecord). is_candidate s now job ≡ true → IsOfCandidate s now job.id) s.jobs =
     λ k d below passes. (
       k,
       get_or s.jobs k d,
@@ -138,10 +138,10 @@ ranked-candidates moves s now =
       get_or_default s.jobs k (get_or s.jobs k d) d below,
       (refl, passes),
     ) in
-    ranked-of moves (λ (need : PlanJob). IsOfCandidate s need.id) s now
-    (λ k d below. needs-all (λ (need : PlanJob). IsOfCandidate s need.id) s (get_or chosen k d)
-    (λ partition bounds is. All-filter (is_candidate s) (λ (job : JobRecord). is_candidate s job ≡ true
-    → IsOfCandidate s job.id) s.jobs each k d below (filter_passes (is_candidate s) s.jobs k d below)))
+    ranked-of moves (λ (need : PlanJob). IsOfCandidate s now need.id) s now
+    (λ k d below. needs-all (λ (need : PlanJob). IsOfCandidate s now need.id) s (get_or chosen k d)
+    (λ partition bounds is. All-filter (is_candidate s now) (λ (job : JobRecord). is_candidate s now job ≡ true
+    → IsOfCandidate s now job.id) s.jobs each k d below (filter_passes (is_candidate s now) s.jobs k d below)))
 
 -- they are of jobs that wait
 pub ranked-waits : OrderMoves JobRecord → (s : State) (now : ℕ)
@@ -166,12 +166,12 @@ unfolding ranked candidates plan_job
 ranked-apart keeps s now rising =
     let apart : AllPairs (λ (one other : JobRecord). one.id ≢ other.id) s.jobs =
     λ i j d before within same. omega (arith, rising i j d before within, same) in
-    let sorted = keeps (is_higher s now) (λ (job : JobRecord). job.id) (filter (is_candidate s) s.jobs)
-    (AllPairs-filter (λ (one other : JobRecord). one.id ≢ other.id) (is_candidate s) s.jobs apart) in
+    let sorted = keeps (is_higher s now) (λ (job : JobRecord). job.id) (filter (is_candidate s now) s.jobs)
+    (AllPairs-filter (λ (one other : JobRecord). one.id ≢ other.id) (is_candidate s now) s.jobs apart) in
     filter_map-pairs (λ (one other : PlanJob). one.id ≢ other.id) (needs_of s)
-    (ordered_by (is_higher s now) (filter (is_candidate s) s.jobs))
-    (λ i j d before below. let one = get_or (ordered_by (is_higher s now) (filter (is_candidate s) s.jobs)) i d in
-    let other = get_or (ordered_by (is_higher s now) (filter (is_candidate s) s.jobs)) j d in
+    (ordered_by (is_higher s now) (filter (is_candidate s now) s.jobs))
+    (λ i j d before below. let one = get_or (ordered_by (is_higher s now) (filter (is_candidate s now) s.jobs)) i d in
+    let other = get_or (ordered_by (is_higher s now) (filter (is_candidate s now) s.jobs)) j d in
     needs-all (λ (need : PlanJob). IfSome (needs_of s other) (λ (later : PlanJob). need.id ≢ later.id)) s one
     (λ partition bounds is. needs-all (λ (later : PlanJob). one.id ≢ later.id) s other
     (λ part most same. sorted i j d before below)))

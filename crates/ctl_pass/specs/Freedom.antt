@@ -12,7 +12,7 @@ use Rattle.ctl_pass.specs.Starting.{JobStart, begun, may_start}
 -- reaches no limit, beside the jobs that hold processors then, those that it started before among them.
 pub record StartsAreFree (s : State) (now : ℕ) : Type 0 where
   pub planned : All (λ (placed : Placed).
-      Any (λ (job : JobRecord). (job.id ≡ placed.id) × (is_candidate (ready s now) job ≡ true)) (ready s now).jobs)
+      Any (λ (job : JobRecord). (job.id ≡ placed.id) × (is_candidate (ready s now) now job ≡ true)) (ready s now).jobs)
       (placements s now)
   pub free : (k : ℕ) (d : JobStart) → k < length (outcome s now).starts
       → may_start s (fold (begun now) (jobs_left s now) (take k (outcome s now).starts))

@@ -88,10 +88,11 @@ pub fn no_start_exceeds_a_limit()
         (slice_index_or (outcome s now).starts k d).id ≡ true }
 {}
 
-/// What is planned is of candidates: pending jobs that nothing hinders.
+/// What is planned is of candidates at the pass's moment: pending jobs that nothing hinders then.
 pub fn planned_jobs_are_candidates()
     ensures { (s : State) (now : ℕ) → All (λ (placed : Placed).
-        Any (λ (job : JobRecord). (job.id ≡ placed.id) × (is_candidate (ready s now) job ≡ true)) (ready s now).jobs)
+        Any (λ (job : JobRecord). (job.id ≡ placed.id) × (is_candidate (ready s now) now job ≡ true))
+        (ready s now).jobs)
         (placements s now) }
 {
     a_stable_sort_makes_the_order::<JobRecord>();

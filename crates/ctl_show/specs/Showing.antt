@@ -92,9 +92,9 @@ abbrev pub reason_by_rank : Option ℕ → JobRecord → Reason
 reason_by_rank None job = reason.Priority
 reason_by_rank (Some id) job = if nat_eq id job.id then reason.Resources else reason.Priority
 
--- why a pending job waits
+-- why a pending job waits at a moment
 abbrev pub reason_of : State → ℕ → JobRecord → Reason
-reason_of s now job = unwrap_or (hindrance s job) (reason_by_rank (highest s now) job)
+reason_of s now job = unwrap_or (hindrance s now job) (reason_by_rank (highest s now) job)
 
 -- the second that the last plan gives a job
 abbrev pub planned_start : List Placed → ℕ → Option ℕ

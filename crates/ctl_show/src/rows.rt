@@ -125,7 +125,7 @@ fn reason_shown(cluster: &Cluster, outlook: &Outlook, job: &JobRecord) -> Option
     if !is_pending(job) {
         return None;
     }
-    match hindrance(cluster, &outlook.tally, job) {
+    match hindrance(cluster, &outlook.tally, outlook.factors.moment, job) {
         Some(reason) => Some(reason),
         None => Some(reason_by_rank(outlook.highest, job)),
     }

@@ -21,26 +21,29 @@ first-of : (first : Option Reason) (later : List (Option Reason))
 first-of None later = refl
 first-of (Some reason) later = refl
 
-pub reasons-joined : (first middle last : Option Reason) (some others : List (Option Reason))
-    → option_or (option_or (option_or (option_or first (first_reason some)) middle) (first_reason others)) last
-    ≡ first_reason (first ∷ (some ++ (middle ∷ (others ++ last ∷ []))))
-reasons-joined first middle last some others =
+pub reasons-joined : (first second middle last : Option Reason) (some others : List (Option Reason))
+    → option_or (option_or (option_or (option_or (option_or first second) (first_reason some)) middle)
+    (first_reason others)) last
+    ≡ first_reason (first ∷ (second ∷ (some ++ (middle ∷ (others ++ last ∷ [])))))
+reasons-joined first second middle last some others =
     let end = behind others (last ∷ []) in
     rw (
-      ← first-of first (some ++ (middle ∷ (others ++ last ∷ []))),
+      ← first-of first (second ∷ (some ++ (middle ∷ (others ++ last ∷ [])))),
+      ← first-of second (some ++ (middle ∷ (others ++ last ∷ []))),
       ← behind some (middle ∷ (others ++ last ∷ [])),
       ← first-of middle (others ++ last ∷ []),
       ← end,
       ← first-of last [],
     )
-    (by first (first_reason some) middle (first_reason others) last)
+    (by first second (first_reason some) middle (first_reason others) last)
   where
-    by : (a b c d e : Option Reason)
-        → option_or (option_or (option_or (option_or a b) c) d) e
-        ≡ option_or a (option_or b (option_or c (option_or d (option_or e None))))
-    by None None None None None = refl
-    by None None None None (Some e) = refl
-    by None None None (Some d) e = refl
-    by None None (Some c) d e = refl
-    by None (Some b) c d e = refl
-    by (Some a) b c d e = refl
+    by : (a b c d e f : Option Reason)
+        → option_or (option_or (option_or (option_or (option_or a b) c) d) e) f
+        ≡ option_or a (option_or b (option_or c (option_or d (option_or e (option_or f None)))))
+    by None None None None None None = refl
+    by None None None None None (Some f) = refl
+    by None None None None (Some e) f = refl
+    by None None None (Some d) e f = refl
+    by None None (Some c) d e f = refl
+    by None (Some b) c d e f = refl
+    by (Some a) b c d e f = refl

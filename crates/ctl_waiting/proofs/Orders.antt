@@ -122,21 +122,22 @@ order-by_keys {X = X} s now job key some jobs is =
 
 -- the candidate that is highest in rank
 pub highest_of : State → ℕ → List JobRecord → Option JobRecord
-highest_of s now jobs = slice_get (ordered_by (is_higher s now) (filter (is_candidate s) jobs)) 0
+highest_of s now jobs = slice_get (ordered_by (is_higher s now) (filter (is_candidate s now) jobs)) 0
 
 pub highest-none : (s : State) (now : ℕ) → highest_of s now [] ≡ None
 unfolding highest_of ordered_by
 highest-none s now = refl
 
 pub highest-more : (s : State) (now i : ℕ) (job : JobRecord) → i < length s.jobs → job ≡ get_or s.jobs i job
-    → highest_of s now (take (i + 1) s.jobs) ≡ cond (is_candidate s job)
+    → highest_of s now (take (i + 1) s.jobs) ≡ cond (is_candidate s now job)
     (higher (is_higher s now) job (highest_of s now (take i s.jobs))) (highest_of s now (take i s.jobs))
 unfolding highest_of
 highest-more s now i job within is =
-    let before = filter (is_candidate s) (take i s.jobs) in
-    let more : filter (is_candidate s) (take (i + 1) s.jobs) ≡ before ++ cond (is_candidate s job) (job ∷ []) [] =
-    rw (filter_more (is_candidate s) s.jobs i job within, ← is) refl in
-    elim (cases_Bool (is_candidate s job)) [
+    let before = filter (is_candidate s now) (take i s.jobs) in
+    let more : filter (is_candidate s now) (take (i + 1) s.jobs)
+        ≡ before ++ cond (is_candidate s now job) (job ∷ []) [] =
+    rw (filter_more (is_candidate s now) s.jobs i job within, ← is) refl in
+    elim (cases_Bool (is_candidate s now job)) [
       | inl can ↦ rw (more, can) (first-more (is_higher s now) (higher-weak s now) job before)
       | inr other ↦ rw (more, other, append-nil before) refl
     ]

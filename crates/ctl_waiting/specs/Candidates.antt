@@ -11,13 +11,13 @@ use Rattle.ctl_state.specs.State.{State, partition_of}
 use Rattle.ctl_rank.specs.Rank.{is_higher}
 use Rattle.ctl_waiting.specs.Reasons.{hindrance}
 
--- a pending job can be planned where nothing hinders it
-abbrev pub is_candidate : State → JobRecord → Bool
-is_candidate s job = is_pending job.state && is_none (hindrance s job)
+-- a pending job can be planned at a moment where nothing hinders it
+abbrev pub is_candidate : State → ℕ → JobRecord → Bool
+is_candidate s now job = is_pending job.state && is_none (hindrance s now job)
 
--- the jobs that can be planned, highest in rank first
+-- the jobs that can be planned at a moment, highest in rank first
 unfoldable pub candidates : State → ℕ → List JobRecord
-candidates s now = ordered_by (is_higher s now) (filter (is_candidate s) s.jobs)
+candidates s now = ordered_by (is_higher s now) (filter (is_candidate s now) s.jobs)
 
 -- what a job needs in its partition
 unfoldable pub needs_of : State → JobRecord → Option PlanJob

@@ -1,12 +1,12 @@
 -- Why a pending job can't be planned.
-use Rattle.std.specs.Prelude.{ℕ, Bool, true, false, not, is_none, unwrap_or, List, [], ◌∷◌, ◌++◌, Option, Some, None, option_map, option_and_then}
+use Rattle.std.specs.Prelude.{ℕ, Bool, true, false, not, nat_lt, is_none, unwrap_or, List, [], ◌∷◌, ◌++◌, Option, Some, None, option_map, option_and_then}
 use Rattle.std.specs.List.{list_any}
 use Rattle.slurm_text.specs.declared.plain.array.ArraySpec.{ArraySpec}
 use Rattle.slurm_text.specs.declared.plain.conf.PartState.{PartState}
 use Rattle.slurm_text.specs.declared.plain.conf.PartState.TheVariants.{Up, Down, Drain, Inactive}
 use Rattle.slurm_text.specs.declared.plain.limit.Limit.{Limit}
 use Rattle.slurm_text.specs.declared.plain.state.Reason.{Reason}
-use Rattle.slurm_text.specs.declared.plain.state.Reason.TheVariants.{JobHeldAdmin, JobHeldUser, PartitionInactive, PartitionDown, PartitionTimeLimit, PartitionNodeLimit, QosMaxWallDurationPerJobLimit, ReqNodeNotAvail}
+use Rattle.slurm_text.specs.declared.plain.state.Reason.TheVariants.{JobHeldAdmin, JobHeldUser, BeginTime, PartitionInactive, PartitionDown, PartitionTimeLimit, PartitionNodeLimit, QosMaxWallDurationPerJobLimit, ReqNodeNotAvail}
 use Rattle.slurm_text.specs.declared.plain.state.HeldBy.{HeldBy}
 use Rattle.slurm_text.specs.declared.plain.state.HeldBy.TheVariants as held
 use Rattle.partitions.specs.declared.record.PartRecord.{PartRecord}
@@ -44,6 +44,10 @@ held_reason held.Nobody = None
 held_reason held.User = Some JobHeldUser
 held_reason held.Admin = Some JobHeldAdmin
 
+-- the job isn't to begin yet
+abbrev pub is_early : ℕ → JobRecord → Bool
+is_early now job = nat_lt now (unwrap_or job.desc.begin 0)
+
 -- what may hinder a job in its partition, in its order
 abbrev pub hindrances_in : Option PartRecord → JobRecord → List (Option Reason)
 hindrances_in None job = []
@@ -75,15 +79,16 @@ is_unavailable nodes name =
 abbrev pub lacks_node : State → JobRecord → Bool
 lacks_node s job = list_any (is_unavailable s.nodes) job.desc.required
 
--- what may hinder a job, in its order
-abbrev pub hindrances : State → JobRecord → List (Option Reason)
-hindrances s job =
+-- what may hinder a job at a moment, in its order
+abbrev pub hindrances : State → ℕ → JobRecord → List (Option Reason)
+hindrances s now job =
     held_reason job.held_by
+    ∷ (reason_if (is_early now job) BeginTime
     ∷ (hindrances_in (partition_of s job) job
     ++ (reason_if (exceeds_wall s job) QosMaxWallDurationPerJobLimit
     ∷ (reached_beside s s.jobs job
-    ++ reason_if (lacks_node s job) ReqNodeNotAvail ∷ [])))
+    ++ reason_if (lacks_node s job) ReqNodeNotAvail ∷ []))))
 
--- what hinders the job, or nothing
-unfoldable pub hindrance : State → JobRecord → Option Reason
-hindrance s job = first_reason (hindrances s job)
+-- what hinders the job at a moment, or nothing
+unfoldable pub hindrance : State → ℕ → JobRecord → Option Reason
+hindrance s now job = first_reason (hindrances s now job)

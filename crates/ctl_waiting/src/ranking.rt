@@ -38,15 +38,15 @@ struct Candidate<'a> {
     key: RankKey,
 }
 
-// Whether the job waits, and nothing hinders it.
-fn is_candidate(cluster: &Cluster, tally: &Tally, job: &JobRecord) -> bool
+// Whether the job waits, and nothing hinders it at this moment.
+fn is_candidate(cluster: &Cluster, tally: &Tally, moment: u64, job: &JobRecord) -> bool
     requires { Shows cluster.now.assocs.records tally.now (holding cluster.now.jobs.records) }
-    ensures { result ≡ Candidates.is_candidate (state_of cluster.now) job.now }
+    ensures { result ≡ Candidates.is_candidate (state_of cluster.now) moment job.now }
 {
-    is_pending(job) && hindrance(cluster, tally, job).is_none()
+    is_pending(job) && hindrance(cluster, tally, moment, job).is_none()
 }
 
-// The candidates in the order of their numbers, each with what it is ranked by.
+// The candidates at the factors' moment in the order of their numbers, each with what it is ranked by.
 fn candidates_of<'a>(
     alloc: Global,
     cluster: &'a Cluster,
@@ -57,11 +57,11 @@ fn candidates_of<'a>(
     requires measured { IsMeasured (state_of cluster.now) factors.now }
     ensures { IfOk result (λ some. map {B = JobRecord × RankKey} (λ one. (one.job.now, one.key)) some.items
         ≡ map (λ (job : JobRecord). (job, Rank.key_of (state_of cluster.now) factors.now.moment job))
-        (filter (Candidates.is_candidate (state_of cluster.now)) cluster.now.jobs.records)) }
+        (filter (Candidates.is_candidate (state_of cluster.now) factors.now.moment) cluster.now.jobs.records)) }
 {
     let mut some = Vec::new(alloc);
     for job in cluster.jobs.records() {
-        if is_candidate(cluster, tally, job) {
+        if is_candidate(cluster, tally, factors.moment, job) {
             let key = key_of(factors, cluster, job);
             some.push(Candidate { job, key })?;
         }
@@ -82,7 +82,7 @@ fn compare(one: RankKey, other: RankKey) -> Ordering
     }
 }
 
-// The candidates, highest in rank first: a stable sort.
+// The candidates at the factors' moment, highest in rank first: a stable sort.
 fn by_rank<'a>(
     alloc: Global,
     cluster: &'a Cluster,
@@ -166,11 +166,11 @@ fn needs_of(
     Ok(ranked)
 }
 
-/// What the candidates need, which are the pending jobs that nothing hinders, highest in rank at the factors' moment
-/// first. Linear in the jobs, and for each pending one in its association's way up to root and the nodes that it must
-/// have. The nodes of each partition are sorted once, and its candidates share them, so that a candidate that says
-/// nothing of its nodes costs no more; one that does costs the nodes of its partition, and for each of them what it
-/// names. What each candidate is ranked by is found once, and by that they are sorted.
+/// What the candidates at the factors' moment need, highest in rank first: the pending jobs that nothing hinders then.
+/// Linear in the jobs, and for each pending one in its association's way up to root and the nodes that it must have.
+/// The nodes of each partition are sorted once, and its candidates share them, so that a candidate that says nothing of
+/// its nodes costs no more; one that does costs the nodes of its partition, and for each of them what it names. What
+/// each candidate is ranked by is found once, and by that they are sorted.
 #[tactic(auto, unfolding(crate::specs::Candidates::ranked))]
 pub fn rank(
     alloc: Global,
@@ -204,8 +204,8 @@ fn is_higher(cluster: &Cluster, factors: &Factors, one: &JobRecord, other: &JobR
     )
 }
 
-/// The number of the candidate that is highest in rank at the factors' moment, None where there is no candidate. One
-/// walk over the jobs, which looks at what each pending one is ranked by; each that is higher than the candidates
+/// The number of the candidate that is highest in rank at the factors' moment, None where there is no candidate then.
+/// One walk over the jobs, which looks at what each pending one is ranked by; each that is higher than the candidates
 /// before it costs its association's way up to root and the nodes that it must have besides.
 pub fn highest(cluster: &Cluster, tally: &Tally, factors: &Factors) -> Option<u32>
     requires counted { Shows cluster.now.assocs.records tally.now (holding cluster.now.jobs.records) }
@@ -219,7 +219,7 @@ pub fn highest(cluster: &Cluster, tally: &Tally, factors: &Factors) -> Option<u3
             Some(first) => is_pending(job) && is_higher(cluster, factors, job, first),
             None => true,
         };
-        if comes_first && is_candidate(cluster, tally, job) {
+        if comes_first && is_candidate(cluster, tally, factors.moment, job) {
             highest = Some(job);
         }
     }

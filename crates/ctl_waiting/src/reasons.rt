@@ -32,6 +32,13 @@ fn held_reason(held_by: HeldBy) -> Option<Reason>
     }
 }
 
+// Whether the job isn't to begin yet. `--begin` in sbatch(1).
+fn is_early(moment: u64, job: &JobRecord) -> bool
+    ensures { result ≡ Reasons.is_early moment job.now }
+{
+    moment < job.desc.begin.map_or(0, |begin| begin.get())
+}
+
 // What hinders the job in this partition.
 fn hindrance_in(partition: &PartRecord, job: &JobRecord) -> Option<Reason>
     ensures { result ≡ first_reason (Reasons.hindrances_in (Some partition.now) job.now) }
@@ -98,6 +105,17 @@ fn lacks_node(cluster: &Cluster, job: &JobRecord) -> bool
         .any(|name| is_unavailable(&cluster.nodes, name))
 }
 
+// What hinders the job by the moment at which it is to begin.
+fn begin_hindrance(moment: u64, job: &JobRecord) -> Option<Reason>
+    ensures { result ≡ reason_if (Reasons.is_early moment job.now) Reason.BeginTime }
+{
+    if is_early(moment, job) {
+        Some(Reason::BeginTime)
+    } else {
+        None
+    }
+}
+
 // What hinders the job in its partition.
 fn partition_hindrance(cluster: &Cluster, job: &JobRecord) -> Option<Reason>
     ensures { result
@@ -129,13 +147,20 @@ fn node_hindrance(cluster: &Cluster, job: &JobRecord) -> Option<Reason>
     }
 }
 
-/// Why a pending job can't be planned; None where nothing hinders it. Linear in its association's way up to root and in
-/// the nodes that it must have. "JOB REASON CODES" in squeue(1).
-pub fn hindrance(cluster: &Cluster, tally: &Tally, job: &JobRecord) -> Option<Reason>
+/// Why a pending job can't be planned at a moment, in seconds; None where nothing hinders it. Linear in its
+/// association's way up to root and in the nodes that it must have. "JOB REASON CODES" in squeue(1), and `--begin` in
+/// sbatch(1).
+pub fn hindrance(
+    cluster: &Cluster,
+    tally: &Tally,
+    moment: u64,
+    job: &JobRecord,
+) -> Option<Reason>
     requires { Shows cluster.now.assocs.records tally.now (holding cluster.now.jobs.records) }
-    ensures { result ≡ Reasons.hindrance (state_of cluster.now) job.now }
+    ensures { result ≡ Reasons.hindrance (state_of cluster.now) moment job.now }
 {
     held_reason(job.held_by)
+        .or_else(|| begin_hindrance(moment, job))
         .or_else(|| partition_hindrance(cluster, job))
         .or_else(|| wall_hindrance(cluster, job))
         .or_else(|| limit_reached(cluster, tally, job))

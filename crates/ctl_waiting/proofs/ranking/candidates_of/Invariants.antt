@@ -10,4 +10,4 @@ abbrev pub invariant-loop-job : goal.invariant-loop-job
 invariant-loop-job l =
     map (λ (one : Candidate). (one.job.now, one.key)) l.some.items
     ≡ map (with_key (state_of l.cluster) l.factors.moment)
-    (filter (is_candidate (state_of l.cluster)) (take l.job-index l.cluster.jobs.records))
+    (filter (is_candidate (state_of l.cluster) l.factors.moment) (take l.job-index l.cluster.jobs.records))
