@@ -14,7 +14,7 @@ use Rattle.slurm_text.specs.declared.plain.reply.Reply.{Reply}
 use Rattle.slurm_text.specs.declared.plain.reply.Reply.TheVariants.{Done, Idle}
 use Rattle.slurm_text.specs.declared.plain.report.Report.{Report as Told}
 use Rattle.slurm_text.specs.declared.plain.request.Request.{Request}
-use Rattle.slurm_text.specs.declared.plain.request.Request.TheVariants.{Submit, Cancel, Hold, Release, Requeue, UpdateJob, UpdatePartition, Report, Pass, Shutdown}
+use Rattle.slurm_text.specs.declared.plain.request.Request.TheVariants.{Submit, Cancel, Hold, Release, Requeue, UpdateJob, UpdateNode, UpdatePartition, Report, Pass, Shutdown}
 use Rattle.slurm_text.specs.declared.plain.conf.PartState.{PartState}
 use Rattle.partitions.specs.Partitions.{place_meant}
 use Rattle.job_table.specs.declared.record.JobRecord.{JobRecord}
@@ -31,6 +31,8 @@ use Rattle.ctl_submit.specs.Submission.{made_under, submit_made, terms_of}
 use Rattle.ctl_jobs.specs.declared.action.Action.{Action}
 use Rattle.ctl_jobs.specs.declared.action.Action.TheVariants as act
 use Rattle.ctl_jobs.specs.Changing.{are_meant, are_naming, change_after, change_made, goes}
+use Rattle.slurm_text.specs.declared.plain.request.NodeOrder.{NodeOrder}
+use Rattle.ctl_nodes.specs.Updating.{changes_any, update_after, update_made}
 use Rattle.ctl_core.specs.Operating.{is_in_state, partition_after, partition_made, shut}
 use Rattle.ctl_core.specs.Sizes.{has_room}
 use Rattle.ctl_core.specs.Step.{raised, refusals_of, made, worked, ChangesNothing, early_refusals, unless_full, verdict_of, reply_of, is_closed, is_unbuilt}
@@ -42,6 +44,8 @@ pub record OnlyIdle : Type 0 where
       → submit_made s now user desc ≡ Makes reply after → after ≢ s
   pub jobs : (s : State) (now : ℕ) (user : List ℕ) (action : Action) (named : JobRecord → Bool)
       → change_after s now user action named ≡ s → list_any (goes s user action named) s.jobs ≡ false
+  pub nodes : (s : State) (now : ℕ) (names : List (List ℕ)) (state : NodeOrder)
+      → update_after s now names state ≡ s → changes_any s names state ≡ false
   pub passes : (s : State) (now : ℕ) → pass_after s now ≡ s → is_idle s now ≡ true
 
 -- the first of refusals that come to none: none of them stands
@@ -112,6 +116,13 @@ pub jobs-stay : ((s : State) (now : ℕ) (user : List ℕ) (action : Action) (na
     → change_after s now user action named ≡ s → change_made s now user action named ≡ Stays
 jobs-stay only s now user action named same = rw (only s now user action named same)
 
+-- nor does what is said of nodes
+pub nodes-stay : ((s : State) (now : ℕ) (names : List (List ℕ)) (state : NodeOrder)
+    → update_after s now names state ≡ s → changes_any s names state ≡ false)
+    → (s : State) (now : ℕ) (names : List (List ℕ)) (state : NodeOrder)
+    → update_after s now names state ≡ s → update_made s now names state ≡ Stays
+nodes-stay only s now names state same = rw (only s now names state same)
+
 -- a partition that would be as it was is in its state
 pub partition-stays : (s : State) (place : ℕ) (state : PartState)
     → partition_after s place state ≡ s → partition_made s state (Some place) ≡ Stays
@@ -132,6 +143,17 @@ jobs-change only s now user action named makes same =
       | inl some ↦
           both_ways (list_any (goes s user action named) s.jobs)
           (only.jobs s now user action named (made-after (rw some at makes) ∙ same)) some
+      | inr none ↦ let stays = rw none at makes in absurd (cc)
+    ]
+
+nodes-change-by : OnlyIdle → (s : State) (now : ℕ) (names : List (List ℕ)) (state : NodeOrder)
+    {reply : Reply} {after : State}
+    → update_made s now names state ≡ Makes reply after → after ≢ s
+nodes-change-by only s now names state makes same =
+    elim (cases_Bool (changes_any s names state)) [
+      | inl some ↦
+          both_ways (changes_any s names state)
+          (only.nodes s now names state (made-after (rw some at makes) ∙ same)) some
       | inr none ↦ let stays = rw none at makes in absurd (cc)
     ]
 
@@ -167,6 +189,8 @@ made-changes only s moment user (Requeue target) accepts none makes same =
     jobs-change only s moment user act.Requeue (are_naming (target ∷ [])) makes same
 made-changes only s moment user (UpdateJob target limit nice) accepts none makes same =
     jobs-change only s moment user (act.Update limit nice) (are_naming (target ∷ [])) makes same
+made-changes only s moment user (UpdateNode nodes state) accepts none makes same =
+    nodes-change-by only s moment nodes state makes same
 made-changes only s moment user (UpdatePartition name state) accepts none makes same =
     partition-changes s state (place_meant (Some name) s.partitions) makes same
 made-changes only s moment user Shutdown accepts none makes same = shut-changes s accepts makes same
@@ -200,6 +224,8 @@ step-changes only s now user request makes same = elim (cases_Bool (is_unbuilt s
 pub record IdleKeeps : Type 0 where
   pub jobs : (s : State) (now : ℕ) (user : List ℕ) (action : Action) (named : JobRecord → Bool)
       → IsSound s → list_any (goes s user action named) s.jobs ≡ false → change_after s now user action named ≡ s
+  pub nodes : (s : State) (now : ℕ) (names : List (List ℕ)) (state : NodeOrder)
+      → IsSound s → changes_any s names state ≡ false → update_after s now names state ≡ s
   pub passes : (s : State) (now : ℕ) → is_idle s now ≡ true → pass_after s now ≡ s
 
 -- a verdict whose reply is that nothing changes is refused for nothing, and has room or needs none
@@ -222,6 +248,14 @@ jobs-idle keeps s moment user action named idle =
     elim (cases_Bool (list_any (goes s user action named) s.jobs)) [
       | inl some ↦ let done = rw some at idle in absurd (cc)
       | inr none ↦ λ sound. keeps.jobs s moment user action named sound none
+    ]
+
+nodes-idle : IdleKeeps → (s : State) (moment : ℕ) (names : List (List ℕ)) (state : NodeOrder)
+    → reply_by (update_made s moment names state) ≡ Idle → IsSound s → update_after s moment names state ≡ s
+nodes-idle keeps s moment names state idle =
+    elim (cases_Bool (changes_any s names state)) [
+      | inl some ↦ let done = rw some at idle in absurd (cc)
+      | inr none ↦ λ sound. keeps.nodes s moment names state sound none
     ]
 
 partition-idle : (s : State) (state : PartState) (place : Option ℕ)
@@ -249,6 +283,7 @@ made-idle keeps s moment user (Requeue target) idle =
     jobs-idle keeps s moment user act.Requeue (are_naming (target ∷ [])) idle
 made-idle keeps s moment user (UpdateJob target limit nice) idle =
     jobs-idle keeps s moment user (act.Update limit nice) (are_naming (target ∷ [])) idle
+made-idle keeps s moment user (UpdateNode nodes state) idle = nodes-idle keeps s moment nodes state idle
 made-idle keeps s moment user (UpdatePartition name state) idle =
     partition-idle s state (place_meant (Some name) s.partitions) idle
 made-idle keeps s moment user (Report report) idle =

@@ -5,7 +5,7 @@ use Rattle.std.specs.Prelude.{slice_get}
 use Rattle.std.proofs.lemmas.Bool.{cond_both}
 use Rattle.slurm_text.specs.declared.plain.refusal.Refusal.{Refusal}
 use Rattle.slurm_text.specs.declared.plain.request.Request.{Request}
-use Rattle.slurm_text.specs.declared.plain.request.Request.TheVariants.{Submit, Cancel, Hold, Release, Requeue, UpdateJob, UpdatePartition, Report, Pass, Shutdown}
+use Rattle.slurm_text.specs.declared.plain.request.Request.TheVariants.{Submit, Cancel, Hold, Release, Requeue, UpdateJob, UpdateNode, UpdatePartition, Report, Pass, Shutdown}
 use Rattle.ctl_state.specs.State.{State}
 use Rattle.ctl_state.specs.Refusals.{first_refusal, unless_refused}
 use Rattle.ctl_state.specs.Verdicts.{Verdict, Refuses, Tells, Stays, Unbuilt, Makes, reply_by, left_by}
@@ -15,6 +15,7 @@ use Rattle.ctl_submit.specs.Submission.{made_under, terms_of}
 use Rattle.ctl_jobs.specs.declared.action.Action.{Action}
 use Rattle.ctl_jobs.specs.declared.action.Action.TheVariants as act
 use Rattle.ctl_jobs.specs.Changing.{are_meant, are_naming, change_made, goes}
+use Rattle.ctl_nodes.specs.Updating.{changes_any}
 use Rattle.ctl_core.specs.Operating.{is_in_state, partition_made}
 use Rattle.partitions.specs.Partitions.{place_meant}
 use Rattle.job_table.specs.declared.record.JobRecord.{JobRecord}
@@ -46,6 +47,8 @@ made-sized s moment user (Release targets) = jobs-sized s moment user act.Releas
 made-sized s moment user (Requeue target) = jobs-sized s moment user act.Requeue (are_naming (target ∷ []))
 made-sized s moment user (UpdateJob target limit nice) =
     jobs-sized s moment user (act.Update limit nice) (are_naming (target ∷ []))
+made-sized s moment user (UpdateNode nodes state) =
+    cond_both (changes_any s nodes state) _ Stays (KeepsSize s) (λ some. refl) (λ none. tt)
 made-sized s moment user (UpdatePartition name state) =
     elim (place_meant (Some name) s.partitions) as (λ place. KeepsSize s (partition_made s state place))
     [ None ↦ tt | Some place ↦ cond_both (is_in_state state (slice_get s.partitions place)) Stays _ (KeepsSize s) (λ had. tt) (λ out. refl) ]

@@ -10,7 +10,7 @@ use Rattle.slurm_text.specs.declared.plain.refusal.Refusal.TheVariants.{MomentTo
 use Rattle.slurm_text.specs.declared.plain.reply.Reply.{Reply}
 use Rattle.slurm_text.specs.declared.plain.report.Report.{Report as Told}
 use Rattle.slurm_text.specs.declared.plain.request.Request.{Request}
-use Rattle.slurm_text.specs.declared.plain.request.Request.TheVariants.{Submit, Cancel, Hold, Release, Requeue, UpdateJob, UpdatePartition, Report, Pass, Shutdown}
+use Rattle.slurm_text.specs.declared.plain.request.Request.TheVariants.{Submit, Cancel, Hold, Release, Requeue, UpdateJob, UpdateNode, UpdatePartition, Report, Pass, Shutdown}
 use Rattle.slurm_text.specs.declared.plain.conf.PartState.{PartState}
 use Rattle.slurm_text.specs.declared.plain.reply.Reply.TheVariants.{Done}
 use Rattle.partitions.specs.Partitions.{place_meant}
@@ -27,6 +27,8 @@ use Rattle.ctl_submit.specs.Submission.{submit_refusals, submit_made}
 use Rattle.ctl_jobs.specs.declared.action.Action.{Action}
 use Rattle.ctl_jobs.specs.declared.action.Action.TheVariants as act
 use Rattle.ctl_jobs.specs.Changing.{IsAction, are_meant, are_naming, change_after, change_made, goes}
+use Rattle.slurm_text.specs.declared.plain.request.NodeOrder.{NodeOrder}
+use Rattle.ctl_nodes.specs.Updating.{changes_any, update_after}
 use Rattle.ctl_core.specs.Operating.{is_in_state, partition_made, shut, shutdown_refusals}
 use Rattle.ctl_core.specs.declared.reply.Decided.{Decided}
 use Rattle.ctl_core.specs.Sizes.{has_room, size_of}
@@ -50,6 +52,8 @@ pub record AllKeep : Type 0 where
   pub jobs : (s : State) (now : ℕ) (user : List ℕ) (action : Action) (named : JobRecord → Bool)
       → IsSound s → IsAction action → s.moment ≤ now → now ≤ last_moment
       → IsSound (stamped now (change_after s now user action named))
+  pub nodes : (s : State) (now : ℕ) (names : List (List ℕ)) (state : NodeOrder)
+      → IsSound s → s.moment ≤ now → now ≤ last_moment → IsSound (stamped now (update_after s now names state))
   pub partitions : PartitionStates
   pub shutdown : Shutting
   pub later : (s : State) (now : ℕ) → IsSound s → s.moment ≤ now → now ≤ last_moment → IsSound (stamped now s)
@@ -101,6 +105,9 @@ sound-made keep s moment user (Requeue target) sound later in_time ranges none =
     sound-jobs keep s moment user act.Requeue (are_naming (target ∷ [])) sound tt later in_time
 sound-made keep s moment user (UpdateJob target limit nice) sound later in_time ranges none =
     sound-jobs keep s moment user (act.Update limit nice) (are_naming (target ∷ [])) sound ranges later in_time
+sound-made keep s moment user (UpdateNode nodes state) sound later in_time ranges none =
+    cond_both (changes_any s nodes state) _ Stays (MakesSound s moment)
+    (λ some. keep.nodes s moment nodes state sound later in_time) (λ none. tt)
 sound-made keep s moment user (UpdatePartition name state) sound later in_time ranges none =
     sound-partition keep s moment state (place_meant (Some name) s.partitions) sound later in_time
 sound-made keep s moment user Shutdown sound later in_time ranges none =

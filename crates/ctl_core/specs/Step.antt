@@ -1,7 +1,7 @@
 -- One step of the controller: the reply to a request, and the state after it.
 use Rattle.std.specs.Prelude.{◌≡◌, ℕ, ◌+◌, Bool, true, false, ◌&&◌, not, if◌then◌else◌, nat_lt, max, List, [], ◌∷◌, Option, Some, IfSome}
 use Rattle.slurm_text.specs.declared.plain.query.Query.{Query}
-use Rattle.slurm_text.specs.declared.plain.query.Query.TheVariants.{Squeue, Sinfo, Sprio}
+use Rattle.slurm_text.specs.declared.plain.query.Query.TheVariants.{ShowReservation}
 use Rattle.slurm_text.specs.declared.plain.request.Request.{Request}
 use Rattle.slurm_text.specs.declared.plain.request.Request.TheVariants.{Submit, Cancel, Hold, Release, Requeue, UpdateJob, UpdateNode, UpdatePartition, CreateReservation, DeleteReservation, Report, Pass, Shutdown, Show}
 use Rattle.slurm_text.specs.declared.plain.refusal.Refusal.{Refusal}
@@ -17,6 +17,7 @@ use Rattle.ctl_pass.specs.Passing.{pass_refusals, pass_after, pass_made, jobs_pl
 use Rattle.ctl_report.specs.Answering.{is_restarted, report_refusals, report_made}
 use Rattle.ctl_submit.specs.Submission.{submit_refusals, submit_made}
 use Rattle.ctl_jobs.specs.declared.action.Action.TheVariants as act
+use Rattle.ctl_nodes.specs.Updating.{update_after, update_made, update_refusals}
 use Rattle.ctl_jobs.specs.Changing.{are_meant, are_naming, cancel_refusals, change_after, change_made, refusals}
 use Rattle.ctl_show.specs.Showing.{show_refusals, view_of}
 use Rattle.ctl_core.specs.Operating.{partition_after, partition_made, partition_refusals, shut, shutdown_refusals}
@@ -26,16 +27,13 @@ use Rattle.ctl_core.specs.Sizes.{has_room, size_of}
 abbrev pub raised : State → ℕ → ℕ
 raised s now = max s.moment now
 
--- what the controller can't show yet: some of what scontrol(1) shows
+-- what the controller can't show yet: reservations
 abbrev pub is_unbuilt_query : Query → Bool
-is_unbuilt_query (Squeue query) = false
-is_unbuilt_query (Sinfo partition titles) = false
-is_unbuilt_query (Sprio who jobs titles) = false
-is_unbuilt_query query = true
+is_unbuilt_query (ShowReservation name) = true
+is_unbuilt_query query = false
 
--- what the controller can't do yet: reservations, what operators say of nodes, and the reports of restarted daemons
+-- what the controller can't do yet: reservations, and the reports of restarted daemons
 abbrev pub is_unbuilt : State → Request → Bool
-is_unbuilt s (UpdateNode nodes state) = true
 is_unbuilt s (CreateReservation desc) = true
 is_unbuilt s (DeleteReservation name) = true
 is_unbuilt s (Report report) = is_restarted s report
@@ -55,6 +53,7 @@ refusals_of s moment user (Hold targets for_owner) = refusals s user (act.Hold f
 refusals_of s moment user (Release targets) = refusals s user act.Release targets
 refusals_of s moment user (Requeue target) = refusals s user act.Requeue (target ∷ [])
 refusals_of s moment user (UpdateJob target limit nice) = refusals s user (act.Update limit nice) (target ∷ [])
+refusals_of s moment user (UpdateNode nodes state) = update_refusals s user nodes
 refusals_of s moment user (UpdatePartition name state) = partition_refusals s user name
 refusals_of s moment user Shutdown = shutdown_refusals s user
 refusals_of s moment user (Report report) = report_refusals s user report
@@ -71,6 +70,7 @@ made s moment user (Release targets) = change_made s moment user act.Release (ar
 made s moment user (Requeue target) = change_made s moment user act.Requeue (are_naming (target ∷ []))
 made s moment user (UpdateJob target limit nice) =
     change_made s moment user (act.Update limit nice) (are_naming (target ∷ []))
+made s moment user (UpdateNode nodes state) = update_made s moment nodes state
 made s moment user (UpdatePartition name state) = partition_made s state (place_meant (Some name) s.partitions)
 made s moment user Shutdown = Makes Done (shut s)
 made s moment user (Report report) = report_made s moment report
@@ -79,7 +79,7 @@ made s moment user (Show query) = Tells (view_of s moment user query)
 made s moment user request = Unbuilt
 
 -- What an idle request is: a pass, or another state of a partition, that leaves the state as it is, or, where all is
--- sound, what is done to jobs and changes none.
+-- sound, what is done to jobs or said of nodes and changes none.
 abbrev pub ChangesNothing : State → ℕ → List ℕ → Request → Type 0
 ChangesNothing s moment user (Cancel targets) =
     IsSound s → change_after s moment user act.Cancel (are_meant targets) ≡ s
@@ -91,6 +91,7 @@ ChangesNothing s moment user (Requeue target) =
     IsSound s → change_after s moment user act.Requeue (are_naming (target ∷ [])) ≡ s
 ChangesNothing s moment user (UpdateJob target limit nice) =
     IsSound s → change_after s moment user (act.Update limit nice) (are_naming (target ∷ [])) ≡ s
+ChangesNothing s moment user (UpdateNode nodes state) = IsSound s → update_after s moment nodes state ≡ s
 ChangesNothing s moment user (UpdatePartition name state) =
     IfSome (place_meant (Some name) s.partitions) (λ place. partition_after s place state ≡ s)
 ChangesNothing s moment user Pass = pass_after s moment ≡ s

@@ -12,7 +12,7 @@ ghost use Rattle.ctl_core.specs.Step.{reply_of, state_after, entered, is_closed,
 
 use crate::changing::{cancel_jobs, change_job, change_jobs};
 use crate::laws::a_step_keeps_all_sound;
-use crate::operating::{shut_down, update_partition};
+use crate::operating::{shut_down, update_nodes, update_partition};
 use crate::passing::pass;
 use crate::ranges::in_range;
 use crate::reply::{Answered, Decided};
@@ -100,6 +100,9 @@ fn work(
             };
             Ok(change_job(cluster, moment, user, &action, *target, room))
         }
+        Request::UpdateNode { nodes, state } => {
+            Ok(update_nodes(cluster, moment, user, nodes, *state, room))
+        }
         Request::UpdatePartition { name, state } => {
             Ok(update_partition(cluster, user, name, *state, room))
         }
@@ -107,7 +110,7 @@ fn work(
         Request::Report(told) => report(alloc, cluster, moment, user, told, room),
         Request::Pass => pass(alloc, cluster, moment, user, room, &mut start()),
         Request::Show(query) => show(alloc, cluster, moment, user, query),
-        // What operators say of nodes, and reservations, aren't worked yet.
+        // Reservations aren't worked yet.
         _ => Ok(unbuilt()),
     }
 }
@@ -126,10 +129,7 @@ fn is_closed(cluster: &Cluster, request: &Request) -> bool
 fn is_unbuilt_query(query: &Query) -> bool
     ensures { result ≡ is_unbuilt_query query.now }
 {
-    match query {
-        Query::Squeue(_) | Query::Sinfo { .. } | Query::Sprio { .. } => false,
-        _ => true,
-    }
+    matches!(query, Query::ShowReservation(_))
 }
 
 // Whether the request is one that isn't worked yet.
@@ -137,9 +137,7 @@ fn is_unbuilt(cluster: &Cluster, request: &Request) -> bool
     ensures { result ≡ is_unbuilt (state_of cluster.now) request.now }
 {
     match request {
-        Request::UpdateNode { .. }
-        | Request::CreateReservation(_)
-        | Request::DeleteReservation { .. } => true,
+        Request::CreateReservation(_) | Request::DeleteReservation { .. } => true,
         Request::Report(report) => is_restarted(cluster, report),
         Request::Show(query) => is_unbuilt_query(query),
         _ => false,

@@ -3,6 +3,7 @@
 ghost use Rattle.std.specs.Prelude.{◌≡◌, ◌≢◌, ℕ, Bool, List, Some};
 ghost use Rattle.slurm_text.specs.declared.plain.request.Request.{Request};
 ghost use Rattle.slurm_text.specs.declared.plain.request.Request.TheVariants.{Pass};
+ghost use Rattle.slurm_text.specs.declared.plain.request.NodeOrder.{NodeOrder};
 ghost use Rattle.slurm_text.specs.declared.plain.reply.Reply.{Reply};
 ghost use Rattle.slurm_text.specs.declared.plain.reply.Reply.TheVariants.{Idle};
 ghost use Rattle.slurm_text.specs.declared.plain.conf.PartState.{PartState};
@@ -13,10 +14,12 @@ ghost use Rattle.ctl_state.specs.Verdicts.{Stays, Makes};
 ghost use Rattle.ctl_pass.specs.Passing.{pass_after, pass_made};
 ghost use Rattle.ctl_jobs.specs.declared.action.Action.{Action};
 ghost use Rattle.ctl_jobs.specs.Changing.{change_after, change_made};
+ghost use Rattle.ctl_nodes.specs.Updating.{update_after, update_made};
 ghost use Rattle.ctl_core.specs.Operating.{partition_after, partition_made};
 ghost use Rattle.ctl_core.specs.Step.{verdict_of, reply_of, state_after, raised, ChangesNothing, IsInRange};
 
 use ctl_jobs::laws::{what_users_do_keeps_all_sound, where_no_job_changes_nothing_does};
+use ctl_nodes::laws::{an_idle_order_changes_nothing, updating_nodes_keeps_all_sound};
 use ctl_pass::laws::{a_pass_keeps_all_sound, an_idle_pass_changes_nothing};
 use ctl_report::laws::a_report_keeps_all_sound;
 use ctl_state::laws::{
@@ -32,6 +35,7 @@ pub fn a_step_keeps_all_sound()
 {
     a_submission_keeps_all_sound();
     what_users_do_keeps_all_sound();
+    updating_nodes_keeps_all_sound();
     a_report_keeps_all_sound();
     a_pass_keeps_all_sound();
     sizes_keep_all_sound();
@@ -48,14 +52,16 @@ pub fn raised_moments_decide_alike()
         → state_after s (raised s now) user request ≡ state_after s now user request }
 {}
 
-/// A request is idle only where it would change nothing but the moment: a pass, what is done to jobs, another state of a
-/// partition; and such a request is idle. What an accepted request makes is another state, also before it bears its moment.
+/// A request is idle only where it would change nothing but the moment: a pass, what is done to jobs, what is said of
+/// nodes, another state of a partition; and such a request is idle. What an accepted request makes is another state, also before it bears its moment.
 pub fn idle_requests_change_nothing()
     ensures idle { (s : State) (now : ℕ) (user : List ℕ) (request : Request)
         → reply_of s now user request ≡ Idle → ChangesNothing s (raised s now) user request }
     ensures pass { (s : State) (moment : ℕ) → pass_after s moment ≡ s → pass_made s moment ≡ Stays }
     ensures jobs { (s : State) (moment : ℕ) (user : List ℕ) (action : Action) (named : JobRecord → Bool)
         → change_after s moment user action named ≡ s → change_made s moment user action named ≡ Stays }
+    ensures nodes { (s : State) (moment : ℕ) (names : List (List ℕ)) (state : NodeOrder)
+        → update_after s moment names state ≡ s → update_made s moment names state ≡ Stays }
     ensures partition { (s : State) (place : ℕ) (state : PartState)
         → partition_after s place state ≡ s → partition_made s state (Some place) ≡ Stays }
     ensures made { (s after : State) (now : ℕ) (user : List ℕ) (request : Request) (reply : Reply)
@@ -63,5 +69,6 @@ pub fn idle_requests_change_nothing()
 {
     a_submission_changes_the_state();
     where_no_job_changes_nothing_does();
+    an_idle_order_changes_nothing();
     an_idle_pass_changes_nothing();
 }

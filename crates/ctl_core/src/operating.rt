@@ -1,11 +1,13 @@
-//! What operators ask of partitions, and of the controller itself.
+//! What operators ask of nodes, of partitions, and of the controller itself.
 
 ghost use Rattle.std.specs.Prelude.{◌≡◌, ◌<◌, Some, length, slice_get};
 ghost use Rattle.ctl_state.specs.State.{state_of};
 ghost use Rattle.ctl_state.specs.Index.{IsIndexed};
+ghost use Rattle.ctl_state.specs.Soundness.{IsSound};
 ghost use Rattle.ctl_state.specs.Refusals.{first_refusal, unless_refused};
 ghost use Rattle.ctl_state.specs.Verdicts.{Makes};
 ghost use Rattle.slurm_text.specs.declared.plain.reply.Reply.TheVariants.{Done};
+ghost use Rattle.ctl_nodes.specs.Updating;
 ghost use Rattle.ctl_core.specs.Answering.{Answers};
 ghost use Rattle.ctl_core.specs.Operating;
 ghost use Rattle.ctl_core.specs.Step.{unless_full};
@@ -13,11 +15,14 @@ ghost use Rattle.partitions.specs.Partitions.{place_meant};
 
 use crate::answering::{done, idle, refused};
 use crate::reply::Answered;
+use ctl_nodes::{changes_any, refusal_of, update};
 use ctl_state::cluster::Cluster;
 use partitions::partitions::Partitions;
+use slurm_text::items::Items;
 use slurm_text::name::Name;
 use slurm_text::plain::conf::PartState;
 use slurm_text::plain::refusal::Refusal;
+use slurm_text::plain::request::NodeOrder;
 
 fn same_state(one: PartState, other: PartState) -> bool
     ensures { result ≡ Operating.same_state one other }
@@ -82,6 +87,35 @@ pub(crate) fn update_partition(
         Some(place) => set_partition(cluster, place, state, room),
         None => refused(Refusal::InvalidPartition),
     }
+}
+
+/// What an operator says of nodes, at its raised moment, where the history has room for it or not. It takes no memory.
+pub(crate) fn update_nodes(
+    cluster: &mut Cluster,
+    moment: u64,
+    user: &Name,
+    nodes: &Items<Name>,
+    state: NodeOrder,
+    room: bool,
+) -> Answered
+    requires sound { IsSound (state_of cluster.old) }
+    requires indexed { IsIndexed cluster.old }
+    ensures made { Answers (state_of cluster.old) (state_of cluster.new)
+        (unless_refused (first_refusal (Updating.update_refusals (state_of cluster.old) user.now nodes.now))
+        (unless_full room (Updating.update_made (state_of cluster.old) moment nodes.now state))) result }
+    ensures indexed { IsIndexed cluster.new }
+{
+    if let Some(refusal) = refusal_of(cluster, user, nodes) {
+        return refused(refusal);
+    }
+    if !changes_any(cluster, nodes, state) {
+        return idle();
+    }
+    if !room {
+        return refused(Refusal::HistoryFull);
+    }
+    update(cluster, moment, nodes, state);
+    done()
 }
 
 /// A shutdown. It takes no memory.

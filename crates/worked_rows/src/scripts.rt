@@ -150,7 +150,7 @@ pub fn other_headers()
 /// What isn't built yet is answered so, and leaves the state.
 #[tactic(none)]
 pub fn unbuilt()
-    ensures show { script_of on_one_node (codes "0 alice scontrol show job\n") ≡ not_built_text }
+    ensures show { script_of on_one_node (codes "0 alice scontrol show reservation\n") ≡ not_built_text }
     ensures other_action { script_of on_one_node (codes "0 root scontrol reboot\n") ≡ not_built_text }
 {}
 

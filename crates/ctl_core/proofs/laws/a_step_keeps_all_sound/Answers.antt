@@ -5,6 +5,7 @@ pub returns : goal.returns
 returns c = sound-step (record {
   submissions = c.a_submission_keeps_all_sound.ensures;
   jobs = c.what_users_do_keeps_all_sound.ensures;
+  nodes = c.updating_nodes_keeps_all_sound.ensures;
   partitions = c.states_of_partitions_keep_all_sound.ensures;
   shutdown = c.a_shutdown_keeps_all_sound.ensures;
   later = c.time_keeps_all_sound.ensures;
