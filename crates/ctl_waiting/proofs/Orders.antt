@@ -135,7 +135,7 @@ unfolding highest_of
 highest-more s now i job within is =
     let before = filter (is_candidate s now) (take i s.jobs) in
     let more : filter (is_candidate s now) (take (i + 1) s.jobs)
-        ≡ before ++ cond (is_candidate s now job) (job ∷ []) [] =
+    ≡ before ++ cond (is_candidate s now job) (job ∷ []) [] =
     rw (filter_more (is_candidate s now) s.jobs i job within, ← is) refl in
     elim (cases_Bool (is_candidate s now job)) [
       | inl can ↦ rw (more, can) (first-more (is_higher s now) (higher-weak s now) job before)

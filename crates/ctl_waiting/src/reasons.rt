@@ -150,12 +150,7 @@ fn node_hindrance(cluster: &Cluster, job: &JobRecord) -> Option<Reason>
 /// Why a pending job can't be planned at a moment, in seconds; None where nothing hinders it. Linear in its
 /// association's way up to root and in the nodes that it must have. "JOB REASON CODES" in squeue(1), and `--begin` in
 /// sbatch(1).
-pub fn hindrance(
-    cluster: &Cluster,
-    tally: &Tally,
-    moment: u64,
-    job: &JobRecord,
-) -> Option<Reason>
+pub fn hindrance(cluster: &Cluster, tally: &Tally, moment: u64, job: &JobRecord) -> Option<Reason>
     requires { Shows cluster.now.assocs.records tally.now (holding cluster.now.jobs.records) }
     ensures { result ≡ Reasons.hindrance (state_of cluster.now) moment job.now }
 {
