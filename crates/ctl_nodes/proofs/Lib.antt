@@ -1,0 +1,5 @@
+pub mod Lost
+pub mod GivenBack
+pub mod Named
+pub mod Walked
+pub mod Kept

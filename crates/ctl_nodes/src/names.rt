@@ -1,0 +1,45 @@
+//! The nodes that have some names.
+
+ghost use Rattle.std.specs.Prelude.{◌≡◌, ℕ, map};
+ghost use Rattle.cpu_ids.specs.Rows.{has_id};
+ghost use Rattle.node_state.specs.Nodes.{AreNamedOnce};
+ghost use Rattle.ctl_state.specs.Planning.{is_at};
+ghost use Rattle.ctl_nodes.specs.Updating.{changed_if, is_among};
+
+use cpu_ids::CpuIds;
+use job_table::laws::{a_change_is_of_its_place, a_walk_changes_all};
+use node_state::laws::names_lead_to_places;
+use node_state::nodes::Nodes;
+use node_state::record::{NodeChange, NodeRecord};
+use slurm_text::name::Name;
+
+/// The places of the nodes with these names. Linear in the names; it takes no memory.
+pub(crate) fn places_of(nodes: &Nodes, names: &[Name]) -> CpuIds
+    requires { AreNamedOnce nodes.now.records }
+    ensures { (place : ℕ) → has_id result place ≡ is_at (is_among names.now) nodes.now.records place }
+{
+    names_lead_to_places();
+    let mut places = CpuIds::none();
+    for name in names {
+        if let Some(place) = nodes.find(name) {
+            places.insert(place);
+        }
+    }
+    places
+}
+
+/// Changes the nodes with these names. Linear in the names and in the nodes; it takes no memory.
+pub(crate) fn change_named(nodes: &mut Nodes, names: &[Name], change: NodeChange)
+    requires { AreNamedOnce nodes.old.records }
+    ensures records { nodes.new.records ≡ map (changed_if change names.now) nodes.old.records }
+    ensures held { nodes.new.held ≡ nodes.old.held }
+{
+    a_walk_changes_all::<NodeRecord>();
+    a_change_is_of_its_place::<NodeRecord>();
+    let named = places_of(nodes, names);
+    for place in 0..nodes.len() {
+        if named.contains(place) {
+            nodes.set_state(place, change);
+        }
+    }
+}
