@@ -1,5 +1,5 @@
 -- What is given back of the parts on lost nodes, part by part.
-use Rattle.std.proofs.Common.{ℕ, ◌≡◌, ◌+◌, ◌-◌, ◌<◌, ◌≤◌, Bool, true, false, ◌&&◌, ◌||◌, not, cond, List, [], ◌∷◌, ◌++◌, length, sum_by, take, map, get_or, All, refl, sym, ap, ◌∙◌, arith}
+use Rattle.std.proofs.Common.{ℕ, ◌≡◌, ◌+◌, ◌<◌, ◌≤◌, Bool, true, false, ◌&&◌, ◌||◌, not, cond, List, [], ◌∷◌, ◌++◌, length, sum_by, take, map, get_or, All, refl, sym, ap, ◌∙◌, arith}
 use Rattle.std.specs.Prelude.{nat_eq}
 use Rattle.std.specs.List.{list_any}
 use Rattle.std.proofs.lemmas.Bool.{and_left, ne_eqb}
@@ -16,7 +16,7 @@ use Rattle.job_table.specs.declared.record.Part.{Part}
 use Rattle.job_table.specs.declared.record.JobRecord.{JobRecord}
 use Rattle.job_table.specs.Changes.{is_on}
 use Rattle.ctl_state.specs.Holding.{IsPartOf, OnNodesApart, has_cpu, mem_held, mem_in, parts_of}
-use Rattle.ctl_state.specs.Index.{GivesParts, IsIndexed}
+use Rattle.ctl_state.specs.Index.{GivesParts}
 use Rattle.ctl_state.specs.Laws.{PartsAreShown}
 use Rattle.ctl_state.specs.Planning.{room_of}
 use Rattle.ctl_state.specs.Soundness.{IsSound}

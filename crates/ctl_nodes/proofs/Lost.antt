@@ -1,6 +1,6 @@
 -- What becomes of a job that holds something of lost nodes: once it has failed, node by node, and in sum.
-use Rattle.std.proofs.Common.{ℕ, zero, suc, ◌≡◌, ◌+◌, ◌<◌, ◌≤◌, Bool, true, false, not, List, [], ◌∷◌, ◌++◌, length, sum_by, get_or, All, HoldsAt, Option, Some, None, refl, sym, ap, subst, ◌∙◌, arith, inl, inr, rules, tests, cond}
-use Rattle.std.specs.List.{filter, find, list_any}
+use Rattle.std.proofs.Common.{ℕ, zero, suc, ◌≡◌, ◌+◌, ◌<◌, Bool, true, false, not, List, [], ◌∷◌, length, sum_by, get_or, Some, None, refl, sym, ap, ◌∙◌, arith, inl, inr, rules, tests, cond}
+use Rattle.std.specs.List.{list_any}
 use Rattle.std.proofs.lemmas.Bool.{both_ways, cases_Bool, cond-false, cond-true, eq-eqb, eqb-true, or_left, or_right, or_from, or_parts}
 use Rattle.std.proofs.lemmas.Bool.Decides.{nat_tests}
 use Rattle.std.proofs.lemmas.List.Filters.{sum_by-filter_both}
@@ -18,7 +18,7 @@ use Rattle.node_state.specs.declared.record.Held.{Held}
 use Rattle.ctl_state.specs.Holding.{has_cpu, has_members, mem_held, mem_in, parts_of, times_held}
 use Rattle.ctl_state.specs.Index.{GivesParts}
 use Rattle.ctl_state.specs.Laws.{GivingShows}
-use Rattle.ctl_nodes.specs.Failing.{HoldsParts, ShowsJobs, after_loss, failed, failing, first_lost, loses, node_to_leave, off_lost, parts_kept, parts_lost}
+use Rattle.ctl_nodes.specs.Failing.{ShowsJobs, after_loss, failed, failing, first_lost, loses, node_to_leave, off_lost, parts_kept, parts_lost}
 
 -- ---- who fails
 

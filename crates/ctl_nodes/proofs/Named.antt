@@ -1,5 +1,5 @@
 -- The nodes with some names: where they are, name by name, and how they change, place by place.
-use Rattle.std.proofs.Common.{ℕ, zero, suc, ◌≡◌, ◌+◌, ◌<◌, ◌≤◌, Bool, true, false, ◌&&◌, ◌||◌, List, [], ◌∷◌, length, take, drop, get_or, HoldsAt, bytes_eq, Option, Some, None, refl, sym, ap, ◌∙◌, arith, inl, inr}
+use Rattle.std.proofs.Common.{ℕ, zero, suc, ◌≡◌, ◌+◌, ◌<◌, Bool, true, false, ◌&&◌, ◌||◌, List, [], ◌∷◌, length, take, drop, get_or, HoldsAt, bytes_eq, Option, Some, None, refl, sym, ap, ◌∙◌, arith, inl, inr}
 use Rattle.std.specs.Prelude.{nat_eq}
 use Rattle.std.specs.List.{list_any, slice_get}
 use Rattle.std.specs.Option.{option_map, unwrap_or}
@@ -13,7 +13,7 @@ use Rattle.node_state.specs.declared.record.NodeRecord.{NodeRecord}
 use Rattle.node_state.specs.declared.record.NodeChange.{NodeChange}
 use Rattle.node_state.specs.Laws.{NamesLeadToPlaces, PlacesAreNamed}
 use Rattle.node_state.specs.Nodes.{AreNamedOnce, change_at, changed, place_named}
-use Rattle.job_table.specs.Walks.{NothingAtPlace, SameAtPlace, WalkGoesOn, WalkKeepsRest, map_at, walked}
+use Rattle.job_table.specs.Walks.{NothingAtPlace, SameAtPlace, WalkGoesOn, WalkKeepsRest, walked}
 use Rattle.ctl_state.specs.Planning.{is_at}
 use Rattle.ctl_nodes.specs.Updating.{alters, changed_if, is_among}
 use Rattle.ctl_nodes.proofs.Walked.{node_at, unwalked_at}

@@ -1,4 +1,4 @@
--- Nodes that are lost: what becomes of the jobs that hold something of them. Which nodes are lost is told by their places.
+-- Nodes that are lost, which are told by their places: what becomes of the jobs that hold something of them.
 use Rattle.std.specs.Prelude.{◌≡◌, ℕ, ◌<◌, ◌≤◌, Bool, false, not, unwrap_or, if◌then◌else◌, List, map, filter, find, All, Option, None, option_map}
 use Rattle.std.specs.List.{list_any}
 use Rattle.slurm_text.specs.declared.plain.state.Final.{Final}

@@ -158,9 +158,9 @@ fn fail_jobs(nodes: &mut Nodes, jobs: &mut Jobs, now: u64, lost: &CpuIds)
     }
 }
 
-/// Has the jobs fail that hold something of these nodes, which are told by their places. The parts there are given back,
-/// and the index goes on showing what is held. One walk over the jobs and their parts, and quadratic in the parts of a
-/// job that holds something there; it takes no memory. JobRequeue of slurm.conf(5), NODE_FAIL of squeue(1).
+/// Has the jobs fail that hold something of these nodes, which are told by their places. What they hold there is given
+/// back, and the index goes on showing what is held. One walk over the jobs and their parts, and quadratic in the parts
+/// of a job that holds something there; it takes no memory. JobRequeue in slurm.conf(5), NODE_FAIL in squeue(1).
 pub fn lose(cluster: &mut Cluster, moment: u64, lost: &CpuIds)
     requires sound { IsSound (state_of cluster.old) }
     requires indexed { IsIndexed cluster.old }

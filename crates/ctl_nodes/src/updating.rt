@@ -99,9 +99,9 @@ fn lose_named(cluster: &mut Cluster, moment: u64, names: &[Name], state: NodeOrd
     }
 }
 
-/// Does what an operator says of the nodes with these names: they are set down and what they ran fails, or nothing starts
-/// there any more, or both are taken back. The index goes on showing what is held. Linear in the names and in the nodes,
-/// and where they are set down one walk over the jobs; it takes no memory. "update" in scontrol(1).
+/// Does what an operator says of the nodes with these names: they are set down and what they run fails, or nothing
+/// starts there any more, or both are taken back. The index goes on showing what is held. Linear in the names and in the
+/// nodes, and where they are set down with one walk over the jobs; it takes no memory. "update" in scontrol(1).
 pub fn update(cluster: &mut Cluster, moment: u64, nodes: &Items<Name>, state: NodeOrder)
     requires sound { IsSound (state_of cluster.old) }
     requires indexed { IsIndexed cluster.old }

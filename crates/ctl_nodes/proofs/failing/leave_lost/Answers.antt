@@ -1,4 +1,4 @@
-use Rattle.std.proofs.Common.{◌∙◌, ◌≡◌, Bool, ap, false, get_or}
+use Rattle.std.proofs.Common.{◌∙◌, ◌≡◌, ap, false, get_or}
 use Rattle.cpu_ids.specs.Rows.{has_id}
 use Rattle.job_table.specs.declared.record.JobRecord.{JobRecord}
 use Rattle.job_table.specs.JobStates.{is_running}

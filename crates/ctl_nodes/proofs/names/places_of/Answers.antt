@@ -1,4 +1,4 @@
-use Rattle.std.proofs.Common.{◌∙◌, ◌≡◌, ◌||◌, Bool, Some, ap, sym, take}
+use Rattle.std.proofs.Common.{◌∙◌, ◌||◌, Bool, Some, ap, sym, take}
 use Rattle.ctl_state.specs.Planning.{is_at}
 use Rattle.ctl_nodes.specs.Updating.{is_among}
 use Rattle.ctl_nodes.proofs.Named.{leads_to, one_more_name, or_false}

@@ -1,4 +1,4 @@
-use Rattle.std.proofs.Common.{◌∙◌, ◌≡◌, ◌&&◌, Bool, ap, sym}
+use Rattle.std.proofs.Common.{◌∙◌, ◌&&◌, Bool, ap, sym}
 use Rattle.std.specs.List.{list_any}
 use Rattle.std.proofs.lemmas.Bool.{and_left, and_right}
 use Rattle.std.proofs.lemmas.List.{drop_all}
@@ -14,7 +14,8 @@ returns-then-alters c =
     let value = c.records-node-items.ensures.value in
     sym (turned_there c.args.state c.args.nodes.now c.args.cluster.now.nodes.records c.loop-place.place
     c.node-item.result (rw value at c.loop-place-test.true) (rw value at c.node-item.is)
-    (sym (rw c.as_slice.ensures at (c.places_of-named.ensures c.loop-place.place)) ∙ sym c.contains.ensures ∙ c.if-contains.true)
+    (sym (rw c.as_slice.ensures at (c.places_of-named.ensures c.loop-place.place)) ∙ sym c.contains.ensures
+    ∙ c.if-contains.true)
     (sym c.alters.ensures ∙ c.if-alters.true))
 
 pub loop-place-preserved : goal.loop-place-preserved
