@@ -10,6 +10,7 @@ use Rattle.slurm_text.specs.declared.plain.view.View.{View}
 use Rattle.slurm_print.specs.Malformed.{not_built_text}
 use Rattle.slurm_print.specs.Orders.{orders_text}
 use Rattle.slurm_print.specs.Refusal.{refusal_line}
+use Rattle.slurm_print.specs.Show.{show_text}
 use Rattle.slurm_print.specs.Sinfo.{sinfo_text}
 use Rattle.slurm_print.specs.Sprio.{sprio_text}
 use Rattle.slurm_print.specs.Squeue.{squeue_text}
@@ -51,12 +52,12 @@ abbrev pub idle_text : Request → List ℕ
 idle_text Pass = codes "pass: idle\n"
 idle_text request = []
 
--- what a query shows; what scontrol(1) shows has no text yet
+-- what a query shows: all but three are of scontrol
 abbrev pub query_text : Query → View → List ℕ
 query_text (Squeue query) view = squeue_text query view
 query_text (Sinfo partition titles) view = sinfo_text titles view
 query_text (Sprio who jobs titles) view = sprio_text titles view
-query_text query view = []
+query_text query view = show_text view
 
 -- only a query shows anything
 abbrev pub shown_text : Request → View → List ℕ

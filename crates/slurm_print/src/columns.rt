@@ -2,6 +2,7 @@
 
 ghost use Rattle.std.specs.Prelude.{◌≡◌, ◌≤◌, ◌++◌, OnOk};
 ghost use Rattle.slurm_num.specs.Elapsed.{elapsed_text};
+ghost use Rattle.slurm_text.specs.Moment.{moment_text};
 ghost use Rattle.slurm_print.specs.Squeue;
 
 use crate::line::{push_labelled, push_number, push_text};
@@ -87,7 +88,8 @@ pub(crate) fn push_id(
     }
 }
 
-fn push_elapsed(out: &mut Vec<u8>, seconds: u64) -> Result<(), Memory>
+/// Writes a length of time.
+pub(crate) fn push_elapsed(out: &mut Vec<u8>, seconds: u64) -> Result<(), Memory>
     requires { seconds ≤ 1_000_000_000_000 }
     ensures { OnOk result (out.new.items ≡ out.old.items ++ elapsed_text seconds) }
 {
@@ -99,15 +101,26 @@ fn push_elapsed(out: &mut Vec<u8>, seconds: u64) -> Result<(), Memory>
 fn push_start(out: &mut Vec<u8>, start: Option<Ranged<0, 253402300799>>) -> Result<(), Memory>
     ensures { OnOk result (out.new.items ≡ out.old.items ++ Squeue.start_of start) }
 {
-    let Some(start) = start else {
-        return push_text(out, b"N/A");
-    };
+    match start {
+        Some(start) => push_moment(out, start),
+        None => push_text(out, b"N/A"),
+    }
+}
+
+/// Writes a moment.
+pub(crate) fn push_moment(
+    out: &mut Vec<u8>,
+    second: Ranged<0, 253402300799>,
+) -> Result<(), Memory>
+    ensures { OnOk result (out.new.items ≡ out.old.items ++ moment_text second) }
+{
     let mut text = [0; 19];
-    print_moment(start.get(), &mut text);
+    print_moment(second.get(), &mut text);
     push_text(out, &text)
 }
 
-fn push_limit(out: &mut Vec<u8>, limit: Limit) -> Result<(), Memory>
+/// Writes a limit.
+pub(crate) fn push_limit(out: &mut Vec<u8>, limit: Limit) -> Result<(), Memory>
     ensures { OnOk result (out.new.items ≡ out.old.items ++ Squeue.limit_of limit) }
 {
     match limit {
@@ -148,7 +161,8 @@ fn state_code(state: JobState) -> &'static [u8]
     }
 }
 
-fn state_word(state: JobState) -> &'static [u8]
+/// The word of a state.
+pub(crate) fn state_word(state: JobState) -> &'static [u8]
     ensures { result.now ≡ Squeue.state_word state }
 {
     match state {
@@ -164,7 +178,8 @@ fn state_word(state: JobState) -> &'static [u8]
     }
 }
 
-fn reason_name(reason: Reason) -> &'static [u8]
+/// The name of a reason.
+pub(crate) fn reason_name(reason: Reason) -> &'static [u8]
     ensures { result.now ≡ Squeue.reason_name reason }
 {
     match reason {

@@ -65,7 +65,8 @@ fn push_launch(out: &mut Vec<u8>, launch: &Launch) -> Result<(), Memory>
     Ok(())
 }
 
-fn push_cpus(out: &mut Vec<u8>, cpus: &CpuIds) -> Result<(), Memory>
+/// Writes processor numbers. Linear in the bits of their row.
+pub(crate) fn push_cpus(out: &mut Vec<u8>, cpus: &CpuIds) -> Result<(), Memory>
     ensures { OnOk result (out.new.items ≡ out.old.items ++ ranges_text cpus.now) }
 {
     let numbers = cpus.to_vec(*out.allocator())?;

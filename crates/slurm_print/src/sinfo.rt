@@ -68,7 +68,8 @@ fn push_states(alloc: Global, out: &mut Vec<u8>, row: &StateRow) -> Result<(), M
     Ok(())
 }
 
-fn push_names(alloc: Global, out: &mut Vec<u8>, names: &[Name]) -> Result<(), Memory>
+/// Writes the names, folded. It sorts them, which takes memory beside `out`.
+pub(crate) fn push_names(alloc: Global, out: &mut Vec<u8>, names: &[Name]) -> Result<(), Memory>
     ensures { OnOk result (out.new.items ≡ out.old.items ++ folded names.now) }
 {
     push_text(out, fold_hosts(alloc, names)?.as_slice())

@@ -129,7 +129,8 @@ fn push_nice(out: &mut Vec<u8>, nice: Nice) -> Result<(), Memory>
     push_text(out, b"\n")
 }
 
-fn push_nice_number(out: &mut Vec<u8>, nice: Nice) -> Result<(), Memory>
+/// Writes a nice value.
+pub(crate) fn push_nice_number(out: &mut Vec<u8>, nice: Nice) -> Result<(), Memory>
     ensures { OnOk result (out.new.items ≡ out.old.items ++ nice_text nice) }
 {
     match nice {

@@ -7,6 +7,7 @@ use crate::line::{push_labelled, push_number, push_text};
 use crate::malformed::not_built;
 use crate::orders::push_orders;
 use crate::refusal::push_refusal;
+use crate::show::push_show;
 use crate::sinfo::push_sinfo;
 use crate::sprio::push_sprio;
 use crate::squeue::push_view;
@@ -17,7 +18,8 @@ use slurm_text::plain::request::Request;
 use slurm_text::plain::view::View;
 use std::alloc::Global;
 
-/// The text that answers a request. Linear in the text, but for a job's nodes, which are sorted.
+/// The text that answers a request. Linear in the text, but for the names of nodes, which are sorted, and for each part
+/// of a job in the bits of a row of processors.
 pub fn text(alloc: Global, request: &Request, reply: &Reply) -> Result<Vec<u8>, Memory>
     ensures { IfOk result (λ text. text.items ≡ text_of request.now reply.now) }
 {
@@ -112,8 +114,8 @@ fn push_query(alloc: Global, out: &mut Vec<u8>, query: &Query, view: &View) -> R
         Query::Squeue(query) => push_view(alloc, out, query, view),
         Query::Sinfo { titles, .. } => push_sinfo(alloc, out, *titles, view),
         Query::Sprio { titles, .. } => push_sprio(out, *titles, view),
-        // What scontrol(1) shows has no text yet.
-        _ => Ok(()),
+        // What scontrol(1) shows.
+        _ => push_show(alloc, out, view),
     }
 }
 
