@@ -4,4 +4,4 @@ pub mod Sized
 pub mod Stamping
 pub mod Stepping
 pub mod Partitions
-pub mod Changing
+pub mod Changed

@@ -1,4 +1,4 @@
-use Rattle.ctl_core.proofs.Changing.{pass-stays, jobs-stay, nodes-stay, partition-stays, step-changes, step-idle}
+use Rattle.ctl_core.proofs.Changed.{pass-stays, jobs-stay, nodes-stay, partition-stays, step-changes, step-idle}
 use Rattle.ctl_core.proofs.laws.idle_requests_change_nothing.Goals as goal
 
 pub returns-clause-idle : goal.returns-clause-idle
