@@ -135,7 +135,7 @@ sound-judged s moment None verdict makes = makes refl
 sound-judged s moment (Some refusal) verdict makes = tt
 
 -- a verdict of so large a request leaves the history within its bound, but for a shutdown
-abbrev Fits : State → ℕ → Verdict → Type 0
+abbrev pub Fits : State → ℕ → Verdict → Type 0
 Fits s size (Refuses refusal) = Unit {0}
 Fits s size (Tells view) = Unit {0}
 Fits s size Stays = Unit {0}
@@ -213,8 +213,8 @@ kept-early : AllKeep → (s : State) (now : ℕ) (user : List ℕ) (request : Re
     → IsKept s (raised s now) request
     (unless_refused (first_refusal (refused_if early MomentTooLarge ∷ refused_if closed ShuttingDown ∷ []))
     (worked s (raised s now) user request))
-kept-early keep s now user request true closed sound ranges early shut = record { makes = tt; sized = tt; room = tt }
-kept-early keep s now user request false true sound ranges early shut = record { makes = tt; sized = tt; room = tt }
+kept-early keep s now user request true closed sound ranges early closes = record { makes = tt; sized = tt; room = tt }
+kept-early keep s now user request false true sound ranges early closes = record { makes = tt; sized = tt; room = tt }
 kept-early keep s now user request false false sound ranges early accepts =
     let in_time = ltb-false last_moment now early in
     let moment = raised s now in
