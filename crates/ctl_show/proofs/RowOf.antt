@@ -1,22 +1,30 @@
 -- A row from what is found for each of its columns.
-use Rattle.std.proofs.Common.{◌≡◌, ℕ, List, Option, refl}
+use Rattle.std.proofs.Common.{◌≡◌, ℕ, ◌-◌, Bool, false, List, Option, refl}
 use Rattle.std.specs.Prelude.{unwrap_or, codes}
+use Rattle.slurm_text.specs.declared.plain.dependency.DepSpec.{DepSpec}
 use Rattle.slurm_text.specs.declared.plain.state.Reason.{Reason}
+use Rattle.slurm_text.specs.declared.plain.view.EndAt.{EndAt}
 use Rattle.slurm_text.specs.declared.plain.view.JobRow.{JobRow}
+use Rattle.slurm_text.specs.declared.plain.view.NamedPart.{NamedPart}
 use Rattle.job_table.specs.declared.record.JobRecord.{JobRecord}
 use Rattle.job_table.specs.Targets.{index_of}
 use Rattle.ctl_state.specs.State.{State}
 use Rattle.ctl_rank.specs.Rank.{priority_of}
-use Rattle.ctl_show.specs.Showing.{partition_name, elapsed_of, nodes_of, node_names, reason_shown, start_shown, cpus_of, row_of}
+use Rattle.ctl_show.specs.Showing.{partition_name, elapsed_of, nodes_of, node_names, reason_shown, start_shown, cpus_of, end_shown, named_parts, row_of}
 
 pub row-found : (s : State) (now : ℕ) (job : JobRecord) (index : Option ℕ) (name user account partition qos : List ℕ)
     (elapsed nodes : ℕ) (names : List (List ℕ)) (reason : Option Reason) (start : Option ℕ) (priority cpus : ℕ)
+    (tasks : ℕ) (dependency : Option DepSpec) (requeue : Bool) (restarts submit eligible : ℕ) (end : EndAt)
+    (parts : List NamedPart)
     → index ≡ index_of job → name ≡ job.desc.name → user ≡ job.user
     → account ≡ unwrap_or job.desc.account (codes "root") → partition ≡ partition_name s job
     → qos ≡ unwrap_or job.desc.qos (codes "normal") → elapsed ≡ elapsed_of now job → nodes ≡ nodes_of job
     → names ≡ node_names s job
     → reason ≡ reason_shown s now job → start ≡ start_shown s job
     → priority ≡ priority_of s now job → cpus ≡ cpus_of job
+    → tasks ≡ job.desc.tasks → dependency ≡ job.desc.dependency → requeue ≡ unwrap_or job.desc.requeue false
+    → restarts ≡ job.starts - 1 → submit ≡ job.submit → eligible ≡ job.eligible → end ≡ end_shown job
+    → parts ≡ named_parts s.nodes job.parts
     → ◌≡◌ {A = JobRow}
     (record {
       id = job.id;
@@ -36,9 +44,19 @@ pub row-found : (s : State) (now : ℕ) (job : JobRecord) (index : Option ℕ) (
       priority = priority;
       limit = job.limit;
       cpus = cpus;
+      tasks = tasks;
+      nice = job.desc.nice;
+      dependency = dependency;
+      requeue = requeue;
+      restarts = restarts;
+      exit = job.exit;
+      submit = submit;
+      eligible = eligible;
+      end = end;
+      parts = parts;
     })
     (row_of s now job)
 unfolding row_of
-row-found s now job index name user account partition qos elapsed nodes names reason start priority cpus i n u a p q e c ns r
-    st pr k =
-    rw (i, n, u, a, p, q, e, c, ns, r, st, pr, k) refl
+row-found s now job index name user account partition qos elapsed nodes names reason start priority cpus tasks dependency
+    requeue restarts submit eligible end parts i n u a p q e c ns r st pr k t d re ag su el en pa =
+    rw (i, n, u, a, p, q, e, c, ns, r, st, pr, k, t, d, re, ag, su, el, en, pa) refl

@@ -1,17 +1,20 @@
--- How the nodes stand: counts of the processors held, and the rows of partitions, with one more of each.
-use Rattle.std.proofs.Common.{◌≡◌, ◌≢◌, ℕ, zero, suc, ◌+◌, ◌<◌, ◌∙◌, List, [], ◌∷◌, ◌++◌, length, replicate, set, get_or, take, All, Some, refl, sym, ap, arith, append_assoc, ⊎_elim, eq-eqb}
-use Rattle.std.specs.Prelude.{min, slice_get, flat_map, sum_by}
+-- How the nodes stand: counts of what is held, and the rows of partitions, with one more of each.
+use Rattle.std.proofs.Common.{◌≡◌, ◌≢◌, ℕ, zero, suc, ◌+◌, ◌<◌, ◌∙◌, List, [], ◌∷◌, ◌++◌, length, replicate, set, get_or, take, All, Some, refl, sym, ap, arith, append_assoc, zero-add, ⊎_elim, eq-eqb}
+use Rattle.std.specs.Prelude.{min, if◌then◌else◌, slice_get, flat_map, sum_by}
+use Rattle.std.specs.List.{enumerate_from}
 use Rattle.std.proofs.lemmas.Bool.{cases_eq, cases_lt}
 use Rattle.std.proofs.lemmas.Bool.Decides.{nat_tests}
 use Rattle.std.proofs.lemmas.List.{take_more, length-set, get_or-set_same, get_or-set_other, append-nil}
 use Rattle.std.proofs.lemmas.List.Concat.{flat_map-append, get_or-flat_map}
 use Rattle.std.proofs.lemmas.List.Elements.{filter-append, filter_map-append}
 use Rattle.std.proofs.lemmas.List.Folds.{length-flat_map-take}
+use Rattle.std.proofs.lemmas.List.FromFn.{get_or-enumerate_from}
 use Rattle.std.proofs.lemmas.List.Sums.{sum_by_push}
 use Rattle.std.proofs.lemmas.Option.{slice_get_past, slice_get_read, get_or_from_slice_get}
 use Rattle.node_state.specs.declared.record.NodeRecord.{NodeRecord}
 use Rattle.job_table.specs.declared.record.Part.{Part}
 use Rattle.job_table.specs.declared.record.JobRecord.{JobRecord}
+use Rattle.job_table.specs.Changes.{is_on}
 use Rattle.ctl_state.specs.Holding.{parts_of}
 use Rattle.ctl_state.specs.State.{State}
 use Rattle.slurm_text.specs.declared.plain.view.NodeGroup.{NodeGroup}
@@ -24,48 +27,52 @@ zero-at zero node = refl
 zero-at (suc n) zero = refl
 zero-at (suc n) (suc node) = zero-at n node
 
-pub counts-none : (counts : List ℕ) (n : ℕ) → counts ≡ replicate n 0 → CountsParts [] counts
-unfolding cpus_held
-counts-none counts n are = record { each = λ node within. rw are (zero-at n node) }
+-- what a part has on a node, by this measure
+abbrev pub have_on : (Part → ℕ) → ℕ → Part → ℕ
+have_on has node part = if is_on node part then has part else 0
 
--- a count of a node's processors, with one more part: it grows where the part is on the node, and else it stays
-count-grown : (node got had held : ℕ) (part : Part) (count : ℕ) → part.node ≡ node → got ≡ count
-    → had ≡ min held last_count → count ≡ min (had + length part.cpus) last_count
-    → got ≡ min (held + cpus_in node part) last_count
-count-grown node got had held part count here gets has is =
+pub counts-none : (has : Part → ℕ) (counts : List ℕ) (n : ℕ) → counts ≡ replicate n 0
+    → CountsParts (have_on has) [] counts
+counts-none has counts n are = record { each = λ node within. rw are (zero-at n node) }
+
+-- a count of what is held of a node, with one more part: it grows where the part is on the node, and else it stays
+count-grown : (has : Part → ℕ) (node got had held : ℕ) (part : Part) (count : ℕ) → part.node ≡ node → got ≡ count
+    → had ≡ min held last_count → count ≡ min (had + has part) last_count
+    → got ≡ min (held + have_on has node part) last_count
+count-grown has node got had held part count here gets before is =
     rw (eq-eqb part.node node here)
-    (gets ∙ is ∙ ap (λ n. min (n + length part.cpus) last_count) has ∙ capped held (length part.cpus) last_count)
+    (gets ∙ is ∙ ap (λ n. min (n + has part) last_count) before ∙ capped held (has part) last_count)
 
-count-same : (node got held : ℕ) (part : Part) → part.node ≢ node → got ≡ min held last_count
-    → got ≡ min (held + cpus_in node part) last_count
-count-same node got held part other has = grind (arith, nat_tests)
+count-same : (has : Part → ℕ) (node got held : ℕ) (part : Part) → part.node ≢ node → got ≡ min held last_count
+    → got ≡ min (held + have_on has node part) last_count
+count-same has node got held part other before = grind (arith, nat_tests)
 
-counts-push : (before : List Part) (counts : List ℕ) (part : Part) (count : ℕ) → part.node < length counts
-    → count ≡ min (get_or counts part.node 0 + length part.cpus) last_count → CountsParts before counts
-    → CountsParts (before ++ part ∷ []) (set counts part.node count)
-unfolding cpus_held
-counts-push before counts part count inside is counted = record {
+counts-push : (has : Part → ℕ) (before : List Part) (counts : List ℕ) (part : Part) (count : ℕ)
+    → part.node < length counts → count ≡ min (get_or counts part.node 0 + has part) last_count
+    → CountsParts (have_on has) before counts
+    → CountsParts (have_on has) (before ++ part ∷ []) (set counts part.node count)
+counts-push has before counts part count inside is counted = record {
   each = λ node within.
       let below : node < length counts = omega (arith, within, length-set counts part.node count) in
-      let held = sum_by (cpus_in node) before in
-      rw (sum_by_push (cpus_in node) before part) (⊎_elim
-      (λ here. count-grown node _ (get_or counts part.node 0) held part count here
+      let held = sum_by (have_on has node) before in
+      rw (sum_by_push (have_on has node) before part) (⊎_elim
+      (λ here. count-grown has node _ (get_or counts part.node 0) held part count here
       (rw (← here) (get_or-set_same counts part.node count 0 inside)) (rw (← here) (counted.each part.node inside)) is)
       (λ other. let elsewhere : node ≢ part.node = λ same. other (sym same) in
-      count-same node _ held part other
+      count-same has node _ held part other
       (get_or-set_other counts part.node node count 0 elsewhere ∙ counted.each node below))
       (cases_eq part.node node));
 }
 
 -- the counts of one more part
-pub counts-more : (before parts : List Part) (i : ℕ) (part : Part) (counts : List ℕ) (count : ℕ) → i < length parts
-    → part ≡ get_or parts i part → part.node < length counts
-    → count ≡ min (get_or counts part.node 0 + length part.cpus) last_count
-    → CountsParts (before ++ take i parts) counts
-    → CountsParts (before ++ take (i + 1) parts) (set counts part.node count)
-counts-more before parts i part counts count below is inside counts_on counted =
+pub counts-more : (has : Part → ℕ) (before parts : List Part) (i : ℕ) (part : Part) (counts : List ℕ) (count : ℕ)
+    → i < length parts → part ≡ get_or parts i part → part.node < length counts
+    → count ≡ min (get_or counts part.node 0 + has part) last_count
+    → CountsParts (have_on has) (before ++ take i parts) counts
+    → CountsParts (have_on has) (before ++ take (i + 1) parts) (set counts part.node count)
+counts-more has before parts i part counts count below is inside counts_on counted =
     rw (take_more parts i part below, ← is, ← append_assoc)
-    (counts-push (before ++ take i parts) counts part count inside counts_on counted)
+    (counts-push has (before ++ take i parts) counts part count inside counts_on counted)
 
 -- the parts of one more job
 pub parts-more : (jobs : List JobRecord) (i : ℕ) (job : JobRecord) → i < length jobs → job ≡ get_or jobs i job
@@ -97,15 +104,31 @@ slice_get-seam [] x (suc k) long = absurd (omega (arith, long))
 slice_get-seam (y ∷ ys) x zero long = absurd (omega (arith, long))
 slice_get-seam (y ∷ ys) x (suc k) long = slice_get-seam ys x k (omega (arith, long))
 
+-- what the counts tell of a node that is there
+pub count-here : (held : ℕ → Part → ℕ) (parts : List Part) (counts : List ℕ) (place count : ℕ)
+    → CountsParts held parts counts → place < length counts → count ≡ get_or counts place count
+    → count ≡ min (sum_by (held place) parts) last_count
+count-here held parts counts place count counted inside is =
+    let read : get_or counts place 0 ≡ count =
+    get_or_from_slice_get counts place count 0 (slice_get_read counts (length counts) place count refl inside is) in
+    sym read ∙ counted.each place inside
+
+-- a node with its place
+pub enumerated-here : (nodes : List NodeRecord) (place : ℕ) (node : NodeRecord) → place < length nodes
+    → node ≡ get_or nodes place node
+    → ◌≡◌ {A = ℕ × NodeRecord} (place, node) (get_or (enumerate_from 0 nodes) place (place, node))
+enumerated-here nodes place node below is =
+    rw (get_or-enumerate_from 0 nodes place (place, node) below, zero-add place, ← is) refl
+
 -- how a node stands, of which the counts tell what is held
 pub group-here : (s : State) (counts : List ℕ) (place held : ℕ) (node : NodeRecord) (group : NodeGroup)
-    → CountsParts (parts_of s.jobs) counts → place < length counts
+    → CountsParts cpus_in (parts_of s.jobs) counts → place < length counts
     → slice_get s.nodes place ≡ Some node → held ≡ get_or counts place held
     → ((count : ℕ) → held ≡ min count last_count → group ≡ group_by count node) → Some group ≡ group_at s place
+unfolding cpus_held
 group-here s counts place held node group counted inside there is stands =
-    let read : get_or counts place 0 ≡ held =
-    get_or_from_slice_get counts place held 0 (slice_get_read counts (length counts) place held refl inside is) in
-    rw there (ap Some (stands (cpus_held (parts_of s.jobs) place) (sym read ∙ counted.each place inside)))
+    rw there (ap Some (stands (cpus_held (parts_of s.jobs) place)
+    (count-here cpus_in (parts_of s.jobs) counts place held counted inside is)))
 
 pub groups-all : (s : State) (groups : List NodeGroup) → length groups ≡ length s.nodes
     → ((k : ℕ) → k < length s.nodes → slice_get groups k ≡ group_at s k) → GroupsNodes s groups

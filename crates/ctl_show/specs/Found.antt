@@ -1,5 +1,5 @@
 -- What a query finds once for all rows that it shows. Of the proof alone: no public call speaks of it.
-use Rattle.std.specs.Prelude.{◌≡◌, ℕ, ◌^◌, ◌-◌, ◌<◌, min, nat_eq, List, length, slice_index, slice_get}
+use Rattle.std.specs.Prelude.{◌≡◌, ℕ, ◌^◌, ◌-◌, ◌<◌, min, nat_eq, List, length, sum_by, slice_index, slice_get}
 use Rattle.std.specs.HashMap.{get}
 use Rattle.slurm_text.specs.declared.plain.view.NodeGroup.{NodeGroup}
 use Rattle.job_table.specs.declared.record.Part.{Part}
@@ -8,16 +8,16 @@ use Rattle.ctl_state.specs.Counted.{holding}
 use Rattle.ctl_state.specs.State.{State}
 use Rattle.ctl_rank.specs.Measured.{IsMeasured}
 use Rattle.ctl_show.specs.declared.outlook.Outlook.{Outlook}
-use Rattle.ctl_show.specs.Standing.{cpus_held, group_at}
+use Rattle.ctl_show.specs.Standing.{group_at}
 use Rattle.ctl_show.specs.Showing.{highest, planned_start}
 
 -- where a count stands still
 abbrev pub last_count : ℕ
 last_count = 2 ^ 64 - 1
 
--- each count is how many processors of the node at its place the parts hold, as far as it counts
-pub record CountsParts (parts : List Part) (counts : List ℕ) : Type 0 where
-  pub each : (node : ℕ) → node < length counts → slice_index counts node ≡ min (cpus_held parts node) last_count
+-- each count is what the parts hold by this measure of the node at its place, as far as it counts
+pub record CountsParts (held : ℕ → Part → ℕ) (parts : List Part) (counts : List ℕ) : Type 0 where
+  pub each : (node : ℕ) → node < length counts → slice_index counts node ≡ min (sum_by (held node) parts) last_count
 
 -- each node is in the group of its place
 pub record GroupsNodes (s : State) (groups : List NodeGroup) : Type 0 where

@@ -1,3 +1,4 @@
 pub mod Found
+pub mod Records
 pub mod Showing
 pub mod Standing

@@ -1,15 +1,17 @@
 -- What is shown of the state.
-use Rattle.std.specs.Prelude.{ℕ, ◌-◌, ◌*◌, ◌^◌, min, Bool, true, false, ◌&&◌, ◌||◌, not, nat_eq, is_none, if◌then◌else◌, unwrap_or, List, [], ◌∷◌, map, length, filter, sum_by, find, slice_get, bytes_eq, codes, Option, Some, None, option_map}
+use Rattle.std.specs.Prelude.{ℕ, ◌+◌, ◌-◌, ◌*◌, ◌^◌, min, Bool, true, false, ◌&&◌, ◌||◌, not, nat_eq, is_none, if◌then◌else◌, unwrap_or, List, [], ◌∷◌, map, length, filter, filter_map, sum_by, find, slice_get, bytes_eq, codes, Option, Some, None, option_map}
 use Rattle.std.specs.List.{list_any}
+use Rattle.slurm_text.specs.declared.plain.limit.Limit.{Limit}
+use Rattle.slurm_text.specs.declared.plain.limit.Limit.TheVariants.{Minutes, Unlimited}
 use Rattle.slurm_text.specs.declared.plain.query.JobQuery.{JobQuery}
 use Rattle.slurm_text.specs.declared.plain.query.Query.{Query}
-use Rattle.slurm_text.specs.declared.plain.query.Query.TheVariants.{Squeue, Sinfo, Sprio}
+use Rattle.slurm_text.specs.declared.plain.query.Query.TheVariants.{Squeue, Sinfo, Sprio, ShowJob, ShowNode, ShowPartition}
 use Rattle.slurm_text.specs.declared.plain.query.StateCode.{StateCode}
 use Rattle.slurm_text.specs.declared.plain.query.StateCode.TheVariants as code
 use Rattle.slurm_text.specs.declared.plain.query.Who.{Who}
 use Rattle.slurm_text.specs.declared.plain.query.Who.TheVariants.{Anyone, Asker, User}
 use Rattle.slurm_text.specs.declared.plain.refusal.Refusal.{Refusal}
-use Rattle.slurm_text.specs.declared.plain.refusal.Refusal.TheVariants.{InvalidPartition, InvalidJobId}
+use Rattle.slurm_text.specs.declared.plain.refusal.Refusal.TheVariants.{InvalidPartition, InvalidJobId, UnknownNode}
 use Rattle.slurm_text.specs.declared.plain.state.Final.TheVariants.{Completed, Cancelled, Failed, Timeout, NodeFail}
 use Rattle.slurm_text.specs.declared.plain.state.JobState.{JobState}
 use Rattle.slurm_text.specs.declared.plain.state.JobState.TheVariants.{Ended}
@@ -17,11 +19,16 @@ use Rattle.slurm_text.specs.declared.plain.state.Reason.{Reason}
 use Rattle.slurm_text.specs.declared.plain.state.Reason.TheVariants as reason
 use Rattle.slurm_text.specs.declared.plain.target.Target.{Target}
 use Rattle.slurm_text.specs.declared.plain.priority.PriorityRow.{PriorityRow}
+use Rattle.slurm_text.specs.declared.plain.view.EndAt.{EndAt}
+use Rattle.slurm_text.specs.declared.plain.view.EndAt.TheVariants.{Nothing, Unknown, At}
 use Rattle.slurm_text.specs.declared.plain.view.JobRow.{JobRow}
+use Rattle.slurm_text.specs.declared.plain.view.NamedPart.{NamedPart}
 use Rattle.slurm_text.specs.declared.plain.view.Row.{Row}
 use Rattle.slurm_text.specs.declared.plain.view.Row.TheVariants.{Job, Priority}
 use Rattle.slurm_text.specs.declared.plain.view.View.{View}
 use Rattle.backfill_planner.specs.declared.Placed.{Placed}
+use Rattle.node_state.specs.declared.record.NodeRecord.{NodeRecord}
+use Rattle.node_state.specs.Nodes.{place_named}
 use Rattle.partitions.specs.declared.record.PartRecord.{PartRecord}
 use Rattle.partitions.specs.Partitions.{place_meant}
 use Rattle.job_table.specs.declared.record.Part.{Part}
@@ -35,6 +42,7 @@ use Rattle.ctl_rank.specs.Priority.{parts_of}
 use Rattle.ctl_rank.specs.Rank.{priority_of}
 use Rattle.ctl_waiting.specs.Reasons.{hindrance}
 use Rattle.ctl_waiting.specs.Candidates.{candidates}
+use Rattle.ctl_show.specs.Records.{node_rows, partition_rows}
 use Rattle.ctl_show.specs.Standing.{state_rows}
 
 -- a job in this state has the code
@@ -135,6 +143,28 @@ reason_shown s now job = if is_pending job.state then Some (reason_of s now job)
 abbrev pub start_shown : State → JobRecord → Option ℕ
 start_shown s job = if is_pending job.state then planned_start s.plan job.id else job.started
 
+-- a second as an end, if there is one
+abbrev pub ended_at : Option ℕ → EndAt
+ended_at None = Nothing
+ended_at (Some end) = At end
+
+-- when a job that started then reaches its limit, if it has one
+abbrev pub limit_end : ℕ → Limit → EndAt
+limit_end start (Minutes minutes) = At (start + minutes * 60)
+limit_end start Unlimited = Unknown
+
+-- a running job ends by its limit, and another ended when it left Running, or as a pending one was cancelled
+unfoldable pub end_shown : JobRecord → EndAt
+end_shown job = if is_running job.state then limit_end (unwrap_or job.started 0) job.limit else ended_at job.ended
+
+-- what a part holds, of a node by its name
+abbrev pub part_by : Part → NodeRecord → NamedPart
+part_by part node = record { node = node.conf.name; cpus = part.cpus; mem = part.mem }
+
+-- the parts, each of its node by its name
+unfoldable pub named_parts : List NodeRecord → List Part → List NamedPart
+named_parts nodes parts = filter_map (λ (part : Part). option_map (part_by part) (slice_get nodes part.node)) parts
+
 -- What is shown of a job.
 unfoldable pub row_of : State → ℕ → JobRecord → JobRow
 row_of s now job = record {
@@ -155,11 +185,30 @@ row_of s now job = record {
   priority = priority_of s now job;
   limit = job.limit;
   cpus = cpus_of job;
+  tasks = job.desc.tasks;
+  nice = job.desc.nice;
+  dependency = job.desc.dependency;
+  requeue = unwrap_or job.desc.requeue false;
+  restarts = job.starts - 1;
+  exit = job.exit;
+  submit = job.submit;
+  eligible = job.eligible;
+  end = end_shown job;
+  parts = named_parts s.nodes job.parts;
 }
 
 -- the rows of jobs, in the order of their numbers
 abbrev pub job_rows : State → ℕ → List ℕ → JobQuery → List Row
 job_rows s now asker query = map (λ job. Job (row_of s now job)) (filter (is_shown s asker query) s.jobs)
+
+-- the target names the job, if there is one
+abbrev pub is_meant : Option Target → JobRecord → Bool
+is_meant None job = true
+is_meant (Some target) job = is_named target job
+
+-- the rows of the jobs that are meant, in every state, in the order of their numbers
+abbrev pub kept_rows : State → ℕ → Option Target → List Row
+kept_rows s now target = map (λ job. Job (row_of s now job)) (filter (is_meant target) s.jobs)
 
 -- sprio shows pending jobs alone
 unfoldable pub is_weighed : List ℕ → Who → Option (List Target) → JobRecord → Bool
@@ -181,11 +230,14 @@ abbrev pub priority_rows : State → ℕ → List ℕ → Who → Option (List T
 priority_rows s now asker who jobs =
     map (λ job. Priority (priority_row_of s now job)) (filter (is_weighed asker who jobs) s.jobs)
 
--- the rows that a user's query shows at a moment; what scontrol(1) shows isn't shown yet
+-- the rows that a user's query shows at a moment; reservations aren't shown yet
 abbrev pub rows_of : State → ℕ → List ℕ → Query → List Row
 rows_of s now asker (Squeue query) = job_rows s now asker query
 rows_of s now asker (Sinfo partition titles) = state_rows s partition
 rows_of s now asker (Sprio who jobs titles) = priority_rows s now asker who jobs
+rows_of s now asker (ShowJob target) = kept_rows s now target
+rows_of s now asker (ShowNode name) = node_rows s name
+rows_of s now asker (ShowPartition name) = partition_rows s name
 rows_of s now asker query = []
 
 -- what a user's query shows at a moment
@@ -197,13 +249,23 @@ abbrev pub names_nothing : List JobRecord → Option (List Target) → Bool
 names_nothing jobs None = false
 names_nothing jobs (Some targets) = list_any (λ target. not (list_any (is_named target) jobs)) targets
 
+-- the target names no job, if there is one
+abbrev pub means_nothing : List JobRecord → Option Target → Bool
+means_nothing jobs None = false
+means_nothing jobs (Some target) = not (list_any (is_named target) jobs)
+
 -- the partition that is asked for isn't there
 abbrev pub is_unknown : State → Option (List ℕ) → Bool
 is_unknown s None = false
 is_unknown s (Some name) = is_none (place_meant (Some name) s.partitions)
 
--- why a query may be refused, in their order: it names a job or a partition that there isn't; what isn't shown yet is
--- refused for nothing
+-- the node that is asked for isn't there
+abbrev pub is_no_node : State → Option (List ℕ) → Bool
+is_no_node s None = false
+is_no_node s (Some name) = is_none (place_named name s.nodes)
+
+-- why a query may be refused, in their order: it names a job, a partition or a node that there isn't; what isn't shown
+-- yet is refused for nothing
 abbrev pub show_refusals : State → Query → List (Option Refusal)
 show_refusals s (Squeue query) =
     refused_if (names_nothing s.jobs query.jobs) InvalidJobId
@@ -211,4 +273,7 @@ show_refusals s (Squeue query) =
     ∷ []
 show_refusals s (Sinfo partition titles) = refused_if (is_unknown s partition) InvalidPartition ∷ []
 show_refusals s (Sprio who jobs titles) = refused_if (names_nothing s.jobs jobs) InvalidJobId ∷ []
+show_refusals s (ShowJob target) = refused_if (means_nothing s.jobs target) InvalidJobId ∷ []
+show_refusals s (ShowNode name) = refused_if (is_no_node s name) UnknownNode ∷ []
+show_refusals s (ShowPartition name) = refused_if (is_unknown s name) InvalidPartition ∷ []
 show_refusals s query = []

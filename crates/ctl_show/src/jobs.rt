@@ -166,6 +166,29 @@ pub(crate) fn names_nothing(jobs: &[JobRecord], targets: &Option<Items<Target>>)
     }
 }
 
+/// Whether the target names no job, if there is one. Logarithmic in the jobs, and linear in the tasks of an array that
+/// it names.
+pub(crate) fn means_nothing(jobs: &[JobRecord], target: &Option<Target>) -> bool
+    requires rising { HaveRisingIds jobs.now }
+    requires together { AreTogether jobs.now }
+    ensures { result ≡ Showing.means_nothing jobs.now target.now }
+{
+    match target {
+        Some(target) => !is_found(jobs, target),
+        None => false,
+    }
+}
+
+/// Whether the node that is asked for isn't there. It takes constant time.
+pub(crate) fn is_no_node(cluster: &Cluster, asked: &Option<Name>) -> bool
+    ensures { result ≡ Showing.is_no_node (state_of cluster.now) asked.now }
+{
+    match asked {
+        Some(name) => cluster.nodes.find(name).is_none(),
+        None => false,
+    }
+}
+
 /// Whether the partition that is asked for isn't there. Linear in the partitions.
 pub(crate) fn is_unknown(cluster: &Cluster, asked: &Option<Name>) -> bool
     ensures { result ≡ Showing.is_unknown (state_of cluster.now) asked.now }

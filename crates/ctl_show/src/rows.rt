@@ -8,6 +8,7 @@ ghost use Rattle.ctl_show.specs.Showing;
 
 use crate::jobs::is_shown;
 use crate::outlook::{Outlook, Second, outlook_of};
+use crate::parts::named_parts;
 use ctl_rank::priority_of;
 use ctl_state::cluster::Cluster;
 use ctl_state::jobs::is_pending;
@@ -19,9 +20,11 @@ use job_table::usage::cpus_in;
 use slurm_text::items::Items;
 use slurm_text::memory_error::Memory;
 use slurm_text::name::Name;
+use slurm_text::plain::Plain;
+use slurm_text::plain::limit::Limit;
 use slurm_text::plain::query::JobQuery;
 use slurm_text::plain::state::{JobState, Reason};
-use slurm_text::plain::view::{JobRow, Row};
+use slurm_text::plain::view::{EndAt, JobRow, Row};
 use slurm_text::ranged::Ranged;
 use std::alloc::Global;
 
@@ -145,8 +148,43 @@ fn start_shown(outlook: &Outlook, job: &JobRecord) -> Option<Second>
     }
 }
 
-// What is shown of the job.
-fn row_of(
+// When a job that started then reaches its limit.
+fn limit_end(start: u64, limit: Limit) -> EndAt
+    requires { start ≤ last_moment }
+    ensures { result ≡ Showing.limit_end start limit }
+{
+    match limit {
+        Limit::Minutes(minutes) => EndAt::At(Ranged::new(start + minutes.get() * 60)),
+        Limit::Unlimited => EndAt::Unknown,
+    }
+}
+
+// The second as an end.
+fn ended_at(ended: Option<u64>) -> EndAt
+    requires { unwrap_or ended 0 ≤ last_moment }
+    ensures { result ≡ Showing.ended_at ended }
+{
+    match ended {
+        Some(end) => EndAt::At(Ranged::new(end)),
+        None => EndAt::Nothing,
+    }
+}
+
+// When the job ends by its limit, or when it ended.
+#[tactic(auto, unfolding(crate::specs::Showing::end_shown))]
+fn end_shown(job: &JobRecord) -> EndAt
+    requires started { unwrap_or job.now.started 0 ≤ last_moment }
+    requires ended { unwrap_or job.now.ended 0 ≤ last_moment }
+    ensures { result ≡ Showing.end_shown job.now }
+{
+    match job.state {
+        JobState::Running => limit_end(job.started.unwrap_or(0), job.limit),
+        JobState::Pending | JobState::Completing(_) | JobState::Ended(_) => ended_at(job.ended),
+    }
+}
+
+/// What is shown of the job. Linear in its parts, beside what it costs to tell why it waits.
+pub(crate) fn row_of(
     alloc: Global,
     cluster: &Cluster,
     moment: u64,
@@ -158,6 +196,8 @@ fn row_of(
     requires partition { job.now.partition < length cluster.now.partitions }
     requires started { unwrap_or job.now.started 0 ≤ last_moment }
     requires ended { unwrap_or job.now.ended 0 ≤ last_moment }
+    requires submitted { job.now.submit ≤ last_moment }
+    requires eligible { job.now.eligible ≤ last_moment }
     ensures { IfOk result (λ row. row ≡ Showing.row_of (state_of cluster.now) moment job.now) }
 {
     Ok(JobRow {
@@ -178,6 +218,16 @@ fn row_of(
         priority: priority_of(&outlook.factors, cluster, job).sum,
         limit: job.limit,
         cpus: cpus_of(job),
+        tasks: job.desc.tasks.get(),
+        nice: job.desc.nice,
+        dependency: job.desc.dependency.copy()?,
+        requeue: job.desc.requeue.unwrap_or(false),
+        restarts: job.starts.saturating_sub(1),
+        exit: job.exit,
+        submit: Ranged::new(job.submit),
+        eligible: Ranged::new(job.eligible),
+        end: end_shown(job),
+        parts: named_parts(alloc, cluster.nodes.records(), job.parts.as_slice())?,
     })
 }
 

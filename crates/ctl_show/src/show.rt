@@ -6,9 +6,12 @@ ghost use Rattle.ctl_state.specs.Refusals.{first_refusal, refused_if};
 ghost use Rattle.ctl_state.specs.Soundness.{IsSound};
 ghost use Rattle.ctl_show.specs.Showing;
 
-use crate::jobs::{is_unknown, names_nothing};
+use crate::jobs::{is_no_node, is_unknown, means_nothing, names_nothing};
+use crate::kept::kept_rows;
 use crate::priorities::priority_rows;
 use crate::rows::job_rows;
+use crate::shown_nodes::node_rows;
+use crate::shown_partitions::partition_rows;
 use crate::standing::state_rows;
 use ctl_state::cluster::Cluster;
 use slurm_text::items::Items;
@@ -54,6 +57,29 @@ fn priority_refusal(cluster: &Cluster, jobs: &Option<Items<Target>>) -> Option<R
     }
 }
 
+// Why a query of all of one job, of an array or of every job is refused.
+fn target_refusal(cluster: &Cluster, target: &Option<Target>) -> Option<Refusal>
+    requires { IsSound (state_of cluster.now) }
+    ensures { result ≡ refused_if (Showing.means_nothing cluster.now.jobs.records target.now) Refusal.InvalidJobId }
+{
+    if means_nothing(cluster.jobs.records(), target) {
+        Some(Refusal::InvalidJobId)
+    } else {
+        None
+    }
+}
+
+// Why a query of nodes is refused.
+fn node_refusal(cluster: &Cluster, asked: &Option<Name>) -> Option<Refusal>
+    ensures { result ≡ refused_if (Showing.is_no_node (state_of cluster.now) asked.now) Refusal.UnknownNode }
+{
+    if is_no_node(cluster, asked) {
+        Some(Refusal::UnknownNode)
+    } else {
+        None
+    }
+}
+
 /// Why a query is refused, if it is. Logarithmic in the jobs for each target, and linear in the tasks of arrays.
 pub fn refusal_of(cluster: &Cluster, query: &Query) -> Option<Refusal>
     requires { IsSound (state_of cluster.now) }
@@ -63,8 +89,11 @@ pub fn refusal_of(cluster: &Cluster, query: &Query) -> Option<Refusal>
         Query::Squeue(query) => job_refusal(cluster, query),
         Query::Sinfo { partition, .. } => partition_refusal(cluster, partition),
         Query::Sprio { jobs, .. } => priority_refusal(cluster, jobs),
-        // What scontrol(1) shows isn't shown yet.
-        _ => None,
+        Query::ShowJob(target) => target_refusal(cluster, target),
+        Query::ShowNode(name) => node_refusal(cluster, name),
+        Query::ShowPartition(name) => partition_refusal(cluster, name),
+        // Reservations aren't shown yet.
+        Query::ShowReservation(_) => None,
     }
 }
 
@@ -84,8 +113,11 @@ fn rows_of(
         Query::Squeue(query) => job_rows(alloc, cluster, moment, asker, query),
         Query::Sinfo { partition, .. } => state_rows(alloc, cluster, partition),
         Query::Sprio { who, jobs, .. } => priority_rows(alloc, cluster, moment, asker, who, jobs),
-        // What scontrol(1) shows isn't shown yet.
-        _ => Ok(Vec::new(alloc)),
+        Query::ShowJob(target) => kept_rows(alloc, cluster, moment, target),
+        Query::ShowNode(name) => node_rows(alloc, cluster, name),
+        Query::ShowPartition(name) => partition_rows(alloc, cluster, name),
+        // Reservations aren't shown yet.
+        Query::ShowReservation(_) => Ok(Vec::new(alloc)),
     }
 }
 
@@ -93,7 +125,9 @@ fn rows_of(
 /// shown, and in the plan, and for each job in the targets and states that it names; each job that holds processors and
 /// each pending one costs its association's way up to root besides; and it measures what the priorities rest on, which
 /// sorts the users. One of priorities measures these, and is linear in the jobs and for each in its targets. One of
-/// partitions is linear in the nodes, the jobs' parts and the nodes of the partitions that it shows.
+/// partitions and how their nodes stand is linear in the nodes, the jobs' parts and the nodes of the partitions that it
+/// shows. What scontrol(1) shows of jobs costs what a query of all jobs does; of nodes it is linear in these and the
+/// jobs' parts, and of partitions in these and the nodes of those that are shown.
 #[tactic(auto, unfolding(crate::specs::Showing::view_of))]
 pub fn view_of(
     alloc: Global,

@@ -1,15 +1,13 @@
 //! How the nodes of partitions stand.
 
-ghost use Rattle.std.specs.Prelude.{◌≡◌, ◌∷◌, [], ◌++◌, ◌<◌, ℕ, List, min, All, IfOk, OnOk, length, slice_get, option_copied, option_to_list};
-ghost use Rattle.job_table.specs.declared.record.Part.{Part};
-ghost use Rattle.ctl_state.specs.Holding.{parts_of};
+ghost use Rattle.std.specs.Prelude.{◌≡◌, ◌∷◌, [], ◌++◌, ℕ, min, IfOk, OnOk, slice_get, option_copied, option_to_list};
 ghost use Rattle.ctl_state.specs.State.{state_of};
 ghost use Rattle.ctl_state.specs.Soundness.{IsSound};
-ghost use Rattle.ctl_show.specs.Found.{CountsParts, GroupsNodes, last_count};
+ghost use Rattle.ctl_show.specs.Found.{GroupsNodes, last_count};
 ghost use Rattle.ctl_show.specs.Standing;
 
+use crate::held::cpus_held;
 use ctl_state::cluster::Cluster;
-use job_table::record::{JobRecord, Part};
 use node_state::record::NodeRecord;
 use node_state::standing::is_up;
 use partitions::record::PartRecord;
@@ -29,39 +27,8 @@ const GROUPS: [NodeGroup; 6] = [
     NodeGroup::Idle,
 ];
 
-// Adds to the counts of the nodes what the parts hold of them. A count stands still at its type's end.
-fn count_parts(counts: &mut [u64], parts: &[Part])
-    requires { All (λ (part : Part). part.node < length counts.old) parts.now }
-    ensures { (before : List Part) → CountsParts before counts.old → CountsParts (before ++ parts.now) counts.new }
-{
-    for part in parts {
-        let node = part.node as usize;
-        counts[node] = counts[node].saturating_add(part.cpus.len() as u64);
-    }
-}
-
-fn count_jobs(counts: &mut [u64], jobs: &[JobRecord])
-    requires { All (λ (part : Part). part.node < length counts.old) (parts_of jobs.now) }
-    ensures { CountsParts [] counts.old → CountsParts (parts_of jobs.now) counts.new }
-{
-    for job in jobs {
-        count_parts(counts, job.parts.as_slice());
-    }
-}
-
-// How many processors of each node are held. Linear in the nodes and the jobs' parts.
-fn held_of(alloc: Global, cluster: &Cluster) -> Result<Vec<u64>, Memory>
-    requires { IsSound (state_of cluster.now) }
-    ensures len { IfOk result (λ held. length held.items ≡ length cluster.now.nodes.records) }
-    ensures counts { IfOk result (λ held. CountsParts (parts_of cluster.now.jobs.records) held.items) }
-{
-    let mut held = vec![in alloc; 0; cluster.nodes.records().len()]?;
-    count_jobs(&mut held, cluster.jobs.records());
-    Ok(held)
-}
-
-// How the node stands of which so many processors are held, as far as they are counted.
-fn group_of(node: &NodeRecord, held: u64) -> NodeGroup
+/// How the node stands of which so many processors are held, as far as they are counted.
+pub(crate) fn group_of(node: &NodeRecord, held: u64) -> NodeGroup
     ensures { (count : ℕ) → held ≡ min count last_count → result ≡ Standing.group_by count node.now }
 {
     if !is_up(node) {
@@ -84,7 +51,7 @@ fn groups_of(alloc: Global, cluster: &Cluster) -> Result<Vec<NodeGroup>, Memory>
     requires { IsSound (state_of cluster.now) }
     ensures { IfOk result (λ groups. GroupsNodes (state_of cluster.now) groups.items) }
 {
-    let held = held_of(alloc, cluster)?;
+    let held = cpus_held(alloc, cluster)?;
     let nodes = cluster.nodes.records();
     let mut groups = Vec::with_capacity(alloc, nodes.len())?;
     for (place, node) in nodes.iter().enumerate() {
@@ -188,7 +155,8 @@ fn add_rows(
     Ok(())
 }
 
-fn is_asked(asked: &Option<Name>, partition: &PartRecord) -> bool
+/// Whether the partition is the one that is asked for, if one is.
+pub(crate) fn is_asked(asked: &Option<Name>, partition: &PartRecord) -> bool
     ensures { result ≡ Standing.is_asked asked.now partition.now }
 {
     match asked {

@@ -1,8 +1,9 @@
 use Rattle.std.proofs.Common.{◌++◌, List, take}
 use Rattle.job_table.specs.declared.record.Part.{Part}
 use Rattle.ctl_show.specs.Found.{CountsParts}
-use Rattle.ctl_show.proofs.standing.count_parts.Given as goal
+use Rattle.ctl_show.specs.Standing.{cpus_in}
+use Rattle.ctl_show.proofs.held.count_cpus.Given as goal
 
 abbrev pub invariant-loop-part : goal.invariant-loop-part
-invariant-loop-part l = (before : List Part) → CountsParts before l.initial.counts
-    → CountsParts (before ++ take l.part-index l.parts) l.counts
+invariant-loop-part l = (before : List Part) → CountsParts cpus_in before l.initial.counts
+    → CountsParts cpus_in (before ++ take l.part-index l.parts) l.counts

@@ -1,10 +1,10 @@
 use Rattle.std.proofs.Common.{◌<◌, length}
 use Rattle.job_table.specs.declared.record.Part.{Part}
 use Rattle.ctl_show.proofs.Stands.{parts-more, parts-there}
-use Rattle.ctl_show.proofs.standing.count_jobs.Goals as goal
+use Rattle.ctl_show.proofs.held.count_cpus_of_jobs.Goals as goal
 
-pub count_parts-requires : goal.count_parts-requires
-count_parts-requires c =
+pub count_cpus-requires : goal.count_cpus-requires
+count_cpus-requires c =
     rw (c.as_slice.ensures, c.loop-job.auto.counts)
     (parts-there (λ (part : Part). part.node < length c.args.counts.now) c.args.jobs.now c.loop-job.job-index
     c.job-item.result c.requires c.loop-job-test.true c.job-item.is)
@@ -14,4 +14,4 @@ loop-job-preserved c = λ none.
     rw (
       parts-more c.args.jobs.now c.loop-job.job-index c.job-item.result c.loop-job-test.true c.job-item.is,
       ← c.as_slice.ensures,
-    ) (c.count_parts.ensures _ (c.loop-job.invariant none))
+    ) (c.count_cpus.ensures _ (c.loop-job.invariant none))

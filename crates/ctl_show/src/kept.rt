@@ -1,0 +1,48 @@
+//! The rows of jobs in every state.
+
+ghost use Rattle.std.specs.Prelude.{◌≡◌, ◌≤◌, IfOk};
+ghost use Rattle.ctl_state.specs.State.{state_of, last_moment};
+ghost use Rattle.ctl_state.specs.Soundness.{IsSound};
+ghost use Rattle.ctl_show.specs.Showing;
+
+use crate::outlook::outlook_of;
+use crate::rows::row_of;
+use ctl_state::cluster::Cluster;
+use job_table::record::JobRecord;
+use job_table::targets::is_named;
+use slurm_text::memory_error::Memory;
+use slurm_text::plain::target::Target;
+use slurm_text::plain::view::Row;
+use std::alloc::Global;
+
+// Whether the target names the job, if there is one.
+fn is_meant(target: &Option<Target>, job: &JobRecord) -> bool
+    ensures { result ≡ Showing.is_meant target.now job.now }
+{
+    match target {
+        Some(target) => is_named(target, job),
+        None => true,
+    }
+}
+
+/// The rows of the jobs that the target names, or of all, in the order of their numbers.
+pub(crate) fn kept_rows(
+    alloc: Global,
+    cluster: &Cluster,
+    moment: u64,
+    target: &Option<Target>,
+) -> Result<Vec<Row>, Memory>
+    requires sound { IsSound (state_of cluster.now) }
+    requires in_time { moment ≤ last_moment }
+    ensures { IfOk result (λ rows. rows.items ≡ Showing.kept_rows (state_of cluster.now) moment target.now) }
+{
+    let outlook = outlook_of(alloc, cluster, moment)?;
+    let mut rows = Vec::new(alloc);
+    for job in cluster.jobs.records() {
+        if is_meant(target, job) {
+            let row = row_of(alloc, cluster, moment, &outlook, job)?;
+            rows.push(Row::Job(row))?;
+        }
+    }
+    Ok(rows)
+}
