@@ -1,4 +1,4 @@
-use Rattle.std.proofs.Common.{ap, ◌∙◌}
+use Rattle.std.proofs.Common.{ap, refl, ◌∙◌}
 use Rattle.slurm_text.specs.declared.plain.priority.PriorityParts.{PriorityParts}
 use Rattle.ctl_state.specs.State.{state_of}
 use Rattle.ctl_rank.specs.Rank.{priority_of}
