@@ -2,7 +2,7 @@ use Rattle.std.proofs.Common.{ap, refl, ◌∙◌}
 use Rattle.slurm_text.specs.declared.plain.priority.PriorityParts.{PriorityParts}
 use Rattle.ctl_state.specs.State.{state_of}
 use Rattle.ctl_rank.specs.Rank.{priority_of}
-use Rattle.ctl_show.specs.Showing.{reason_shown, named_parts}
+use Rattle.ctl_show.specs.Showing.{reason_shown}
 use Rattle.ctl_show.proofs.RowOf.{row-found}
 use Rattle.ctl_show.proofs.rows.row_of.Goals as goal
 

@@ -34,8 +34,8 @@ loop-place-preserved c =
           let few = node-within s place node c.requires inside in
           let cpus = count-here cpus_in parts c.in_ok-cpus.cpus.items place w.index.result.now
           c.in_ok-cpus.ensures.counts (omega (arith, c.in_ok-cpus.ensures.len, inside)) w.index.ensures in
-          let mem = count-here mem_in parts c.in_ok-mem.mem.items place w.index-2.result.now
-          c.in_ok-mem.ensures.counts (omega (arith, c.in_ok-mem.ensures.len, inside)) w.index-2.ensures in
+          let mem = count-here mem_in parts c.in_ok-mem.mem.items place w.index-then-is_asked_for.result.now
+          c.in_ok-mem.ensures.counts (omega (arith, c.in_ok-mem.ensures.len, inside)) w.index-then-is_asked_for.ensures in
           rw (
             w.rows-is,
             w.in_ok-push.ensures.items,

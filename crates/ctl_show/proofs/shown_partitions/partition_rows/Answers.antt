@@ -9,6 +9,14 @@ use Rattle.ctl_show.proofs.Gathered.{map-filter-more}
 use Rattle.ctl_show.proofs.shown_partitions.partition_rows.Goals as goal
 use Rattle.ctl_show.proofs.shown_partitions.partition_rows.Goals.{then-is_asked+in_ok-partition_row+in_ok-push, else-is_asked}
 
+pub partition_row-requires-clause-there : goal.partition_row-requires-clause-there
+partition_row-requires-clause-there c =
+    let same = c.records-partition-items.ensures.value in
+    let there = c.requires.partitions c.loop-partition.partition-index c.partition-item.result
+    (rw same at c.loop-partition-test.true) in
+    let is = rw same at c.partition-item.is in
+    rw (← is) at there
+
 pub loop-partition-preserved : goal.loop-partition-preserved
 loop-partition-preserved c =
     let row = λ (partition : PartRecord). shown.Partition (partition_row (state_of c.args.cluster.now) partition) in
