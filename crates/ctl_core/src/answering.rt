@@ -78,7 +78,10 @@ fn work(
     match request {
         Request::Submit(desc) => submit(alloc, cluster, moment, user, desc, room),
         Request::Cancel(targets) => Ok(cancel_jobs(cluster, moment, user, targets, room)),
-        Request::Hold { targets, user: owned } => {
+        Request::Hold {
+            targets,
+            user: owned,
+        } => {
             let action = Action::Hold { for_owner: *owned };
             Ok(change_jobs(cluster, moment, user, &action, targets.as_slice(), room))
         }

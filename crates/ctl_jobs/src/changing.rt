@@ -71,13 +71,7 @@ pub fn changes_owned(cluster: &Cluster, user: &Name, action: &Action, owner: &Na
 
 /// Does this to what the targets name, where the user may. It takes no memory. Each target is logarithmic in the jobs
 /// and linear in the tasks of its array; then it is once linear in the plan.
-pub fn change(
-    cluster: &mut Cluster,
-    moment: u64,
-    user: &Name,
-    action: &Action,
-    targets: &[Target],
-)
+pub fn change(cluster: &mut Cluster, moment: u64, user: &Name, action: &Action, targets: &[Target])
     requires { IsSound (state_of cluster.old) }
     ensures after { state_of cluster.new
         ≡ Changing.change_after (state_of cluster.old) moment user.now action.now (Changing.are_naming targets.now) }
@@ -90,13 +84,7 @@ pub fn change(
 
 /// Does this to the owner's jobs, where the user may. It takes no memory. One walk over the jobs, and once linear in the
 /// plan.
-pub fn change_owned(
-    cluster: &mut Cluster,
-    moment: u64,
-    user: &Name,
-    action: &Action,
-    owner: &Name,
-)
+pub fn change_owned(cluster: &mut Cluster, moment: u64, user: &Name, action: &Action, owner: &Name)
     requires { IsSound (state_of cluster.old) }
     ensures after { state_of cluster.new
         ≡ Changing.change_after (state_of cluster.old) moment user.now action.now (Changing.is_owned owner.now) }
@@ -133,13 +121,7 @@ fn change_targets(
 }
 
 // Does this to what the target names, where the user may.
-fn change_target(
-    cluster: &mut Cluster,
-    moment: u64,
-    user: &Name,
-    action: &Action,
-    target: &Target,
-)
+fn change_target(cluster: &mut Cluster, moment: u64, user: &Name, action: &Action, target: &Target)
     requires rising { HaveRisingIds cluster.old.jobs.records }
     requires together { AreTogether cluster.old.jobs.records }
     ensures after { state_of cluster.new ≡ record (state_of cluster.old) {
@@ -161,13 +143,7 @@ fn change_target(
 }
 
 // Does this to the owner's jobs, where the user may.
-fn change_jobs_of(
-    cluster: &mut Cluster,
-    moment: u64,
-    user: &Name,
-    action: &Action,
-    owner: &Name,
-)
+fn change_jobs_of(cluster: &mut Cluster, moment: u64, user: &Name, action: &Action, owner: &Name)
     ensures after { state_of cluster.new ≡ record (state_of cluster.old) {
       jobs = map (Changing.done_if (state_of cluster.old) moment user.now action.now (Changing.is_owned owner.now))
           cluster.old.jobs.records;

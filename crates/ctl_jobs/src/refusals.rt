@@ -114,12 +114,7 @@ pub(crate) fn may_do(cluster: &Cluster, user: &Name, action: &Action, job: &JobR
 
 // Why the user may not do this to the job.
 #[tactic(auto, unfolding(crate::specs::Actions::job_refusal))]
-fn job_refusal(
-    cluster: &Cluster,
-    user: &Name,
-    action: &Action,
-    job: &JobRecord,
-) -> Option<Refusal>
+fn job_refusal(cluster: &Cluster, user: &Name, action: &Action, job: &JobRecord) -> Option<Refusal>
     ensures { result ≡ Actions.job_refusal (state_of cluster.now) user.now action.now job.now }
 {
     if is_denied(cluster, user, action, job) {

@@ -108,10 +108,7 @@ fn push_start(out: &mut Vec<u8>, start: Option<Ranged<0, 253402300799>>) -> Resu
 }
 
 /// Writes a moment.
-pub(crate) fn push_moment(
-    out: &mut Vec<u8>,
-    second: Ranged<0, 253402300799>,
-) -> Result<(), Memory>
+pub(crate) fn push_moment(out: &mut Vec<u8>, second: Ranged<0, 253402300799>) -> Result<(), Memory>
     ensures { OnOk result (out.new.items ≡ out.old.items ++ moment_text second) }
 {
     let mut text = [0; 19];

@@ -9,10 +9,7 @@ use slurm_text::plain::dependency::{DepId, DepItem, DepKind, DepSpec};
 
 /// Writes what a job waits for, as `--dependency` of sbatch(1) takes it.
 #[tactic(auto, unfolding(crate::specs::Dependency::dependency_text))]
-pub(crate) fn push_dependency(
-    out: &mut Vec<u8>,
-    dependency: &Option<DepSpec>,
-) -> Result<(), Memory>
+pub(crate) fn push_dependency(out: &mut Vec<u8>, dependency: &Option<DepSpec>) -> Result<(), Memory>
     ensures { OnOk result (out.new.items ≡ out.old.items ++ dependency_text dependency.now) }
 {
     match dependency {
