@@ -14,10 +14,10 @@ returns-clause-after g c =
     let early : nat_lt last_moment c.args.now ≡ false = le-ltb last_moment c.args.now (omega arith) in
     let moment : c.max-moment.result ≡ raised s c.args.now = search rules in
     let room : c.is_some.result ≡ has_room s Pass = c.is_some.ensures ∙ c.room_for-size.ensures.room in
-    state-worked s (state_of c.pass.new.cluster) (state_of c.stamp-3.new.cluster) c.args.now c.unwrap_or.result
-    c.args.user.now Pass c.in_ok-answered.answered refl early c.if-is_shut.false
+    state-worked s (state_of c.pass.new.cluster) (state_of c.stamp-2.new.cluster) c.args.now c.unwrap_or.result
+    c.args.user.now Pass c.in_ok-answered.answered refl early c.if-cluster.false
     (rw (room, moment) at c.in_ok-answered.ensures.ok)
     (λ has. c.unwrap_or.ensures
     ∙ size-asked c.room_for-size.result (has_room s Pass) (size_of Pass) c.room_for-size.ensures.room
     c.room_for-size.ensures.value has)
-    (rw moment at c.stamp-3.ensures.after)
+    (rw moment at c.stamp-2.ensures.after)
