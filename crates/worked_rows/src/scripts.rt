@@ -154,7 +154,7 @@ pub fn unbuilt()
     ensures other_action { script_of on_one_node (codes "0 root scontrol reboot\n") ≡ not_built_text }
 {}
 
-/// What scontrol(1) does to jobs, to partitions and to the controller.
+/// What scontrol(1) does to jobs, and to the controller.
 #[tactic(none)]
 pub fn operated()
     ensures hold { script_of on_one_node
@@ -163,9 +163,6 @@ pub fn operated()
     ensures release { script_of on_one_node
         (codes "0 alice sbatch -H -t 1\n0 bob scontrol release 1\n0 alice scontrol release 1\n1 root pass\n")
         ≡ codes "Submitted batch job 1\nscontrol: error: AccessDenied (11)\npass: ended 0 started 1 planned 0\n" }
-    ensures partition { script_of on_one_node
-        (codes "0 root scontrol update PartitionName=main State=DRAIN\n0 alice sbatch -t 1\n")
-        ≡ codes "sbatch: error: PartitionClosed (1)\n" }
     ensures shutdown { script_of on_one_node
         (codes "0 root scontrol shutdown\n0 alice sbatch -t 1\n")
         ≡ codes "sbatch: error: ShuttingDown (22)\n" }
