@@ -50,8 +50,8 @@ use Rattle.operands.specs.Starts.{start_of, done_of}
 use Rattle.command_words.specs.Report.{numbers_by, report_by}
 use Rattle.command_words.specs.Cancel.{names_user, cancel_words, scancel_options, scancel_by}
 use Rattle.scontrol_words.specs.Scontrol.{action_named, action_in, scontrol_by}
-use Rattle.scontrol_words.specs.Holding.{listed_jobs, hold_by}
-use Rattle.scontrol_words.specs.Showing.{shown_named, job_query, shown_in, show_by}
+use Rattle.scontrol_words.specs.Holding.{listed_jobs, hold_by, release_by}
+use Rattle.scontrol_words.specs.Showing.{shown_named, job_query, name_query, shown_in, show_by}
 use Rattle.squeue_format.specs.Format.{column_of, width_of, column_by, part_in, format_in, usual}
 use Rattle.command_words.specs.Queries.{query_words, squeue_options, sinfo_options, sprio_options, squeue_by, sinfo_by, sprio_by}
 use Rattle.node_pick.specs.Choosing.{numbers_from, filled_sets, sets, fits, chosen}
@@ -126,8 +126,8 @@ told = tt
 
 -- what scontrol says
 unfoldable pub asked : Unit {0}
-unfolding target_of targets_by action_named action_in scontrol_by listed_jobs hold_by shown_named job_query shown_in
-    show_by
+unfolding target_of targets_by action_named action_in scontrol_by listed_jobs hold_by release_by shown_named job_query
+    name_query shown_in show_by
 asked = tt
 
 -- plans, and what starts by them
