@@ -5,3 +5,4 @@ pub mod Targets
 pub mod Walks
 pub mod Refusals
 pub mod Usage
+pub mod Awaiting

@@ -5,9 +5,11 @@ ghost use Rattle.indexmap.specs.IndexMap.{spare, values};
 ghost use Rattle.job_table.specs.declared.record.JobRecord.{JobRecord};
 ghost use Rattle.job_table.specs.Changes.{changed};
 ghost use Rattle.job_table.specs.Table.{HaveRisingIds, IsTable, changed_if, entry_of, is_old, job_with};
+ghost use Rattle.job_table.specs.Awaiting.{has_gone};
 ghost use Rattle.job_table.specs.Usage.{Charges, IsNoStart, charged_by, is_start};
 ghost use Rattle.job_table.specs.Walks.{map_at};
 
+use crate::awaited::Awaited;
 use crate::change::{Change, apply};
 use crate::record::JobRecord;
 use crate::usage::charge;
@@ -179,16 +181,16 @@ impl Jobs {
         apply(alloc, &mut self.by_id[place], change);
     }
 
-    /// Drops the records of jobs that ended so many seconds ago, all in one walk. It takes no memory. slurm.conf(5),
-    /// MinJobAge.
-    pub fn purge(&mut self, now: u64, age: u64)
+    /// Drops the records of jobs that ended so many seconds ago, but for those that are awaited, all in one walk. It
+    /// takes no memory. slurm.conf(5), MinJobAge.
+    pub fn purge(&mut self, now: u64, age: u64, awaited: &Awaited)
         ensures usage { self.new.usage ≡ self.old.usage }
-        ensures records { self.new.records ≡ filter (λ job. not (is_old age now job)) self.old.records }
+        ensures records { self.new.records ≡ filter (λ job. not (has_gone age now awaited.now job)) self.old.records }
     {
         self.by_id.retain(
             |_id: &u32, job: &mut JobRecord| -> bool
-                ensures { (result ≡ not (is_old age now job.old)) × (job.new ≡ job.old) }
-            { !has_gone(age, now, job) },
+                ensures { (result ≡ not (has_gone age now awaited.now job.old)) × (job.new ≡ job.old) }
+            { !has_gone(age, now, awaited, job) },
         );
     }
 }
@@ -216,8 +218,8 @@ fn insert(by_id: &mut IndexMap<u32, JobRecord>, job: JobRecord)
     let _old = by_id.insert(job.id, job).unwrap();
 }
 
-// Whether the job ended so many seconds ago; an age of 0 keeps all.
-fn has_gone(age: u64, now: u64, job: &JobRecord) -> bool
+/// Whether the job ended so many seconds ago; an age of 0 keeps all.
+pub fn is_old(age: u64, now: u64, job: &JobRecord) -> bool
     ensures { result ≡ is_old age now job.now }
 {
     match job.state {
@@ -227,4 +229,11 @@ fn has_gone(age: u64, now: u64, job: &JobRecord) -> bool
         }
         _ => false,
     }
+}
+
+/// Whether the record of a job goes that ended so many seconds ago: no pending job waits for it (own).
+pub fn has_gone(age: u64, now: u64, awaited: &Awaited, job: &JobRecord) -> bool
+    ensures { result ≡ has_gone age now awaited.now job.now }
+{
+    is_old(age, now, job) && !awaited.has(job)
 }

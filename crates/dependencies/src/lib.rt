@@ -1,0 +1,4 @@
+//! Dependencies: whether what a job waits for has come.
+#![tactic(auto)]
+
+pub mod standing;
