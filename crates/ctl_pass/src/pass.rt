@@ -117,7 +117,7 @@ fn all_live(live: &LiveArrays, arrays: &[ArrayRecord]) -> bool
 fn all_last(now: u64, reservations: &[Reservation]) -> bool
     ensures { result ≡ list_all (λ (one : OneReservation). nat_lt now one.end) reservations.now }
 {
-    reservations.iter().all(|one| now < one.end)
+    reservations.iter().all(|one| now < one.end.get())
 }
 
 // Whether nothing ends, is dropped or starts, and the plan is the last one.

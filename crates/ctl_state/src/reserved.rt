@@ -26,7 +26,7 @@ pub fn lasting_named<'a>(
     reservations
         .records()
         .iter()
-        .find(|one| now < one.end && name.is(&one.name))
+        .find(|one| now < one.end.get() && name.is(&one.name))
 }
 
 /// Those of the places at which the reservation has nodes. Linear in the places.
@@ -68,18 +68,18 @@ fn push_barred(
         times.push(Barred {
             nodes: reservation.nodes.copy(),
             from: 0,
-            until: reservation.start,
+            until: reservation.start.get(),
         })?;
         times.push(Barred {
             nodes: reservation.nodes.copy(),
-            from: reservation.end,
+            from: reservation.end.get(),
             until: FOREVER,
         })?;
     } else {
         times.push(Barred {
             nodes: reservation.nodes.copy(),
-            from: reservation.start,
-            until: reservation.end,
+            from: reservation.start.get(),
+            until: reservation.end.get(),
         })?;
     }
     Ok(())
@@ -98,7 +98,7 @@ pub fn barred_for(
 {
     let mut times = Vec::new(alloc);
     for reservation in reservations.records() {
-        if now < reservation.end {
+        if now < reservation.end.get() {
             push_barred(&mut times, reservation, name)?;
         }
     }

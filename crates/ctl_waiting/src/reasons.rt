@@ -131,13 +131,14 @@ fn lacks_node(cluster: &Cluster, job: &JobRecord) -> bool
 fn has_time_in(reservation: &Reservation, moment: u64, limit: &Limit) -> bool
     ensures { result ≡ Reasons.has_time_in reservation.now moment limit.now }
 {
-    let from = moment.max(reservation.start);
+    let from = moment.max(reservation.start.get());
     match limit {
         Limit::Minutes(minutes) => reservation
             .end
+            .get()
             .checked_sub(from)
             .is_some_and(|left| minutes.get() * 60 <= left),
-        Limit::Unlimited => FOREVER <= reservation.end,
+        Limit::Unlimited => FOREVER <= reservation.end.get(),
     }
 }
 
