@@ -3,3 +3,4 @@ pub mod Refused
 pub mod Deciding
 pub mod Keeping
 mod Unended
+pub mod Named

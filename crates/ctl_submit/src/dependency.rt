@@ -9,12 +9,13 @@ ghost use Rattle.ctl_submit.specs.Submission;
 use ctl_state::cluster::Cluster;
 use ctl_state::record::ArrayRecord;
 use job_table::jobs::Jobs;
-use job_table::targets::{is_named, places_of};
+use job_table::targets::{is_named, span_of};
 use slurm_text::plain::array::{ArraySpec, Indices};
 use slurm_text::plain::dependency::{DepId, DepItem, DepKind, DepSpec};
 use slurm_text::plain::target::Target;
 
 // Whether the number names a job. Logarithmic in the jobs, and linear in those that have it.
+#[tactic(auto, using(crate::proofs::Named::any-named))]
 fn names_any(jobs: &Jobs, id: &DepId) -> bool
     requires { AreTogether jobs.now.records }
     ensures { result ≡ list_any (is_named_by id.now.id id.now.index) jobs.now.records }
@@ -23,9 +24,7 @@ fn names_any(jobs: &Jobs, id: &DepId) -> bool
         id: id.id,
         index: id.index,
     };
-    let records = jobs.records();
-    let places = places_of(records, &target);
-    records[places.first..places.end]
+    span_of(jobs.records(), &target)
         .iter()
         .any(|job| is_named(&target, job))
 }

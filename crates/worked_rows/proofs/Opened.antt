@@ -51,6 +51,11 @@ use Rattle.command_words.specs.Report.{numbers_by, report_by}
 use Rattle.command_words.specs.Cancel.{names_user, cancel_words, scancel_options, scancel_by}
 use Rattle.scontrol_words.specs.Scontrol.{action_named, action_in, scontrol_by}
 use Rattle.scontrol_words.specs.Holding.{listed_jobs, hold_by, release_by}
+use Rattle.scontrol_words.specs.Keys.{scontrol_key}
+use Rattle.scontrol_words.specs.Reserving.{create_by, delete_by}
+use Rattle.scontrol_words.specs.Updating.{job_update_by, node_update_by, partition_update_by, unnamed_update_by, update_by}
+use Rattle.scontrol_words.specs.Values.{few_names, part_state as state_word}
+use Rattle.job_texts.specs.Dependency.{id_of, kind_in, item_naming, item_of, dependency_in}
 use Rattle.scontrol_words.specs.Showing.{shown_named, job_query, name_query, shown_in, show_by}
 use Rattle.squeue_format.specs.Format.{column_of, width_of, column_by, part_in, format_in, usual}
 use Rattle.command_words.specs.Queries.{query_words, squeue_options, sinfo_options, sprio_options, squeue_by, sinfo_by, sprio_by}
@@ -61,7 +66,9 @@ use Rattle.backfill_planner.specs.Plans.{placement_at, first_second, placed_of, 
 use Rattle.partitions.specs.Partitions.{bounds_of}
 use Rattle.ctl_state.specs.Ordered.{ordered_by}
 use Rattle.ctl_state.specs.Counted.{holding}
-use Rattle.ctl_state.specs.Planning.{names_of, node_order, plan_job}
+use Rattle.ctl_state.specs.Planning.{barred_of, names_of, node_order, places_for, plan_job}
+use Rattle.dependencies.specs.Standing.{standing}
+use Rattle.job_table.specs.Awaiting.{is_awaited}
 use Rattle.ctl_state.specs.Holding.{times_held, free_ids}
 use Rattle.job_table.specs.Usage.{used_by, used_when_left, used_of, charged}
 use Rattle.fair_tree.specs.Tree.{level_of, path_of}
@@ -81,6 +88,7 @@ use Rattle.ctl_jobs.specs.Changing.{target_refusal}
 use Rattle.ctl_report.specs.Ordering.{in_order, orders_of}
 use Rattle.slurm_print.specs.Ranges.{run_text}
 use Rattle.ctl_show.specs.Showing.{highest, is_shown, row_of, is_weighed, priority_row_of, view_of}
+use Rattle.ctl_show.specs.Records.{reservation_row}
 use Rattle.ctl_show.specs.Standing.{cpus_held, names_standing, rows_of_partition, state_rows}
 use Rattle.slurm_print.specs.Squeue.{told as told_of, title, line}
 use Rattle.slurm_print.specs.Sprio.{nice_end, priority_line}
@@ -127,14 +135,17 @@ told = tt
 -- what scontrol says
 unfoldable pub asked : Unit {0}
 unfolding target_of targets_by action_named action_in scontrol_by listed_jobs hold_by release_by shown_named job_query
-    name_query shown_in show_by
+    name_query shown_in show_by pair_of scontrol_key job_update_by node_update_by partition_update_by unnamed_update_by
+    update_by create_by delete_by few_names state_word few host_items first_bad_item hosts_in numbers_of range_names
+    made_behind made_by number_within limit_of limit_of_minutes seconds_of_clock seconds_of_day seconds_of_parts seconds_of
+    is_name id_of kind_in item_naming item_of dependency_in
 asked = tt
 
 -- plans, and what starts by them
 unfoldable pub plans : Unit {0}
 unfolding numbers_from filled_sets sets fits chosen least_after capacities placement_at first_second placed_of
     plan_beside plan_of bounds_of ordered_by node_order plan_job times_held free_ids hindrance base_of candidates
-    needs_of ranked planned arrays_left holding limits_reached names_of may_start started is_idle is_placeable new_jobs
+    needs_of ranked planned places_for barred_of standing is_awaited arrays_left holding limits_reached names_of may_start started is_idle is_placeable new_jobs
     terms_of job_refusal target_refusal used_by used_when_left used_of charged used_running usage_at tree_of user_usage
     user_count rank_at greatest all_cpus greatest_factor greatest_qos parts_of is_above is_higher level_of path_of
     rank_among paths_of ranks_of
@@ -148,5 +159,5 @@ orders = tt
 -- what is shown
 unfoldable pub rows : Unit {0}
 unfolding highest is_shown row_of is_weighed priority_row_of view_of told_of title line nice_end priority_line
-    cpus_held names_standing rows_of_partition state_rows elapsed_text field cell left_cell in_byte_order digits_len grouped folded_run group_text folded
+    reservation_row cpus_held names_standing rows_of_partition state_rows elapsed_text field cell left_cell in_byte_order digits_len grouped folded_run group_text folded
 rows = tt

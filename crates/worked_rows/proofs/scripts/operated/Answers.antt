@@ -14,3 +14,7 @@ returns-clause-release c = refl
 pub returns-clause-shutdown : goal.returns-clause-shutdown
 unfolding clusters headers asked plans
 returns-clause-shutdown c = refl
+
+pub returns-clause-partition : goal.returns-clause-partition
+unfolding clusters headers asked plans
+returns-clause-partition c = refl
