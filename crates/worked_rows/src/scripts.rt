@@ -1,6 +1,6 @@
 // What scripts are answered.
 ghost use Rattle.std.specs.Prelude.{◌≡◌, codes, [], ◌++◌};
-ghost use Rattle.slurm_print.specs.Malformed.{not_built_text, bad_header_text};
+ghost use Rattle.slurm_print.specs.Malformed.{bad_header_text};
 ghost use Rattle.slurm_top.specs.Script.{script_of};
 ghost use Rattle.worked_rows.specs.Clusters.{on_one_node, on_four_nodes};
 
