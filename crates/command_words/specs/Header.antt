@@ -1,16 +1,16 @@
 -- What a header and its attachment ask.
-use Rattle.std.specs.Prelude.{ℕ, List, drop, slice_get, Option, Some, None}
+use Rattle.std.specs.Prelude.{ℕ, List, drop, slice_get, Option, Some, None, Result, Ok, Err}
+use Rattle.slurm_text.specs.declared.plain.request.Request.{Request}
 use Rattle.slurm_text.specs.Options.{◌>>=◌}
 use Rattle.slurm_text.specs.Words.{first_bad, words_in}
 use Rattle.command_words.specs.Command.{command_named}
 use Rattle.operands.specs.Names.{name_by, u64_by}
 use Rattle.command_words.specs.Wanted.{wanted_by}
 use Rattle.command_words.specs.declared.command.Command.{Command}
+use Rattle.command_words.specs.declared.fault.WordFault.{WordFault}
 use Rattle.command_words.specs.declared.header.Head.{Head}
 use Rattle.command_words.specs.declared.header.Meaning.{Meaning}
-use Rattle.command_words.specs.declared.header.Meaning.TheVariants.{Asks, Malformed, NotBuilt, BadWords, BadHeader}
-use Rattle.command_words.specs.declared.wanted.Wanted.{Wanted}
-use Rattle.command_words.specs.declared.wanted.Wanted.TheVariants as wanted
+use Rattle.command_words.specs.declared.header.Meaning.TheVariants.{Asks, Malformed, UnknownCommand, BadWords, BadHeader}
 
 -- the moment and the user that the words begin with, where a command follows
 unfoldable pub head_in : List (List ℕ) → Option Head
@@ -26,14 +26,14 @@ abbrev pub command_in : List (List ℕ) → Option Command
 command_in words = slice_get words 0 >>= command_named
 
 -- what a user means who wants this at a moment
-abbrev pub meaning_for : Head → Command → Wanted → Meaning
-meaning_for head command (wanted.Request request) =
+abbrev pub meaning_for : Head → Command → Result Request WordFault → Meaning
+meaning_for head command (Ok request) =
     Asks (record { moment = head.moment; user = head.user; request = request })
-meaning_for head command (wanted.Malformed fault) = Malformed command fault
-meaning_for head command wanted.NotBuilt = NotBuilt
+meaning_for head command (Err fault) = Malformed command fault
 
+-- a first word that names no command is bad, whatever stands behind it
 abbrev pub asked_of : Option Command → Head → List (List ℕ) → Option (List ℕ) → Meaning
-asked_of None head words attachment = NotBuilt
+asked_of None head words attachment = UnknownCommand
 asked_of (Some command) head words attachment =
     meaning_for head command (wanted_by command head.moment words attachment)
 

@@ -13,9 +13,8 @@ use Rattle.command_words.specs.Report.{report_by}
 use Rattle.command_words.specs.Sbatch.{sbatch_by}
 use Rattle.command_words.specs.declared.command.Command.{Command}
 use Rattle.command_words.specs.declared.command.Command.TheVariants as command
+use Rattle.command_words.specs.declared.fault.WordFault.{WordFault}
 use Rattle.command_words.specs.declared.fault.WordFault.TheVariants.{Word}
-use Rattle.command_words.specs.declared.wanted.Wanted.{Wanted}
-use Rattle.command_words.specs.declared.wanted.Wanted.TheVariants as wanted
 
 -- The request of a command that has no attachment, or its first bad word. The words begin with the command's name.
 -- `pass` stands alone.
@@ -29,14 +28,13 @@ alone_by command.Sprio now words = given Show (sprio_by words)
 alone_by command.Report now words = given Report (report_by words)
 alone_by command.Pass now words = closed_at words 1 Pass
 
--- An attachment is off where none belongs. As long as not all commands are built, words that are wrong are answered as
--- what isn't built.
-abbrev pub without : Option (List ℕ) → Result Request BadWord → Wanted
-without attachment (Err fault) = wanted.NotBuilt
-without None (Ok request) = wanted.Request request
-without (Some text) (Ok request) = wanted.Malformed (Word 1 StrayWord)
+-- An attachment is off where none belongs, at the command's name, and so before all that may be wrong with the words.
+abbrev pub without : Option (List ℕ) → Result Request BadWord → Result Request WordFault
+without None (Ok request) = Ok request
+without None (Err fault) = Err (Word fault.word fault.kind)
+without (Some text) asked = Err (Word 1 StrayWord)
 
--- what the words of a command and its attachment want at the moment `now`
-unfoldable pub wanted_by : Command → ℕ → List (List ℕ) → Option (List ℕ) → Wanted
+-- what the words of a command and its attachment want at the moment `now`, or the first bad place
+unfoldable pub wanted_by : Command → ℕ → List (List ℕ) → Option (List ℕ) → Result Request WordFault
 wanted_by command.Sbatch now words attachment = sbatch_by now words attachment
 wanted_by command now words attachment = without attachment (alone_by command now words)

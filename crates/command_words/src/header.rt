@@ -5,7 +5,7 @@ ghost use Rattle.command_words.specs.Header.{head_in, command_in, asked_by, mean
 
 use crate::command::{Command, command_named};
 use crate::fault::WordFault;
-use crate::wanted::{Wanted, read_command};
+use crate::wanted::read_command;
 use operands::names::read_name;
 use slurm_text::digits::parse_number;
 use slurm_text::memory_error::Memory;
@@ -31,8 +31,8 @@ pub enum Meaning {
     Asks(Asked),
     /// The command's words or its script are wrong.
     Malformed { command: Command, fault: WordFault },
-    /// Nothing that is built yet.
-    NotBuilt,
+    /// The first of the command's words names no command, whatever stands behind it.
+    UnknownCommand,
     /// The header is no list of words: it has a bad byte at this place, counted in bytes from 0, or a quote or
     /// backslash there that stays open.
     BadWords { place: u32 },
@@ -113,15 +113,14 @@ fn read_asked(
     ensures { IfOk result (λ meaning. meaning ≡ asked_by head words.now (option_copied attachment.entry)) }
 {
     let Some(command) = command_in(words) else {
-        return Ok(Meaning::NotBuilt);
+        return Ok(Meaning::UnknownCommand);
     };
     match read_command(alloc, command, head.moment, words, attachment)? {
-        Wanted::Request(request) => Ok(Meaning::Asks(Asked {
+        Ok(request) => Ok(Meaning::Asks(Asked {
             moment: head.moment,
             user: head.user,
             request,
         })),
-        Wanted::Malformed(fault) => Ok(Meaning::Malformed { command, fault }),
-        Wanted::NotBuilt => Ok(Meaning::NotBuilt),
+        Err(fault) => Ok(Meaning::Malformed { command, fault }),
     }
 }

@@ -13,17 +13,8 @@ use slurm_text::plain::request::Request;
 use slurm_text::words::Words;
 use std::alloc::Global;
 
-/// What the words of a command want.
-#[derive(Drop)]
-pub(crate) enum Wanted {
-    Request(Request),
-    /// They, or the command's script, are wrong.
-    Malformed(WordFault),
-    /// They are wrong, as long as not all commands are built, or they ask for a job in a way that isn't built yet.
-    NotBuilt,
-}
-
-/// Reads the words of a command, the first of which is its name, and its attachment at the moment `now`.
+/// Reads the words of a command, the first of which is its name, and its attachment at the moment `now`: what they ask
+/// for, or the first bad place.
 #[tactic(auto, unfolding(crate::specs::Wanted::wanted_by))]
 pub(crate) fn read_command(
     alloc: Global,
@@ -31,8 +22,8 @@ pub(crate) fn read_command(
     now: u64,
     words: &Words,
     attachment: Option<&[u8]>,
-) -> Result<Wanted, Memory>
-    ensures { IfOk result (λ wanted. wanted ≡ wanted_by command now words.now (option_copied attachment.entry)) }
+) -> Result<Result<Request, WordFault>, Memory>
+    ensures { IfOk result (λ asked. asked ≡ wanted_by command now words.now (option_copied attachment.entry)) }
 {
     if let Command::Sbatch = command {
         return read_sbatch(alloc, words, attachment, now);
@@ -41,13 +32,16 @@ pub(crate) fn read_command(
     Ok(without(attachment, asked))
 }
 
-fn without(attachment: Option<&[u8]>, asked: Result<Request, BadWord>) -> Wanted
+fn without(
+    attachment: Option<&[u8]>,
+    asked: Result<Request, BadWord>,
+) -> Result<Request, WordFault>
     ensures { result ≡ without (option_copied attachment.entry) asked }
 {
-    match (asked, attachment) {
-        (Err(_), _) => Wanted::NotBuilt,
-        (Ok(request), None) => Wanted::Request(request),
-        (Ok(_), Some(_)) => Wanted::Malformed(WordFault::Word {
+    match (attachment, asked) {
+        (None, Ok(request)) => Ok(request),
+        (None, Err(BadWord { word, kind })) => Err(WordFault::Word { word, kind }),
+        (Some(_), _) => Err(WordFault::Word {
             word: 1,
             kind: WordKind::StrayWord,
         }),

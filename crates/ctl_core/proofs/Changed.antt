@@ -9,12 +9,12 @@ use Rattle.std.proofs.lemmas.Bool.Decides.{nat_tests}
 use Rattle.std.proofs.lemmas.List.Quantifiers.{position-Some}
 use Rattle.slurm_text.specs.declared.plain.job.JobDesc.{JobDesc}
 use Rattle.slurm_text.specs.declared.plain.refusal.Refusal.{Refusal}
-use Rattle.slurm_text.specs.declared.plain.refusal.Refusal.TheVariants.{AccessDenied, UnknownNode, MomentTooLarge, ShuttingDown}
+use Rattle.slurm_text.specs.declared.plain.refusal.Refusal.TheVariants.{AccessDenied, InvalidReservation, UnknownNode, MomentTooLarge, ShuttingDown}
 use Rattle.slurm_text.specs.declared.plain.reply.Reply.{Reply}
 use Rattle.slurm_text.specs.declared.plain.reply.Reply.TheVariants.{Done, Idle}
 use Rattle.slurm_text.specs.declared.plain.report.Report.{Report as Told}
 use Rattle.slurm_text.specs.declared.plain.request.Request.{Request}
-use Rattle.slurm_text.specs.declared.plain.request.Request.TheVariants.{Submit, Cancel, Hold, Release, Requeue, UpdateJob, UpdateNode, UpdatePartition, Report, Pass, Shutdown}
+use Rattle.slurm_text.specs.declared.plain.request.Request.TheVariants.{Submit, Cancel, Hold, Release, Requeue, UpdateJob, UpdateNode, UpdatePartition, CreateReservation, DeleteReservation, Report, Pass, Shutdown, Show}
 use Rattle.slurm_text.specs.declared.plain.conf.PartState.{PartState}
 use Rattle.partitions.specs.Partitions.{place_meant}
 use Rattle.job_table.specs.declared.record.JobRecord.{JobRecord}
@@ -33,6 +33,9 @@ use Rattle.ctl_jobs.specs.declared.action.Action.TheVariants as act
 use Rattle.ctl_jobs.specs.Changing.{are_meant, are_naming, change_after, change_made, goes}
 use Rattle.slurm_text.specs.declared.plain.request.NodeOrder.{NodeOrder}
 use Rattle.ctl_nodes.specs.Updating.{changes_any, update_after, update_made}
+use Rattle.slurm_text.specs.declared.plain.reservation.ReservationDesc.{ReservationDesc}
+use Rattle.reservations.specs.Reservations.{reservation_named}
+use Rattle.ctl_reservations.specs.Reserving.{created, deleted}
 use Rattle.ctl_core.specs.Operating.{is_in_state, partition_after, partition_made, shut}
 use Rattle.ctl_core.specs.Sizes.{has_room}
 use Rattle.ctl_core.specs.Step.{raised, refusals_of, made, worked, ChangesNothing, early_refusals, unless_full, verdict_of, reply_of, is_closed, is_unbuilt}
@@ -46,6 +49,8 @@ pub record OnlyIdle : Type 0 where
       → change_after s now user action named ≡ s → list_any (goes s user action named) s.jobs ≡ false
   pub nodes : (s : State) (now : ℕ) (names : List (List ℕ)) (state : NodeOrder)
       → update_after s now names state ≡ s → changes_any s names state ≡ false
+  pub creations : (s : State) (desc : ReservationDesc) → created s desc ≢ s
+  pub deletions : (s : State) (name : List ℕ) → is_none (reservation_named name s.reservations) ≡ false → deleted s name ≢ s
   pub passes : (s : State) (now : ℕ) → pass_after s now ≡ s → is_idle s now ≡ true
 
 -- the first of refusals that come to none: none of them stands
@@ -193,6 +198,12 @@ made-changes only s moment user (UpdateNode nodes state) accepts none makes same
     nodes-change-by only s moment nodes state makes same
 made-changes only s moment user (UpdatePartition name state) accepts none makes same =
     partition-changes s state (place_meant (Some name) s.partitions) makes same
+made-changes only s moment user (CreateReservation desc) accepts none makes same =
+    only.creations s desc (made-after makes ∙ same)
+made-changes only s moment user (DeleteReservation name) accepts none makes same =
+    let allowed = none-first AccessDenied (not (is_privileged s user)) _ none in
+    let known = none-first InvalidReservation (is_none (reservation_named name s.reservations)) _ allowed.1 in
+    only.deletions s name known.0 (made-after makes ∙ same)
 made-changes only s moment user Shutdown accepts none makes same = shut-changes s accepts makes same
 made-changes only s moment user (Report report) accepts none makes same =
     let allowed = none-first AccessDenied (not (is_privileged s user)) _ none in
@@ -202,7 +213,7 @@ made-changes only s moment user (Report report) accepts none makes same =
     [ None ↦ λ none. refl | Some refusal ↦ λ none. none ] known.1 in
     told-changes s moment report (node_of s report) refl fresh makes same
 made-changes only s moment user Pass accepts none makes same = pass-changes only s moment makes same
-made-changes only s moment user request accepts none makes same = absurd (cc)
+made-changes only s moment user (Show query) accepts none makes same = absurd (cc)
 
 -- What an accepted request makes is another state.
 pub step-changes : OnlyIdle → (s : State) (now : ℕ) (user : List ℕ) (request : Request) {reply : Reply} {after : State}
@@ -294,7 +305,10 @@ made-idle keeps s moment user Pass idle = elim (cases_Bool (is_idle s moment)) [
   | inl stays ↦ keeps.passes s moment stays
   | inr busy ↦ let passed = rw busy at idle in absurd (cc)
 ]
-made-idle keeps s moment user request idle = absurd (cc)
+made-idle keeps s moment user (CreateReservation desc) idle = absurd (cc)
+made-idle keeps s moment user (DeleteReservation name) idle = absurd (cc)
+made-idle keeps s moment user Shutdown idle = absurd (cc)
+made-idle keeps s moment user (Show query) idle = absurd (cc)
 
 -- A request that is idle is one that would change nothing.
 pub step-idle : IdleKeeps → (s : State) (now : ℕ) (user : List ℕ) (request : Request)

@@ -31,14 +31,21 @@ names-opened (conf ∷ confs) = ap (λ names. conf.name ∷ names) (names-opened
 
 pub sound-opening : (s : State) → HasRanges s.settings → AreNodes s.nodes
     → All (IsOnNodes (length s.nodes)) s.partitions → All HasLimits s.partitions → s.jobs ≡ [] → s.plan ≡ []
+    → s.reservations ≡ []
     → (1 ≤ s.next_id) × (s.next_id ≤ last_job_id) → s.size ≡ 0 → s.moment ≡ 0 → IsSound s
-sound-opening s ranges nodes on_nodes limits no_jobs no_plan next size moment = record {
+sound-opening s ranges nodes on_nodes limits no_jobs no_plan unreserved next size moment = record {
   settings = ranges;
   nodes = nodes;
   partitions = on_nodes;
   limits = limits;
   of_partitions = rw no_jobs (λ k d within. absurd (omega (arith, within)));
   of_accounts = rw no_jobs (λ k d within. absurd (omega (arith, within)));
+  reservations = rw unreserved (record {
+    each = λ k d within. absurd (omega (arith, within));
+    named = λ i j d before within. absurd (omega (arith, within));
+    apart = λ i j d before within. absurd (omega (arith, within));
+    few = omega arith;
+  });
   rising = rw no_jobs (λ i j d before within. absurd (omega (arith, within)));
   below_next = rw no_jobs (λ k d within. absurd (omega (arith, within)));
   together = rw no_jobs (record {

@@ -5,7 +5,7 @@ use Rattle.std.specs.Prelude.{slice_get}
 use Rattle.std.proofs.lemmas.Bool.{cond_both}
 use Rattle.slurm_text.specs.declared.plain.refusal.Refusal.{Refusal}
 use Rattle.slurm_text.specs.declared.plain.request.Request.{Request}
-use Rattle.slurm_text.specs.declared.plain.request.Request.TheVariants.{Submit, Cancel, Hold, Release, Requeue, UpdateJob, UpdateNode, UpdatePartition, Report, Pass, Shutdown}
+use Rattle.slurm_text.specs.declared.plain.request.Request.TheVariants.{Submit, Cancel, Hold, Release, Requeue, UpdateJob, UpdateNode, UpdatePartition, CreateReservation, DeleteReservation, Report, Pass, Shutdown, Show}
 use Rattle.ctl_state.specs.State.{State}
 use Rattle.ctl_state.specs.Refusals.{first_refusal, unless_refused}
 use Rattle.ctl_state.specs.Verdicts.{Verdict, Refuses, Tells, Stays, Unbuilt, Makes, reply_by, left_by}
@@ -52,12 +52,14 @@ made-sized s moment user (UpdateNode nodes state) =
 made-sized s moment user (UpdatePartition name state) =
     elim (place_meant (Some name) s.partitions) as (λ place. KeepsSize s (partition_made s state place))
     [ None ↦ tt | Some place ↦ cond_both (is_in_state state (slice_get s.partitions place)) Stays _ (KeepsSize s) (λ had. tt) (λ out. refl) ]
+made-sized s moment user (CreateReservation desc) = refl
+made-sized s moment user (DeleteReservation name) = refl
 made-sized s moment user Shutdown = refl
 made-sized s moment user (Report report) =
     elim (node_of s report) as (λ node. KeepsSize s (made_by_report s moment report node))
     [ None ↦ tt | Some node ↦ refl ]
 made-sized s moment user Pass = cond_both (is_idle s moment) Stays _ (KeepsSize s) (λ idle. tt) (λ busy. refl)
-made-sized s moment user request = tt
+made-sized s moment user (Show query) = tt
 
 full-sized : (s : State) (room : Bool) (verdict : Verdict) → KeepsSize s verdict
     → KeepsSize s (unless_full room verdict)

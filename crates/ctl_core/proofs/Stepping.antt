@@ -10,7 +10,7 @@ use Rattle.slurm_text.specs.declared.plain.refusal.Refusal.TheVariants.{MomentTo
 use Rattle.slurm_text.specs.declared.plain.reply.Reply.{Reply}
 use Rattle.slurm_text.specs.declared.plain.report.Report.{Report as Told}
 use Rattle.slurm_text.specs.declared.plain.request.Request.{Request}
-use Rattle.slurm_text.specs.declared.plain.request.Request.TheVariants.{Submit, Cancel, Hold, Release, Requeue, UpdateJob, UpdateNode, UpdatePartition, Report, Pass, Shutdown}
+use Rattle.slurm_text.specs.declared.plain.request.Request.TheVariants.{Submit, Cancel, Hold, Release, Requeue, UpdateJob, UpdateNode, UpdatePartition, CreateReservation, DeleteReservation, Report, Pass, Shutdown, Show}
 use Rattle.slurm_text.specs.declared.plain.conf.PartState.{PartState}
 use Rattle.slurm_text.specs.declared.plain.reply.Reply.TheVariants.{Done}
 use Rattle.partitions.specs.Partitions.{place_meant}
@@ -29,6 +29,8 @@ use Rattle.ctl_jobs.specs.declared.action.Action.TheVariants as act
 use Rattle.ctl_jobs.specs.Changing.{IsAction, are_meant, are_naming, change_after, change_made, goes}
 use Rattle.slurm_text.specs.declared.plain.request.NodeOrder.{NodeOrder}
 use Rattle.ctl_nodes.specs.Updating.{changes_any, update_after}
+use Rattle.slurm_text.specs.declared.plain.reservation.ReservationDesc.{ReservationDesc}
+use Rattle.ctl_reservations.specs.Reserving.{create_refusals, created, deleted}
 use Rattle.ctl_core.specs.Operating.{is_in_state, partition_made, shut, shutdown_refusals}
 use Rattle.ctl_core.specs.declared.reply.Decided.{Decided}
 use Rattle.ctl_core.specs.Sizes.{has_room, size_of}
@@ -54,6 +56,9 @@ pub record AllKeep : Type 0 where
       → IsSound (stamped now (change_after s now user action named))
   pub nodes : (s : State) (now : ℕ) (names : List (List ℕ)) (state : NodeOrder)
       → IsSound s → s.moment ≤ now → now ≤ last_moment → IsSound (stamped now (update_after s now names state))
+  pub creations : (s : State) (now : ℕ) (user : List ℕ) (desc : ReservationDesc)
+      → IsSound s → first_refusal (create_refusals s now user desc) ≡ None → IsSound (created s desc)
+  pub deletions : (s : State) (name : List ℕ) → IsSound s → IsSound (deleted s name)
   pub partitions : PartitionStates
   pub shutdown : Shutting
   pub later : (s : State) (now : ℕ) → IsSound s → s.moment ≤ now → now ≤ last_moment → IsSound (stamped now s)
@@ -110,6 +115,10 @@ sound-made keep s moment user (UpdateNode nodes state) sound later in_time range
     (λ some. keep.nodes s moment nodes state sound later in_time) (λ none. tt)
 sound-made keep s moment user (UpdatePartition name state) sound later in_time ranges none =
     sound-partition keep s moment state (place_meant (Some name) s.partitions) sound later in_time
+sound-made keep s moment user (CreateReservation desc) sound later in_time ranges none =
+    keep.later (created s desc) moment (keep.creations s moment user desc sound none) later in_time
+sound-made keep s moment user (DeleteReservation name) sound later in_time ranges none =
+    keep.later (deleted s name) moment (keep.deletions s name sound) later in_time
 sound-made keep s moment user Shutdown sound later in_time ranges none =
     keep.shutdown (stamped moment s) (keep.later s moment sound later in_time)
 sound-made keep s moment user (Report report) sound later in_time ranges none =
@@ -118,7 +127,7 @@ sound-made keep s moment user (Report report) sound later in_time ranges none =
 sound-made keep s moment user Pass sound later in_time ranges none =
     cond_both (is_idle s moment) Stays _ (MakesSound s moment) (λ idle. tt)
     (λ busy. keep.passes s moment sound later in_time)
-sound-made keep s moment user request sound later in_time ranges none = tt
+sound-made keep s moment user (Show query) sound later in_time ranges none = tt
 
 sound-full : (s : State) (moment : ℕ) (room : Bool) (verdict : Verdict)
     → MakesSound s moment verdict → MakesSound s moment (unless_full room verdict)

@@ -1,7 +1,5 @@
 -- One step of the controller: the reply to a request, and the state after it.
 use Rattle.std.specs.Prelude.{◌≡◌, ℕ, ◌+◌, Bool, true, false, ◌&&◌, not, if◌then◌else◌, nat_lt, max, List, [], ◌∷◌, Option, Some, IfSome}
-use Rattle.slurm_text.specs.declared.plain.query.Query.{Query}
-use Rattle.slurm_text.specs.declared.plain.query.Query.TheVariants.{ShowReservation}
 use Rattle.slurm_text.specs.declared.plain.request.Request.{Request}
 use Rattle.slurm_text.specs.declared.plain.request.Request.TheVariants.{Submit, Cancel, Hold, Release, Requeue, UpdateJob, UpdateNode, UpdatePartition, CreateReservation, DeleteReservation, Report, Pass, Shutdown, Show}
 use Rattle.slurm_text.specs.declared.plain.refusal.Refusal.{Refusal}
@@ -18,6 +16,7 @@ use Rattle.ctl_report.specs.Answering.{is_restarted, report_refusals, report_mad
 use Rattle.ctl_submit.specs.Submission.{submit_refusals, submit_made}
 use Rattle.ctl_jobs.specs.declared.action.Action.TheVariants as act
 use Rattle.ctl_nodes.specs.Updating.{update_after, update_made, update_refusals}
+use Rattle.ctl_reservations.specs.Reserving.{create_made, create_refusals, delete_made, delete_refusals}
 use Rattle.ctl_jobs.specs.Changing.{are_meant, are_naming, cancel_refusals, change_after, change_made, refusals}
 use Rattle.ctl_show.specs.Showing.{show_refusals, view_of}
 use Rattle.ctl_core.specs.Operating.{partition_after, partition_made, partition_refusals, shut, shutdown_refusals}
@@ -27,17 +26,9 @@ use Rattle.ctl_core.specs.Sizes.{has_room, size_of}
 abbrev pub raised : State → ℕ → ℕ
 raised s now = max s.moment now
 
--- what the controller can't show yet: reservations
-abbrev pub is_unbuilt_query : Query → Bool
-is_unbuilt_query (ShowReservation name) = true
-is_unbuilt_query query = false
-
--- what the controller can't do yet: reservations, and the reports of restarted daemons
+-- what the controller can't do yet: the reports of restarted daemons
 abbrev pub is_unbuilt : State → Request → Bool
-is_unbuilt s (CreateReservation desc) = true
-is_unbuilt s (DeleteReservation name) = true
 is_unbuilt s (Report report) = is_restarted s report
-is_unbuilt s (Show query) = is_unbuilt_query query
 is_unbuilt s request = false
 
 -- a controller that was shut down only shows things
@@ -55,11 +46,12 @@ refusals_of s moment user (Requeue target) = refusals s user act.Requeue (target
 refusals_of s moment user (UpdateJob target limit nice) = refusals s user (act.Update limit nice) (target ∷ [])
 refusals_of s moment user (UpdateNode nodes state) = update_refusals s user nodes
 refusals_of s moment user (UpdatePartition name state) = partition_refusals s user name
+refusals_of s moment user (CreateReservation desc) = create_refusals s moment user desc
+refusals_of s moment user (DeleteReservation name) = delete_refusals s user name
 refusals_of s moment user Shutdown = shutdown_refusals s user
 refusals_of s moment user (Report report) = report_refusals s user report
 refusals_of s moment user Pass = pass_refusals s user
 refusals_of s moment user (Show query) = show_refusals s query
-refusals_of s moment user request = []
 
 -- what a request comes to that isn't refused
 abbrev pub made : State → ℕ → List ℕ → Request → Verdict
@@ -72,11 +64,12 @@ made s moment user (UpdateJob target limit nice) =
     change_made s moment user (act.Update limit nice) (are_naming (target ∷ []))
 made s moment user (UpdateNode nodes state) = update_made s moment nodes state
 made s moment user (UpdatePartition name state) = partition_made s state (place_meant (Some name) s.partitions)
+made s moment user (CreateReservation desc) = create_made s desc
+made s moment user (DeleteReservation name) = delete_made s name
 made s moment user Shutdown = Makes Done (shut s)
 made s moment user (Report report) = report_made s moment report
 made s moment user Pass = pass_made s moment
 made s moment user (Show query) = Tells (view_of s moment user query)
-made s moment user request = Unbuilt
 
 -- What an idle request is: a pass, or another state of a partition, that leaves the state as it is, or, where all is
 -- sound, what is done to jobs or said of nodes and changes none.

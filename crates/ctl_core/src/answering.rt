@@ -8,7 +8,7 @@ ghost use Rattle.ctl_state.specs.Index.{IsIndexed};
 ghost use Rattle.ctl_state.specs.Soundness.{IsSound};
 ghost use Rattle.ctl_core.specs.Answering.{Answers};
 ghost use Rattle.ctl_core.specs.Sizes.{has_room};
-ghost use Rattle.ctl_core.specs.Step.{reply_of, state_after, entered, is_closed, is_entered, is_unbuilt, is_unbuilt_query, raised, steps_of, worked};
+ghost use Rattle.ctl_core.specs.Step.{reply_of, state_after, entered, is_closed, is_entered, is_unbuilt, raised, steps_of, worked};
 
 use crate::changing::{cancel_jobs, change_job, change_jobs};
 use crate::laws::a_step_keeps_all_sound;
@@ -17,6 +17,7 @@ use crate::passing::pass;
 use crate::ranges::in_range;
 use crate::reply::{Answered, Decided};
 use crate::reporting::report;
+use crate::reserving::{create_reservation, delete_reservation};
 use crate::showing::show;
 use crate::sizes::room_for;
 use crate::submitting::submit;
@@ -26,7 +27,6 @@ use ctl_state::cluster::Cluster;
 use resource_profile::{Steps, start};
 use slurm_text::memory_error::Memory;
 use slurm_text::name::Name;
-use slurm_text::plain::query::Query;
 use slurm_text::plain::refusal::Refusal;
 use slurm_text::plain::reply::Reply;
 use slurm_text::plain::request::Request;
@@ -109,12 +109,14 @@ fn work(
         Request::UpdatePartition { name, state } => {
             Ok(update_partition(cluster, user, name, *state, room))
         }
+        Request::CreateReservation(desc) => {
+            create_reservation(alloc, cluster, moment, user, desc, room)
+        }
+        Request::DeleteReservation { name } => Ok(delete_reservation(cluster, user, name, room)),
         Request::Shutdown => Ok(shut_down(cluster, user)),
         Request::Report(told) => report(alloc, cluster, moment, user, told, room),
         Request::Pass => pass(alloc, cluster, moment, user, room, &mut start()),
         Request::Show(query) => show(alloc, cluster, moment, user, query),
-        // Reservations aren't worked yet.
-        _ => Ok(unbuilt()),
     }
 }
 
@@ -128,21 +130,12 @@ fn is_closed(cluster: &Cluster, request: &Request) -> bool
     }
 }
 
-// Whether the query is one that isn't shown yet.
-fn is_unbuilt_query(query: &Query) -> bool
-    ensures { result ≡ is_unbuilt_query query.now }
-{
-    matches!(query, Query::ShowReservation(_))
-}
-
 // Whether the request is one that isn't worked yet.
 fn is_unbuilt(cluster: &Cluster, request: &Request) -> bool
     ensures { result ≡ is_unbuilt (state_of cluster.now) request.now }
 {
     match request {
-        Request::CreateReservation(_) | Request::DeleteReservation { .. } => true,
         Request::Report(report) => is_restarted(cluster, report),
-        Request::Show(query) => is_unbuilt_query(query),
         _ => false,
     }
 }

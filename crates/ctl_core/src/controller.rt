@@ -18,6 +18,7 @@ use node_state::record::NodeRecord;
 use partitions::partitions::Partitions;
 use partitions::record::PartRecord;
 use resource_profile::Steps;
+use reservations::reservations::Reservations;
 use slurm_text::memory_error::Memory;
 use slurm_text::name::Name;
 use slurm_text::plain::assoc::AssocFile;
@@ -66,6 +67,7 @@ impl Ctl {
             partitions,
             nodes,
             assocs,
+            reservations: Reservations::new(alloc),
             jobs,
             arrays: Vec::new(alloc),
             plan: Vec::new(alloc),

@@ -36,6 +36,7 @@ pub fn a_step_keeps_all_sound()
     a_submission_keeps_all_sound();
     what_users_do_keeps_all_sound();
     updating_nodes_keeps_all_sound();
+    making_and_taking_reservations_keeps_all_sound();
     a_report_keeps_all_sound();
     a_pass_keeps_all_sound();
     sizes_keep_all_sound();
@@ -70,5 +71,6 @@ pub fn idle_requests_change_nothing()
     a_submission_changes_the_state();
     where_no_job_changes_nothing_does();
     an_idle_order_changes_nothing();
+    making_and_taking_reservations_changes_the_state();
     an_idle_pass_changes_nothing();
 }

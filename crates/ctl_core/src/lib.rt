@@ -10,6 +10,7 @@ mod passing;
 mod ranges;
 pub mod reply;
 mod reporting;
+mod reserving;
 mod showing;
 mod sizes;
 mod submitting;

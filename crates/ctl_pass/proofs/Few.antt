@@ -11,7 +11,6 @@ use Rattle.backfill_planner.specs.declared.job.PlanJob.{PlanJob}
 use Rattle.backfill_planner.specs.Bases.{BaseView}
 use Rattle.backfill_planner.specs.Plans.{plan_beside, plan_of, placed_of, holds_of}
 use Rattle.job_table.specs.declared.record.JobRecord.{JobRecord}
-use Rattle.job_table.specs.Table.{is_old}
 use Rattle.ctl_state.specs.Laws.{OrderMoves}
 use Rattle.ctl_state.specs.Ordered.{ordered_by}
 use Rattle.ctl_state.specs.Soundness.{IsSound}
@@ -20,7 +19,7 @@ use Rattle.ctl_rank.specs.Rank.{is_higher}
 use Rattle.ctl_pass.specs.Limits.{timed_out}
 use Rattle.ctl_pass.specs.Passing.{outcome}
 use Rattle.ctl_waiting.specs.Candidates.{is_candidate, candidates, needs_of, ranked}
-use Rattle.ctl_pass.specs.Readiness.{jobs_left, ready, base_of, planned, placements}
+use Rattle.ctl_pass.specs.Readiness.{goes, jobs_left, ready, base_of, planned, placements}
 use Rattle.ctl_pass.specs.Starting.{started, begun, start_of, may_start}
 use Rattle.ctl_pass.proofs.Planned.{few-jobs}
 use Rattle.ctl_pass.proofs.Ranks.{filter_map-less}
@@ -65,10 +64,10 @@ few-planned moves s now sound =
     omega (
       arith,
       plan-less (base_of r now) now (ranked r now) (base_of r now).holds,
-      filter_map-less (needs_of r) sorted,
+      filter_map-less (needs_of r now) sorted,
       length_permutation chosen sorted (moves (is_higher r now) chosen),
       filter-less (is_candidate r now) r.jobs,
-      filter-less (λ job. not (is_old s.settings.min_job_age now job)) (map (timed_out now) s.jobs),
+      filter-less (λ job. not (goes s now job)) (map (timed_out now) s.jobs),
       length-map s.jobs (timed_out now),
       few-jobs s sound,
     )

@@ -1,6 +1,6 @@
 -- A pass: when it is idle, and where the jobs come from that run after it.
 use Rattle.std.proofs.lemmas.Bool.Decides.{nat_tests}
-use Rattle.std.proofs.Common.{◌≡◌, ◌⊎◌, ℕ, ◌+◌, ◌≤◌, ◌<◌, Bool, true, false, ◌&&◌, not, cond, eqb, List, [], ◌∷◌, length, map, filter, fold, get_or, sum_by, All, Any, Contains, refl, ap, sym, ◌∙◌, arith, inl, inr}
+use Rattle.std.proofs.Common.{◌≡◌, ◌⊎◌, ℕ, ◌+◌, ◌≤◌, ◌<◌, Bool, true, false, ◌&&◌, not, cond, eqb, ltb, List, [], ◌∷◌, length, map, filter, fold, get_or, sum_by, All, Any, Contains, refl, ap, sym, ◌∙◌, arith, inl, inr}
 use Rattle.std.specs.Prelude.{count_by}
 use Rattle.std.specs.Bool.{Decides}
 use Rattle.std.specs.Cmp.Lexicographic.{pointwise}
@@ -17,7 +17,9 @@ use Rattle.job_table.specs.declared.record.Part.{Part}
 use Rattle.job_table.specs.declared.change.Change.TheVariants.{Start}
 use Rattle.job_table.specs.Changes.{changed}
 use Rattle.job_table.specs.JobStates.{is_running, is_pending}
-use Rattle.job_table.specs.Table.{is_old}
+use Rattle.job_table.specs.Awaiting.{AwaitedThroughChanges, has_gone}
+use Rattle.reservations.specs.declared.record.Reservation.{Reservation}
+use Rattle.reservations.specs.Reservations.{lasting}
 use Rattle.job_table.specs.Usage.{NothingCharged, charged}
 use Rattle.job_table.specs.Targets.{is_task_of}
 use Rattle.ctl_state.specs.declared.record.ArrayRecord.{ArrayRecord}
@@ -32,14 +34,14 @@ use Rattle.ctl_pass.specs.Awaiting.{placements_of}
 use Rattle.ctl_pass.specs.Limits.{is_over, timed_out}
 use Rattle.ctl_pass.specs.Live.{has_array}
 use Rattle.ctl_pass.specs.Passing.{is_idle, HasArrays, IsDecided, outcome, pass_after, placements_due}
-use Rattle.ctl_pass.specs.Readiness.{arrays_left, jobs_left, ready, placements}
+use Rattle.ctl_pass.specs.Readiness.{arrays_left, goes, jobs_left, ready, placements}
 use Rattle.ctl_pass.specs.SamePlans.{same_plans, same_shares, same_placements}
 use Rattle.ctl_pass.specs.Starting.{start_of, begun, begun_by, started, may_start}
 use Rattle.ctl_pass.specs.Taking.{CanStart}
 use Rattle.ctl_pass.proofs.Due.{can-due, due-jobs}
 use Rattle.ctl_pass.proofs.Lists.{Any-kept, filter-whole, length-kept, sum_by-map, sum_by-more}
 use Rattle.ctl_pass.proofs.Planned.{PlanIds, PlanLaws, can-start_ready, plan-waits}
-use Rattle.ctl_pass.proofs.Readied.{ReadyLaws, by_limit, length-left, readied, running-not_ended}
+use Rattle.ctl_pass.proofs.Readied.{ReadyLaws, by_limit, going-known, left-known, length-left, readied, running-not_ended}
 use Rattle.ctl_pass.proofs.Starting.{IsGiven, StartLaws, all-given, sound-started, started-keeps, started-same}
 
 -- the arrays of which there are tasks are those that are kept
@@ -51,20 +53,24 @@ arrays-kept jobs arrays live has =
     (λ (array : ArrayRecord). list_any (is_task_of array.id) jobs) (λ array. has.each array.id) arrays
 
 -- what is tested of a pass is whether it is idle
-pub idle_is : (s : State) (now : ℕ) (decided : Decided) → IsDecided s now decided
+pub idle_is : AwaitedThroughChanges → (s : State) (now : ℕ) (decided : Decided) → IsDecided s now decided
     → (eqb decided.ended
-    0 && (not (list_any (is_old s.settings.min_job_age now) s.jobs) && (list_all
+    0 && (not (list_any (has_gone s.settings.min_job_age now decided.awaited) s.jobs) && (list_all
     (λ (array : ArrayRecord). has_array decided.arrays array.id) s.arrays
-    && (eqb (length decided.starts.items) 0 && same_plans decided.stays.items s.plan)))) ≡ is_idle s now
+    && (list_all (λ (one : Reservation). ltb now one.end) s.reservations
+    && (eqb (length decided.starts.items) 0 && same_plans decided.stays.items s.plan))))) ≡ is_idle s now
 unfolding is_idle
-idle_is s now decided is =
+idle_is law s now decided is =
+    let age = s.settings.min_job_age in
     rw (
       is.ended,
       is.count,
       is.stays,
-      ← length-left s.settings.min_job_age now s.jobs,
+      ← length-left now (has_gone age now decided.awaited) s.jobs (going-known age now decided.awaited),
+      left-known law s now decided.awaited is.awaited,
       ← length-kept (λ (array : ArrayRecord). has_array decided.arrays array.id) s.arrays,
       arrays-kept (jobs_left s now) s.arrays decided.arrays is.arrays,
+      ← length-kept (λ (one : Reservation). ltb now one.end) s.reservations,
     ) refl
 
 -- So is the state after a pass, from what was decided.
@@ -102,18 +108,18 @@ pub plans-same : (one other : List Placed) → Decides (same_plans one other) (o
 plans-same one other = slice_eq-Decides placements-same one other (same_plans one other) refl
 
 -- where no limit is reached and no record is dropped, the jobs stay
-ready-same : (age now : ℕ) (jobs : List JobRecord) → count_by (is_over now) jobs ≡ 0
-    → length (those_left (timed_out now) (is_old age now) jobs) ≡ length jobs
-    → those_left (timed_out now) (is_old age now) jobs ≡ jobs
-ready-same age now [] none all = refl
-ready-same age now (job ∷ jobs) none all =
-    let stays : JobRecord → Bool = λ one. not (is_old age now one) in
+ready-same : (now : ℕ) (test : JobRecord → Bool) (jobs : List JobRecord) → count_by (is_over now) jobs ≡ 0
+    → length (those_left (timed_out now) test jobs) ≡ length jobs
+    → those_left (timed_out now) test jobs ≡ jobs
+ready-same now test [] none all = refl
+ready-same now test (job ∷ jobs) none all =
+    let stays : JobRecord → Bool = λ one. not (test one) in
     let changed = map (timed_out now) jobs in
     let over = sum_by-cons (λ one. cond (is_over now one) 1 0) job jobs in
     grind (
       arith,
       nat_tests,
-      ready-same age now jobs,
+      ready-same now test jobs,
       over,
       length-filter stays changed,
       count_by-le-length stays changed,
@@ -144,21 +150,23 @@ idle-unchanged nothing s now idle =
     let left = jobs_left s now in
     let none = none-start s now left (placements s now) in
     let arrays = filter-whole (λ (array : ArrayRecord). list_any (is_task_of array.id) left) s.arrays in
+    let last = filter-whole (λ (one : Reservation). ltb now one.end) s.reservations in
     let same : ((outcome s now).jobs ≡ s.jobs) × ((outcome s now).stays ≡ s.plan)
-    × (arrays_left left s.arrays ≡ s.arrays) =
+    × (arrays_left left s.arrays ≡ s.arrays) × (lasting now s.reservations ≡ s.reservations) =
     grind (
       arith,
       nat_tests,
       none,
       arrays,
-      ready-same s.settings.min_job_age now s.jobs,
+      last,
+      ready-same now (goes s now) s.jobs,
       (plans-same (outcome s now).stays s.plan).0,
     ) in
     let none_over : count_by (is_over now) s.jobs ≡ 0 = grind (arith, nat_tests) in
     let usage : charged now s.jobs (map (timed_out now) s.jobs) s.usage ≡ s.usage =
     ap (λ jobs. charged now s.jobs jobs s.usage) (none-over now s.jobs none_over)
     ∙ sym (nothing now (record { records = s.jobs; usage = s.usage })).usage in
-    rw (same.0, same.1, same.2, usage) refl
+    rw (same.0, same.1, same.2, same.3, usage) refl
 
 -- one for a job that waits, or that runs
 abbrev waits : JobRecord → ℕ
@@ -227,14 +235,14 @@ pub unchanged-idle : OrderMoves JobRecord → PlanIds → (s : State) (now : ℕ
     → is_idle s now ≡ true
 unfolding is_idle
 unchanged-idle moves ids s now same =
-    let age = s.settings.min_job_age in
     let plan = placements s now in
     let left = jobs_left s now in
     let jobs : (outcome s now).jobs ≡ s.jobs = ap (λ (after : State). after.jobs) same in
     let arrays : arrays_left left s.arrays ≡ s.arrays = ap (λ (after : State). after.arrays) same in
-    let waiting = left-less waits (λ job. 0) (timed_out now) (is_old age now) s.jobs
+    let last : lasting now s.reservations ≡ s.reservations = ap (λ (after : State). after.reservations) same in
+    let waiting = left-less waits (λ job. 0) (timed_out now) (goes s now) s.jobs
     (λ job. grind (arith, nat_tests, running-not_ended job.state)) in
-    let running = left-less runs (λ job. cond (is_over now job) 1 0) (timed_out now) (is_old age now) s.jobs
+    let running = left-less runs (λ job. cond (is_over now job) 1 0) (timed_out now) (goes s now) s.jobs
     (λ job. grind (arith, nat_tests)) in
     elim (fewer s now left plan (plan-waits moves ids (ready s now) now)) [
       | inr less ↦ absurd (omega (arith, less, waiting, ap (sum_by waits) jobs))
@@ -245,6 +253,7 @@ unchanged-idle moves ids s now same =
             none_over,
             eq-eqb (length left) (length s.jobs) (ap length all),
             eq-eqb (length (arrays_left left s.arrays)) (length s.arrays) (ap length arrays),
+            eq-eqb (length (lasting now s.reservations)) (length s.reservations) (ap length last),
             none,
             (plans-same (outcome s now).stays s.plan).1 (ap (λ (after : State). after.plan) same),
           ) refl
@@ -274,7 +283,7 @@ origins s now =
       get_or_default plan k placed d below,
       (sym (eqb-true job.id placed.id same), due),
     )) (λ other. has)) some each))
-    (All-filter (λ job. not (is_old s.settings.min_job_age now job)) Origin (map (timed_out now) s.jobs)
+    (All-filter (λ job. not (goes s now job)) Origin (map (timed_out now) s.jobs)
     (All-map Origin (timed_out now) s.jobs ran))
 
 -- The placements that are due in a pass can start one after another.
@@ -288,7 +297,7 @@ pub sound-passed : ReadyLaws → PlanLaws → StartLaws → (s : State) (now : �
     → now ≤ last_moment → IsSound (stamped now (pass_after s now))
 sound-passed readies plans starts s now sound raised in_time =
     let left = readied s now in
-    rw (← started-same s now now left.jobs left.jobs left.usage left.arrays [] (placements s now))
+    rw (← started-same s now now left.jobs left.jobs left.usage left.arrays left.reservations [] (placements s now))
     (sound-started starts left (jobs_left s now) (placements s now)
     (can-start_ready readies plans s now sound raised in_time))
 
@@ -306,4 +315,4 @@ given-passed readies plans starts s now sound raised in_time =
       | inr (stands, held) ↦
           inr (stands, record { before = held.before; some = held.some; waits = held.waits; reached = held.reached })
     ] in
-    rw (← started-same s now now left.jobs left.jobs left.usage left.arrays [] (placements s now)) given
+    rw (← started-same s now now left.jobs left.jobs left.usage left.arrays left.reservations [] (placements s now)) given

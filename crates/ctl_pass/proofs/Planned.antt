@@ -1,27 +1,36 @@
 -- The plan of a pass: what is held is within the nodes, what is planned is of candidates and can start, and its jobs
 -- await that.
 use Rattle.std.proofs.lemmas.Bool.Decides.{nat_tests}
-use Rattle.std.proofs.Common.{◌≡◌, ◌≢◌, ℕ, ◌+◌, ◌≤◌, ◌<◌, ◌&&◌, cond, List, [], ◌∷◌, ◌++◌, length, map, filter, flat_map, get_or, sum_by, unwrap_or, All, AllPairs, Contains, Option, IfSome, refl, ap, sym, ◌∙◌, arith}
+use Rattle.std.proofs.Common.{◌≡◌, ◌≢◌, ℕ, ◌+◌, ◌≤◌, ◌<◌, Bool, true, false, ◌&&◌, not, cond, List, [], ◌∷◌, ◌++◌, length, map, filter, flat_map, get_or, sum_by, unwrap_or, All, AllPairs, Contains, Option, Some, None, IfSome, option_map, refl, ap, sym, ◌∙◌, arith}
 use Rattle.std.specs.Prelude.{filter_map, is_none}
+use Rattle.std.proofs.lemmas.Bool.{and_parts, both_ways, not-true}
 use Rattle.std.proofs.lemmas.List.{length-map}
-use Rattle.std.proofs.lemmas.List.Elements.{All-contains, All-filter, All-map, filter_agree}
+use Rattle.std.proofs.lemmas.List.Elements.{All-contains, All-contains_itself, All-filter, All-head, All-map, All-tail, filter_passes}
 use Rattle.resource_profile.specs.declared.Hold.{Hold}
 use Rattle.resource_profile.specs.Free.{covers}
 use Rattle.resource_profile.specs.Profiles.{AreWithin}
 use Rattle.slurm_text.specs.declared.plain.limit.Limit.{Limit}
 use Rattle.slurm_text.specs.declared.plain.limit.Limit.TheVariants.{Minutes, Unlimited}
 use Rattle.slurm_text.specs.declared.plain.state.Reason.{Reason}
-use Rattle.slurm_text.specs.declared.plain.state.Reason.TheVariants.{BeginTime, QosMaxWallDurationPerJobLimit, ReqNodeNotAvail}
+use Rattle.slurm_text.specs.declared.plain.state.Reason.TheVariants.{BeginTime, QosMaxWallDurationPerJobLimit, ReqNodeNotAvail, Reservation as Unreserved}
 use Rattle.backfill_planner.specs.declared.Placed.{Placed}
 use Rattle.backfill_planner.specs.declared.job.PlanJob.{PlanJob}
 use Rattle.backfill_planner.specs.Bases.{BaseView}
 use Rattle.backfill_planner.specs.Placements.{IsPlannable, IsOnRooms, AreParts, StartsFit}
 use Rattle.backfill_planner.specs.Plans.{plan_of, PlannedView}
-use Rattle.partitions.specs.Partitions.{IsOnNodes}
+use Rattle.partitions.specs.Partitions.{IsOnNodes, bounds_of}
+use Rattle.slurm_text.specs.Options.{◌>>=◌}
+use Rattle.reservations.specs.declared.record.Reservation.{Reservation}
+use Rattle.reservations.specs.Laws.{LastingTwice}
+use Rattle.reservations.specs.Reservations.{lasting, reservation_named}
+use Rattle.dependencies.specs.declared.standing.Standing.{Standing}
+use Rattle.dependencies.specs.Laws.{PassesLeaveStandings, SameForOthers}
+use Rattle.dependencies.specs.Standing.{standing}
 use Rattle.job_table.specs.declared.record.JobRecord.{JobRecord}
 use Rattle.job_table.specs.declared.record.Part.{Part}
 use Rattle.job_table.specs.Changes.{is_on}
-use Rattle.job_table.specs.JobStates.{is_pending}
+use Rattle.job_table.specs.Awaiting.{AwaitedThroughChanges, is_awaited}
+use Rattle.job_table.specs.JobStates.{is_ended, is_pending}
 use Rattle.job_table.specs.Table.{is_old}
 use Rattle.job_table.specs.Usage.{ChangesRunOn, StaysOn}
 use Rattle.run_limits.specs.declared.counted.Counted.{Counted}
@@ -32,7 +41,7 @@ use Rattle.ctl_state.specs.Counted.{counted_of, holding}
 use Rattle.ctl_state.specs.Holding.{parts_of, mem_held, IsPartOf}
 use Rattle.ctl_state.specs.Laws.{JobNodes, OrderMoves, OrderKeepsApart}
 use Rattle.ctl_state.specs.Ordered.{ordered_by}
-use Rattle.ctl_state.specs.Planning.{room_of, seconds_of, plan_job}
+use Rattle.ctl_state.specs.Planning.{barred_of, places_for, plan_job, room_of, seconds_of}
 use Rattle.ctl_state.specs.Soundness.{IsSound, IsKept, IsLimit, pending_ids}
 use Rattle.ctl_state.specs.State.{State, partition_of, last_moment, last_job_id}
 use Rattle.ctl_rank.specs.FairShare.{rank_at, user_count, user_usage}
@@ -44,13 +53,13 @@ use Rattle.ctl_rank.specs.Usage.{usage_at}
 use Rattle.ctl_pass.specs.Awaiting.{Awaits, CanBegin}
 use Rattle.ctl_pass.specs.Limits.{holds_of_job, hold_end, timed_out}
 use Rattle.ctl_waiting.specs.Candidates.{is_candidate, candidates, needs_of, ranked}
-use Rattle.ctl_pass.specs.Readiness.{jobs_left, ready, base_of, planned, placements}
+use Rattle.ctl_pass.specs.Readiness.{goes, jobs_left, ready, base_of, planned, placements}
 use Rattle.ctl_pass.specs.Taking.{CanStart}
-use Rattle.ctl_waiting.specs.Reasons.{exceeds_wall, held_reason, hindrance, hindrances_in, is_early, lacks_node, most_tasks}
+use Rattle.ctl_waiting.specs.Reasons.{exceeds_wall, held_reason, hindrance, hindrances_in, is_early, is_too_late, lacks_node, most_tasks, reason_of}
 use Rattle.ctl_pass.proofs.Held.{held-counted, free-counted}
 use Rattle.ctl_pass.proofs.Lists.{sum_by-larger, sum_by-map, joined-larger, length-rising, at-place, All-joins, All-joined}
 use Rattle.ctl_pass.proofs.Ranks.{IsOfCandidate, waiting, candidates-wait, ordered-agree, ranked-all, ranked-candidates, ranked-waits, ranked-apart}
-use Rattle.ctl_pass.proofs.Readied.{ReadyLaws, readied, sound-readied, pending-left, timed_out-runs_on, old-not_running}
+use Rattle.ctl_pass.proofs.Readied.{ReadyLaws, by_limit, goes-not_running, going, pending-left, readied, running-not_ended, sound-readied, timed_out-runs_on}
 use Rattle.ctl_pass.proofs.Tasks.{holding-left, waits-with, with-left}
 
 -- the laws of plans that a pass rests on
@@ -168,7 +177,8 @@ unfolding plan_job
 ranked-planned moves job_nodes s now sound = ranked-all moves (CanBePlanned s) s now (λ k d below partition bounds is.
     let job = get_or (waiting s.jobs) k d in
     let kept = All-filter (λ (one : JobRecord). is_pending one.state) (IsKept s.moment) s.jobs sound.jobs k d below in
-    let nodes = job_nodes s.nodes partition bounds job
+    let kept_out = barred_of (lasting now s.reservations) job.desc.reservation in
+    let nodes = job_nodes s.nodes (lasting now s.reservations) partition kept_out bounds job
     (at-place (IsOnNodes (length s.nodes)) s.partitions job.partition partition sound.partitions is) in
     record {
       tasks = kept.asked.tasks.0;
@@ -243,49 +253,122 @@ pub base-rooms : (s : State) (now : ℕ) (base : BaseView) → base ≡ base_of 
 unfolding base_of
 base-rooms s now base is = ap (λ (one : BaseView). one.rooms) is
 
--- what hinders a job at a moment beside what is counted
-abbrev hindered : State → ℕ → JobRecord → List Counted → Option Reason
-hindered s now job counted =
+-- what hinders a job at a moment beside what is counted, by what it waits for and by these reservations
+abbrev hindered : State → ℕ → JobRecord → List Counted → Standing → List Reservation → Option Reason
+hindered s now job counted stands reservations =
     let beside : Beside = record { assocs = s.assocs; qos = s.qos; holding = counted } in
-    first_reason (held_reason job.held_by ∷ (reason_if (is_early now job) BeginTime
+    first_reason (held_reason job.held_by
+    ∷ (reason_of stands
+    ∷ (reason_if (is_early now job) BeginTime
     ∷ (hindrances_in (partition_of s job) job
     ++ (reason_if (exceeds_wall s job) QosMaxWallDurationPerJobLimit
     ∷ (limits_reached beside (counted_of job) (most_tasks job)
-    ++ reason_if (lacks_node s job) ReqNodeNotAvail ∷ [])))))
+    ++ (reason_if (unwrap_or (option_map (λ name. is_too_late (reservation_named name reservations) now job.limit)
+    job.desc.reservation) false) Unreserved
+    ∷ reason_if (lacks_node s job) ReqNodeNotAvail ∷ [])))))))
 
--- the same hinders a job before the first steps
-hindrance-ready : (s : State) (now : ℕ) (job : JobRecord) → hindrance (ready s now) now job ≡ hindrance s now job
-unfolding hindrance
-hindrance-ready s now job = ap (hindered s now job) (holding-left s.settings.min_job_age now s.jobs)
-
--- the laws of ranks that a pass rests on
+-- the laws of ranks, of dependencies and of reservations that a pass rests on
 pub record RankLaws : Type 0 where
   pub changes : ChangesRunOn
   pub stays : StaysOn
   pub ranks : RanksStay
+  pub standings : PassesLeaveStandings
+  pub awaited : AwaitedThroughChanges
+  pub lasting_twice : LastingTwice
+
+-- a limit that is seen to changes nothing for others
+timed_out-others : (now : ℕ) (job : JobRecord) → SameForOthers job (timed_out now job)
+timed_out-others now job =
+    by_limit (SameForOthers job) now job
+    (λ over running. let others = running-not_ended job.state running in record {
+      id = refl;
+      array = refl;
+      user = refl;
+      desc = refl;
+      starts = refl;
+      ended = sym others.0;
+      final = λ ended. absurd (both_ways (is_ended job.state) ended others.0);
+    })
+    (λ within. record {
+      id = refl;
+      array = refl;
+      user = refl;
+      desc = refl;
+      starts = refl;
+      ended = refl;
+      final = λ ended. refl;
+    })
+
+-- so a pending job waits for the same
+standing-ready : RankLaws → (s : State) (now : ℕ) (job : JobRecord) → Contains s.jobs job
+    → is_pending job.state ≡ true → standing (jobs_left s now) job ≡ standing s.jobs job
+standing-ready laws s now job has waits =
+    let gone = going laws.awaited s now in
+    laws.standings s.jobs (timed_out now) (goes s now) job has waits
+    (λ k d below. timed_out-others now (get_or s.jobs k d))
+    (λ k d below left. let one = get_or s.jobs k d in
+    let out : goes s now one ≡ true = sym (gone.same one) ∙ left in
+    (gone.ended one out, not-true _ (and_parts (is_old s.settings.min_job_age now one) (not (is_awaited s.jobs one)) out).1))
+
+-- the same hinders a pending job before the first steps
+hindrance-ready : RankLaws → (s : State) (now : ℕ) (job : JobRecord) → Contains s.jobs job
+    → is_pending job.state ≡ true → hindrance (ready s now) now job ≡ hindrance s now job
+unfolding hindrance
+hindrance-ready laws s now job has waits =
+    let left = ready s now in
+    let counted : holding left.jobs ≡ holding s.jobs = holding-left now (goes s now) s.jobs (going laws.awaited s now) in
+    let stands : standing left.jobs job ≡ standing s.jobs job = standing-ready laws s now job has waits in
+    let lasts : lasting now left.reservations ≡ lasting now s.reservations = laws.lasting_twice now s.reservations in
+    ap (λ some. hindered s now job some (standing left.jobs job) (lasting now left.reservations)) counted
+    ∙ ap (λ some. hindered s now job (holding s.jobs) some (lasting now left.reservations)) stands
+    ∙ ap (hindered s now job (holding s.jobs) (standing s.jobs job)) lasts
 
 -- no order of two jobs is another after the first steps
 higher-ready : RankLaws → (s : State) (now : ℕ) (one other : JobRecord)
     → is_higher (ready s now) now one other ≡ is_higher s now one other
 higher-ready laws s now =
     let jobs = map (timed_out now) s.jobs in
-    laws.ranks s now jobs (is_old s.settings.min_job_age now) (ready s now).arrays
+    laws.ranks s now jobs (goes s now) (ready s now).arrays (ready s now).reservations
     (timed_out-runs_on laws.changes laws.stays now s.jobs)
-    (λ k d below old. old-not_running s.settings.min_job_age now (get_or jobs k d) old)
+    (λ k d below gone. goes-not_running now (goes s now) (get_or jobs k d) (going laws.awaited s now) gone)
+
+-- nor does a job need anything else
+needs-ready : RankLaws → (s : State) (now : ℕ) (job : JobRecord) → needs_of (ready s now) now job ≡ needs_of s now job
+unfolding needs_of
+needs-ready laws s now job =
+    ap (λ some. partition_of s job >>= λ partition. bounds_of partition job.desc >>= λ bounds.
+    Some (plan_job s.nodes partition (places_for s.nodes some partition job.desc.reservation)
+    (barred_of some job.desc.reservation) bounds job)) (laws.lasting_twice now s.reservations)
+
+filter_map-agree : {X Y : Type 0} (f g : X → Option Y) → ((x : X) → f x ≡ g x) → (xs : List X)
+    → filter_map f xs ≡ filter_map g xs
+filter_map-agree f g same [] = refl
+filter_map-agree f g same (x ∷ xs) = rw (same x, filter_map-agree f g same xs) refl
 
 -- so the candidates are those of the state before, in their order
 pub ranked-stay : RankLaws → (s : State) (now : ℕ) → ranked (ready s now) now ≡ ranked s now
-unfolding ranked candidates needs_of
+unfolding ranked candidates
 ranked-stay laws s now =
     let left = ready s now in
     let same : filter (is_candidate left now) left.jobs ≡ filter (is_candidate s now) s.jobs =
-    filter_agree (is_candidate left now) (is_candidate s now)
-    (λ job. ap (λ some. is_pending job.state && is_none some) (hindrance-ready s now job)) left.jobs
-    ∙ candidates-wait s now left.jobs ∙ ap (filter (λ job. is_none (hindrance s now job)))
-    (pending-left s.settings.min_job_age now s.jobs) ∙ sym (candidates-wait s now s.jobs) in
-    ap (λ some. filter_map (needs_of s) (ordered_by (is_higher left now) some)) same
-    ∙ ap (filter_map (needs_of s)) (ordered-agree (is_higher left now) (is_higher s now) (higher-ready laws s now)
+    candidates-wait left now left.jobs
+    ∙ ap (filter (λ job. is_none (hindrance left now job))) (pending-left now (goes s now) s.jobs (going laws.awaited s now))
+    ∙ filter_same-where (λ job. is_none (hindrance left now job)) (λ job. is_none (hindrance s now job)) (waiting s.jobs)
+    (λ k d below. ap (λ some. is_none some) (hindrance-ready laws s now (get_or (waiting s.jobs) k d)
+    (All-filter (λ (job : JobRecord). is_pending job.state) (Contains s.jobs) s.jobs (All-contains_itself s.jobs) k d below)
+    (filter_passes (λ (job : JobRecord). is_pending job.state) s.jobs k d below)))
+    ∙ sym (candidates-wait s now s.jobs) in
+    ap (λ some. filter_map (needs_of left now) (ordered_by (is_higher left now) some)) same
+    ∙ filter_map-agree (needs_of left now) (needs_of s now) (needs-ready laws s now)
+    (ordered_by (is_higher left now) (filter (is_candidate s now) s.jobs))
+    ∙ ap (filter_map (needs_of s now)) (ordered-agree (is_higher left now) (is_higher s now) (higher-ready laws s now)
     (filter (is_candidate s now) s.jobs))
+  where
+    filter_same-where : (p q : JobRecord → Bool) (jobs : List JobRecord) → All (λ job. p job ≡ q job) jobs
+        → filter p jobs ≡ filter q jobs
+    filter_same-where p q [] same = refl
+    filter_same-where p q (job ∷ jobs) same =
+        rw (All-head (λ j. p j ≡ q j) job jobs same, filter_same-where p q jobs (All-tail (λ j. p j ≡ q j) job jobs same)) refl
 
 pub plan-is : (s : State) (now : ℕ) (made : PlannedView) (base : BaseView) (jobs : List PlanJob)
     → made ≡ record { base = base; ranked = jobs; moment = now }
@@ -306,29 +389,29 @@ few-jobs s sound =
     )
 
 -- a pending job waits as it did before the first steps
-awaited : (s : State) (now : ℕ) (placed : Placed) → IsSound s → IsSound (readied s now)
+awaits-still : AwaitedThroughChanges → (s : State) (now : ℕ) (placed : Placed) → IsSound s → IsSound (readied s now)
     → Contains (pending_ids (jobs_left s now)) placed.id → Awaits s.jobs (jobs_left s now) placed
-awaited s now placed sound ready_sound waits =
-    let age = s.settings.min_job_age in
-    let before = waits-with placed.id s.jobs sound.rising (rw (pending-left age now s.jobs) at waits) in
+awaits-still law s now placed sound ready_sound waits =
+    let gone = going law s now in
+    let before = waits-with placed.id s.jobs sound.rising (rw (pending-left now (goes s now) s.jobs gone) at waits) in
     record {
       waits = waits-with placed.id (jobs_left s now) ready_sound.rising waits;
-      same = with-left age now placed.id s.jobs before;
+      same = with-left now placed.id (goes s now) s.jobs gone before;
     }
 
 -- so all placements of a pass can begin, beside what is counted
-pub can-begin-ready : OrderMoves JobRecord → OrderKeepsApart JobRecord → PlanIds → PlanApart
+pub can-begin-ready : AwaitedThroughChanges → OrderMoves JobRecord → OrderKeepsApart JobRecord → PlanIds → PlanApart
     → (s : State) (now : ℕ) (tally : Tally) (plan : List Placed)
     → IsSound s → IsSound (readied s now) → plan ≡ placements s now → Shows s.assocs tally (holding s.jobs)
     → CanBegin s.assocs s.jobs (jobs_left s now) tally plan
 unfolding planned
-can-begin-ready moves keeps ids apart s now tally plan sound ready_sound is counted =
+can-begin-ready law moves keeps ids apart s now tally plan sound ready_sound is counted =
     let left = ready s now in
     let waits : All (λ (placed : Placed). Contains (pending_ids left.jobs) placed.id) plan =
     rw is (plan-waits moves ids left now) in
     record {
       rising = ready_sound.rising;
-      counted = rw (holding-left s.settings.min_job_age now s.jobs) counted;
-      awaits = λ k d below. awaited s now (get_or plan k d) sound ready_sound (waits k d below);
+      counted = rw (holding-left now (goes s now) s.jobs (going law s now)) counted;
+      awaits = λ k d below. awaits-still law s now (get_or plan k d) sound ready_sound (waits k d below);
       once = rw is (apart (base_of left now) (ranked left now) now (ranked-apart keeps left now ready_sound.rising));
     }

@@ -15,7 +15,8 @@ use Rattle.job_table.specs.declared.record.JobRecord.{JobRecord}
 use Rattle.job_table.specs.JobStates.{is_pending}
 use Rattle.ctl_state.specs.Ordered.{put, ordered_by}
 use Rattle.ctl_state.specs.Laws.{OrderMoves, OrderKeepsApart}
-use Rattle.ctl_state.specs.Planning.{plan_job}
+use Rattle.reservations.specs.Reservations.{lasting}
+use Rattle.ctl_state.specs.Planning.{barred_of, places_for, plan_job}
 use Rattle.ctl_state.specs.Soundness.{pending_ids}
 use Rattle.job_table.specs.Table.{HaveRisingIds}
 use Rattle.ctl_state.specs.State.{State, partition_of}
@@ -79,46 +80,54 @@ pub candidates-wait : (s : State) (now : ℕ) (jobs : List JobRecord)
 candidates-wait s now [] = refl
 candidates-wait s now (job ∷ jobs) = grind (arith, nat_tests, candidates-wait s now jobs)
 
+-- what a job needs in this partition, on so many nodes
+abbrev pub need_in : State → ℕ → JobRecord → PartRecord → ℕ × ℕ → PlanJob
+need_in s now job partition bounds =
+    plan_job s.nodes partition
+    (places_for s.nodes (lasting now s.reservations) partition job.desc.reservation)
+    (barred_of (lasting now s.reservations) job.desc.reservation)
+    bounds job
+
 -- what holds of what a job needs in its partition
-needs-all : (P : PlanJob → Type 0) (s : State) (job : JobRecord)
+needs-all : (P : PlanJob → Type 0) (s : State) (now : ℕ) (job : JobRecord)
     → ((partition : PartRecord) (bounds : ℕ × ℕ) → slice_get s.partitions job.partition ≡ Some partition
-    → P (plan_job s.nodes partition bounds job))
-    → IfSome (needs_of s job) P
+    → P (need_in s now job partition bounds))
+    → IfSome (needs_of s now job) P
 unfolding needs_of
-needs-all P s job each = by (partition_of s job) refl
+needs-all P s now job each = by (partition_of s job) refl
   where
     by_bounds : (partition : PartRecord) (some : Option (ℕ × ℕ)) → slice_get s.partitions job.partition ≡ Some partition
-        → IfSome (some >>= λ bounds. Some (plan_job s.nodes partition bounds job)) P
+        → IfSome (some >>= λ bounds. Some (need_in s now job partition bounds)) P
     by_bounds partition None is = tt
     by_bounds partition (Some bounds) is = each partition bounds is
 
     by : (some : Option PartRecord) → slice_get s.partitions job.partition ≡ some
         → IfSome (some >>= λ partition. bounds_of partition job.desc >>= λ bounds.
-        Some (plan_job s.nodes partition bounds job)) P
+        Some (need_in s now job partition bounds)) P
     by None is = tt
     by (Some partition) is = by_bounds partition (bounds_of partition job.desc) is
 
 -- what holds of what each candidate may need
 ranked-of : OrderMoves JobRecord → (P : PlanJob → Type 0) (s : State) (now : ℕ)
-    → All (λ (job : JobRecord). IfSome (needs_of s job) P) (filter (is_candidate s now) s.jobs) → All P (ranked s now)
+    → All (λ (job : JobRecord). IfSome (needs_of s now job) P) (filter (is_candidate s now) s.jobs) → All P (ranked s now)
 unfolding ranked candidates
 ranked-of moves P s now each =
     let chosen = filter (is_candidate s now) s.jobs in
     let sorted = ordered_by (is_higher s now) chosen in
-    filter_map-all P (needs_of s) sorted (All-permutation (λ (job : JobRecord). IfSome (needs_of s job) P) chosen sorted
+    filter_map-all P (needs_of s now) sorted (All-permutation (λ (job : JobRecord). IfSome (needs_of s now job) P) chosen sorted
     (moves (is_higher s now) chosen) each)
 
 -- what holds of what each waiting job may need
 pub ranked-all : OrderMoves JobRecord → (P : PlanJob → Type 0) (s : State) (now : ℕ)
     → All (λ (job : JobRecord). (partition : PartRecord) (bounds : ℕ × ℕ)
     → slice_get s.partitions job.partition ≡ Some partition
-    → P (plan_job s.nodes partition bounds job)) (waiting s.jobs)
+    → P (need_in s now job partition bounds)) (waiting s.jobs)
     → All P (ranked s now)
 ranked-all moves P s now each =
-    let needs : JobRecord → Type 0 = λ job. IfSome (needs_of s job) P in
+    let needs : JobRecord → Type 0 = λ job. IfSome (needs_of s now job) P in
     ranked-of moves P s now (rw (candidates-wait s now s.jobs)
     (All-filter (λ job. is_none (hindrance s now job)) needs (waiting s.jobs)
-    (λ k d below. needs-all P s (get_or (waiting s.jobs) k d) (each k d below))))
+    (λ k d below. needs-all P s now (get_or (waiting s.jobs) k d) (each k d below))))
 
 -- the job with this number is a candidate at a moment
 abbrev pub IsOfCandidate : State → ℕ → ℕ → Type 0
@@ -139,7 +148,7 @@ ranked-candidates moves s now =
       (refl, passes),
     ) in
     ranked-of moves (λ (need : PlanJob). IsOfCandidate s now need.id) s now
-    (λ k d below. needs-all (λ (need : PlanJob). IsOfCandidate s now need.id) s (get_or chosen k d)
+    (λ k d below. needs-all (λ (need : PlanJob). IsOfCandidate s now need.id) s now (get_or chosen k d)
     (λ partition bounds is. All-filter (is_candidate s now) (λ (job : JobRecord). is_candidate s now job ≡ true
     → IsOfCandidate s now job.id) s.jobs each k d below (filter_passes (is_candidate s now) s.jobs k d below)))
 
@@ -168,10 +177,10 @@ ranked-apart keeps s now rising =
     λ i j d before within same. omega (arith, rising i j d before within, same) in
     let sorted = keeps (is_higher s now) (λ (job : JobRecord). job.id) (filter (is_candidate s now) s.jobs)
     (AllPairs-filter (λ (one other : JobRecord). one.id ≢ other.id) (is_candidate s now) s.jobs apart) in
-    filter_map-pairs (λ (one other : PlanJob). one.id ≢ other.id) (needs_of s)
+    filter_map-pairs (λ (one other : PlanJob). one.id ≢ other.id) (needs_of s now)
     (ordered_by (is_higher s now) (filter (is_candidate s now) s.jobs))
     (λ i j d before below. let one = get_or (ordered_by (is_higher s now) (filter (is_candidate s now) s.jobs)) i d in
     let other = get_or (ordered_by (is_higher s now) (filter (is_candidate s now) s.jobs)) j d in
-    needs-all (λ (need : PlanJob). IfSome (needs_of s other) (λ (later : PlanJob). need.id ≢ later.id)) s one
-    (λ partition bounds is. needs-all (λ (later : PlanJob). one.id ≢ later.id) s other
+    needs-all (λ (need : PlanJob). IfSome (needs_of s now other) (λ (later : PlanJob). need.id ≢ later.id)) s now one
+    (λ partition bounds is. needs-all (λ (later : PlanJob). one.id ≢ later.id) s now other
     (λ part most same. sorted i j d before below)))

@@ -1,11 +1,11 @@
 -- What the first steps of a pass leave: jobs past their limits complete, and old records are gone.
 use Rattle.std.proofs.lemmas.Bool.Decides.{nat_tests}
-use Rattle.std.proofs.Common.{◌≡◌, ℕ, suc, ◌+◌, ◌≤◌, ◌<◌, Bool, true, false, ◌&&◌, not, cond, eqb, leb, List, [], ◌∷◌, ◌++◌, length, map, filter, flat_map, take, get_or, unwrap_or, Contains, Some, None, refl, sym, ◌∙◌, arith, inl, inr, rules, tests}
+use Rattle.std.proofs.Common.{◌≡◌, ℕ, suc, ◌+◌, ◌≤◌, ◌<◌, Bool, true, false, ◌&&◌, not, cond, eqb, leb, ltb, List, [], ◌∷◌, ◌++◌, length, map, filter, flat_map, take, get_or, unwrap_or, All, Contains, Some, None, refl, sym, ◌∙◌, arith, inl, inr, rules, tests}
 use Rattle.std.specs.List.{AllZip, list_any}
 use Rattle.std.proofs.lemmas.Bool.{cond_both, and_parts, cases_Bool, ne_eqb}
 use Rattle.std.proofs.lemmas.List.{take_more, map-append, append-nil, length-map}
 use Rattle.std.proofs.lemmas.List.Concat.{flat_map-append}
-use Rattle.std.proofs.lemmas.List.Elements.{All-weaker, All-nil, filter-append}
+use Rattle.std.proofs.lemmas.List.Elements.{All-head, All-tail, All-weaker, All-nil, filter-append}
 use Rattle.std.proofs.lemmas.List.Sums.{length-filter, count_by-le-length}
 use Rattle.slurm_text.specs.declared.plain.state.JobState.{JobState}
 use Rattle.slurm_text.specs.declared.plain.state.JobState.TheVariants.{Completing}
@@ -15,15 +15,20 @@ use Rattle.job_table.specs.declared.record.JobRecord.{JobRecord}
 use Rattle.job_table.specs.declared.change.Change.TheVariants.{Leave}
 use Rattle.job_table.specs.Changes.{changed}
 use Rattle.job_table.specs.JobStates.{is_running, is_ended, is_holding, is_pending}
+use Rattle.job_table.specs.declared.awaited.Awaited.{Awaited}
+use Rattle.job_table.specs.Awaiting.{AwaitedThroughChanges, ShowsAwaited, has_awaited, has_gone, is_awaited}
 use Rattle.job_table.specs.Table.{is_old}
 use Rattle.job_table.specs.Usage.{ChangesRunOn, RunsOn, StaysOn}
 use Rattle.ctl_state.specs.Events.{LetsGo, those_left}
 use Rattle.ctl_state.specs.Holding.{has_members}
-use Rattle.ctl_state.specs.Laws.{Charging, LettingGo, ChangesLetGo, LetsGoNothing, KeptLater}
+use Rattle.reservations.specs.declared.record.Reservation.{Reservation}
+use Rattle.reservations.specs.Laws.{Fewer}
+use Rattle.reservations.specs.Reservations.{lasting}
+use Rattle.ctl_state.specs.Laws.{Charging, LettingGo, ChangesLetGo, LetsGoNothing, KeptLater, Reserving}
 use Rattle.ctl_state.specs.Soundness.{IsSound, IsKept, PlansPending, pending_ids, HasItsParts}
 use Rattle.ctl_state.specs.State.{State, last_moment}
 use Rattle.ctl_pass.specs.Limits.{deadline, is_over, timed_out, holds_of_job}
-use Rattle.ctl_pass.specs.Readiness.{ready}
+use Rattle.ctl_pass.specs.Readiness.{goes, jobs_left, ready}
 
 -- no plan names nobody
 pub no-plan : (jobs : List JobRecord) → PlansPending jobs []
@@ -40,6 +45,8 @@ pub record ReadyLaws : Type 0 where
   pub nothing : LetsGoNothing
   pub later : KeptLater
   pub charging : Charging
+  pub reserving : Reserving
+  pub fewer : Fewer
 
 -- what the limit makes of a job: it was running where it is over
 pub by_limit : (P : JobRecord → Type 0) (now : ℕ) (job : JobRecord)
@@ -59,18 +66,21 @@ readied s now = record (ready s now) { plan = []; moment = now }
 pub ended-others : (state : JobState) → is_ended state ≡ true → (is_pending state ≡ false) × (is_holding state ≡ false)
 ended-others state ended = search (rules, tests)
 
--- limits and old records let go: what a pass plans is sound
+-- limits, old records and reservations that are over let go: what a pass plans is sound
 pub sound-readied : ReadyLaws → (s : State) (now : ℕ) → IsSound s → s.moment ≤ now → now ≤ last_moment
     → IsSound (readied s now)
 sound-readied laws s now sound raised in_time =
-    let old = is_old s.settings.min_job_age now in
+    let old = goes s now in
     let left = record s { jobs = those_left (timed_out now) old s.jobs; arrays = (ready s now).arrays; plan = []; moment = now }
     in
-    laws.charging left (ready s now).usage
-    (laws.letting_go s now (timed_out now) old (ready s now).arrays [] sound in_time
+    let lets_go : IsSound left =
+    laws.letting_go s now (timed_out now) old (ready s now).arrays [] sound in_time
     (All-weaker (IsKept s.moment) (λ job. LetsGo now job (timed_out now job))
     (λ job kept. lets job (laws.later s.moment now job raised kept)) s.jobs sound.jobs)
-    (no-plan (those_left (timed_out now) old s.jobs)))
+    (no-plan (those_left (timed_out now) old s.jobs)) in
+    let charged_left = laws.charging left (ready s now).usage lets_go in
+    laws.reserving (record left { usage = (ready s now).usage }) (lasting now s.reservations) charged_left
+    (laws.fewer (λ (one : Reservation). ltb now one.end) s.reservations sound.reservations)
   where
     lets : (job : JobRecord) → IsKept now job → LetsGo now job (timed_out now job)
     lets job kept =
@@ -109,9 +119,68 @@ pub old-ended : (age now : ℕ) (job : JobRecord) → is_old age now job ≡ tru
 old-ended age now job old =
     (and_parts (is_ended job.state) (not (eqb age 0) && leb (unwrap_or job.ended 0 + age) now) old).0
 
--- one that is old doesn't run
-pub old-not_running : (age now : ℕ) (job : JobRecord) → is_old age now job ≡ true → is_running job.state ≡ false
-old-not_running age now job old = by job.state (old-ended age now job old)
+-- A test of records that go: those of ended jobs alone, whether their limits were seen to or not.
+pub record Going (now : ℕ) (test : JobRecord → Bool) : Type 0 where
+  pub same : (job : JobRecord) → test (timed_out now job) ≡ test job
+  pub ended : (job : JobRecord) → test job ≡ true → is_ended job.state ≡ true
+
+timed_out-awaited : AwaitedThroughChanges → (jobs : List JobRecord) (now : ℕ) (job : JobRecord)
+    → is_awaited jobs (timed_out now job) ≡ is_awaited jobs job
+timed_out-awaited law jobs now job =
+    cond_both (is_over now job) (changed (Leave Timeout now None) job) job
+    (λ after. is_awaited jobs after ≡ is_awaited jobs job)
+    (λ over. law jobs (Leave Timeout now None) job) (λ within. refl)
+
+-- those that go are such
+pub going : AwaitedThroughChanges → (s : State) (now : ℕ) → Going now (goes s now)
+going law s now = record {
+  same = λ job. rw (timed_out-old s.settings.min_job_age now job, timed_out-awaited law s.jobs now job) refl;
+  ended = λ job goes. old-ended s.settings.min_job_age now job
+      (and_parts (is_old s.settings.min_job_age now job) (not (is_awaited s.jobs job)) goes).0;
+}
+
+timed_out-has : (awaited : Awaited) (now : ℕ) (job : JobRecord)
+    → has_awaited awaited (timed_out now job).id (timed_out now job).array ≡ has_awaited awaited job.id job.array
+timed_out-has awaited now job =
+    by_limit (λ after. has_awaited awaited after.id after.array ≡ has_awaited awaited job.id job.array) now job
+    (λ over running. refl) (λ within. refl)
+
+-- and so are those of which it is known who is awaited
+pub going-known : (age now : ℕ) (awaited : Awaited) → Going now (has_gone age now awaited)
+going-known age now awaited = record {
+  same = λ job. rw (timed_out-old age now job, timed_out-has awaited now job) refl;
+  ended = λ job goes. old-ended age now job
+      (and_parts (is_old age now job) (not (has_awaited awaited job.id job.array)) goes).0;
+}
+
+left-agree : (now : ℕ) (one other : JobRecord → Bool) (jobs : List JobRecord) → Going now one → Going now other
+    → All (λ job. one job ≡ other job) jobs
+    → those_left (timed_out now) one jobs ≡ those_left (timed_out now) other jobs
+left-agree now one other [] goes_one goes_other same = refl
+left-agree now one other (job ∷ jobs) goes_one goes_other same =
+    grind (
+      arith,
+      nat_tests,
+      goes_one.same job,
+      goes_other.same job,
+      All-head (λ j. one j ≡ other j) job jobs same,
+      left-agree now one other jobs goes_one goes_other (All-tail (λ j. one j ≡ other j) job jobs same),
+    )
+
+-- where it is known who is awaited, those that are left are known
+pub left-known : AwaitedThroughChanges → (s : State) (now : ℕ) (awaited : Awaited) → ShowsAwaited awaited s.jobs
+    → those_left (timed_out now) (has_gone s.settings.min_job_age now awaited) s.jobs ≡ jobs_left s now
+left-known law s now awaited shows =
+    left-agree now (has_gone s.settings.min_job_age now awaited) (goes s now) s.jobs
+    (going-known s.settings.min_job_age now awaited) (going law s now)
+    (All-weaker (λ job. has_awaited awaited job.id job.array ≡ is_awaited s.jobs job)
+    (λ job. has_gone s.settings.min_job_age now awaited job ≡ goes s now job)
+    (λ job same. rw same refl) s.jobs shows.each)
+
+-- one that goes doesn't run
+pub goes-not_running : (now : ℕ) (test : JobRecord → Bool) (job : JobRecord) → Going now test → test job ≡ true
+    → is_running job.state ≡ false
+goes-not_running now test job going goes = by job.state (going.ended job goes)
   where
     by : (state : JobState) → is_ended state ≡ true → is_running state ≡ false
     by state ended = search (rules, tests)
@@ -127,12 +196,13 @@ timed_out-runs_on changes stays now (job ∷ jobs) = (
 )
 
 -- one more job of those that are left
-pub left-more : (age now i : ℕ) (jobs : List JobRecord) (job : JobRecord) → i < length jobs → job ≡ get_or jobs i job
-    → flat_map (holds_of_job now) (those_left (timed_out now) (is_old age now) (take (i + 1) jobs))
-    ≡ flat_map (holds_of_job now) (those_left (timed_out now) (is_old age now) (take i jobs)) ++ cond
-    (not (is_old age now job)) (holds_of_job now job) []
-left-more age now i jobs job within is =
-    let keep : JobRecord → Bool = λ one. not (is_old age now one) in
+pub left-more : (now i : ℕ) (test : JobRecord → Bool) (jobs : List JobRecord) (job : JobRecord) → Going now test
+    → i < length jobs → job ≡ get_or jobs i job
+    → flat_map (holds_of_job now) (those_left (timed_out now) test (take (i + 1) jobs))
+    ≡ flat_map (holds_of_job now) (those_left (timed_out now) test (take i jobs)) ++ cond
+    (not (test job)) (holds_of_job now job) []
+left-more now i test jobs job going within is =
+    let keep : JobRecord → Bool = λ one. not (test one) in
     let before = map (timed_out now) (take i jobs) in
     let joined = flat_map-append (holds_of_job now) (filter keep before) (filter keep (timed_out now job ∷ [])) in
     rw (
@@ -142,50 +212,50 @@ left-more age now i jobs job within is =
       filter-append keep before (timed_out now job ∷ []),
       joined,
     )
-    (grind (arith, nat_tests, timed_out-old age now job, timed_out-holds now job, append-nil (holds_of_job now job)))
+    (grind (arith, nat_tests, going.same job, timed_out-holds now job, append-nil (holds_of_job now job)))
 
 -- those that wait are the same
-pub pending-left : (age now : ℕ) (jobs : List JobRecord)
-    → filter (λ (job : JobRecord). is_pending job.state) (those_left (timed_out now) (is_old age now) jobs)
+pub pending-left : (now : ℕ) (test : JobRecord → Bool) (jobs : List JobRecord) → Going now test
+    → filter (λ (job : JobRecord). is_pending job.state) (those_left (timed_out now) test jobs)
     ≡ filter (λ (job : JobRecord). is_pending job.state) jobs
-pending-left age now [] = refl
-pending-left age now (job ∷ jobs) =
+pending-left now test [] going = refl
+pending-left now test (job ∷ jobs) going =
     grind (
       arith,
       nat_tests,
-      pending-left age now jobs,
-      timed_out-old age now job,
-      old-ended age now job,
+      pending-left now test jobs going,
+      going.same job,
+      going.ended job,
       ended-others job.state,
       running-not_ended job.state,
     )
 
--- nothing is dropped where none is old
-pub length-left : (age now : ℕ) (jobs : List JobRecord)
-    → eqb (length (those_left (timed_out now) (is_old age now) jobs)) (length jobs)
-    ≡ not (list_any (is_old age now) jobs)
-length-left age now [] = refl
-length-left age now (job ∷ jobs) =
-    let stays : JobRecord → Bool = λ one. not (is_old age now one) in
+-- nothing is dropped where none goes
+pub length-left : (now : ℕ) (test : JobRecord → Bool) (jobs : List JobRecord) → Going now test
+    → eqb (length (those_left (timed_out now) test jobs)) (length jobs)
+    ≡ not (list_any test jobs)
+length-left now test [] going = refl
+length-left now test (job ∷ jobs) going =
+    let stays : JobRecord → Bool = λ one. not (test one) in
     let changed = map (timed_out now) jobs in
-    let left = those_left (timed_out now) (is_old age now) jobs in
+    let left = those_left (timed_out now) test jobs in
     let few : length left ≤ length jobs =
     omega (arith, length-filter stays changed, count_by-le-length stays changed, length-map jobs (timed_out now)) in
-    elim (cases_Bool (is_old age now job)) [
-      | inl old ↦ rw (timed_out-old age now job, old)
+    elim (cases_Bool (test job)) [
+      | inl old ↦ rw (going.same job, old)
           (ne_eqb (length left) (length (job ∷ jobs)) (λ same. omega (arith, same, few)))
-      | inr recent ↦ rw (timed_out-old age now job, recent) (one_more (length left) (length jobs)
-          ∙ length-left age now jobs)
+      | inr recent ↦ rw (going.same job, recent) (one_more (length left) (length jobs)
+          ∙ length-left now test jobs going)
     ]
   where
     one_more : (a b : ℕ) → eqb (suc a) (suc b) ≡ eqb a b
     one_more a b = grind (arith, nat_tests)
 
--- each job keeps its parts, and an old one has none
+-- each job keeps its parts, and one that goes has none
 pub timed_out-parts : (now : ℕ) (job : JobRecord) → (timed_out now job).parts ≡ job.parts
 timed_out-parts now job = by_limit (λ after. after.parts ≡ job.parts) now job (λ over running. refl) (λ within. refl)
 
-pub old-empty : (age now : ℕ) (job : JobRecord) → HasItsParts job → is_old age now (timed_out now job) ≡ true
-    → job.parts ≡ []
-old-empty age now job has old =
-    no_parts job has (ended-others job.state (old-ended age now job (sym (timed_out-old age now job) ∙ old))).1
+pub gone-empty : (now : ℕ) (test : JobRecord → Bool) (job : JobRecord) → Going now test → HasItsParts job
+    → test (timed_out now job) ≡ true → job.parts ≡ []
+gone-empty now test job going has gone =
+    no_parts job has (ended-others job.state (going.ended job (sym (going.same job) ∙ gone))).1

@@ -18,6 +18,7 @@ use Rattle.job_table.specs.declared.record.Part.{Part}
 use Rattle.job_table.specs.JobStates.{is_pending}
 use Rattle.node_state.specs.declared.record.NodeRecord.{NodeRecord}
 use Rattle.node_state.specs.Nodes.{is_up}
+use Rattle.reservations.specs.declared.record.Reservation.{Reservation}
 use Rattle.ctl_state.specs.declared.record.ArrayRecord.{ArrayRecord}
 use Rattle.ctl_state.specs.Events.{started_as, MayTake}
 use Rattle.ctl_state.specs.Holding.{cpus_of, times_held, free_ids, IsPartOf, parts_of, mem_of, mem_in, mem_held, has_members}
@@ -33,15 +34,22 @@ use Rattle.ctl_pass.proofs.Readied.{no-plan}
 
 -- only the nodes and the accounts matter of the state beside which placements start
 pub started-same : (s : State) (now moment : ℕ) (table jobs : List JobRecord) (usage : List ℕ)
-    (arrays : List ArrayRecord) (left plan : List Placed)
-    → started (record s { jobs = table; usage = usage; arrays = arrays; plan = left; moment = moment }) now jobs plan
-    ≡ started s now jobs plan
+    (arrays : List ArrayRecord) (reservations : List Reservation) (left plan : List Placed)
+    → let after = record s {
+      jobs = table;
+      usage = usage;
+      arrays = arrays;
+      reservations = reservations;
+      plan = left;
+      moment = moment;
+    } in
+    started after now jobs plan ≡ started s now jobs plan
 unfolding started may_start
-started-same s now moment table jobs usage arrays left [] = refl
-started-same s now moment table jobs usage arrays left (placed ∷ later) =
+started-same s now moment table jobs usage arrays reservations left [] = refl
+started-same s now moment table jobs usage arrays reservations left (placed ∷ later) =
     rw (
-      started-same s now moment table (begun now jobs (start_of s.nodes jobs placed)) usage arrays left later,
-      started-same s now moment table jobs usage arrays left later,
+      started-same s now moment table (begun now jobs (start_of s.nodes jobs placed)) usage arrays reservations left later,
+      started-same s now moment table jobs usage arrays reservations left later,
     ) refl
 
 -- what each start keeps of the jobs, all of them keep

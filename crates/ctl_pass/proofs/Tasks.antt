@@ -1,11 +1,11 @@
 -- The job with a number and the jobs that hold processors: what the first steps of a pass and a start leave of them.
 use Rattle.std.proofs.lemmas.Bool.Decides.{nat_tests}
-use Rattle.std.proofs.Common.{◌≡◌, ◌≢◌, ℕ, zero, suc, ◌<◌, true, List, [], ◌∷◌, ◌++◌, map, Any, Contains, Option, Some, None, refl, ap, sym, ◌∙◌, arith}
+use Rattle.std.proofs.Common.{◌≡◌, ◌≢◌, ℕ, zero, suc, ◌<◌, Bool, true, List, [], ◌∷◌, ◌++◌, map, Any, Contains, Option, Some, None, refl, ap, sym, ◌∙◌, arith}
 use Rattle.std.proofs.lemmas.Bool.{eq-eqb, ne_eqb}
 use Rattle.job_table.specs.declared.record.JobRecord.{JobRecord}
 use Rattle.job_table.specs.declared.record.Part.{Part}
 use Rattle.job_table.specs.JobStates.{is_holding, is_pending}
-use Rattle.job_table.specs.Table.{HaveRisingIds, is_old, job_with}
+use Rattle.job_table.specs.Table.{HaveRisingIds, job_with}
 use Rattle.accounts_qos.specs.declared.record.AssocRecord.{AssocRecord}
 use Rattle.run_limits.specs.declared.counted.Counted.{Counted}
 use Rattle.run_limits.specs.declared.tally.Tally.{Tally}
@@ -17,7 +17,7 @@ use Rattle.ctl_state.specs.Soundness.{pending_ids}
 use Rattle.ctl_pass.specs.Awaiting.{CountsOneMore}
 use Rattle.ctl_pass.specs.Limits.{timed_out}
 use Rattle.ctl_pass.proofs.Lists.{Any-kept, kept-left, pairs-head, pairs-tail}
-use Rattle.ctl_pass.proofs.Readied.{by_limit, ended-others, old-ended, running-holds, running-not_ended, timed_out-id, timed_out-old}
+use Rattle.ctl_pass.proofs.Readied.{Going, by_limit, ended-others, running-holds, running-not_ended, timed_out-id}
 
 abbrev lower : JobRecord → JobRecord → Type 0
 lower one other = one.id < other.id
@@ -41,17 +41,18 @@ waits-with id jobs rising has =
         (by later (pairs-tail lower first later rises) (k, job, omega (arith, inside), is, (here, pending)))
 
 -- a waiting job is left as it is by the first steps of a pass
-pub with-left : (age now id : ℕ) (jobs : List JobRecord) → waits (job_with id jobs) ≡ true
-    → job_with id (those_left (timed_out now) (is_old age now) jobs) ≡ job_with id jobs
-with-left age now id [] has = refl
-with-left age now id (job ∷ jobs) has =
+pub with-left : (now id : ℕ) (test : JobRecord → Bool) (jobs : List JobRecord) → Going now test
+    → waits (job_with id jobs) ≡ true
+    → job_with id (those_left (timed_out now) test jobs) ≡ job_with id jobs
+with-left now id test [] going has = refl
+with-left now id test (job ∷ jobs) going has =
     grind (
       arith,
       nat_tests,
-      with-left age now id jobs,
+      with-left now id test jobs going,
       timed_out-id now job,
-      timed_out-old age now job,
-      old-ended age now job,
+      going.same job,
+      going.ended job,
       ended-others job.state,
       running-not_ended job.state,
     )
@@ -73,13 +74,13 @@ timed_out-holding now job =
     (λ over running. sym (running-holds job.state running)) (λ within. refl)
 
 -- the first steps of a pass leave all jobs that hold processors
-pub holding-left : (age now : ℕ) (jobs : List JobRecord)
-    → holding (those_left (timed_out now) (is_old age now) jobs) ≡ holding jobs
+pub holding-left : (now : ℕ) (test : JobRecord → Bool) (jobs : List JobRecord) → Going now test
+    → holding (those_left (timed_out now) test jobs) ≡ holding jobs
 unfolding holding
-holding-left age now jobs =
-    kept-left counted_of (λ (job : JobRecord). is_holding job.state) (is_old age now) (timed_out now) jobs
+holding-left now test jobs going =
+    kept-left counted_of (λ (job : JobRecord). is_holding job.state) test (timed_out now) jobs
     (timed_out-counted now) (timed_out-holding now)
-    (λ job old. (ended-others job.state (old-ended age now job (sym (timed_out-old age now job) ∙ old))).1)
+    (λ job gone. (ended-others job.state (going.ended job (sym (going.same job) ∙ gone))).1)
 
 -- the laws of counting that a pass rests on
 abbrev pub SumsShow : Type 0

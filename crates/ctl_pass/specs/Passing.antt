@@ -9,7 +9,9 @@ use Rattle.ctl_state.specs.Verdicts.{Verdict, Stays, Makes}
 use Rattle.ctl_state.specs.Refusals.{refused_if, is_privileged}
 use Rattle.std.specs.List.{list_any}
 use Rattle.job_table.specs.declared.record.JobRecord.{JobRecord}
+use Rattle.job_table.specs.Awaiting.{ShowsAwaited}
 use Rattle.job_table.specs.Targets.{is_task_of}
+use Rattle.reservations.specs.Reservations.{lasting}
 use Rattle.ctl_pass.specs.declared.live_arrays.LiveArrays.{LiveArrays}
 use Rattle.ctl_pass.specs.declared.pass.Decided.{Decided}
 use Rattle.ctl_pass.specs.Awaiting.{IsPrepared, placements_of}
@@ -38,8 +40,9 @@ is_idle s now =
     nat_eq (count_by (is_over now) s.jobs) 0
     && (nat_eq (length (jobs_left s now)) (length s.jobs)
     && (nat_eq (length (arrays_left (jobs_left s now) s.arrays)) (length s.arrays)
+    && (nat_eq (length (lasting now s.reservations)) (length s.reservations)
     && (nat_eq (length (outcome s now).starts) 0
-    && same_plans (outcome s now).stays s.plan)))
+    && same_plans (outcome s now).stays s.plan))))
 
 -- why a pass may be refused
 abbrev pub pass_refusals : State → List ℕ → List (Option Refusal)
@@ -69,3 +72,4 @@ pub record IsDecided (s : State) (now : ℕ) (decided : Decided) : Type 0 where
   pub count : length decided.starts.items ≡ length (outcome s now).starts
   pub stays : decided.stays.items ≡ (outcome s now).stays
   pub arrays : HasArrays (jobs_left s now) decided.arrays
+  pub awaited : ShowsAwaited decided.awaited s.jobs

@@ -1,5 +1,5 @@
 -- The state that a pass plans, and the plan.
-use Rattle.std.specs.Prelude.{◌≡◌, ℕ, ◌+◌, ◌*◌, List, map, filter, flat_map}
+use Rattle.std.specs.Prelude.{◌≡◌, ℕ, ◌+◌, ◌*◌, Bool, ◌&&◌, not, List, map, filter, flat_map}
 use Rattle.backfill_planner.specs.declared.Placed.{Placed}
 use Rattle.backfill_planner.specs.Bases.{BaseView}
 use Rattle.backfill_planner.specs.Plans.{plan_of}
@@ -12,21 +12,29 @@ use Rattle.ctl_state.specs.State.{State}
 use Rattle.std.specs.List.{list_any}
 use Rattle.ctl_waiting.specs.Candidates.{ranked}
 use Rattle.ctl_pass.specs.Limits.{timed_out, holds_of_job}
+use Rattle.job_table.specs.Awaiting.{is_awaited}
 use Rattle.job_table.specs.Table.{is_old}
+use Rattle.reservations.specs.Reservations.{lasting}
+
+-- the record of a job goes once it is old, where no pending job waits for it
+abbrev pub goes : State → ℕ → JobRecord → Bool
+goes s now job = is_old s.settings.min_job_age now job && not (is_awaited s.jobs job)
 
 -- the jobs that a pass plans: those past their limits are completing, and old ones are gone
 abbrev pub jobs_left : State → ℕ → List JobRecord
-jobs_left s now = those_left (timed_out now) (is_old s.settings.min_job_age now) s.jobs
+jobs_left s now = those_left (timed_out now) (goes s now) s.jobs
 
 -- the arrays of which there are tasks among the jobs
 unfoldable pub arrays_left : List JobRecord → List ArrayRecord → List ArrayRecord
 arrays_left jobs arrays = filter (λ (array : ArrayRecord). list_any (is_task_of array.id) jobs) arrays
 
--- the state that a pass plans: those past their limits are charged to their associations
+-- the state that a pass plans: those past their limits are charged to their associations, and reservations that are
+-- over are gone
 abbrev pub ready : State → ℕ → State
 ready s now = record (become now (map (timed_out now) s.jobs) s) {
   jobs = jobs_left s now;
   arrays = arrays_left (jobs_left s now) s.arrays;
+  reservations = lasting now s.reservations;
 }
 
 -- what a plan at this moment begins with

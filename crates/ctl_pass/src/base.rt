@@ -1,7 +1,7 @@
 //! What a plan begins with.
 
 ghost use Rattle.std.specs.Prelude.{◌≡◌, ◌≤◌, ◌++◌, All, IfOk, OnOk, length, flat_map, unwrap_or};
-ghost use Rattle.job_table.specs.Table.{is_old};
+ghost use Rattle.job_table.specs.Awaiting.{ShowsAwaited, has_gone};
 ghost use Rattle.job_table.specs.declared.record.JobRecord.{JobRecord};
 ghost use Rattle.ctl_state.specs.Events.{those_left};
 ghost use Rattle.ctl_state.specs.Soundness.{IsSound};
@@ -10,11 +10,14 @@ ghost use Rattle.ctl_pass.specs.Limits;
 ghost use Rattle.ctl_pass.specs.Readiness;
 
 use crate::laws::what_a_pass_plans_is_sound;
-use crate::limits::{hold_end, is_old};
 use backfill_planner::Base;
 use cpu_ids::CpuIds;
 use ctl_state::cluster::Cluster;
+use ctl_state::holds::hold_end;
 use ctl_state::planning::rooms_of;
+use job_table::awaited::Awaited;
+use job_table::jobs::has_gone;
+use job_table::laws::who_is_awaited_stays;
 use job_table::record::JobRecord;
 use resource_profile::Hold;
 use slurm_text::items::Items;
@@ -49,15 +52,22 @@ fn push_holds(now: u64, job: &JobRecord, holds: &mut Vec<Hold>) -> Result<(), Me
 
 // What those of the jobs hold that the first steps of a pass leave. One past its limit holds as long as one that
 // completes.
-fn holds_of(alloc: Global, age: u64, now: u64, jobs: &[JobRecord]) -> Result<Vec<Hold>, Memory>
+fn holds_of(
+    alloc: Global,
+    age: u64,
+    now: u64,
+    awaited: &Awaited,
+    jobs: &[JobRecord],
+) -> Result<Vec<Hold>, Memory>
     requires started { All (λ (job : JobRecord). unwrap_or job.started 0 ≤ last_moment) jobs.now }
     requires in_time { now ≤ last_moment }
     ensures { IfOk result (λ holds. holds.items
-        ≡ flat_map (Limits.holds_of_job now) (those_left (Limits.timed_out now) (is_old age now) jobs.now)) }
+        ≡ flat_map (Limits.holds_of_job now)
+        (those_left (Limits.timed_out now) (has_gone age now awaited.now) jobs.now)) }
 {
     let mut holds = Vec::new(alloc);
     for job in jobs {
-        if !is_old(age, now, job) {
+        if !has_gone(age, now, awaited, job) {
             push_holds(now, job, &mut holds)?;
         }
     }
@@ -67,16 +77,23 @@ fn holds_of(alloc: Global, age: u64, now: u64, jobs: &[JobRecord]) -> Result<Vec
 /// What the plan of a pass begins with: the jobs are read as the pass's first steps leave them. Linear in nodes, jobs
 /// and parts.
 #[tactic(auto, unfolding(crate::specs::Readiness::base_of))]
-pub(crate) fn base_of(alloc: Global, cluster: &Cluster, now: u64) -> Result<Base, Memory>
+pub(crate) fn base_of(
+    alloc: Global,
+    cluster: &Cluster,
+    now: u64,
+    awaited: &Awaited,
+) -> Result<Base, Memory>
     requires sound { IsSound (state_of cluster.now) }
     requires raised { cluster.now.moment ≤ now }
     requires in_time { now ≤ last_moment }
+    requires awaited { ShowsAwaited awaited.now cluster.now.jobs.records }
     ensures { IfOk result (λ base. base ≡ Readiness.base_of (Readiness.ready (state_of cluster.now) now) now) }
 {
     what_a_pass_plans_is_sound();
+    who_is_awaited_stays();
     let age = cluster.settings.min_job_age.get();
     let rooms = rooms_of(alloc, cluster.nodes.records())?;
-    let holds = holds_of(alloc, age, now, cluster.jobs.records())?;
+    let holds = holds_of(alloc, age, now, awaited, cluster.jobs.records())?;
     Ok(Base {
         rooms: Items::from_vec(rooms),
         holds: Items::from_vec(holds),

@@ -20,10 +20,13 @@ use ctl_rank::laws::priorities_stay;
 use ctl_state::laws::{
     a_stable_sort_makes_the_order, charging_keeps_all_sound, every_change_but_a_start_lets_go,
     jobs_are_kept, jobs_get_nodes_that_are_there, letting_go_keeps_all_sound, others_wait_on,
-    plans_keep_all_sound, taking_keeps_all_sound, what_is_taken_is_counted,
+    plans_keep_all_sound, reservations_keep_all_sound, taking_keeps_all_sound,
+    what_is_taken_is_counted,
 };
-use job_table::laws::{jobs_run_on, who_leaves_is_charged};
+use dependencies::laws::passes_leave_standings;
+use job_table::laws::{jobs_run_on, who_is_awaited_stays, who_leaves_is_charged};
 use job_table::record::JobRecord;
+use reservations::laws::reservations_stay_apart;
 
 /// A pass keeps all sound.
 pub fn a_pass_keeps_all_sound()
@@ -34,6 +37,9 @@ pub fn a_pass_keeps_all_sound()
     jobs_are_kept();
     letting_go_keeps_all_sound();
     charging_keeps_all_sound();
+    reservations_keep_all_sound();
+    reservations_stay_apart();
+    who_is_awaited_stays();
     a_stable_sort_makes_the_order::<JobRecord>();
     jobs_get_nodes_that_are_there();
     placements_are_of_ranked_jobs();
@@ -69,6 +75,9 @@ pub fn starts_get_all_they_planned()
     jobs_are_kept();
     letting_go_keeps_all_sound();
     charging_keeps_all_sound();
+    reservations_keep_all_sound();
+    reservations_stay_apart();
+    who_is_awaited_stays();
     a_stable_sort_makes_the_order::<JobRecord>();
     jobs_get_nodes_that_are_there();
     placements_are_of_ranked_jobs();
@@ -122,6 +131,9 @@ pub fn what_is_ranked_stays()
 {
     jobs_run_on();
     priorities_stay();
+    passes_leave_standings();
+    who_is_awaited_stays();
+    reservations_stay_apart();
 }
 
 /// The state that a pass plans is sound, with no plan yet.
@@ -133,6 +145,9 @@ pub fn what_a_pass_plans_is_sound()
     jobs_are_kept();
     letting_go_keeps_all_sound();
     charging_keeps_all_sound();
+    reservations_keep_all_sound();
+    reservations_stay_apart();
+    who_is_awaited_stays();
 }
 
 /// The placements that are due in a pass can start one after another.
@@ -144,6 +159,9 @@ pub(crate) fn what_is_due_can_start()
     jobs_are_kept();
     letting_go_keeps_all_sound();
     charging_keeps_all_sound();
+    reservations_keep_all_sound();
+    reservations_stay_apart();
+    who_is_awaited_stays();
     a_stable_sort_makes_the_order::<JobRecord>();
     jobs_get_nodes_that_are_there();
     placements_are_of_ranked_jobs();

@@ -2,13 +2,14 @@
 
 ghost use Rattle.std.specs.Prelude.{◌≡◌, ◌||◌, ℕ, nat_eq, IfOk, OnOk};
 ghost use Rattle.std.specs.HashSet.{contains};
-ghost use Rattle.job_table.specs.Table.{is_old};
+ghost use Rattle.job_table.specs.Awaiting.{has_gone};
 ghost use Rattle.job_table.specs.Targets.{is_task_of};
 ghost use Rattle.ctl_state.specs.Events.{those_left};
 ghost use Rattle.ctl_pass.specs.Limits.{timed_out};
 ghost use Rattle.ctl_pass.specs.Passing.{HasArrays};
 
-use crate::limits::is_old;
+use job_table::awaited::Awaited;
+use job_table::jobs::has_gone;
 use job_table::record::JobRecord;
 use slurm_text::memory_error::Memory;
 use std::alloc::Global;
@@ -38,13 +39,14 @@ pub(crate) fn live_arrays(
     alloc: Global,
     age: u64,
     now: u64,
+    awaited: &Awaited,
     jobs: &[JobRecord],
 ) -> Result<LiveArrays, Memory>
-    ensures { IfOk result (HasArrays (those_left (timed_out now) (is_old age now) jobs.now)) }
+    ensures { IfOk result (HasArrays (those_left (timed_out now) (has_gone age now awaited.now) jobs.now)) }
 {
     let mut numbers = HashSet::new(alloc);
     for job in jobs {
-        if !is_old(age, now, job) {
+        if !has_gone(age, now, awaited, job) {
             add_array(&mut numbers, job)?;
         }
     }

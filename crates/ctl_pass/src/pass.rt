@@ -1,6 +1,6 @@
 //! A pass: what it decides, and what it does.
 
-ghost use Rattle.std.specs.Prelude.{◌≡◌, ◌≤◌, ◌&&◌, not, nat_eq, IfOk, OnOk, OnErr, filter, length};
+ghost use Rattle.std.specs.Prelude.{◌≡◌, ◌≤◌, ◌&&◌, not, nat_eq, nat_lt, IfOk, OnOk, OnErr, filter, length};
 ghost use Rattle.std.specs.List.{list_all, list_any};
 ghost use Rattle.resource_profile.specs.Counts.{ticked, IsTickedUpTo};
 ghost use Rattle.ctl_state.specs.State.{state_of, last_moment};
@@ -9,7 +9,8 @@ ghost use Rattle.ctl_state.specs.Soundness.{IsSound};
 ghost use Rattle.ctl_state.specs.Refusals.{first_refusal};
 ghost use Rattle.ctl_state.specs.declared.record.ArrayRecord.{ArrayRecord};
 ghost use Rattle.ctl_pass.specs.Live.{has_array};
-ghost use Rattle.job_table.specs.Table.{is_old};
+ghost use Rattle.job_table.specs.Awaiting.{ShowsAwaited, has_gone};
+ghost use Rattle.reservations.specs.declared.record.Reservation.{Reservation as OneReservation};
 ghost use Rattle.ctl_pass.specs.Readiness.{jobs_left, ready};
 ghost use Rattle.ctl_pass.specs.SamePlans.{same_plans};
 ghost use Rattle.ctl_pass.specs.Passing;
@@ -17,7 +18,7 @@ ghost use Rattle.ctl_pass.specs.Passing;
 use crate::base::base_of;
 use crate::beginning::begin;
 use crate::laws::{what_is_due_can_start, what_is_ranked_stays};
-use crate::limits::{any_old, count_over, time_out};
+use crate::limits::{any_gone, count_over, time_out};
 use crate::live_arrays::{LiveArrays, live_arrays};
 use crate::same_plans::are_same;
 use crate::split::split;
@@ -29,6 +30,9 @@ use ctl_state::counting::count_holding;
 use ctl_state::laws::parts_stay;
 use ctl_state::record::ArrayRecord;
 use ctl_waiting::rank;
+use job_table::awaited::Awaited;
+use job_table::laws::who_is_awaited_stays;
+use reservations::record::Reservation;
 use resource_profile::Steps;
 use slurm_text::memory_error::Memory;
 use slurm_text::name::Name;
@@ -46,6 +50,8 @@ pub struct Decided {
     pub stays: Vec<Placed>,
     /// The arrays of which there are tasks afterwards.
     pub arrays: LiveArrays,
+    /// The jobs for which pending ones wait: their records stay.
+    pub awaited: Awaited,
 }
 
 /// Why a pass is refused, if it is.
@@ -80,7 +86,9 @@ pub fn decide<L>(
         (Passing.jobs_planned (state_of cluster.now) now) steps.old steps.new) }
 {
     what_is_ranked_stays();
-    let base = base_of(alloc, cluster, now)?;
+    who_is_awaited_stays();
+    let awaited = Awaited::of(alloc, &cluster.jobs)?;
+    let base = base_of(alloc, cluster, now, &awaited)?;
     let tally = count_holding(alloc, &cluster.assocs, cluster.jobs.records())?;
     let factors = measure(alloc, cluster, now)?;
     let ranked = rank(alloc, cluster, &tally, &factors)?;
@@ -93,7 +101,8 @@ pub fn decide<L>(
         ended: count_over(now, cluster.jobs.records()) as u32,
         starts,
         stays,
-        arrays: live_arrays(alloc, age, now, cluster.jobs.records())?,
+        arrays: live_arrays(alloc, age, now, &awaited, cluster.jobs.records())?,
+        awaited,
     })
 }
 
@@ -104,18 +113,27 @@ fn all_live(live: &LiveArrays, arrays: &[ArrayRecord]) -> bool
     arrays.iter().all(|array| live.has(array.id))
 }
 
+// Whether none of the reservations is over.
+fn all_last(now: u64, reservations: &[Reservation]) -> bool
+    ensures { result ≡ list_all (λ (one : OneReservation). nat_lt now one.end) reservations.now }
+{
+    reservations.iter().all(|one| now < one.end.get())
+}
+
 // Whether nothing ends, is dropped or starts, and the plan is the last one.
 fn is_same(cluster: &Cluster, now: u64, decided: &Decided) -> bool
     ensures { result ≡ (nat_eq decided.now.ended 0
-        && (not (list_any (is_old cluster.now.settings.min_job_age now) cluster.now.jobs.records)
+        && (not (list_any (has_gone cluster.now.settings.min_job_age now decided.now.awaited) cluster.now.jobs.records)
         && (list_all (λ (array : ArrayRecord). has_array decided.now.arrays array.id) cluster.now.arrays.items
+        && (list_all (λ (one : OneReservation). nat_lt now one.end) cluster.now.reservations
         && (nat_eq (length decided.now.starts.items) 0
-        && same_plans decided.now.stays.items cluster.now.plan.items)))) }
+        && same_plans decided.now.stays.items cluster.now.plan.items))))) }
 {
     let age = cluster.settings.min_job_age.get();
     decided.ended == 0
-        && !any_old(age, now, cluster.jobs.records())
+        && !any_gone(age, now, &decided.awaited, cluster.jobs.records())
         && all_live(&decided.arrays, &cluster.arrays)
+        && all_last(now, cluster.reservations.records())
         && decided.starts.as_slice().is_empty()
         && are_same(&decided.stays, &cluster.plan)
 }
@@ -125,6 +143,7 @@ pub fn is_idle(cluster: &Cluster, now: u64, decided: &Decided) -> bool
     requires { Passing.IsDecided (state_of cluster.now) now decided.now }
     ensures { result ≡ Passing.is_idle (state_of cluster.now) now }
 {
+    who_is_awaited_stays();
     is_same(cluster, now, decided)
 }
 
@@ -135,19 +154,22 @@ fn drop_dead(live: &LiveArrays, arrays: &mut Vec<ArrayRecord>)
     arrays.retain(|array| live.has(array.id));
 }
 
-// Sees to the limits, drops the old records, and the arrays of which there are no tasks.
-fn make_ready(cluster: &mut Cluster, now: u64, live: &LiveArrays)
-    requires { Passing.HasArrays (jobs_left (state_of cluster.old) now) live.now }
+// Sees to the limits, drops the old records, the arrays of which there are no tasks, and the reservations that are over.
+fn make_ready(cluster: &mut Cluster, now: u64, live: &LiveArrays, awaited: &Awaited)
+    requires arrays { Passing.HasArrays (jobs_left (state_of cluster.old) now) live.now }
+    requires awaited { ShowsAwaited awaited.now cluster.old.jobs.records }
     ensures ready { state_of cluster.new ≡ ready (state_of cluster.old) now }
     ensures held { cluster.new.nodes.held ≡ cluster.old.nodes.held }
 {
+    who_is_awaited_stays();
     let age = cluster.settings.min_job_age.get();
     time_out(now, &mut cluster.jobs);
-    cluster.jobs.purge(now, age);
+    cluster.jobs.purge(now, age, awaited);
     drop_dead(live, &mut cluster.arrays);
+    cluster.reservations.drop_ended(now);
 }
 
-/// Does what was decided. Linear in the jobs, the arrays and the starts' parts, of which each looks at its node's
+/// Does what was decided. Linear in the jobs, the arrays, the reservations and the starts' parts, of which each looks at its node's
 /// processors; it takes no memory.
 pub fn act(cluster: &mut Cluster, now: u64, decided: Decided)
     requires sound { IsSound (state_of cluster.old) }
@@ -159,8 +181,9 @@ pub fn act(cluster: &mut Cluster, now: u64, decided: Decided)
     ensures indexed { IsIndexed cluster.new }
 {
     what_is_due_can_start();
+    who_is_awaited_stays();
     parts_stay();
-    make_ready(cluster, now, &decided.arrays);
+    make_ready(cluster, now, &decided.arrays, &decided.awaited);
     begin(now, cluster, decided.starts);
     cluster.plan = decided.stays;
 }

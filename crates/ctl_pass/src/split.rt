@@ -22,6 +22,7 @@ use ctl_state::cluster::Cluster;
 use ctl_state::counting::counted_of;
 use ctl_state::laws::{a_stable_sort_makes_the_order, what_is_taken_is_counted};
 use ctl_waiting::limit_reached;
+use job_table::laws::who_is_awaited_stays;
 use job_table::record::JobRecord;
 use run_limits::laws::sums_decide_what_is_shown;
 use run_limits::tally::Tally;
@@ -114,6 +115,7 @@ pub(crate) fn split(
         return Ok((Vec::new(alloc), placements));
     }
     what_a_pass_plans_is_sound();
+    who_is_awaited_stays();
     a_stable_sort_makes_the_order::<JobRecord>();
     placements_are_of_ranked_jobs();
     settle(alloc, cluster, now, &mut tally, placements)

@@ -7,6 +7,7 @@ use Rattle.job_table.specs.JobStates.{is_running}
 use Rattle.job_table.specs.Usage.{RunsOn}
 use Rattle.fair_tree.specs.Tree.{users}
 use Rattle.fair_tree.specs.Ranks.{ranks_of}
+use Rattle.reservations.specs.declared.record.Reservation.{Reservation}
 use Rattle.ctl_state.specs.declared.record.ArrayRecord.{ArrayRecord}
 use Rattle.ctl_state.specs.State.{State}
 use Rattle.ctl_rank.specs.Usage.{usage_at}
@@ -16,26 +17,26 @@ use Rattle.ctl_rank.specs.Rank.{is_above, is_higher}
 use Rattle.ctl_rank.specs.Laws.{left}
 use Rattle.ctl_rank.proofs.Charged.{used_in-stays}
 
-module _ (s : State) (now : ℕ) (jobs : List JobRecord) (goes : JobRecord → Bool) (arrays : List ArrayRecord) (on : AllZip (RunsOn now) s.jobs jobs) (idle : All (λ (job : JobRecord). goes job ≡ true → is_running job.state ≡ false) jobs) where
-  usage_at-stays : (place : ℕ) → usage_at (left now jobs goes arrays s) now place ≡ usage_at s now place
+module _ (s : State) (now : ℕ) (jobs : List JobRecord) (goes : JobRecord → Bool) (arrays : List ArrayRecord) (reservations : List Reservation) (on : AllZip (RunsOn now) s.jobs jobs) (idle : All (λ (job : JobRecord). goes job ≡ true → is_running job.state ≡ false) jobs) where
+  usage_at-stays : (place : ℕ) → usage_at (left now jobs goes arrays reservations s) now place ≡ usage_at s now place
   unfolding usage_at
   usage_at-stays place = used_in-stays now place goes s.jobs jobs s.usage on idle
 
-  user_usage-stays : user_usage (left now jobs goes arrays s) now ≡ user_usage s now
+  user_usage-stays : user_usage (left now jobs goes arrays reservations s) now ≡ user_usage s now
   unfolding user_usage
   user_usage-stays = λ i. map (λ place. usage_at-stays place i) (users (tree_of s.assocs))
 
-  rank_at-stays : (place : ℕ) → rank_at (left now jobs goes arrays s) now place ≡ rank_at s now place
+  rank_at-stays : (place : ℕ) → rank_at (left now jobs goes arrays reservations s) now place ≡ rank_at s now place
   unfolding rank_at
   rank_at-stays place =
       ap (λ (usage : List ℕ). unwrap_or (option_and_then (slice_get (ranks_of (tree_of s.assocs) usage)) (position (nat_eq place) (users (tree_of s.assocs)))) 0)
       user_usage-stays
 
-  pub parts_of-stays : (job : JobRecord) → parts_of (left now jobs goes arrays s) now job ≡ parts_of s now job
+  pub parts_of-stays : (job : JobRecord) → parts_of (left now jobs goes arrays reservations s) now job ≡ parts_of s now job
   unfolding parts_of all_cpus greatest_factor greatest_qos user_count
   parts_of-stays job = rw (rank_at-stays job.assoc) refl
 
   pub is_higher-stays : (one other : JobRecord)
-      → is_higher (left now jobs goes arrays s) now one other ≡ is_higher s now one other
+      → is_higher (left now jobs goes arrays reservations s) now one other ≡ is_higher s now one other
   unfolding is_higher is_above
   is_higher-stays one other = rw (parts_of-stays one, parts_of-stays other) refl

@@ -3,12 +3,12 @@ use Rattle.std.specs.Prelude.{ℕ, if◌then◌else◌, Option, Some, None, List
 use Rattle.block_frame.specs.declared.block.Block.{Block}
 use Rattle.command_words.specs.Header.{meaning_in}
 use Rattle.command_words.specs.declared.header.Meaning.{Meaning}
-use Rattle.command_words.specs.declared.header.Meaning.TheVariants.{Asks, Malformed, NotBuilt, BadWords, BadHeader}
+use Rattle.command_words.specs.declared.header.Meaning.TheVariants.{Asks, Malformed, UnknownCommand, BadWords, BadHeader}
 use Rattle.ctl_state.specs.State.{State}
 use Rattle.ctl_core.specs.Step.{reply_of, state_after, is_entered}
 use Rattle.ctl_desk.specs.declared.entry.Entry.{Entry}
 use Rattle.ctl_desk.specs.History.{entry_of}
-use Rattle.slurm_print.specs.Malformed.{malformed_text, not_built_text, bad_words_text, bad_header_text}
+use Rattle.slurm_print.specs.Malformed.{malformed_text, unknown_command_text, bad_words_text, bad_header_text}
 use Rattle.slurm_print.specs.Text.{text_of}
 
 -- what a block asks
@@ -19,7 +19,7 @@ meaning_of block = meaning_in block.header block.attachment
 abbrev pub told : State → Meaning → List ℕ
 told s (Asks asked) = text_of asked.request (reply_of s asked.moment asked.user asked.request)
 told s (Malformed command fault) = malformed_text command fault
-told s NotBuilt = not_built_text
+told s UnknownCommand = unknown_command_text
 told s (BadWords place) = bad_words_text place
 told s BadHeader = bad_header_text
 

@@ -15,7 +15,7 @@ use ctl_desk::desk::Desk;
 use ctl_desk::entry::Answer;
 use resource_profile::{Plain, Steps};
 use slurm_io::{Failed, Link};
-use slurm_print::malformed::{bad_header, bad_words, malformed, not_built};
+use slurm_print::malformed::{bad_header, bad_words, malformed, unknown_command};
 use slurm_print::text::text;
 use slurm_text::memory_error::Memory;
 use slurm_text::plain::request::Request;
@@ -79,7 +79,7 @@ fn reply_to<D: Desk>(
     match read_meaning(alloc, block)? {
         Meaning::Asks(asked) => ask(alloc, desk, steps, &asked),
         Meaning::Malformed { command, fault } => malformed(alloc, command, fault),
-        Meaning::NotBuilt => copied(alloc, not_built()),
+        Meaning::UnknownCommand => copied(alloc, unknown_command()),
         Meaning::BadWords { place } => bad_words(alloc, place),
         Meaning::BadHeader => copied(alloc, bad_header()),
     }

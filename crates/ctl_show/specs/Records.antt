@@ -1,12 +1,15 @@
--- What is shown of nodes and of partitions, each by itself.
+-- What is shown of nodes, of partitions and of reservations, each by itself.
 use Rattle.std.specs.Prelude.{ℕ, Bool, true, List, map, filter, filter_map, sum_by, slice_get, unwrap_or, bytes_eq, Option, Some, None, option_map}
 use Rattle.std.specs.List.{enumerate_from}
 use Rattle.slurm_text.specs.declared.plain.view.NodeRow.{NodeRow}
 use Rattle.slurm_text.specs.declared.plain.view.PartRow.{PartRow}
+use Rattle.slurm_text.specs.declared.plain.view.ResRow.{ResRow}
 use Rattle.slurm_text.specs.declared.plain.view.Row.{Row}
 use Rattle.slurm_text.specs.declared.plain.view.Row.TheVariants as shown
 use Rattle.node_state.specs.declared.record.NodeRecord.{NodeRecord}
 use Rattle.partitions.specs.declared.record.PartRecord.{PartRecord}
+use Rattle.reservations.specs.declared.record.Reservation.{Reservation}
+use Rattle.reservations.specs.Reservations.{is_named}
 use Rattle.ctl_state.specs.Holding.{parts_of, mem_held}
 use Rattle.ctl_state.specs.State.{State}
 use Rattle.ctl_show.specs.Standing.{cpus_held, group_by, is_asked}
@@ -65,3 +68,26 @@ partition_row s partition = record {
 abbrev pub partition_rows : State → Option (List ℕ) → List Row
 partition_rows s asked =
     map (λ partition. shown.Partition (partition_row s partition)) (filter (is_asked asked) s.partitions)
+
+-- what is shown of a reservation
+unfoldable pub reservation_row : List NodeRecord → Reservation → ResRow
+reservation_row nodes reservation = record {
+  name = reservation.name;
+  start = reservation.start;
+  end = reservation.end;
+  nodes = names_at nodes reservation.nodes;
+  users = reservation.users;
+  accounts = reservation.accounts;
+}
+
+-- the reservation is the one that is asked for, if one is
+abbrev pub is_meant : Option (List ℕ) → Reservation → Bool
+is_meant None reservation = true
+is_meant (Some name) reservation = is_named name reservation
+
+-- the rows of the reservations that are asked for, in the order in which they were made
+abbrev pub reservation_rows : State → Option (List ℕ) → List Row
+reservation_rows s asked =
+    map
+    (λ (reservation : Reservation). shown.Reservation (reservation_row s.nodes reservation))
+    (filter (is_meant asked) s.reservations)

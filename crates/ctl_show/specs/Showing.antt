@@ -5,13 +5,13 @@ use Rattle.slurm_text.specs.declared.plain.limit.Limit.{Limit}
 use Rattle.slurm_text.specs.declared.plain.limit.Limit.TheVariants.{Minutes, Unlimited}
 use Rattle.slurm_text.specs.declared.plain.query.JobQuery.{JobQuery}
 use Rattle.slurm_text.specs.declared.plain.query.Query.{Query}
-use Rattle.slurm_text.specs.declared.plain.query.Query.TheVariants.{Squeue, Sinfo, Sprio, ShowJob, ShowNode, ShowPartition}
+use Rattle.slurm_text.specs.declared.plain.query.Query.TheVariants.{Squeue, Sinfo, Sprio, ShowJob, ShowNode, ShowPartition, ShowReservation}
 use Rattle.slurm_text.specs.declared.plain.query.StateCode.{StateCode}
 use Rattle.slurm_text.specs.declared.plain.query.StateCode.TheVariants as code
 use Rattle.slurm_text.specs.declared.plain.query.Who.{Who}
 use Rattle.slurm_text.specs.declared.plain.query.Who.TheVariants.{Anyone, Asker, User}
 use Rattle.slurm_text.specs.declared.plain.refusal.Refusal.{Refusal}
-use Rattle.slurm_text.specs.declared.plain.refusal.Refusal.TheVariants.{InvalidPartition, InvalidJobId, UnknownNode}
+use Rattle.slurm_text.specs.declared.plain.refusal.Refusal.TheVariants.{InvalidPartition, InvalidJobId, InvalidReservation, UnknownNode}
 use Rattle.slurm_text.specs.declared.plain.state.Final.TheVariants.{Completed, Cancelled, Failed, Timeout, NodeFail}
 use Rattle.slurm_text.specs.declared.plain.state.JobState.{JobState}
 use Rattle.slurm_text.specs.declared.plain.state.JobState.TheVariants.{Ended}
@@ -35,6 +35,7 @@ use Rattle.job_table.specs.declared.record.Part.{Part}
 use Rattle.job_table.specs.declared.record.JobRecord.{JobRecord}
 use Rattle.job_table.specs.JobStates.{is_pending, is_running, is_completing, is_ended, is_holding}
 use Rattle.job_table.specs.Targets.{index_of, is_named}
+use Rattle.reservations.specs.Reservations.{reservation_named}
 use Rattle.ctl_state.specs.Planning.{names_of}
 use Rattle.ctl_state.specs.Refusals.{refused_if}
 use Rattle.ctl_state.specs.State.{State, partition_of}
@@ -42,7 +43,7 @@ use Rattle.ctl_rank.specs.Priority.{parts_of}
 use Rattle.ctl_rank.specs.Rank.{priority_of}
 use Rattle.ctl_waiting.specs.Reasons.{hindrance}
 use Rattle.ctl_waiting.specs.Candidates.{candidates}
-use Rattle.ctl_show.specs.Records.{node_rows, partition_rows}
+use Rattle.ctl_show.specs.Records.{node_rows, partition_rows, reservation_rows}
 use Rattle.ctl_show.specs.Standing.{state_rows}
 
 -- a job in this state has the code
@@ -230,7 +231,7 @@ abbrev pub priority_rows : State → ℕ → List ℕ → Who → Option (List T
 priority_rows s now asker who jobs =
     map (λ job. Priority (priority_row_of s now job)) (filter (is_weighed asker who jobs) s.jobs)
 
--- the rows that a user's query shows at a moment; reservations aren't shown yet
+-- the rows that a user's query shows at a moment
 abbrev pub rows_of : State → ℕ → List ℕ → Query → List Row
 rows_of s now asker (Squeue query) = job_rows s now asker query
 rows_of s now asker (Sinfo partition titles) = state_rows s partition
@@ -238,7 +239,7 @@ rows_of s now asker (Sprio who jobs titles) = priority_rows s now asker who jobs
 rows_of s now asker (ShowJob target) = kept_rows s now target
 rows_of s now asker (ShowNode name) = node_rows s name
 rows_of s now asker (ShowPartition name) = partition_rows s name
-rows_of s now asker query = []
+rows_of s now asker (ShowReservation name) = reservation_rows s name
 
 -- what a user's query shows at a moment
 unfoldable pub view_of : State → ℕ → List ℕ → Query → View
@@ -264,8 +265,12 @@ abbrev pub is_no_node : State → Option (List ℕ) → Bool
 is_no_node s None = false
 is_no_node s (Some name) = is_none (place_named name s.nodes)
 
--- why a query may be refused, in their order: it names a job, a partition or a node that there isn't; what isn't shown
--- yet is refused for nothing
+-- the reservation that is asked for isn't there
+abbrev pub is_no_reservation : State → Option (List ℕ) → Bool
+is_no_reservation s None = false
+is_no_reservation s (Some name) = is_none (reservation_named name s.reservations)
+
+-- why a query may be refused, in their order: it names a job, a partition, a node or a reservation that there isn't
 abbrev pub show_refusals : State → Query → List (Option Refusal)
 show_refusals s (Squeue query) =
     refused_if (names_nothing s.jobs query.jobs) InvalidJobId
@@ -276,4 +281,4 @@ show_refusals s (Sprio who jobs titles) = refused_if (names_nothing s.jobs jobs)
 show_refusals s (ShowJob target) = refused_if (means_nothing s.jobs target) InvalidJobId ∷ []
 show_refusals s (ShowNode name) = refused_if (is_no_node s name) UnknownNode ∷ []
 show_refusals s (ShowPartition name) = refused_if (is_unknown s name) InvalidPartition ∷ []
-show_refusals s query = []
+show_refusals s (ShowReservation name) = refused_if (is_no_reservation s name) InvalidReservation ∷ []

@@ -189,6 +189,16 @@ pub(crate) fn is_no_node(cluster: &Cluster, asked: &Option<Name>) -> bool
     }
 }
 
+/// Whether the reservation that is asked for isn't there. Linear in the reservations.
+pub(crate) fn is_no_reservation(cluster: &Cluster, asked: &Option<Name>) -> bool
+    ensures { result ≡ Showing.is_no_reservation (state_of cluster.now) asked.now }
+{
+    match asked {
+        Some(name) => cluster.reservations.find(name).is_none(),
+        None => false,
+    }
+}
+
 /// Whether the partition that is asked for isn't there. Linear in the partitions.
 pub(crate) fn is_unknown(cluster: &Cluster, asked: &Option<Name>) -> bool
     ensures { result ≡ Showing.is_unknown (state_of cluster.now) asked.now }

@@ -11,6 +11,7 @@ mod rows;
 mod show;
 mod shown_nodes;
 mod shown_partitions;
+mod shown_reservations;
 mod standing;
 
 pub use show::{refusal_of, view_of};

@@ -3,6 +3,7 @@
 ghost use Rattle.std.specs.Prelude.{◌≡◌, ◌≤◌, ◌<◌, ℕ, IfOk, length, unwrap_or};
 ghost use Rattle.ctl_state.specs.State.{State, state_of, last_moment};
 ghost use Rattle.ctl_state.specs.Soundness.{IsSound};
+ghost use Rattle.job_table.specs.Targets.{AreTogether};
 ghost use Rattle.ctl_show.specs.Found.{IsOutlook};
 ghost use Rattle.ctl_show.specs.Showing;
 
@@ -122,7 +123,8 @@ fn reason_by_rank(highest: Option<u32>, job: &JobRecord) -> Reason
 
 // Why the job waits, where it does.
 fn reason_shown(cluster: &Cluster, outlook: &Outlook, job: &JobRecord) -> Option<Reason>
-    requires { IsOutlook (state_of cluster.now) outlook.now.factors.moment outlook.now }
+    requires together { AreTogether cluster.now.jobs.records }
+    requires outlook { IsOutlook (state_of cluster.now) outlook.now.factors.moment outlook.now }
     ensures { result ≡ Showing.reason_shown (state_of cluster.now) outlook.now.factors.moment job.now }
 {
     if !is_pending(job) {
@@ -192,6 +194,7 @@ pub(crate) fn row_of(
     job: &JobRecord,
 ) -> Result<JobRow, Memory>
     requires in_time { moment ≤ last_moment }
+    requires together { AreTogether cluster.now.jobs.records }
     requires outlook { IsOutlook (state_of cluster.now) moment outlook.now }
     requires partition { job.now.partition < length cluster.now.partitions }
     requires started { unwrap_or job.now.started 0 ≤ last_moment }

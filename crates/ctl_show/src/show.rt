@@ -6,12 +6,13 @@ ghost use Rattle.ctl_state.specs.Refusals.{first_refusal, refused_if};
 ghost use Rattle.ctl_state.specs.Soundness.{IsSound};
 ghost use Rattle.ctl_show.specs.Showing;
 
-use crate::jobs::{is_no_node, is_unknown, means_nothing, names_nothing};
+use crate::jobs::{is_no_node, is_no_reservation, is_unknown, means_nothing, names_nothing};
 use crate::kept::kept_rows;
 use crate::priorities::priority_rows;
 use crate::rows::job_rows;
 use crate::shown_nodes::node_rows;
 use crate::shown_partitions::partition_rows;
+use crate::shown_reservations::reservation_rows;
 use crate::standing::state_rows;
 use ctl_state::cluster::Cluster;
 use slurm_text::items::Items;
@@ -80,6 +81,18 @@ fn node_refusal(cluster: &Cluster, asked: &Option<Name>) -> Option<Refusal>
     }
 }
 
+// Why a query of reservations is refused.
+fn reservation_refusal(cluster: &Cluster, asked: &Option<Name>) -> Option<Refusal>
+    ensures { result
+        ≡ refused_if (Showing.is_no_reservation (state_of cluster.now) asked.now) Refusal.InvalidReservation }
+{
+    if is_no_reservation(cluster, asked) {
+        Some(Refusal::InvalidReservation)
+    } else {
+        None
+    }
+}
+
 /// Why a query is refused, if it is. Logarithmic in the jobs for each target, and linear in the tasks of arrays.
 pub fn refusal_of(cluster: &Cluster, query: &Query) -> Option<Refusal>
     requires { IsSound (state_of cluster.now) }
@@ -92,8 +105,7 @@ pub fn refusal_of(cluster: &Cluster, query: &Query) -> Option<Refusal>
         Query::ShowJob(target) => target_refusal(cluster, target),
         Query::ShowNode(name) => node_refusal(cluster, name),
         Query::ShowPartition(name) => partition_refusal(cluster, name),
-        // Reservations aren't shown yet.
-        Query::ShowReservation(_) => None,
+        Query::ShowReservation(name) => reservation_refusal(cluster, name),
     }
 }
 
@@ -116,8 +128,7 @@ fn rows_of(
         Query::ShowJob(target) => kept_rows(alloc, cluster, moment, target),
         Query::ShowNode(name) => node_rows(alloc, cluster, name),
         Query::ShowPartition(name) => partition_rows(alloc, cluster, name),
-        // Reservations aren't shown yet.
-        Query::ShowReservation(_) => Ok(Vec::new(alloc)),
+        Query::ShowReservation(name) => reservation_rows(alloc, cluster, name),
     }
 }
 
@@ -127,7 +138,8 @@ fn rows_of(
 /// sorts the users. One of priorities measures these, and is linear in the jobs and for each in its targets. One of
 /// partitions and how their nodes stand is linear in the nodes, the jobs' parts and the nodes of the partitions that it
 /// shows. What scontrol(1) shows of jobs costs what a query of all jobs does; of nodes it is linear in these and the
-/// jobs' parts, and of partitions in these and the nodes of those that are shown.
+/// jobs' parts, of partitions in these and the nodes of those that are shown, and of reservations in these with the
+/// nodes and names of those that are shown.
 #[tactic(auto, unfolding(crate::specs::Showing::view_of))]
 pub fn view_of(
     alloc: Global,

@@ -16,8 +16,8 @@ use slurm_text::name::Name;
 use slurm_text::plain::view::{PartRow, Row};
 use std::alloc::Global;
 
-// The names of the nodes at places.
-fn names_at(alloc: Global, nodes: &[NodeRecord], places: &[u32]) -> Result<Vec<Name>, Memory>
+/// The names of the nodes at places. Linear in these.
+pub(crate) fn names_at(alloc: Global, nodes: &[NodeRecord], places: &[u32]) -> Result<Vec<Name>, Memory>
     ensures { IfOk result (λ names. names.items ≡ Records.names_at nodes.now places.now) }
 {
     let mut names = Vec::with_capacity(alloc, places.len())?;

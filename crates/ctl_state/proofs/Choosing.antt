@@ -1,5 +1,5 @@
 -- The nodes that a job may take: in what order, that they are nodes that there are, and each once.
-use Rattle.std.proofs.Common.{◌≡◌, ◌≢◌, ℕ, ◌<◌, Bool, true, false, not, ◌&&◌, List, [], ◌∷◌, length, filter, get_or, slice_get, All, AllPairs, Some, None, option_map, unwrap_or, refl, sym, ap, ◌∙◌, arith, Bor, Ordering}
+use Rattle.std.proofs.Common.{◌≡◌, ◌≢◌, ℕ, ◌<◌, Bool, true, false, not, ◌&&◌, List, [], ◌∷◌, length, filter, get_or, slice_get, All, AllPairs, Option, Some, None, option_map, unwrap_or, refl, sym, ap, ◌∙◌, arith, Bor, Ordering}
 use Rattle.std.specs.Cmp.{IsStrictWeakOrder}
 use Rattle.std.specs.Fn.{ComputesKey, Mut}
 use Rattle.std.specs.List.Sorted.{IsSortedByKeyClosure, IsStableByKeyClosure, ties}
@@ -14,7 +14,8 @@ use Rattle.slurm_text.specs.declared.plain.job.JobDesc.{JobDesc}
 use Rattle.node_state.specs.declared.record.NodeRecord.{NodeRecord}
 use Rattle.partitions.specs.declared.record.PartRecord.{PartRecord}
 use Rattle.partitions.specs.Partitions.{IsOnNodes}
-use Rattle.ctl_state.specs.Planning.{are_there, is_at, is_taken_before, may_run, must_have, node_order, nodes_among, required_first, weight_at}
+use Rattle.reservations.specs.declared.record.Reservation.{Reservation}
+use Rattle.ctl_state.specs.Planning.{are_there, is_at, is_taken_before, is_within, may_run, must_have, node_order, nodes_among, places_for, required_first, weight_at}
 use Rattle.ctl_state.proofs.Lists.{pairs-append}
 use Rattle.ctl_state.proofs.Ordering.{ordered-moves, ordered-pairs, sorted-is_ordered}
 
@@ -92,14 +93,14 @@ any-among nodes desc order says there =
     rw (known, all) (first-none nodes desc order says.0)
 
 -- those that a job may get are nodes that there are, each once
-pub among-there : (nodes : List NodeRecord) (desc : JobDesc) (partition : PartRecord) → IsOnNodes (length nodes) partition
-    → All (λ place. place < length nodes) (nodes_among nodes desc (node_order nodes partition))
-among-there nodes desc partition on =
+pub among-there : (nodes : List NodeRecord) (desc : JobDesc) (order : List ℕ) → All (λ place. place < length nodes) order
+    → All (λ place. place < length nodes) (nodes_among nodes desc order)
+among-there nodes desc order within =
     let there : ℕ → Type 0 = λ place. place < length nodes in
     let must : ℕ → Bool = is_at (must_have desc) nodes in
     let rest : ℕ → Bool = λ place. not (must place) in
-    let places = filter (is_at (may_run desc) nodes) (node_order nodes partition) in
-    let all = All-filter (is_at (may_run desc) nodes) there (node_order nodes partition) (order-there nodes partition on) in
+    let places = filter (is_at (may_run desc) nodes) order in
+    let all = All-filter (is_at (may_run desc) nodes) there order within in
     cond_both (are_there nodes desc places) (required_first nodes desc places) [] (All there)
     (λ known. All-append there (filter must places) (filter rest places) (All-filter must there places all) (All-filter rest there places all))
     (λ unknown. All-nil there)
@@ -117,11 +118,23 @@ first-once nodes desc order differs =
     (λ k d below j e within same. both_ways (must (get_or (filter must places) k d)) (ap must same ∙ not-true _ (filter_passes rest places j e within))
     (filter_passes must places k d below))
 
-pub among-once : (nodes : List NodeRecord) (desc : JobDesc) (partition : PartRecord) → IsOnNodes (length nodes) partition
-    → AllPairs (λ one other. one ≢ other) (nodes_among nodes desc (node_order nodes partition))
-among-once nodes desc partition on =
-    let order = node_order nodes partition in
+pub among-once : (nodes : List NodeRecord) (desc : JobDesc) (order : List ℕ) → AllPairs (λ one other. one ≢ other) order
+    → AllPairs (λ one other. one ≢ other) (nodes_among nodes desc order)
+among-once nodes desc order differs =
     let places = filter (is_at (may_run desc) nodes) order in
     cond_both (are_there nodes desc places) (required_first nodes desc places) [] (AllPairs (λ one other. one ≢ other))
-    (λ known. first-once nodes desc order (order-once nodes partition on))
+    (λ known. first-once nodes desc order differs)
     (λ unknown i j d before below. absurd (omega (arith, below)))
+
+-- those left of a partition's nodes by reservations
+pub places-there : (nodes : List NodeRecord) (reservations : List Reservation) (partition : PartRecord) (name : Option (List ℕ))
+    → IsOnNodes (length nodes) partition → All (λ place. place < length nodes) (places_for nodes reservations partition name)
+unfolding places_for
+places-there nodes reservations partition name on =
+    All-filter (is_within reservations name) (λ place. place < length nodes) (node_order nodes partition) (order-there nodes partition on)
+
+pub places-once : (nodes : List NodeRecord) (reservations : List Reservation) (partition : PartRecord) (name : Option (List ℕ))
+    → IsOnNodes (length nodes) partition → AllPairs (λ one other. one ≢ other) (places_for nodes reservations partition name)
+unfolding places_for
+places-once nodes reservations partition name on =
+    AllPairs-filter (λ one other. one ≢ other) (is_within reservations name) (node_order nodes partition) (order-once nodes partition on)

@@ -3,6 +3,7 @@ use Rattle.std.specs.Prelude.{◌≡◌, ◌≢◌, ℕ, ◌+◌, ◌<◌, ◌�
 use Rattle.std.specs.Cmp.{IsStrictWeakOrder}
 use Rattle.std.specs.List.Sorted.{IsPermutation, IsSortedBy, IsStableBy}
 use Rattle.backfill_planner.specs.declared.Placed.{Placed}
+use Rattle.backfill_planner.specs.declared.job.Barred.{Barred}
 use Rattle.job_table.specs.declared.record.Part.{Part}
 use Rattle.node_state.specs.declared.record.NodeRecord.{NodeRecord}
 use Rattle.partitions.specs.declared.record.PartRecord.{PartRecord}
@@ -10,6 +11,8 @@ use Rattle.partitions.specs.Partitions.{IsOnNodes, in_state_at}
 use Rattle.slurm_text.specs.declared.plain.conf.PartState.{PartState}
 use Rattle.job_table.specs.declared.record.JobRecord.{JobRecord}
 use Rattle.job_table.specs.declared.change.Change.{Change}
+use Rattle.reservations.specs.declared.record.Reservation.{Reservation}
+use Rattle.reservations.specs.Reservations.{AreReservations}
 use Rattle.ctl_state.specs.declared.record.ArrayRecord.{ArrayRecord}
 use Rattle.ctl_state.specs.State.{State, last_moment, last_job_id, last_size, shutdown_size}
 use Rattle.job_table.specs.JobStates.{is_pending}
@@ -20,7 +23,7 @@ use Rattle.ctl_state.specs.Index.{ShowsParts, TakesParts, GivesParts}
 use Rattle.node_state.specs.declared.record.Held.{Held}
 use Rattle.node_state.specs.Held.{held_mem, holds_cpu}
 use Rattle.ctl_state.specs.Ordered.{ordered_by}
-use Rattle.ctl_state.specs.Planning.{plan_job}
+use Rattle.ctl_state.specs.Planning.{places_for, plan_job}
 use Rattle.ctl_state.specs.Events.{FitsChange, LetsGo, MayTake, plan_left, started_as, those_left}
 use Rattle.ctl_state.specs.Counted.{counted_of, holding}
 use Rattle.run_limits.specs.Tallies.{HaveSameSums}
@@ -99,6 +102,11 @@ PartitionStates = (s : State) (place : ℕ) (state : PartState)
 abbrev pub Passing : Type 0
 Passing = (s : State) (now : ℕ) → IsSound s → s.moment ≤ now → now ≤ last_moment → IsSound (record s { moment = now })
 
+-- Other reservations keep all sound.
+abbrev pub Reserving : Type 0
+Reserving = (s : State) (reservations : List Reservation)
+    → IsSound s → AreReservations reservations → IsSound (record s { reservations = reservations })
+
 -- A shutdown keeps all sound.
 abbrev pub Shutting : Type 0
 Shutting = (s : State) → IsSound s → IsSound (record s { is_shut = true })
@@ -155,10 +163,12 @@ LetsGoTwice = (now : ℕ) (job middle after : JobRecord)
 
 -- The nodes that a job may get are nodes that there are, each once.
 abbrev pub JobNodes : Type 0
-JobNodes = (nodes : List NodeRecord) (partition : PartRecord) (bounds : ℕ × ℕ) (job : JobRecord)
+JobNodes = (nodes : List NodeRecord) (reservations : List Reservation) (partition : PartRecord) (barred : List Barred)
+    (bounds : ℕ × ℕ) (job : JobRecord)
     → IsOnNodes (length nodes) partition
-    → All (λ node. node < length nodes) (plan_job nodes partition bounds job).nodes
-    × AllPairs (λ one other. one ≢ other) (plan_job nodes partition bounds job).nodes
+    → let places = places_for nodes reservations partition job.desc.reservation in
+    All (λ node. node < length nodes) (plan_job nodes partition places barred bounds job).nodes
+    × AllPairs (λ one other. one ≢ other) (plan_job nodes partition places barred bounds job).nodes
 
 -- A list in order has the elements of the list.
 abbrev pub OrderMoves : Type 0 → Type 0

@@ -10,3 +10,4 @@ pub mod Laws
 pub mod Counted
 pub mod Limits
 pub mod Index
+pub mod Holds

@@ -1,5 +1,5 @@
 -- What the planner is told of nodes and jobs.
-use Rattle.std.specs.Prelude.{ℕ, ◌*◌, Bool, true, false, ◌&&◌, ◌||◌, not, nat_eq, nat_lt, if◌then◌else◌, unwrap_or, List, [], ◌++◌, length, filter, filter_map, slice_get, bytes_eq, Option, Some, None, option_map}
+use Rattle.std.specs.Prelude.{ℕ, ◌*◌, Bool, true, false, ◌&&◌, ◌||◌, not, nat_eq, nat_lt, if◌then◌else◌, unwrap_or, List, [], ◌∷◌, ◌++◌, length, filter, filter_map, flat_map, slice_get, bytes_eq, Option, Some, None, option_map}
 use Rattle.std.specs.List.{list_all, list_any}
 use Rattle.slurm_text.specs.declared.plain.limit.Limit.{Limit}
 use Rattle.slurm_text.specs.declared.plain.limit.Limit.TheVariants.{Minutes, Unlimited}
@@ -7,7 +7,11 @@ use Rattle.slurm_text.specs.declared.plain.mem_ask.MemAsk.TheVariants.{All}
 use Rattle.slurm_text.specs.declared.plain.features.FeatureExpr.{FeatureExpr}
 use Rattle.slurm_text.specs.declared.plain.job.JobDesc.{JobDesc}
 use Rattle.resource_profile.specs.declared.NodeRoom.{NodeRoom}
+use Rattle.backfill_planner.specs.declared.job.Barred.{Barred}
 use Rattle.backfill_planner.specs.declared.job.PlanJob.{PlanJob}
+use Rattle.reservations.specs.declared.record.Reservation.{Reservation}
+use Rattle.reservations.specs.Reservations.{is_named as has_name, reservation_named}
+use Rattle.cpu_ids.specs.Rows.{has_id}
 use Rattle.node_state.specs.declared.record.NodeRecord.{NodeRecord}
 use Rattle.node_state.specs.Nodes.{is_available, is_named, has_features}
 use Rattle.partitions.specs.declared.record.PartRecord.{PartRecord}
@@ -80,17 +84,60 @@ abbrev pub seconds_of : Limit → Option ℕ
 seconds_of (Minutes minutes) = Some (minutes * 60)
 seconds_of Unlimited = None
 
--- What a job needs in a partition, on so many nodes at least and at most.
-unfoldable pub plan_job : List NodeRecord → PartRecord → ℕ × ℕ → JobRecord → PlanJob
-plan_job nodes partition bounds job = record {
+-- the reservation, if there is one, has the node at a place
+abbrev pub is_kept_by : Option Reservation → ℕ → Bool
+is_kept_by None place = false
+is_kept_by (Some reservation) place = has_id reservation.nodes place
+
+-- a job that names a reservation may have nodes of this one alone
+abbrev pub is_within : List Reservation → Option (List ℕ) → ℕ → Bool
+is_within reservations None place = true
+is_within reservations (Some name) place = is_kept_by (reservation_named name reservations) place
+
+-- those of a partition's nodes that a job may have which names this reservation, or none, in the order in which it
+-- takes them
+unfoldable pub places_for : List NodeRecord → List Reservation → PartRecord → Option (List ℕ) → List ℕ
+places_for nodes reservations partition name = filter (is_within reservations name) (node_order nodes partition)
+
+-- the nodes of a reservation, throughout its time
+abbrev pub throughout : Reservation → Barred
+throughout reservation =
+    record { nodes = reservation.nodes; from = reservation.start; until = reservation.end }
+
+-- the same, before it and after it
+abbrev pub outside : Reservation → List Barred
+outside reservation =
+    record { nodes = reservation.nodes; from = 0; until = reservation.start }
+    ∷ record { nodes = reservation.nodes; from = reservation.end; until = 1000000000000 }
+    ∷ []
+
+-- a job that names this reservation, or none, names this one
+abbrev pub is_theirs : Option (List ℕ) → Reservation → Bool
+is_theirs None reservation = false
+is_theirs (Some name) reservation = has_name name reservation
+
+-- when such a job may not have the nodes of one
+abbrev pub barred_by : Option (List ℕ) → Reservation → List Barred
+barred_by name reservation =
+    if is_theirs name reservation then outside reservation else throughout reservation ∷ []
+
+-- when it may not have the nodes of these
+unfoldable pub barred_of : List Reservation → Option (List ℕ) → List Barred
+barred_of reservations name = flat_map (barred_by name) reservations
+
+-- What a job needs in a partition, on so many nodes at least and at most, where it may have those at these places, but
+-- for those times.
+unfoldable pub plan_job : List NodeRecord → PartRecord → List ℕ → List Barred → ℕ × ℕ → JobRecord → PlanJob
+plan_job nodes partition places barred bounds job = record {
   id = job.id;
   need = record { tasks = job.desc.tasks; least = bounds.0; most = bounds.1; required = length job.desc.required };
   cpus_per_task = job.desc.cpus_per_task;
   per_node = unwrap_or job.desc.tasks_per_node job.desc.tasks;
   mem_ask = unwrap_or job.desc.mem_ask All;
   exclusive = job.desc.exclusive || partition.conf.exclusive;
-  nodes = nodes_among nodes job.desc (node_order nodes partition);
+  nodes = nodes_among nodes job.desc places;
   seconds = seconds_of job.limit;
+  barred = barred;
 }
 
 -- the names of the nodes of these parts

@@ -16,6 +16,7 @@ use Rattle.job_table.specs.declared.record.JobRecord.{JobRecord}
 use Rattle.accounts_qos.specs.declared.record.AssocRecord.{AssocRecord}
 use Rattle.accounts_qos.specs.declared.record.QosRecord.{QosRecord}
 use Rattle.accounts_qos.specs.Accounts.{is_of_user}
+use Rattle.reservations.specs.Reservations.{AreReservations}
 use Rattle.ctl_state.specs.State.{State, last_job_id, last_moment, last_size, shutdown_size}
 use Rattle.job_table.specs.Table.{HaveRisingIds}
 use Rattle.job_table.specs.Targets.{AreTogether}
@@ -114,6 +115,7 @@ pub record IsSound (s : State) : Type 0 where
   pub limits : All HasLimits s.partitions
   pub of_partitions : AreOfPartitions s.partitions s.jobs
   pub of_accounts : All (IsOfAccounts s.assocs s.qos) s.jobs
+  pub reservations : AreReservations s.reservations
   -- the numbers of the jobs rise, and are below the next one
   pub rising : HaveRisingIds s.jobs
   pub below_next : All (λ (job : JobRecord). job.id < s.next_id) s.jobs

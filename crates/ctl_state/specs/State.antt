@@ -13,6 +13,7 @@ use Rattle.accounts_qos.specs.declared.record.AssocRecord.{AssocRecord}
 use Rattle.accounts_qos.specs.declared.record.QosRecord.{QosRecord}
 use Rattle.accounts_qos.specs.Accounts
 use Rattle.job_table.specs.declared.record.JobRecord.{JobRecord}
+use Rattle.reservations.specs.declared.record.Reservation.{Reservation}
 use Rattle.ctl_state.specs.declared.cluster.Cluster.{Cluster}
 
 pub record State : Type 0 where
@@ -25,6 +26,8 @@ pub record State : Type 0 where
   pub assocs : List AssocRecord
   -- the qualities of service, in the order of the association file
   pub qos : List QosRecord
+  -- in the order in which they were made
+  pub reservations : List Reservation
   -- in the order of their numbers
   pub jobs : List JobRecord
   -- what the starts of each association's jobs have used that left Running, in the order of the associations
@@ -66,6 +69,7 @@ opening conf file = record {
   nodes = map opened conf.nodes;
   assocs = map Accounts.opened file.assocs;
   qos = map Accounts.opened_qos file.qos;
+  reservations = [];
   jobs = [];
   usage = replicate (length file.assocs) 0;
   arrays = [];
@@ -84,6 +88,7 @@ state_of c = record {
   nodes = c.nodes.records;
   assocs = c.assocs.records;
   qos = c.assocs.qos;
+  reservations = c.reservations;
   jobs = c.jobs.records;
   usage = c.jobs.usage;
   arrays = c.arrays.items;

@@ -10,6 +10,7 @@ use backfill_planner::Placed;
 use job_table::jobs::Jobs;
 use node_state::nodes::Nodes;
 use partitions::partitions::Partitions;
+use reservations::reservations::Reservations;
 use slurm_text::name::Name;
 use slurm_text::plain::conf::Settings;
 
@@ -23,6 +24,8 @@ pub struct Cluster {
     pub nodes: Nodes,
     /// The accounts and their users, and the qualities of service, in the order of the association file.
     pub assocs: Assocs,
+    /// In the order in which they were made.
+    pub reservations: Reservations,
     /// In the order of their numbers.
     pub jobs: Jobs,
     /// The arrays of which there are tasks, in the order of their numbers.

@@ -48,6 +48,11 @@ pub fn time_keeps_all_sound()
     ensures { Laws.Passing }
 {}
 
+/// Other reservations keep all sound.
+pub fn reservations_keep_all_sound()
+    ensures { Laws.Reserving }
+{}
+
 /// A shutdown keeps all sound.
 pub fn a_shutdown_keeps_all_sound()
     ensures { Laws.Shutting }

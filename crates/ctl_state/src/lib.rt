@@ -4,9 +4,11 @@
 
 pub mod cluster;
 pub mod counting;
+pub mod holds;
 mod job_nodes;
 pub mod jobs;
 pub mod laws;
 pub mod limits;
 pub mod planning;
 pub mod record;
+pub mod reserved;

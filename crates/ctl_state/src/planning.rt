@@ -5,7 +5,7 @@ ghost use Rattle.partitions.specs.Partitions.{IsOnNodes};
 ghost use Rattle.ctl_state.specs.Planning;
 
 use crate::job_nodes::nodes_among;
-use backfill_planner::{NodeList, PlanJob};
+use backfill_planner::{BarredList, NodeList, PlanJob};
 use job_table::record::{JobRecord, Part};
 use node_pick::Need;
 use node_state::record::NodeRecord;
@@ -109,21 +109,22 @@ fn seconds_of(limit: Limit) -> Option<Ranged<1, 3153600000>>
     }
 }
 
-/// What the job needs in its partition, whose nodes stand in this order, on so many nodes at least and at most. A job
-/// that says nothing of its nodes shares the order, in constant time; for any other it is linear in the nodes of the
-/// partition, and for each of them in what the job names.
+/// What the job needs in its partition, on so many nodes at least and at most, where it may have the nodes at these
+/// places, but for those times. A job that says nothing of its nodes shares the places, in constant time; for any other
+/// it is linear in them, and for each of them in what the job names.
 #[tactic(auto, unfolding(crate::specs::Planning::plan_job))]
 pub fn plan_job(
     alloc: Global,
     nodes: &[NodeRecord],
     partition: &PartRecord,
-    order: &NodeList,
+    places: &NodeList,
+    barred: BarredList,
     bounds: (u32, u32),
     job: &JobRecord,
 ) -> Result<PlanJob, Memory>
-    requires there { IsOnNodes (length nodes.now) partition.now }
-    requires order { order.now ≡ Planning.node_order nodes.now partition.now }
-    ensures job { IfOk result (λ plan. plan ≡ Planning.plan_job nodes.now partition.now bounds job.now) }
+    requires { All (λ place. place < length nodes.now) places.now }
+    ensures job { IfOk result (λ plan. plan
+        ≡ Planning.plan_job nodes.now partition.now places.now barred bounds job.now) }
     ensures nodes { IfOk result (λ plan. All (λ node. node < length nodes.now) plan.nodes) }
     ensures tasks { IfOk result (λ plan. 1 ≤ plan.need.tasks) }
 {
@@ -137,8 +138,9 @@ pub fn plan_job(
             .map_or(desc.tasks.get() as u32, |count| count.get() as u32),
         mem_ask: desc.mem_ask.unwrap_or(MemAsk::All),
         exclusive: desc.exclusive || partition.conf.exclusive,
-        nodes: nodes_among(alloc, nodes, desc, order)?,
+        nodes: nodes_among(alloc, nodes, desc, places)?,
         seconds: seconds_of(job.limit),
+        barred,
     })
 }
 

@@ -5,12 +5,12 @@ use Rattle.std.specs.Option.{option_or}
 use Rattle.std.proofs.lemmas.Bool.{ltb-false}
 use Rattle.slurm_text.specs.declared.plain.job.JobDesc.{JobDesc}
 use Rattle.slurm_text.specs.declared.plain.refusal.Refusal.{Refusal}
-use Rattle.slurm_text.specs.declared.plain.refusal.Refusal.TheVariants.{AccessDenied, NodesNotAvailable, NotAllowedHere, JobTableFull, ArrayTooLarge, UnknownNode, JobIdsSpent}
+use Rattle.slurm_text.specs.declared.plain.refusal.Refusal.TheVariants.{AccessDenied, NodesNotAvailable, NotAllowedHere, JobTableFull, ArrayTooLarge, UnknownNode, BadDependency, InvalidReservation, JobIdsSpent}
 use Rattle.run_limits.specs.Submitting.{submit_limits}
 use Rattle.ctl_state.specs.Counted.{counted_of}
 use Rattle.ctl_state.specs.State.{State, last_job_id}
 use Rattle.ctl_state.specs.Refusals.{first_refusal, refused_if}
-use Rattle.ctl_submit.specs.Submission.{Terms, beside_unended, count_of_jobs, is_placeable, is_too_large, lone_job, may_not_raise, names_unknown, quality_of, refusals_under, takes_jobs_of}
+use Rattle.ctl_submit.specs.Submission.{Terms, beside_unended, count_of_jobs, is_bad_dependency, is_placeable, is_too_large, lone_job, may_not_raise, may_not_use, names_unknown, quality_of, refusals_under, takes_jobs_of}
 
 -- the first of refusals that come to none: it doesn't stand, and the others come to none
 pub none-first : (refusal : Refusal) (stands : Bool) (later : List (Option Refusal))
@@ -41,11 +41,13 @@ rooms s moment user desc terms none =
     let lone = lone_job s moment user desc terms in
     let taken = none-first NotAllowedHere
     (not (takes_jobs_of terms.partition terms.account (quality_of desc))) _ none in
-    let nice = none-first AccessDenied (may_not_raise s user desc) _ taken.1 in
+    let usable = none-first InvalidReservation (may_not_use s user terms.account desc) _ taken.1 in
+    let nice = none-first AccessDenied (may_not_raise s user desc) _ usable.1 in
     let known = none-first UnknownNode (names_unknown s desc) _ nice.1 in
     let placed = none-first NodesNotAvailable (not (is_placeable s terms.partition lone)) _ known.1 in
     let small = none-first ArrayTooLarge (is_too_large s desc.array) _ placed.1 in
-    let within = none-later (submit_limits (beside_unended s) (counted_of lone) (count_of_jobs desc.array)) _ small.1 in
+    let good = none-first BadDependency (is_bad_dependency s desc.array lone.desc.dependency) _ small.1 in
+    let within = none-later (submit_limits (beside_unended s) (counted_of lone) (count_of_jobs desc.array)) _ good.1 in
     let few = none-first JobTableFull
     (nat_lt s.settings.max_job_count (length s.jobs + count_of_jobs desc.array)) _ within in
     let left = none-first JobIdsSpent

@@ -1,10 +1,15 @@
 -- A submission: its refusals, and the jobs that it makes.
-use Rattle.std.specs.Prelude.{◌≡◌, ◌≤◌, ℕ, ◌+◌, min, max, Bool, true, false, ◌&&◌, not, is_none, is_some, nat_le, nat_lt, if◌then◌else◌, unwrap_or, List, [], ◌∷◌, ◌++◌, length, map, filter, count_by, slice_get, bytes_eq, codes, All, Option, Some, None, option_map, option_and_then, Result, Ok, Err}
+use Rattle.std.specs.Prelude.{◌≡◌, ◌≤◌, ℕ, ◌+◌, min, max, Bool, true, false, ◌&&◌, ◌||◌, not, nat_eq, is_none, is_some, nat_le, nat_lt, if◌then◌else◌, unwrap_or, List, [], ◌∷◌, ◌++◌, length, map, filter, count_by, slice_get, bytes_eq, codes, All, Option, Some, None, option_map, option_and_then, Result, Ok, Err}
 use Rattle.std.specs.List.{list_any, enumerate_from}
 use Rattle.std.specs.Option.{option_or, option_to_list}
 use Rattle.slurm_text.specs.declared.plain.array.ArraySpec.{ArraySpec}
 use Rattle.slurm_text.specs.declared.plain.conf.PartState.{PartState}
 use Rattle.slurm_text.specs.declared.plain.conf.PartState.TheVariants.{Up, Down, Drain, Inactive}
+use Rattle.slurm_text.specs.declared.plain.dependency.DepId.{DepId}
+use Rattle.slurm_text.specs.declared.plain.dependency.DepItem.{DepItem}
+use Rattle.slurm_text.specs.declared.plain.dependency.DepKind.{DepKind}
+use Rattle.slurm_text.specs.declared.plain.dependency.DepKind.TheVariants as kind
+use Rattle.slurm_text.specs.declared.plain.dependency.DepSpec.{DepSpec}
 use Rattle.slurm_text.specs.declared.plain.job.JobDesc.{JobDesc}
 use Rattle.slurm_text.specs.declared.plain.limit.Limit.{Limit}
 use Rattle.slurm_text.specs.declared.plain.mem_ask.MemAsk.{MemAsk}
@@ -15,7 +20,7 @@ use Rattle.slurm_text.specs.declared.plain.state.HeldBy.{HeldBy}
 use Rattle.slurm_text.specs.declared.plain.state.HeldBy.TheVariants.{Nobody, User}
 use Rattle.slurm_text.specs.declared.plain.state.JobState.TheVariants.{Pending}
 use Rattle.slurm_text.specs.declared.plain.refusal.Refusal.{Refusal}
-use Rattle.slurm_text.specs.declared.plain.refusal.Refusal.TheVariants.{AccessDenied, PartitionClosed, InvalidAccount, InvalidPartition, InvalidQos, NodesNotAvailable, NotAllowedHere, JobTableFull, ArrayTooLarge, UnknownNode, JobIdsSpent}
+use Rattle.slurm_text.specs.declared.plain.refusal.Refusal.TheVariants.{AccessDenied, PartitionClosed, InvalidAccount, InvalidPartition, InvalidQos, NodesNotAvailable, NotAllowedHere, JobTableFull, ArrayTooLarge, UnknownNode, BadDependency, InvalidReservation, JobIdsSpent}
 use Rattle.slurm_text.specs.declared.plain.reply.Reply.TheVariants.{Submitted}
 use Rattle.backfill_planner.specs.Plans.{placed_of}
 use Rattle.node_state.specs.Nodes.{place_named}
@@ -31,9 +36,12 @@ use Rattle.run_limits.specs.Submitting.{submit_limits}
 use Rattle.job_table.specs.declared.record.JobRecord.{JobRecord}
 use Rattle.job_table.specs.JobStates.{is_ended}
 use Rattle.job_table.specs.Table.{HaveRisingIds}
+use Rattle.job_table.specs.Targets.{is_named_by}
+use Rattle.reservations.specs.declared.record.Reservation.{Reservation}
+use Rattle.reservations.specs.Reservations.{may_use, reservation_named}
 use Rattle.ctl_state.specs.declared.record.ArrayRecord.{ArrayRecord}
 use Rattle.ctl_state.specs.Counted.{counted_of}
-use Rattle.ctl_state.specs.Planning.{open_room, plan_job}
+use Rattle.ctl_state.specs.Planning.{open_room, places_for, plan_job}
 use Rattle.ctl_state.specs.Refusals.{first_refusal, is_privileged, refused_if}
 use Rattle.ctl_state.specs.State.{State, last_job_id}
 use Rattle.ctl_state.specs.Verdicts.{Verdict, Refuses, Makes}
@@ -171,10 +179,13 @@ new_arrays s (Some array) = record { id = s.next_id; indices = array.indices } �
 abbrev pub own_bounds : JobDesc → ℕ × ℕ
 own_bounds desc = (desc.min_nodes, min desc.tasks (unwrap_or desc.max_nodes desc.tasks))
 
--- some nodes of the partition could run the job if all were free and available; one second is as good as any
+-- some nodes of the partition could run the job if all were free and available, those of its reservation if it names
+-- one, at whatever time; one second is as good as any
 unfoldable pub is_placeable : State → PartRecord → JobRecord → Bool
 is_placeable s partition job =
-    is_some (placed_of (map open_room s.nodes) [] (plan_job s.nodes partition (own_bounds job.desc) job) 0 0)
+    let places = places_for s.nodes s.reservations partition job.desc.reservation in
+    let need = plan_job s.nodes partition places [] (own_bounds job.desc) job in
+    is_some (placed_of (map open_room s.nodes) [] need 0 0)
 
 -- the nice value is negative
 abbrev pub is_negative : Nice → Bool
@@ -185,6 +196,18 @@ is_negative (Raise by) = true
 abbrev pub may_not_raise : State → List ℕ → JobDesc → Bool
 may_not_raise s user desc = is_negative desc.nice && not (is_privileged s user)
 
+-- the reservation, if there is one, is for the user and his account
+abbrev pub is_for : List ℕ → List ℕ → Option Reservation → Bool
+is_for user account None = false
+is_for user account (Some reservation) = may_use user account reservation
+
+-- the user names a reservation that there isn't, or that he may not use
+abbrev pub may_not_use : State → List ℕ → List ℕ → JobDesc → Bool
+may_not_use s user account desc =
+    unwrap_or
+    (option_map (λ name. not (is_for user account (reservation_named name s.reservations))) desc.reservation)
+    false
+
 -- a node that is named isn't there
 abbrev pub names_unknown : State → JobDesc → Bool
 names_unknown s desc = list_any (λ name. is_none (place_named name s.nodes)) (desc.required ++ desc.excluded)
@@ -193,6 +216,37 @@ names_unknown s desc = list_any (λ name. is_none (place_named name s.nodes)) (d
 abbrev pub is_too_large : State → Option ArraySpec → Bool
 is_too_large s None = false
 is_too_large s (Some array) = list_any (nat_le s.settings.max_array_size) array.indices
+
+-- a dependency of this kind waits for the tasks that have the indices of those that are handed in
+abbrev pub is_by_index : DepKind → Bool
+is_by_index kind.AfterCorr = true
+is_by_index kind.After = false
+is_by_index kind.AfterAny = false
+is_by_index kind.AfterOk = false
+is_by_index kind.AfterNotOk = false
+is_by_index kind.Singleton = false
+
+-- the array with this number was handed in with these indices
+abbrev pub has_indices : List ArrayRecord → ℕ → List ℕ → Bool
+has_indices arrays id indices =
+    list_any (λ (array : ArrayRecord). nat_eq array.id id && bytes_eq array.indices indices) arrays
+
+-- each task of the array that is handed in has one of its index to wait for
+abbrev pub corresponds : List ArrayRecord → Option ArraySpec → DepId → Bool
+corresponds arrays array id =
+    is_none id.index
+    && unwrap_or (option_map (λ (one : ArraySpec). has_indices arrays id.id one.indices) array) false
+
+-- the number names no job, or an array that has other tasks
+abbrev pub is_bad_number : State → Option ArraySpec → DepKind → DepId → Bool
+is_bad_number s array kind id =
+    not (list_any (is_named_by id.id id.index) s.jobs) || (is_by_index kind && not (corresponds s.arrays array id))
+
+-- a number of the dependency is such
+abbrev pub is_bad_dependency : State → Option ArraySpec → Option DepSpec → Bool
+is_bad_dependency s array None = false
+is_bad_dependency s array (Some spec) =
+    list_any (λ (item : DepItem). list_any (is_bad_number s array item.kind) item.ids) spec.items
 
 -- the jobs that haven't ended, as limits count them
 unfoldable pub unended : List JobRecord → List Counted
@@ -218,13 +272,15 @@ refusals_of_room s count =
 abbrev pub refusals_of_count : State → JobRecord → Option ArraySpec → List (Option Refusal)
 refusals_of_count s job array =
     refused_if (is_too_large s array) ArrayTooLarge
+    ∷ (refused_if (is_bad_dependency s array job.desc.dependency) BadDependency
     ∷ (submit_limits (beside_unended s) (counted_of job) (count_of_jobs array)
-    ++ refusals_of_room s (count_of_jobs array))
+    ++ refusals_of_room s (count_of_jobs array)))
 
 -- why a submission may be refused under its terms, in their order
 abbrev pub refusals_under : State → ℕ → List ℕ → JobDesc → Terms → List (Option Refusal)
 refusals_under s moment user desc terms =
     refused_if (not (takes_jobs_of terms.partition terms.account (quality_of desc))) NotAllowedHere
+    ∷ refused_if (may_not_use s user terms.account desc) InvalidReservation
     ∷ refused_if (may_not_raise s user desc) AccessDenied
     ∷ refused_if (names_unknown s desc) UnknownNode
     ∷ refused_if (not (is_placeable s terms.partition (lone_job s moment user desc terms))) NodesNotAvailable

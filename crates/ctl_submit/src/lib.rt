@@ -2,6 +2,7 @@
 #![tactic(auto)]
 
 mod accounts;
+mod dependency;
 mod draft;
 pub mod handed;
 pub mod laws;

@@ -1,14 +1,16 @@
 //! Whether a job could ever run.
 
-ghost use Rattle.std.specs.Prelude.{◌≡◌, IfOk, length};
+ghost use Rattle.std.specs.Prelude.{◌≡◌, ◌<◌, All, IfOk, length};
 ghost use Rattle.partitions.specs.Partitions.{IsOnNodes};
+ghost use Rattle.ctl_state.specs.Planning;
 ghost use Rattle.ctl_state.specs.State.{state_of};
 ghost use Rattle.ctl_state.specs.Soundness.{IsSound};
 ghost use Rattle.ctl_submit.specs.Submission;
 
-use backfill_planner::{Base, place};
+use backfill_planner::{BarredList, Base, NodeList, place};
 use ctl_state::cluster::Cluster;
 use ctl_state::planning::{node_order, open_rooms_of, plan_job};
+use ctl_state::reserved::places_in;
 use job_table::record::JobRecord;
 use partitions::record::PartRecord;
 use resource_profile::{Profile, start};
@@ -26,6 +28,30 @@ fn own_bounds(desc: &JobDesc) -> (u32, u32)
     (desc.min_nodes.get() as u32, tasks.min(most))
 }
 
+// Those of the partition's nodes that the job may have by the reservation that it names, in the order in which it takes
+// them.
+#[tactic(auto, unfolding(ctl_state::specs::Planning::places_for))]
+fn places_for(
+    alloc: Global,
+    cluster: &Cluster,
+    partition: &PartRecord,
+    desc: &JobDesc,
+) -> Result<NodeList, Memory>
+    requires { IsOnNodes (length cluster.now.nodes.records) partition.now }
+    ensures places { IfOk result (λ places. places
+        ≡ Planning.places_for cluster.now.nodes.records cluster.now.reservations partition.now desc.now.reservation) }
+    ensures there { IfOk result (λ places. All (λ place. place < length cluster.now.nodes.records) places) }
+{
+    let order = node_order(alloc, cluster.nodes.records(), partition)?;
+    let Some(name) = &desc.reservation else {
+        return Ok(order);
+    };
+    match cluster.reservations.find(name) {
+        Some(reservation) => places_in(alloc, reservation, &order),
+        None => NodeList::from_vec(Vec::new(alloc)),
+    }
+}
+
 /// Whether some nodes of the partition could run the job if all were free and available (own). It sorts the partition's
 /// nodes.
 #[tactic(auto, unfolding(crate::specs::Submission::is_placeable))]
@@ -40,9 +66,10 @@ pub(crate) fn is_placeable(
     ensures { IfOk result (λ could. could ≡ Submission.is_placeable (state_of cluster.now) partition.now job.now) }
 {
     let nodes = cluster.nodes.records();
-    let order = node_order(alloc, nodes, partition)?;
+    let places = places_for(alloc, cluster, partition, &job.desc)?;
     let bounds = own_bounds(&job.desc);
-    let job = plan_job(alloc, nodes, partition, &order, bounds, job)?;
+    let anytime = BarredList::from_vec(Vec::new(alloc))?;
+    let job = plan_job(alloc, nodes, partition, &places, anytime, bounds, job)?;
     let base = Base {
         rooms: Items::from_vec(open_rooms_of(alloc, nodes)?),
         holds: Items::from_vec(Vec::new(alloc)),

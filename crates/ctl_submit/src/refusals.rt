@@ -3,6 +3,7 @@
 ghost use Rattle.std.specs.Prelude.{◌≡◌, ◌≤◌, IfOk, length, nat_le};
 ghost use Rattle.std.specs.List.{list_any};
 ghost use Rattle.partitions.specs.Partitions.{IsOnNodes};
+ghost use Rattle.job_table.specs.Targets.{AreTogether};
 ghost use Rattle.ctl_state.specs.State.{state_of};
 ghost use Rattle.ctl_state.specs.Soundness.{IsSound};
 ghost use Rattle.ctl_state.specs.Refusals.{first_refusal};
@@ -10,11 +11,13 @@ ghost use Rattle.ctl_submit.specs.Drafts.{lone_in, refusals_in};
 ghost use Rattle.ctl_submit.specs.Submission;
 
 use crate::accounts::takes_jobs_of;
+use crate::dependency::is_bad_dependency;
 use crate::draft::Draft;
 use crate::limits::limit_exceeded;
 use crate::placeable::is_placeable;
 use ctl_state::cluster::Cluster;
 use job_table::record::JobRecord;
+use reservations::record::may_use;
 use slurm_text::memory_error::Memory;
 use slurm_text::name::Name;
 use slurm_text::plain::array::ArraySpec;
@@ -39,6 +42,20 @@ fn may_not_raise(cluster: &Cluster, user: &Name, desc: &JobDesc) -> bool
     ensures { result ≡ Submission.may_not_raise (state_of cluster.now) user.now desc.now }
 {
     matches!(desc.nice, Nice::Raise(_)) && !cluster.is_privileged(user)
+}
+
+// Whether the user names a reservation that there isn't, or that he may not use. `--reservation` in sbatch(1). Linear in
+// the reservations, and in whom it names.
+fn may_not_use(cluster: &Cluster, user: &Name, account: &Name, desc: &JobDesc) -> bool
+    ensures { result ≡ Submission.may_not_use (state_of cluster.now) user.now account.now desc.now }
+{
+    let Some(name) = &desc.reservation else {
+        return false;
+    };
+    match cluster.reservations.find(name) {
+        Some(reservation) => !may_use(reservation, user, account),
+        None => true,
+    }
 }
 
 // Whether a node that is named isn't there. Linear in the names.
@@ -101,10 +118,14 @@ fn refusal_of_count(
     job: &JobRecord,
     array: &Option<ArraySpec>,
 ) -> Option<Refusal>
+    requires { AreTogether cluster.now.jobs.records }
     ensures { result ≡ first_refusal (Submission.refusals_of_count (state_of cluster.now) job.now array.now) }
 {
     if is_too_large(cluster, array) {
         return Some(Refusal::ArrayTooLarge);
+    }
+    if is_bad_dependency(cluster, array, &job.desc.dependency) {
+        return Some(Refusal::BadDependency);
     }
     let count = count_of_jobs(array);
     limit_exceeded(cluster, job, count).or(no_room(cluster, count))
@@ -125,6 +146,9 @@ pub(crate) fn refusal_of(
     let partition = draft.partition;
     if !takes_jobs_of(partition, &draft.account, draft.desc) {
         return Ok(Some(Refusal::NotAllowedHere));
+    }
+    if may_not_use(cluster, draft.user, &draft.account, draft.desc) {
+        return Ok(Some(Refusal::InvalidReservation));
     }
     if may_not_raise(cluster, draft.user, draft.desc) {
         return Ok(Some(Refusal::AccessDenied));

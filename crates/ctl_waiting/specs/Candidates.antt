@@ -6,7 +6,8 @@ use Rattle.partitions.specs.Partitions.{bounds_of}
 use Rattle.job_table.specs.declared.record.JobRecord.{JobRecord}
 use Rattle.job_table.specs.JobStates.{is_pending}
 use Rattle.ctl_state.specs.Ordered.{ordered_by}
-use Rattle.ctl_state.specs.Planning.{plan_job}
+use Rattle.reservations.specs.Reservations.{lasting}
+use Rattle.ctl_state.specs.Planning.{barred_of, places_for, plan_job}
 use Rattle.ctl_state.specs.State.{State, partition_of}
 use Rattle.ctl_rank.specs.Rank.{is_higher}
 use Rattle.ctl_waiting.specs.Reasons.{hindrance}
@@ -19,13 +20,16 @@ is_candidate s now job = is_pending job.state && is_none (hindrance s now job)
 unfoldable pub candidates : State → ℕ → List JobRecord
 candidates s now = ordered_by (is_higher s now) (filter (is_candidate s now) s.jobs)
 
--- what a job needs in its partition
-unfoldable pub needs_of : State → JobRecord → Option PlanJob
-needs_of s job = do
+-- what a job needs in its partition, beside the reservations that aren't over at the moment
+unfoldable pub needs_of : State → ℕ → JobRecord → Option PlanJob
+needs_of s now job = do
   partition ← partition_of s job
   bounds ← bounds_of partition job.desc
-  Some (plan_job s.nodes partition bounds job)
+  Some (plan_job s.nodes partition
+  (places_for s.nodes (lasting now s.reservations) partition job.desc.reservation)
+  (barred_of (lasting now s.reservations) job.desc.reservation)
+  bounds job)
 
 -- what the candidates need
 unfoldable pub ranked : State → ℕ → List PlanJob
-ranked s now = filter_map (needs_of s) (candidates s now)
+ranked s now = filter_map (needs_of s now) (candidates s now)

@@ -1,12 +1,12 @@
 -- Why a pending job can't be planned.
-use Rattle.std.specs.Prelude.{ℕ, Bool, true, false, not, nat_lt, is_none, unwrap_or, List, [], ◌∷◌, ◌++◌, Option, Some, None, option_map, option_and_then}
+use Rattle.std.specs.Prelude.{ℕ, Bool, true, false, not, nat_lt, is_none, unwrap_or, List, [], ◌∷◌, ◌++◌, max, nat_le, Option, Some, None, option_map, option_and_then}
 use Rattle.std.specs.List.{list_any}
 use Rattle.slurm_text.specs.declared.plain.array.ArraySpec.{ArraySpec}
 use Rattle.slurm_text.specs.declared.plain.conf.PartState.{PartState}
 use Rattle.slurm_text.specs.declared.plain.conf.PartState.TheVariants.{Up, Down, Drain, Inactive}
 use Rattle.slurm_text.specs.declared.plain.limit.Limit.{Limit}
 use Rattle.slurm_text.specs.declared.plain.state.Reason.{Reason}
-use Rattle.slurm_text.specs.declared.plain.state.Reason.TheVariants.{JobHeldAdmin, JobHeldUser, BeginTime, PartitionInactive, PartitionDown, PartitionTimeLimit, PartitionNodeLimit, QosMaxWallDurationPerJobLimit, ReqNodeNotAvail}
+use Rattle.slurm_text.specs.declared.plain.state.Reason.TheVariants.{JobHeldAdmin, JobHeldUser, DependencyNeverSatisfied, Dependency, BeginTime, PartitionInactive, PartitionDown, PartitionTimeLimit, PartitionNodeLimit, QosMaxWallDurationPerJobLimit, Reservation, ReqNodeNotAvail}
 use Rattle.slurm_text.specs.declared.plain.state.HeldBy.{HeldBy}
 use Rattle.slurm_text.specs.declared.plain.state.HeldBy.TheVariants as held
 use Rattle.partitions.specs.declared.record.PartRecord.{PartRecord}
@@ -16,7 +16,13 @@ use Rattle.node_state.specs.declared.record.NodeRecord.{NodeRecord}
 use Rattle.node_state.specs.Nodes.{is_available, place_named}
 use Rattle.accounts_qos.specs.Accounts.{qos_limits_at}
 use Rattle.run_limits.specs.Limits.{first_reason, limits_reached, reason_if}
+use Rattle.dependencies.specs.declared.standing.Standing.{Standing}
+use Rattle.dependencies.specs.declared.standing.Standing.TheVariants.{Satisfied, Waiting, Never}
+use Rattle.dependencies.specs.Standing.{standing}
+use Rattle.reservations.specs.declared.record.Reservation.{Reservation as Kept}
+use Rattle.reservations.specs.Reservations.{lasting, reservation_named}
 use Rattle.ctl_state.specs.Counted.{beside, counted_of}
+use Rattle.ctl_state.specs.Holds.{limit_end}
 use Rattle.ctl_state.specs.Limits.{exceeds}
 use Rattle.ctl_state.specs.Planning.{is_at}
 use Rattle.ctl_state.specs.State.{State, partition_of}
@@ -43,6 +49,12 @@ abbrev pub held_reason : HeldBy → Option Reason
 held_reason held.Nobody = None
 held_reason held.User = Some JobHeldUser
 held_reason held.Admin = Some JobHeldAdmin
+
+-- it waits for something that hasn't come, or can't come any more
+abbrev pub reason_of : Standing → Option Reason
+reason_of Satisfied = None
+reason_of Waiting = Some Dependency
+reason_of Never = Some DependencyNeverSatisfied
 
 -- the job isn't to begin yet
 abbrev pub is_early : ℕ → JobRecord → Bool
@@ -79,15 +91,36 @@ is_unavailable nodes name =
 abbrev pub lacks_node : State → JobRecord → Bool
 lacks_node s job = list_any (is_unavailable s.nodes) job.desc.required
 
+-- a job of this limit that begins at the moment, or when the reservation does where that is later, is over by its end
+abbrev pub has_time_in : Kept → ℕ → Limit → Bool
+has_time_in reservation now limit = nat_le (limit_end limit (max now reservation.start)) reservation.end
+
+-- there is no such reservation, or too little of its time is left
+abbrev pub is_too_late : Option Kept → ℕ → Limit → Bool
+is_too_late None now limit = true
+is_too_late (Some reservation) now limit = not (has_time_in reservation now limit)
+
+-- the job names a reservation in which it can't run any more
+abbrev pub lacks_reservation : State → ℕ → JobRecord → Bool
+lacks_reservation s now job =
+    unwrap_or
+    (option_map
+    (λ name. is_too_late (reservation_named name (lasting now s.reservations)) now job.limit)
+    job.desc.reservation)
+    false
+
 -- what may hinder a job at a moment, in its order
 abbrev pub hindrances : State → ℕ → JobRecord → List (Option Reason)
 hindrances s now job =
     held_reason job.held_by
+    ∷ (reason_of (standing s.jobs job)
     ∷ (reason_if (is_early now job) BeginTime
     ∷ (hindrances_in (partition_of s job) job
     ++ (reason_if (exceeds_wall s job) QosMaxWallDurationPerJobLimit
     ∷ (reached_beside s s.jobs job
-    ++ reason_if (lacks_node s job) ReqNodeNotAvail ∷ []))))
+    ++ (reason_if (lacks_reservation s now job) Reservation
+    ∷ reason_if (lacks_node s job) ReqNodeNotAvail
+    ∷ []))))))
 
 -- what hinders the job at a moment, or nothing
 unfoldable pub hindrance : State → ℕ → JobRecord → Option Reason

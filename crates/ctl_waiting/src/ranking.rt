@@ -1,6 +1,6 @@
 //! The jobs that can be planned, by rank, and what they need.
 
-ghost use Rattle.std.specs.Prelude.{◌≡◌, ◌≤◌, ◌<◌, All, IfOk, IfSome, length, map, filter, filter_map, option_map, slice_get};
+ghost use Rattle.std.specs.Prelude.{◌≡◌, ◌≤◌, ◌<◌, All, IfOk, IfSome, length, map, filter, filter_map, option_map, slice_get, None};
 ghost use Rattle.std.specs.Ordering.{is_lt};
 ghost use Rattle.backfill_planner.specs.declared.job.PlanJob.{PlanJob};
 ghost use Rattle.job_table.specs.declared.record.JobRecord.{JobRecord};
@@ -13,15 +13,19 @@ ghost use Rattle.partitions.specs.Partitions.{IsOnNodes};
 ghost use Rattle.ctl_rank.specs.Measured.{IsMeasured};
 ghost use Rattle.ctl_rank.specs.Rank;
 ghost use Rattle.ctl_rank.specs.declared.rank.RankKey.{RankKey};
+ghost use Rattle.job_table.specs.Targets.{AreTogether};
+ghost use Rattle.reservations.specs.Reservations.{lasting};
 ghost use Rattle.ctl_waiting.specs.Candidates;
+ghost use Rattle.ctl_waiting.specs.Needs;
 
 use crate::reasons::hindrance;
-use backfill_planner::{NodeList, PlanJob};
+use backfill_planner::{BarredList, NodeList, PlanJob};
 use ctl_rank::{Factors, RankKey, is_above, key_of};
 use ctl_state::cluster::Cluster;
 use ctl_state::jobs::is_pending;
 use ctl_state::laws::a_stable_sort_makes_the_order;
 use ctl_state::planning::{node_order, plan_job};
+use ctl_state::reserved::{barred_for, lasting_named, places_in};
 use job_table::record::JobRecord;
 use node_state::record::NodeRecord;
 use partitions::bounds::bounds_of;
@@ -40,7 +44,8 @@ struct Candidate<'a> {
 
 // Whether the job waits, and nothing hinders it at this moment.
 fn is_candidate(cluster: &Cluster, tally: &Tally, moment: u64, job: &JobRecord) -> bool
-    requires { Shows cluster.now.assocs.records tally.now (holding cluster.now.jobs.records) }
+    requires together { AreTogether cluster.now.jobs.records }
+    requires counted { Shows cluster.now.assocs.records tally.now (holding cluster.now.jobs.records) }
     ensures { result ≡ Candidates.is_candidate (state_of cluster.now) moment job.now }
 {
     is_pending(job) && hindrance(cluster, tally, moment, job).is_none()
@@ -53,6 +58,7 @@ fn candidates_of<'a>(
     tally: &Tally,
     factors: &Factors,
 ) -> Result<Vec<Candidate<'a>>, Memory>
+    requires together { AreTogether cluster.now.jobs.records }
     requires counted { Shows cluster.now.assocs.records tally.now (holding cluster.now.jobs.records) }
     requires measured { IsMeasured (state_of cluster.now) factors.now }
     ensures { IfOk result (λ some. map {B = JobRecord × RankKey} (λ one. (one.job.now, one.key)) some.items
@@ -89,6 +95,7 @@ fn by_rank<'a>(
     tally: &Tally,
     factors: &Factors,
 ) -> Result<Vec<Candidate<'a>>, Memory>
+    requires together { AreTogether cluster.now.jobs.records }
     requires counted { Shows cluster.now.assocs.records tally.now (holding cluster.now.jobs.records) }
     requires measured { IsMeasured (state_of cluster.now) factors.now }
     ensures { IfOk result (λ some. map (λ one. one.job.now) some.items
@@ -116,17 +123,80 @@ fn node_orders(
     Ok(orders)
 }
 
+// Those of a partition's nodes, in this order, that the job may have by the reservation that it names.
+#[tactic(auto, unfolding(ctl_state::specs::Planning::places_for))]
+fn places_for(
+    alloc: Global,
+    cluster: &Cluster,
+    moment: u64,
+    partition: &PartRecord,
+    order: &NodeList,
+    job: &JobRecord,
+) -> Result<NodeList, Memory>
+    requires there { IsOnNodes (length cluster.now.nodes.records) partition.now }
+    requires order { order.now ≡ Planning.node_order cluster.now.nodes.records partition.now }
+    ensures places { IfOk result (λ places. places ≡ Planning.places_for cluster.now.nodes.records
+        (lasting moment cluster.now.reservations) partition.now job.now.desc.reservation) }
+    ensures nodes { IfOk result (λ places. All (λ place. place < length cluster.now.nodes.records) places) }
+{
+    let Some(name) = &job.desc.reservation else {
+        return order.share();
+    };
+    match lasting_named(&cluster.reservations, moment, name) {
+        Some(reservation) => places_in(alloc, reservation, order),
+        None => NodeList::from_vec(Vec::new(alloc)),
+    }
+}
+
+// When the job may not have which nodes; a job that names no reservation shares this list.
+fn barred_from(
+    alloc: Global,
+    cluster: &Cluster,
+    moment: u64,
+    unnamed: &BarredList,
+    job: &JobRecord,
+) -> Result<BarredList, Memory>
+    requires { unnamed.now ≡ Planning.barred_of (lasting moment cluster.now.reservations) None }
+    ensures { IfOk result (λ barred. barred
+        ≡ Planning.barred_of (lasting moment cluster.now.reservations) job.now.desc.reservation) }
+{
+    if job.desc.reservation.is_none() {
+        return unnamed.share();
+    }
+    barred_for(alloc, &cluster.reservations, moment, &job.desc.reservation)
+}
+
+// What all candidates of a moment are planned by: the order of the nodes of each partition, and when a job that names
+// no reservation may not have which nodes.
+#[derive(Drop)]
+struct Grounds {
+    moment: u64,
+    orders: Vec<NodeList>,
+    barred: BarredList,
+}
+
+fn grounds_of(alloc: Global, cluster: &Cluster, moment: u64) -> Result<Grounds, Memory>
+    requires { All (IsOnNodes (length cluster.now.nodes.records)) cluster.now.partitions }
+    ensures { IfOk result (Needs.AreGrounds (state_of cluster.now) moment) }
+{
+    Ok(Grounds {
+        moment,
+        orders: node_orders(alloc, cluster.nodes.records(), cluster.partitions.records())?,
+        barred: barred_for(alloc, &cluster.reservations, moment, &None)?,
+    })
+}
+
 // What a job needs in its partition, if it can be had there.
 #[tactic(auto, unfolding(crate::specs::Candidates::needs_of))]
 fn need_of(
     alloc: Global,
     cluster: &Cluster,
-    orders: &[NodeList],
+    grounds: &Grounds,
     job: &JobRecord,
 ) -> Result<Option<PlanJob>, Memory>
     requires partitions { All (IsOnNodes (length cluster.now.nodes.records)) cluster.now.partitions }
-    requires orders { orders.now ≡ map (Planning.node_order cluster.now.nodes.records) cluster.now.partitions }
-    ensures need { IfOk result (λ need. need ≡ Candidates.needs_of (state_of cluster.now) job.now) }
+    requires grounds { Needs.AreGrounds (state_of cluster.now) grounds.now.moment grounds.now }
+    ensures need { IfOk result (λ need. need ≡ Candidates.needs_of (state_of cluster.now) grounds.now.moment job.now) }
     ensures nodes { IfOk result (λ need. IfSome need (λ plan.
         All (λ node. node < length cluster.now.nodes.records) plan.nodes)) }
     ensures tasks { IfOk result (λ need. IfSome need (λ plan. 1 ≤ plan.need.tasks)) }
@@ -137,29 +207,31 @@ fn need_of(
     let Some(bounds) = bounds_of(partition, &job.desc) else {
         return Ok(None);
     };
-    let order = &orders[job.partition as usize];
+    let order = &grounds.orders[job.partition as usize];
+    let places = places_for(alloc, cluster, grounds.moment, partition, order, job)?;
+    let barred = barred_from(alloc, cluster, grounds.moment, &grounds.barred, job)?;
     let nodes = cluster.nodes.records();
-    Ok(Some(plan_job(alloc, nodes, partition, order, bounds, job)?))
+    Ok(Some(plan_job(alloc, nodes, partition, &places, barred, bounds, job)?))
 }
 
 // What the candidates need, in their order.
 fn needs_of(
     alloc: Global,
     cluster: &Cluster,
-    orders: &[NodeList],
+    grounds: &Grounds,
     candidates: &[Candidate],
 ) -> Result<Vec<PlanJob>, Memory>
     requires partitions { All (IsOnNodes (length cluster.now.nodes.records)) cluster.now.partitions }
-    requires orders { orders.now ≡ map (Planning.node_order cluster.now.nodes.records) cluster.now.partitions }
-    ensures ranked { IfOk result (λ ranked. ranked.items
-        ≡ filter_map (Candidates.needs_of (state_of cluster.now)) (map (λ one. one.job.now) candidates.now)) }
+    requires grounds { Needs.AreGrounds (state_of cluster.now) grounds.now.moment grounds.now }
+    ensures ranked { IfOk result (λ ranked. ranked.items ≡ filter_map
+        (Candidates.needs_of (state_of cluster.now) grounds.now.moment) (map (λ one. one.job.now) candidates.now)) }
     ensures nodes { IfOk result (λ ranked.
         All (λ (job : PlanJob). All (λ node. node < length cluster.now.nodes.records) job.nodes) ranked.items) }
     ensures tasks { IfOk result (λ ranked. All (λ (job : PlanJob). 1 ≤ job.need.tasks) ranked.items) }
 {
     let mut ranked = Vec::with_capacity(alloc, candidates.len())?;
     for candidate in candidates {
-        if let Some(need) = need_of(alloc, cluster, orders, candidate.job)? {
+        if let Some(need) = need_of(alloc, cluster, grounds, candidate.job)? {
             ranked.push(need)?;
         }
     }
@@ -169,8 +241,8 @@ fn needs_of(
 /// What the candidates at the factors' moment need, highest in rank first: the pending jobs that nothing hinders then.
 /// Linear in the jobs, and for each pending one in its association's way up to root and the nodes that it must have.
 /// The nodes of each partition are sorted once, and its candidates share them, so that a candidate that says nothing of
-/// its nodes costs no more; one that does costs the nodes of its partition, and for each of them what it names. What
-/// each candidate is ranked by is found once, and by that they are sorted.
+/// its nodes costs no more; one that does costs the nodes of its partition, and for each of them what it names, and one
+/// that names a reservation the reservations besides. What each candidate is ranked by is found once, and by that they are sorted.
 #[tactic(auto, unfolding(crate::specs::Candidates::ranked))]
 pub fn rank(
     alloc: Global,
@@ -188,8 +260,8 @@ pub fn rank(
     ensures tasks { IfOk result (λ ranked. All (λ (job : PlanJob). 1 ≤ job.need.tasks) ranked.items) }
 {
     let candidates = by_rank(alloc, cluster, tally, factors)?;
-    let orders = node_orders(alloc, cluster.nodes.records(), cluster.partitions.records())?;
-    needs_of(alloc, cluster, orders.as_slice(), candidates.as_slice())
+    let grounds = grounds_of(alloc, cluster, factors.moment)?;
+    needs_of(alloc, cluster, &grounds, candidates.as_slice())
 }
 
 // Whether one job is higher in rank than another.
@@ -208,6 +280,7 @@ fn is_higher(cluster: &Cluster, factors: &Factors, one: &JobRecord, other: &JobR
 /// One walk over the jobs, which looks at what each pending one is ranked by; each that is higher than the candidates
 /// before it costs its association's way up to root and the nodes that it must have besides.
 pub fn highest(cluster: &Cluster, tally: &Tally, factors: &Factors) -> Option<u32>
+    requires together { AreTogether cluster.now.jobs.records }
     requires counted { Shows cluster.now.assocs.records tally.now (holding cluster.now.jobs.records) }
     requires measured { IsMeasured (state_of cluster.now) factors.now }
     ensures { result ≡ option_map (λ (job : JobRecord). job.id)

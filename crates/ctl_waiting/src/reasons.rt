@@ -2,6 +2,8 @@
 
 ghost use Rattle.std.specs.Prelude.{◌≡◌, List};
 ghost use Rattle.job_table.specs.declared.record.JobRecord.{JobRecord};
+ghost use Rattle.job_table.specs.Targets.{AreTogether};
+ghost use Rattle.dependencies.specs.Standing.{standing};
 ghost use Rattle.run_limits.specs.Limits.{first_reason, reason_if};
 ghost use Rattle.run_limits.specs.Tallies.{Shows};
 ghost use Rattle.ctl_state.specs.Counted.{holding};
@@ -11,15 +13,22 @@ ghost use Rattle.ctl_waiting.specs.Reasons;
 use ctl_state::cluster::Cluster;
 use ctl_state::counting::counted_of;
 use ctl_state::limits::exceeds;
+use ctl_state::reserved::lasting_named;
+use dependencies::standing::{Standing, standing};
 use job_table::record::JobRecord;
 use node_state::nodes::Nodes;
 use partitions::bounds::bounds_of;
 use partitions::record::PartRecord;
+use reservations::record::Reservation;
 use run_limits::reasons::limit_reached as first_limit_reached;
 use run_limits::tally::Tally;
 use slurm_text::name::Name;
 use slurm_text::plain::conf::PartState;
+use slurm_text::plain::limit::Limit;
 use slurm_text::plain::state::{HeldBy, Reason};
+
+// After all moments.
+const FOREVER: u64 = 1_000_000_000_000;
 
 // Who holds the job back.
 fn held_reason(held_by: HeldBy) -> Option<Reason>
@@ -29,6 +38,18 @@ fn held_reason(held_by: HeldBy) -> Option<Reason>
         HeldBy::Nobody => None,
         HeldBy::User => Some(Reason::JobHeldUser),
         HeldBy::Admin => Some(Reason::JobHeldAdmin),
+    }
+}
+
+// What hinders a job by what it waits for. `--dependency` in sbatch(1).
+fn dependency_hindrance(cluster: &Cluster, job: &JobRecord) -> Option<Reason>
+    requires { AreTogether cluster.now.jobs.records }
+    ensures { result ≡ Reasons.reason_of (standing cluster.now.jobs.records job.now) }
+{
+    match standing(&cluster.jobs, job) {
+        Standing::Satisfied => None,
+        Standing::Waiting => Some(Reason::Dependency),
+        Standing::Never => Some(Reason::DependencyNeverSatisfied),
     }
 }
 
@@ -105,6 +126,46 @@ fn lacks_node(cluster: &Cluster, job: &JobRecord) -> bool
         .any(|name| is_unavailable(&cluster.nodes, name))
 }
 
+// Whether a job of this limit that begins at the moment, or when the reservation does where that is later, is over by
+// its end.
+fn has_time_in(reservation: &Reservation, moment: u64, limit: &Limit) -> bool
+    ensures { result ≡ Reasons.has_time_in reservation.now moment limit.now }
+{
+    let from = moment.max(reservation.start.get());
+    match limit {
+        Limit::Minutes(minutes) => reservation
+            .end
+            .get()
+            .checked_sub(from)
+            .is_some_and(|left| minutes.get() * 60 <= left),
+        Limit::Unlimited => FOREVER <= reservation.end.get(),
+    }
+}
+
+// Whether the job names a reservation in which it can't run any more. Linear in the reservations.
+fn lacks_reservation(cluster: &Cluster, moment: u64, job: &JobRecord) -> bool
+    ensures { result ≡ Reasons.lacks_reservation (state_of cluster.now) moment job.now }
+{
+    let Some(name) = &job.desc.reservation else {
+        return false;
+    };
+    match lasting_named(&cluster.reservations, moment, name) {
+        Some(reservation) => !has_time_in(reservation, moment, &job.limit),
+        None => true,
+    }
+}
+
+// What hinders the job by the reservation that it names.
+fn reservation_hindrance(cluster: &Cluster, moment: u64, job: &JobRecord) -> Option<Reason>
+    ensures { result ≡ reason_if (Reasons.lacks_reservation (state_of cluster.now) moment job.now) Reason.Reservation }
+{
+    if lacks_reservation(cluster, moment, job) {
+        Some(Reason::Reservation)
+    } else {
+        None
+    }
+}
+
 // What hinders the job by the moment at which it is to begin.
 fn begin_hindrance(moment: u64, job: &JobRecord) -> Option<Reason>
     ensures { result ≡ reason_if (Reasons.is_early moment job.now) Reason.BeginTime }
@@ -148,16 +209,20 @@ fn node_hindrance(cluster: &Cluster, job: &JobRecord) -> Option<Reason>
 }
 
 /// Why a pending job can't be planned at a moment, in seconds; None where nothing hinders it. Linear in its
-/// association's way up to root and in the nodes that it must have. "JOB REASON CODES" in squeue(1), and `--begin` in
-/// sbatch(1).
+/// association's way up to root, in the reservations where it names one, and in the nodes that it must have; where it
+/// waits for others it costs what `dependencies::standing` does besides. "JOB REASON CODES" in squeue(1), and `--begin`,
+/// `--dependency`, `--reservation` in sbatch(1).
 pub fn hindrance(cluster: &Cluster, tally: &Tally, moment: u64, job: &JobRecord) -> Option<Reason>
-    requires { Shows cluster.now.assocs.records tally.now (holding cluster.now.jobs.records) }
+    requires together { AreTogether cluster.now.jobs.records }
+    requires counted { Shows cluster.now.assocs.records tally.now (holding cluster.now.jobs.records) }
     ensures { result ≡ Reasons.hindrance (state_of cluster.now) moment job.now }
 {
     held_reason(job.held_by)
+        .or_else(|| dependency_hindrance(cluster, job))
         .or_else(|| begin_hindrance(moment, job))
         .or_else(|| partition_hindrance(cluster, job))
         .or_else(|| wall_hindrance(cluster, job))
         .or_else(|| limit_reached(cluster, tally, job))
+        .or_else(|| reservation_hindrance(cluster, moment, job))
         .or_else(|| node_hindrance(cluster, job))
 }

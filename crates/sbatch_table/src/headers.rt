@@ -61,7 +61,7 @@ fn push_meaning(out: &mut Vec<u8>, meaning: &Meaning) -> Result<(), Unanswered> 
     match meaning {
         Meaning::Asks(asked) => push_asked(out, asked),
         Meaning::Malformed { command, fault } => push_malformed(out, *command, *fault),
-        Meaning::NotBuilt => push(out, &"NotBuilt"),
+        Meaning::UnknownCommand => push(out, &"UnknownCommand"),
         Meaning::BadWords { place } => push_marked(out, b"BadWords ", place),
         Meaning::BadHeader => push(out, &"BadHeader"),
     }

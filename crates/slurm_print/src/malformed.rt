@@ -2,7 +2,7 @@
 
 ghost use Rattle.std.specs.Prelude.{◌≡◌, ◌++◌, IfOk, OnOk};
 ghost use Rattle.option_words.specs.Refusal.{kind_text};
-ghost use Rattle.slurm_print.specs.Malformed.{teller, fault_line, malformed_text, bad_words_text, bad_header_text, not_built_text};
+ghost use Rattle.slurm_print.specs.Malformed.{teller, fault_line, malformed_text, bad_words_text, bad_header_text, unknown_command_text, not_built_text};
 
 use crate::line::{push_labelled, push_text};
 use command_words::command::Command;
@@ -50,7 +50,14 @@ pub fn bad_header() -> &'static [u8]
     b"slurm: error: BadHeader\n"
 }
 
-/// The text that answers what the controller can't do yet, a request or a header (own).
+/// The text that answers a command that there isn't (own).
+pub fn unknown_command() -> &'static [u8]
+    ensures { result.now ≡ unknown_command_text }
+{
+    b"slurm: error: word 1: UnknownCommand\n"
+}
+
+/// The text that answers a request that the controller can't work yet (own).
 pub fn not_built() -> &'static [u8]
     ensures { result.now ≡ not_built_text }
 {

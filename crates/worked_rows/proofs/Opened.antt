@@ -34,7 +34,7 @@ use Rattle.slurm_text.specs.Words.{words_in as line_words_in, before_comment, op
 use Rattle.command_words.specs.Command.{command_named}
 use Rattle.command_words.specs.Header.{head_in, asked_by, meaning_by, meaning_in}
 use Rattle.command_words.specs.Wanted.{alone_by, wanted_by}
-use Rattle.command_words.specs.Sbatch.{is_built, sbatch_by}
+use Rattle.command_words.specs.Sbatch.{sbatch_by}
 use Rattle.option_words.specs.Arguments.{parts_left}
 use Rattle.sbatch_options.specs.Table.{options}
 use Rattle.sbatch_options.specs.Entries.{value_entry, entry_in as option_entry, with_entry as with_option, no_words}
@@ -110,7 +110,7 @@ clusters = tt
 -- blocks, and what their words ask
 unfoldable pub headers : Unit {0}
 unfolding first_block blocks_within blocks_of reading_at line_words_in before_comment open_place first_bad
-    command_named head_in asked_by meaning_by meaning_in word_at closed_at alone_by wanted_by is_built sbatch_by parts_left options
+    command_named head_in asked_by meaning_by meaning_in word_at closed_at alone_by wanted_by sbatch_by parts_left options
     value_entry option_entry with_option no_words option_number least_nodes are_crossed all_tasks last_part job_of
     no_option_said after draft_job all_said job_in split_text one_line_says script_says number_within is_name
     is_job_name seconds_of_clock seconds_of_day seconds_of_parts seconds_of limit_of_minutes limit_of

@@ -143,15 +143,28 @@ pub fn other_headers()
     ensures twice { script_of on_one_node
         (codes "100 alice sbatch -n 5 -n 1 -t 1\n")
         ≡ codes "Submitted batch job 1\n" }
-    ensures more { script_of on_one_node (codes "100 root pass now\n") ≡ not_built_text }
-    ensures other_command { script_of on_one_node (codes "100 alice salloc\n") ≡ not_built_text }
+    ensures more { script_of on_one_node (codes "100 root pass now\n") ≡ codes "pass: error: word 2: StrayWord\n" }
+    ensures stray_first { script_of on_one_node
+        (codes "100 root pass now <<\n.\n")
+        ≡ codes "pass: error: word 1: StrayWord\n" }
+    ensures other_command { script_of on_one_node
+        (codes "100 alice salloc\n")
+        ≡ codes "slurm: error: word 1: UnknownCommand\n" }
+    ensures other_command_first { script_of on_one_node
+        (codes "100 alice salloc <<\n.\n")
+        ≡ codes "slurm: error: word 1: UnknownCommand\n" }
+    ensures other_action { script_of on_one_node
+        (codes "0 root scontrol reboot\n")
+        ≡ codes "slurm: error: word 2: UnknownCommand\n" }
+    ensures no_action { script_of on_one_node
+        (codes "0 root scontrol\n")
+        ≡ codes "scontrol: error: word 2: MissingWord\n" }
 {}
 
 /// What isn't built yet is answered so, and leaves the state.
 #[tactic(none)]
 pub fn unbuilt()
     ensures show { script_of on_one_node (codes "0 alice scontrol show reservation\n") ≡ not_built_text }
-    ensures other_action { script_of on_one_node (codes "0 root scontrol reboot\n") ≡ not_built_text }
 {}
 
 /// What scontrol(1) does to jobs, and to the controller.

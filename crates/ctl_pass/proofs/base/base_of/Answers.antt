@@ -1,7 +1,7 @@
 use Rattle.std.proofs.Common.{arith}
 use Rattle.ctl_state.specs.State.{state_of}
 use Rattle.ctl_pass.proofs.Planned.{base-within}
-use Rattle.ctl_pass.proofs.Readied.{readied}
+use Rattle.ctl_pass.proofs.Readied.{left-known, readied}
 use Rattle.ctl_pass.proofs.base.base_of.Goals as goal
 
 pub invariant_of-result : goal.invariant_of-result
@@ -17,6 +17,7 @@ invariant_of-result c =
         c.records.ensures.value,
         c.records-2.ensures.value,
         c.get-age.ensures.value,
+        left-known c.who_is_awaited_stays.ensures.changes s c.args.now c.args.awaited.now c.requires.awaited,
       )
           (base-within (readied s c.args.now) sound),
       omega (arith, c.get.ensures.value, c.requires.sound.settings.window.1, c.requires.in_time),

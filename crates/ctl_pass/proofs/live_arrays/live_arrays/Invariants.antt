@@ -1,7 +1,7 @@
 use Rattle.std.proofs.Common.{◌≡◌, ℕ, eqb, take}
 use Rattle.std.specs.HashSet.{contains}
 use Rattle.std.specs.List.{list_any}
-use Rattle.job_table.specs.Table.{is_old}
+use Rattle.job_table.specs.Awaiting.{has_gone}
 use Rattle.job_table.specs.Targets.{is_task_of}
 use Rattle.ctl_state.specs.Events.{those_left}
 use Rattle.ctl_pass.specs.Limits.{timed_out}
@@ -11,4 +11,4 @@ use Rattle.ctl_pass.proofs.live_arrays.live_arrays.Given as goal
 abbrev pub invariant-loop-job : goal.invariant-loop-job
 invariant-loop-job l = (array : ℕ)
     → contains eqb l.numbers array ≡ list_any (is_task_of array)
-    (those_left (timed_out l.now) (is_old l.age l.now) (take l.job-index l.jobs))
+    (those_left (timed_out l.now) (has_gone l.age l.now l.awaited) (take l.job-index l.jobs))

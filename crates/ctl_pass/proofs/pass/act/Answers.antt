@@ -1,14 +1,13 @@
 use Rattle.std.proofs.Common.{fold, get_or, ap, subst, sym, ◌∙◌}
 use Rattle.ctl_state.specs.State.{State, state_of}
-use Rattle.job_table.specs.Table.{is_old}
 use Rattle.ctl_pass.specs.Awaiting.{placements_of}
 use Rattle.ctl_pass.specs.Limits.{timed_out}
-use Rattle.ctl_pass.specs.Readiness.{jobs_left, placements, ready}
+use Rattle.ctl_pass.specs.Readiness.{goes, jobs_left, placements, ready}
 use Rattle.ctl_pass.specs.Starting.{begun_by}
 use Rattle.ctl_pass.specs.Taking.{AreDue, unplanned}
 use Rattle.ctl_pass.proofs.Due.{due-now}
 use Rattle.ctl_pass.proofs.Passes.{acted}
-use Rattle.ctl_pass.proofs.Readied.{old-empty, timed_out-parts}
+use Rattle.ctl_pass.proofs.Readied.{going, gone-empty, timed_out-parts}
 use Rattle.ctl_pass.proofs.pass.act.Goals as goal
 
 pub begin-requires-clause-due : goal.begin-requires-clause-due
@@ -30,10 +29,10 @@ pub begin-requires-clause-indexed : goal.begin-requires-clause-indexed
 begin-requires-clause-indexed c =
     let s = state_of c.args.cluster.now in
     let now = c.args.now in
-    let age = s.settings.min_job_age in
-    let stay = c.parts_stay.ensures.stay s.jobs (timed_out now) (is_old age now)
+    let gone = going c.who_is_awaited_stays.ensures.changes s now in
+    let stay = c.parts_stay.ensures.stay s.jobs (timed_out now) (goes s now)
     (λ k d below. timed_out-parts now (get_or s.jobs k d))
-    (λ k d below. old-empty age now (get_or s.jobs k d) (c.requires.sound.jobs k d below).parts) in
+    (λ k d below. gone-empty now (goes s now) (get_or s.jobs k d) gone (c.requires.sound.jobs k d below).parts) in
     rw (c.make_ready.ensures.held, ap (λ (one : State). one.jobs) c.make_ready.ensures.ready, stay) c.requires.indexed
 
 pub returns-clause-after : goal.returns-clause-after

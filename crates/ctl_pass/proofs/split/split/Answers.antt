@@ -27,7 +27,8 @@ returns-clause-starts c =
     let left = jobs_left s c.args.now in
     let sound = c.what_a_pass_plans_is_sound.ensures s c.args.now c.requires.sound c.requires.raised
     c.requires.in_time in
-    let can = can-begin-ready c.a_stable_sort_makes_the_order.ensures.moves c.a_stable_sort_makes_the_order.ensures.apart
+    let can = can-begin-ready c.who_is_awaited_stays.ensures.changes
+    c.a_stable_sort_makes_the_order.ensures.moves c.a_stable_sort_makes_the_order.ensures.apart
     c.placements_are_of_ranked_jobs.ensures.ids c.placements_are_of_ranked_jobs.ensures.apart s c.args.now c.args.tally
     c.args.placements.items c.requires.sound sound c.requires.plan c.requires.counted in
     IfOk-weaker c.settle.result _ _ (λ both has. has left can
@@ -39,7 +40,8 @@ returns-clause-stays c =
     let left = jobs_left s c.args.now in
     let sound = c.what_a_pass_plans_is_sound.ensures s c.args.now c.requires.sound c.requires.raised
     c.requires.in_time in
-    let can = can-begin-ready c.a_stable_sort_makes_the_order.ensures.moves c.a_stable_sort_makes_the_order.ensures.apart
+    let can = can-begin-ready c.who_is_awaited_stays.ensures.changes
+    c.a_stable_sort_makes_the_order.ensures.moves c.a_stable_sort_makes_the_order.ensures.apart
     c.placements_are_of_ranked_jobs.ensures.ids c.placements_are_of_ranked_jobs.ensures.apart s c.args.now c.args.tally
     c.args.placements.items c.requires.sound sound c.requires.plan c.requires.counted in
     IfOk-weaker c.settle.result _ _ (λ both has. has left can

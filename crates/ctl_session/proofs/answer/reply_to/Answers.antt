@@ -1,7 +1,7 @@
 use Rattle.std.proofs.Common.{◌≡◌, ◌∙◌, sym, subst, refl, IfOk}
 use Rattle.command_words.specs.declared.header.Meaning.{Meaning}
-use Rattle.command_words.specs.declared.header.Meaning.TheVariants.{Asks, Malformed, NotBuilt, BadWords, BadHeader}
-use Rattle.slurm_print.specs.Malformed.{malformed_text, not_built_text, bad_words_text, bad_header_text}
+use Rattle.command_words.specs.declared.header.Meaning.TheVariants.{Asks, Malformed, UnknownCommand, BadWords, BadHeader}
+use Rattle.slurm_print.specs.Malformed.{malformed_text, unknown_command_text, bad_words_text, bad_header_text}
 use Rattle.ctl_session.specs.Meaning.{meaning_of}
 use Rattle.ctl_session.specs.Turn.{AnswersOne}
 use Rattle.ctl_session.proofs.Working.{unasked}
@@ -23,12 +23,12 @@ returns-in-Malformed-clause-ok g c =
     (malformed_text c.in-Malformed.command c.in-Malformed.fault)
     (sym c.in-Malformed.is ∙ c.in_ok-asked.ensures) (λ s. refl) (λ s n. refl) c.malformed.ensures
 
-pub returns-in-NotBuilt-clause-ok : goal.returns-in-NotBuilt-clause-ok
-returns-in-NotBuilt-clause-ok g c =
-    unasked c.copied.result (λ told. told.items) (g.D.Desk.sight c.args.desk.now) NotBuilt
-    (meaning_of c.args.block.now) not_built_text
-    (sym c.in-NotBuilt.is ∙ c.in_ok-asked.ensures) (λ s. refl) (λ s n. refl)
-    (rw c.not_built.ensures at c.copied.ensures)
+pub returns-in-UnknownCommand-clause-ok : goal.returns-in-UnknownCommand-clause-ok
+returns-in-UnknownCommand-clause-ok g c =
+    unasked c.copied.result (λ told. told.items) (g.D.Desk.sight c.args.desk.now) UnknownCommand
+    (meaning_of c.args.block.now) unknown_command_text
+    (sym c.in-UnknownCommand.is ∙ c.in_ok-asked.ensures) (λ s. refl) (λ s n. refl)
+    (rw c.unknown_command.ensures at c.copied.ensures)
 
 pub returns-in-BadWords-clause-ok : goal.returns-in-BadWords-clause-ok
 returns-in-BadWords-clause-ok g c =

@@ -1,7 +1,11 @@
-use Rattle.ctl_state.specs.Planning.{plan_job}
-use Rattle.ctl_state.proofs.Choosing.{among-once, among-there}
+use Rattle.ctl_state.specs.Planning.{places_for, plan_job}
+use Rattle.ctl_state.proofs.Choosing.{among-once, among-there, places-once, places-there}
 use Rattle.ctl_state.proofs.laws.jobs_get_nodes_that_are_there.Goals as goal
 
 pub returns : goal.returns
 unfolding plan_job
-returns c = λ nodes partition bounds job on. (among-there nodes job.desc partition on, among-once nodes job.desc partition on)
+returns c = λ nodes reservations partition barred bounds job on.
+    let places = places_for nodes reservations partition job.desc.reservation in (
+      among-there nodes job.desc places (places-there nodes reservations partition job.desc.reservation on),
+      among-once nodes job.desc places (places-once nodes reservations partition job.desc.reservation on),
+    )

@@ -6,7 +6,3 @@ use Rattle.worked_rows.proofs.scripts.unbuilt.Goals as goal
 pub returns-clause-show : goal.returns-clause-show
 unfolding clusters headers asked plans
 returns-clause-show c = refl
-
-pub returns-clause-other_action : goal.returns-clause-other_action
-unfolding clusters headers asked plans
-returns-clause-other_action c = refl

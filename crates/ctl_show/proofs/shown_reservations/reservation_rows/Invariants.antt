@@ -1,0 +1,10 @@
+use Rattle.std.proofs.Common.{◌≡◌, take, map, filter}
+use Rattle.slurm_text.specs.declared.plain.view.Row.TheVariants as shown
+use Rattle.reservations.specs.declared.record.Reservation.{Reservation}
+use Rattle.ctl_show.specs.Records.{is_meant, reservation_row}
+use Rattle.ctl_show.proofs.shown_reservations.reservation_rows.Given as goal
+
+abbrev pub invariant-loop-reservation : goal.invariant-loop-reservation
+invariant-loop-reservation l =
+    l.rows.items ≡ map (λ (one : Reservation). shown.Reservation (reservation_row l.cluster.nodes.records one))
+    (filter (is_meant l.asked) (take l.reservation-index l.cluster.reservations))

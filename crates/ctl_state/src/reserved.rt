@@ -1,0 +1,106 @@
+//! What reservations leave to a job.
+
+ghost use Rattle.std.specs.Prelude.{◌≡◌, ◌++◌, IfOk, OnOk, filter, flat_map, option_copied};
+ghost use Rattle.cpu_ids.specs.Rows.{has_id};
+ghost use Rattle.reservations.specs.Reservations.{is_named, lasting, reservation_named};
+ghost use Rattle.ctl_state.specs.Planning;
+
+use backfill_planner::{Barred, BarredList, NodeList};
+use reservations::record::Reservation;
+use reservations::reservations::Reservations;
+use slurm_text::memory_error::Memory;
+use slurm_text::name::Name;
+use std::alloc::Global;
+
+// After all moments.
+const FOREVER: u64 = 1_000_000_000_000;
+
+/// The reservation of this name that isn't over at the moment. Linear in the reservations.
+pub fn lasting_named<'a>(
+    reservations: &'a Reservations,
+    now: u64,
+    name: &Name,
+) -> Option<&'a Reservation>
+    ensures { option_copied result ≡ reservation_named name.now (lasting now reservations.now) }
+{
+    reservations
+        .records()
+        .iter()
+        .find(|one| now < one.end.get() && name.is(&one.name))
+}
+
+/// Those of the places at which the reservation has nodes. Linear in the places.
+pub fn places_in(
+    alloc: Global,
+    reservation: &Reservation,
+    places: &NodeList,
+) -> Result<NodeList, Memory>
+    ensures { IfOk result (λ kept. kept ≡ filter (has_id reservation.now.nodes) places.now) }
+{
+    let kept = places
+        .as_slice()
+        .iter()
+        .copied()
+        .filter(|place| reservation.nodes.contains(*place))
+        .collect(alloc)?;
+    NodeList::from_vec(kept)
+}
+
+// Whether the job that names this reservation, or none, names this one.
+fn is_theirs(name: &Option<Name>, reservation: &Reservation) -> bool
+    ensures { result ≡ Planning.is_theirs name.now reservation.now }
+{
+    match name {
+        Some(name) => name.is(&reservation.name),
+        None => false,
+    }
+}
+
+// Adds the times at which a job that names this reservation, or none, may not have the nodes of one.
+fn push_barred(
+    times: &mut Vec<Barred>,
+    reservation: &Reservation,
+    name: &Option<Name>,
+) -> Result<(), Memory>
+    ensures { OnOk result (times.new.items ≡ times.old.items ++ Planning.barred_by name.now reservation.now) }
+{
+    if is_theirs(name, reservation) {
+        times.push(Barred {
+            nodes: reservation.nodes.copy(),
+            from: 0,
+            until: reservation.start.get(),
+        })?;
+        times.push(Barred {
+            nodes: reservation.nodes.copy(),
+            from: reservation.end.get(),
+            until: FOREVER,
+        })?;
+    } else {
+        times.push(Barred {
+            nodes: reservation.nodes.copy(),
+            from: reservation.start.get(),
+            until: reservation.end.get(),
+        })?;
+    }
+    Ok(())
+}
+
+/// The times at which a job that names this reservation, or none, may not have the nodes of those that aren't over at
+/// the moment. Linear in the reservations.
+#[tactic(auto, unfolding(crate::specs::Planning::barred_of))]
+pub fn barred_for(
+    alloc: Global,
+    reservations: &Reservations,
+    now: u64,
+    name: &Option<Name>,
+) -> Result<BarredList, Memory>
+    ensures { IfOk result (λ barred. barred ≡ Planning.barred_of (lasting now reservations.now) name.now) }
+{
+    let mut times = Vec::new(alloc);
+    for reservation in reservations.records() {
+        if now < reservation.end.get() {
+            push_barred(&mut times, reservation, name)?;
+        }
+    }
+    BarredList::from_vec(times)
+}
