@@ -1,5 +1,5 @@
 -- Reservations: nodes that are kept for some users from one second to before another.
-use Rattle.std.specs.Prelude.{◌≡◌, ◌≢◌, ℕ, ◌<◌, ◌≤◌, Bool, false, ◌&&◌, ◌||◌, not, is_some, nat_lt, nat_le, List, length, filter, find, bytes_eq, All, AllPairs, Option}
+use Rattle.std.specs.Prelude.{◌≡◌, ◌≢◌, ℕ, ◌<◌, ◌≤◌, Bool, false, ◌&&◌, ◌||◌, is_some, nat_lt, nat_le, List, length, filter, find, bytes_eq, All, AllPairs, Option}
 use Rattle.std.specs.List.{list_any}
 use Rattle.cpu_ids.specs.Rows.{has_id}
 use Rattle.reservations.specs.declared.record.Reservation.{Reservation}
@@ -47,7 +47,8 @@ is_refused now name start end reservations =
 pub record AreReservations (reservations : List Reservation) : Type 0 where
   pub each : All (λ (one : Reservation). one.start < one.end) reservations
   pub named : AllPairs (λ (one other : Reservation). one.name ≢ other.name) reservations
-  pub apart : AllPairs (λ (one other : Reservation). overlaps other.nodes other.start other.end one ≡ false) reservations
+  pub apart : AllPairs (λ (one other : Reservation). overlaps other.nodes other.start other.end one ≡ false)
+      reservations
   pub few : length reservations ≤ 256
 
 -- it can stand beside them

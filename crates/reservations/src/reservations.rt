@@ -67,14 +67,12 @@ impl Reservations {
         self.find(name).is_some() || end <= start || end <= now || MOST <= self.records.len()
     }
 
-    /// Whether one of them has one of these nodes at this time. Linear in the reservations, and in the nodes of those
-    /// of this time.
+    /// Whether one of them has one of these nodes at this time. Linear in the reservations; nodes are compared word by
+    /// word.
     pub fn overlaps(&self, nodes: &CpuIds, start: u64, end: u64) -> bool
         ensures { result ≡ list_any (spec.overlaps nodes.now start end) self.now }
     {
-        self.records
-            .iter()
-            .any(|one| crosses(one, start, end) && shares(&one.nodes, nodes))
+        self.records.iter().any(|one| crosses(one, start, end) && shares(&one.nodes, nodes))
     }
 
     /// Adds a reservation that isn't refused and overlaps none. Want of memory leaves them as they were.
@@ -103,9 +101,13 @@ impl Reservations {
     }
 }
 
-// Whether two rows of nodes have one in common.
+// Whether two rows of nodes have one in common: something is left of the one without what it has apart from the other.
 fn shares(one: &CpuIds, other: &CpuIds) -> bool
     ensures { result ≡ spec.shares one.now other.now }
 {
-    (0..1024).any(|node| one.contains(node) && other.contains(node))
+    let mut apart = one.copy();
+    apart.remove_all(other);
+    let mut common = one.copy();
+    common.remove_all(&apart);
+    !common.is_empty()
 }
