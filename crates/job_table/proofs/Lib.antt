@@ -3,3 +3,4 @@ pub mod Table
 pub mod Places
 pub mod Entries
 pub mod Charging
+pub mod Awaiting

@@ -189,7 +189,7 @@ impl Jobs {
     {
         self.by_id.retain(
             |_id: &u32, job: &mut JobRecord| -> bool
-                ensures { (result ≡ not (has_gone age now awaited.now job.old)) × (job.new ≡ job.old) }
+                ensures { (result ≡ not (has_gone age now awaited.entry.now job.old)) × (job.new ≡ job.old) }
             { !has_gone(age, now, awaited, job) },
         );
     }

@@ -1,6 +1,7 @@
 //! What holds of lists of which members change one after the other. A law is the contract of a function that does
 //! nothing.
 
+ghost use Rattle.job_table.specs.Awaiting;
 ghost use Rattle.job_table.specs.Usage;
 ghost use Rattle.job_table.specs.Walks;
 
@@ -32,4 +33,12 @@ pub fn jobs_run_on()
     ensures changes { Usage.ChangesRunOn }
     ensures stays { Usage.StaysOn }
     ensures twice { Usage.RunsOnTwice }
+{}
+
+/// For whom others wait is found by numbers, arrays and indices, and so stays through changes and where jobs go that
+/// don't wait for a start.
+pub fn who_is_awaited_stays()
+    ensures number { Awaiting.AwaitedByNumber }
+    ensures changes { Awaiting.AwaitedThroughChanges }
+    ensures others { Awaiting.AwaitedWithoutOthers }
 {}

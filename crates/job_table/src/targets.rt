@@ -1,6 +1,6 @@
 //! Which jobs a target names.
 
-ghost use Rattle.std.specs.Prelude.{◌≡◌, ◌-◌, ◌<◌, ◌≤◌, All, None, true, false, length, take, drop};
+ghost use Rattle.std.specs.Prelude.{◌≡◌, ◌-◌, ◌<◌, ◌≤◌, All, None, true, false, filter, length, take, drop};
 ghost use Rattle.std.specs.List.{HoldsAt};
 ghost use Rattle.job_table.specs.declared.record.JobRecord.{JobRecord};
 ghost use Rattle.job_table.specs.Table.{HaveRisingIds};
@@ -72,4 +72,14 @@ pub fn places_of(jobs: &[JobRecord], target: &Target) -> Places
         first,
         end: first + count,
     }
+}
+
+/// The jobs among which all are that the target names. Logarithmic in all jobs, and linear in these.
+pub fn span_of<'a>(jobs: &'a [JobRecord], target: &Target) -> &'a [JobRecord]
+    requires rising { HaveRisingIds jobs.now }
+    requires together { AreTogether jobs.now }
+    ensures { filter (spec.is_named target.now) result.now ≡ filter (spec.is_named target.now) jobs.now }
+{
+    let places = places_of(jobs, target);
+    &jobs[places.first..places.end]
 }

@@ -4,14 +4,15 @@ use Rattle.std.specs.Map.{values_of}
 use Rattle.std.proofs.lemmas.List.Kept.{AllPairs-filter}
 use Rattle.indexmap.proofs.CallerLemmas.{filter-RetainsPairs}
 use Rattle.job_table.specs.declared.record.JobRecord.{JobRecord}
-use Rattle.job_table.specs.Table.{JobsView, entry_of, is_old}
+use Rattle.job_table.specs.Awaiting.{has_gone}
+use Rattle.job_table.specs.Table.{JobsView, entry_of}
 use Rattle.job_table.proofs.Entries.{filter-table, table-entries, values-entries}
 use Rattle.job_table.proofs.jobs.Jobs.purge.Goals as goal
 
 pub invariant_of-self : goal.invariant_of-self
 invariant_of-self c =
     let entries = c.self.inside.by_id.entries in
-    let keep : JobRecord → Bool = λ job. not (is_old c.args.age c.args.now job) in
+    let keep : JobRecord → Bool = λ job. not (has_gone c.args.age c.args.now c.args.awaited.now job) in
     let kept : c.retain.new.self.entries ≡ filter (λ entry. keep entry.1) entries =
     filter-RetainsPairs _ (λ entry. keep entry.1) _ (λ k v b w g call. search rules) _ _ c.retain.ensures.filtered in
     let are : c.retain.new.self.entries ≡ map entry_of (filter keep (values_of entries)) =
@@ -22,7 +23,7 @@ invariant_of-self c =
 pub returns-clause-records : goal.returns-clause-records
 returns-clause-records c =
     let entries = c.self.inside.by_id.entries in
-    let keep : JobRecord → Bool = λ job. not (is_old c.args.age c.args.now job) in
+    let keep : JobRecord → Bool = λ job. not (has_gone c.args.age c.args.now c.args.awaited.now job) in
     let kept : c.retain.new.self.entries ≡ filter (λ entry. keep entry.1) entries =
     filter-RetainsPairs _ (λ entry. keep entry.1) _ (λ k v b w g call. search rules) _ _ c.retain.ensures.filtered in
     ap values_of kept
