@@ -154,8 +154,7 @@ ended-before own job ended = rw ended (and_right (nat_lt job.id own.id) false re
 module _ (jobs : List JobRecord) (change : JobRecord → JobRecord) (goes : JobRecord → Bool) (own : JobRecord)
     (spec : DepSpec) (among : Contains jobs own) (pending : is_pending own.state ≡ true)
     (waits-for : own.desc.dependency ≡ Some spec) (same : All (λ job. SameForOthers job (change job)) jobs)
-    (done : All (λ job. goes (change job) ≡ true → IsDoneWith jobs job) jobs)
-where
+    (done : All (λ job. goes (change job) ≡ true → IsDoneWith jobs job) jobs) where
   -- whom the number names the dependency names
   abbrev IsOf : DepKind → DepId → Type 0
   IsOf kind id = (job : JobRecord) → names_by kind job id ≡ true → names_job spec job ≡ true
@@ -166,8 +165,8 @@ where
       let job = get_or jobs k d in
       let alone : is_awaited jobs job ≡ false = (done k d inside gone).1 in
       false_from_ne_true (is_named_by id.id (index_meant kind own id) job) (λ named.
-          let names = is_of job (meant-named kind own job id named) in
-          true≢false (sym (named-awaited jobs own job spec among pending waits-for names) ∙ alone))
+      let names = is_of job (meant-named kind own job id named) in
+      true≢false (sym (named-awaited jobs own job spec among pending waits-for names) ∙ alone))
 
   by_id-same : (kind : DepKind) (id : DepId) → IsOf kind id
       → standing_by_id (left change goes jobs) own kind id ≡ standing_by_id jobs own kind id
@@ -203,7 +202,7 @@ where
   by-same k d inside =
       let item = get_or spec.items k d in
       in-same item.kind item.ids (λ j e within job named.
-          list_any_at (names_in job) spec.items k d inside (list_any_at (names_by item.kind job) item.ids j e within named))
+      list_any_at (names_in job) spec.items k d inside (list_any_at (names_by item.kind job) item.ids j e within named))
 
   pub for-same : standing_for (left change goes jobs) own spec ≡ standing_for jobs own spec
   for-same =
