@@ -1,6 +1,6 @@
 -- What changes nothing of what jobs wait for.
-use Rattle.std.proofs.Common.{◌≡◌, ℕ, zero, suc, ◌+◌, ◌<◌, Bool, true, false, ◌&&◌, ◌||◌, not, cond, nat_eq, nat_lt, List, [], ◌∷◌, map, length, get_or, All, Option, None, Some, refl, sym, ap, ◌∙◌, arith, true≢false}
-use Rattle.std.specs.Prelude.{bytes_eq, option_map, unwrap_or, if◌then◌else◌}
+use Rattle.std.proofs.Common.{◌≡◌, ℕ, Bool, true, false, ◌||◌, not, cond, nat_eq, nat_lt, List, [], ◌∷◌, map, get_or, All, Option, None, Some, refl, sym, ap, ◌∙◌, arith, true≢false}
+use Rattle.std.specs.Prelude.{if◌then◌else◌}
 use Rattle.std.specs.List.{Contains, filter, list_any}
 use Rattle.std.proofs.lemmas.Bool.{and_right, false_from_ne_true}
 use Rattle.std.proofs.lemmas.List.Elements.{All-head, All-tail}
@@ -8,19 +8,18 @@ use Rattle.std.proofs.lemmas.List.Folds.{list_any_at}
 use Rattle.slurm_text.specs.declared.plain.dependency.DepKind.{DepKind}
 use Rattle.slurm_text.specs.declared.plain.dependency.DepKind.TheVariants as kinds
 use Rattle.slurm_text.specs.declared.plain.dependency.DepId.{DepId}
-use Rattle.slurm_text.specs.declared.plain.dependency.DepItem.{DepItem}
 use Rattle.slurm_text.specs.declared.plain.dependency.DepSpec.{DepSpec}
 use Rattle.slurm_text.specs.declared.plain.state.Final.{Final}
 use Rattle.slurm_text.specs.declared.plain.state.JobState.{JobState}
 use Rattle.slurm_text.specs.declared.plain.state.JobState.TheVariants.{Pending, Running, Completing, Ended}
 use Rattle.job_table.specs.declared.record.JobRecord.{JobRecord}
-use Rattle.job_table.specs.Awaiting.{awaits, index_named, is_awaited, names_by, names_in, names_job}
+use Rattle.job_table.specs.Awaiting.{awaits, is_awaited, names_by, names_in, names_job}
 use Rattle.job_table.specs.JobStates.{is_ended, is_pending}
-use Rattle.job_table.specs.Targets.{index_of, is_named_by, is_number, is_task_of}
+use Rattle.job_table.specs.Targets.{index_of, is_named_by}
 use Rattle.dependencies.specs.declared.standing.Standing.{Standing}
-use Rattle.dependencies.specs.declared.standing.Standing.TheVariants.{Satisfied, Waiting, Never}
+use Rattle.dependencies.specs.declared.standing.Standing.TheVariants.{Satisfied, Waiting}
 use Rattle.dependencies.specs.Laws.{IsDoneWith, PassesLeaveStandings, SameForOthers}
-use Rattle.dependencies.specs.Standing.{all_of, at_end, by_failure, by_success, has_begun, index_meant, is_before, jobs_named, once, one_of, standing, standing_by, standing_by_id, standing_for, standing_if, standing_in, standing_of}
+use Rattle.dependencies.specs.Standing.{all_of, at_end, by_failure, by_success, index_meant, is_before, once, one_of, standing, standing_by, standing_by_id, standing_for, standing_if, standing_in, standing_of}
 
 map-agree : {X Y : Type 0} (f g : X → Y) (xs : List X) → All (λ x. f x ≡ g x) xs → map f xs ≡ map g xs
 map-agree f g [] same = refl
