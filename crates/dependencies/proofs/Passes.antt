@@ -1,6 +1,6 @@
 -- What changes nothing of what jobs wait for.
-use Rattle.std.proofs.Common.{◌≡◌, ℕ, zero, suc, ◌+◌, ◌<◌, Bool, true, false, ◌&&◌, ◌||◌, not, cond, nat_eq, nat_lt, List, [], ◌∷◌, map, length, get_or, All, Option, None, Some, refl, sym, ap, ◌∙◌, arith, true≢false}
-use Rattle.std.specs.Prelude.{bytes_eq, option_map, unwrap_or, if◌then◌else◌}
+use Rattle.std.proofs.Common.{◌≡◌, ℕ, Bool, true, false, ◌||◌, not, cond, nat_eq, nat_lt, List, [], ◌∷◌, map, get_or, All, Option, None, Some, refl, sym, ap, ◌∙◌, arith, true≢false}
+use Rattle.std.specs.Prelude.{if◌then◌else◌}
 use Rattle.std.specs.List.{Contains, filter, list_any}
 use Rattle.std.proofs.lemmas.Bool.{and_right, false_from_ne_true}
 use Rattle.std.proofs.lemmas.List.Elements.{All-head, All-tail}
@@ -8,19 +8,18 @@ use Rattle.std.proofs.lemmas.List.Folds.{list_any_at}
 use Rattle.slurm_text.specs.declared.plain.dependency.DepKind.{DepKind}
 use Rattle.slurm_text.specs.declared.plain.dependency.DepKind.TheVariants as kinds
 use Rattle.slurm_text.specs.declared.plain.dependency.DepId.{DepId}
-use Rattle.slurm_text.specs.declared.plain.dependency.DepItem.{DepItem}
 use Rattle.slurm_text.specs.declared.plain.dependency.DepSpec.{DepSpec}
 use Rattle.slurm_text.specs.declared.plain.state.Final.{Final}
 use Rattle.slurm_text.specs.declared.plain.state.JobState.{JobState}
 use Rattle.slurm_text.specs.declared.plain.state.JobState.TheVariants.{Pending, Running, Completing, Ended}
 use Rattle.job_table.specs.declared.record.JobRecord.{JobRecord}
-use Rattle.job_table.specs.Awaiting.{awaits, index_named, is_awaited, names_by, names_in, names_job}
+use Rattle.job_table.specs.Awaiting.{awaits, is_awaited, names_by, names_in, names_job}
 use Rattle.job_table.specs.JobStates.{is_ended, is_pending}
-use Rattle.job_table.specs.Targets.{index_of, is_named_by, is_number, is_task_of}
+use Rattle.job_table.specs.Targets.{index_of, is_named_by}
 use Rattle.dependencies.specs.declared.standing.Standing.{Standing}
-use Rattle.dependencies.specs.declared.standing.Standing.TheVariants.{Satisfied, Waiting, Never}
+use Rattle.dependencies.specs.declared.standing.Standing.TheVariants.{Satisfied, Waiting}
 use Rattle.dependencies.specs.Laws.{IsDoneWith, PassesLeaveStandings, SameForOthers}
-use Rattle.dependencies.specs.Standing.{all_of, at_end, by_failure, by_success, has_begun, index_meant, is_before, jobs_named, once, one_of, standing, standing_by, standing_by_id, standing_for, standing_if, standing_in, standing_of}
+use Rattle.dependencies.specs.Standing.{all_of, at_end, by_failure, by_success, index_meant, is_before, once, one_of, standing, standing_by, standing_by_id, standing_for, standing_if, standing_in, standing_of}
 
 map-agree : {X Y : Type 0} (f g : X → Y) (xs : List X) → All (λ x. f x ≡ g x) xs → map f xs ≡ map g xs
 map-agree f g [] same = refl
@@ -154,8 +153,7 @@ ended-before own job ended = rw ended (and_right (nat_lt job.id own.id) false re
 module _ (jobs : List JobRecord) (change : JobRecord → JobRecord) (goes : JobRecord → Bool) (own : JobRecord)
     (spec : DepSpec) (among : Contains jobs own) (pending : is_pending own.state ≡ true)
     (waits-for : own.desc.dependency ≡ Some spec) (same : All (λ job. SameForOthers job (change job)) jobs)
-    (done : All (λ job. goes (change job) ≡ true → IsDoneWith jobs job) jobs)
-where
+    (done : All (λ job. goes (change job) ≡ true → IsDoneWith jobs job) jobs) where
   -- whom the number names the dependency names
   abbrev IsOf : DepKind → DepId → Type 0
   IsOf kind id = (job : JobRecord) → names_by kind job id ≡ true → names_job spec job ≡ true
@@ -166,8 +164,8 @@ where
       let job = get_or jobs k d in
       let alone : is_awaited jobs job ≡ false = (done k d inside gone).1 in
       false_from_ne_true (is_named_by id.id (index_meant kind own id) job) (λ named.
-          let names = is_of job (meant-named kind own job id named) in
-          true≢false (sym (named-awaited jobs own job spec among pending waits-for names) ∙ alone))
+      let names = is_of job (meant-named kind own job id named) in
+      true≢false (sym (named-awaited jobs own job spec among pending waits-for names) ∙ alone))
 
   by_id-same : (kind : DepKind) (id : DepId) → IsOf kind id
       → standing_by_id (left change goes jobs) own kind id ≡ standing_by_id jobs own kind id
@@ -203,7 +201,7 @@ where
   by-same k d inside =
       let item = get_or spec.items k d in
       in-same item.kind item.ids (λ j e within job named.
-          list_any_at (names_in job) spec.items k d inside (list_any_at (names_by item.kind job) item.ids j e within named))
+      list_any_at (names_in job) spec.items k d inside (list_any_at (names_by item.kind job) item.ids j e within named))
 
   pub for-same : standing_for (left change goes jobs) own spec ≡ standing_for jobs own spec
   for-same =

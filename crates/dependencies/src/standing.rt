@@ -55,7 +55,7 @@ impl Standing {
 /// For each number that it names logarithmic in the jobs, and linear in those that the number names; where it waits for
 /// all jobs of its name, linear in the jobs before it. It takes no memory.
 #[tactic(auto, unfolding(crate::specs::Standing::standing))]
-pub fn standing(jobs: &Jobs, own: &JobRecord) -> Standing
+pub fn standing_among(jobs: &Jobs, own: &JobRecord) -> Standing
     requires { AreTogether jobs.now.records }
     ensures { result ≡ spec.standing jobs.now.records own.now }
 {
@@ -201,7 +201,11 @@ fn standing_of(kind: DepKind, job: &JobRecord) -> Standing
 fn once(has_come: bool) -> Standing
     ensures { result ≡ spec.once has_come }
 {
-    if has_come { Standing::Satisfied } else { Standing::Waiting }
+    if has_come {
+        Standing::Satisfied
+    } else {
+        Standing::Waiting
+    }
 }
 
 fn by_success(state: JobState) -> Standing
