@@ -6,15 +6,16 @@ ghost use Rattle.reservations.specs.Reservations;
 use cpu_ids::CpuIds;
 use slurm_text::items::Items;
 use slurm_text::name::Name;
+use slurm_text::ranged::Ranged;
 
 /// Nodes that are kept for some users from one second to before another. "RESERVATIONS" in scontrol(1).
 #[derive(Drop)]
 pub struct Reservation {
     pub name: Name,
     /// The second at which it begins.
-    pub start: u64,
+    pub start: Ranged<0, 250000000000>,
     /// The second at which it is over.
-    pub end: u64,
+    pub end: Ranged<0, 253153600000>,
     /// The places of its nodes in the list of nodes.
     pub nodes: CpuIds,
     /// Who may use it.
@@ -41,5 +42,5 @@ pub fn may_use(reservation: &Reservation, user: &Name, account: &Name) -> bool
 pub fn crosses(reservation: &Reservation, from: u64, until: u64) -> bool
     ensures { result ≡ Reservations.crosses from until reservation.now }
 {
-    from < reservation.end && reservation.start < until
+    from < reservation.end.get() && reservation.start.get() < until
 }

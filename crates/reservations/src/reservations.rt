@@ -97,7 +97,7 @@ impl Reservations {
     pub fn drop_ended(&mut self, now: u64)
         ensures { self.new ≡ spec.lasting now self.old }
     {
-        self.records.retain(|one| now < one.end);
+        self.records.retain(|one| now < one.end.get());
     }
 }
 
