@@ -7,4 +7,5 @@ mod names;
 mod updating;
 
 pub use failing::lose;
+pub use names::places_of;
 pub use updating::{changes_any, refusal_of, update};

@@ -14,7 +14,7 @@ use node_state::record::{NodeChange, NodeRecord};
 use slurm_text::name::Name;
 
 /// The places of the nodes with these names. Linear in the names; it takes no memory.
-pub(crate) fn places_of(nodes: &Nodes, names: &[Name]) -> CpuIds
+pub fn places_of(nodes: &Nodes, names: &[Name]) -> CpuIds
     requires { AreNamedOnce nodes.now.records }
     ensures { (place : ℕ) → has_id result place ≡ is_at (is_among names.now) nodes.now.records place }
 {

@@ -1,0 +1,19 @@
+//! The places of the nodes that a reservation names.
+
+ghost use Rattle.std.specs.Prelude.{◌≡◌};
+ghost use Rattle.ctl_reservations.specs.Reserving;
+
+use cpu_ids::CpuIds;
+use ctl_nodes::places_of;
+use node_state::nodes::Nodes;
+use slurm_text::name::Name;
+
+/// The places of the nodes with these names. Linear in the names; it takes no memory.
+pub(crate) fn places_among(nodes: &Nodes, names: &[Name]) -> CpuIds
+    ensures { result ≡ Reserving.places_among nodes.now.records names.now }
+{
+    let _records = nodes.records();
+    let places = places_of(nodes, names);
+    places.tell_rising();
+    places
+}
