@@ -16,6 +16,7 @@ use std::alloc::Global;
 const FOREVER: u64 = 1_000_000_000_000;
 
 /// The reservation of this name that isn't over at the moment. Linear in the reservations.
+#[tactic(auto, using(crate::proofs::Lasting::find_lasting))]
 pub fn lasting_named<'a>(
     reservations: &'a Reservations,
     now: u64,
@@ -29,6 +30,19 @@ pub fn lasting_named<'a>(
         .find(|one| now < one.end.get() && name.is(&one.name))
 }
 
+// Those of the places at which the reservation has nodes.
+fn kept_places(alloc: Global, reservation: &Reservation, places: &[u32]) -> Result<Vec<u32>, Memory>
+    ensures { IfOk result (λ kept. kept.items ≡ filter (has_id reservation.now.nodes) places.now) }
+{
+    Ok(
+        places
+            .iter()
+            .copied()
+            .filter(|place| reservation.nodes.contains(*place))
+            .collect(alloc)?,
+    )
+}
+
 /// Those of the places at which the reservation has nodes. Linear in the places.
 pub fn places_in(
     alloc: Global,
@@ -37,13 +51,7 @@ pub fn places_in(
 ) -> Result<NodeList, Memory>
     ensures { IfOk result (λ kept. kept ≡ filter (has_id reservation.now.nodes) places.now) }
 {
-    let kept = places
-        .as_slice()
-        .iter()
-        .copied()
-        .filter(|place| reservation.nodes.contains(*place))
-        .collect(alloc)?;
-    NodeList::from_vec(kept)
+    NodeList::from_vec(kept_places(alloc, reservation, places.as_slice())?)
 }
 
 // Whether the job that names this reservation, or none, names this one.

@@ -15,7 +15,7 @@ use slurm_text::plain::dependency::{DepId, DepItem, DepKind, DepSpec};
 use slurm_text::plain::target::Target;
 
 // Whether the number names a job. Logarithmic in the jobs, and linear in those that have it.
-#[tactic(auto, using(crate::proofs::Named::any-named))]
+#[tactic(auto, using(crate::proofs::Named::any_named))]
 fn names_any(jobs: &Jobs, id: &DepId) -> bool
     requires { AreTogether jobs.now.records }
     ensures { result ≡ list_any (is_named_by id.now.id id.now.index) jobs.now.records }
