@@ -1,7 +1,8 @@
 //! What reservations leave to a job.
 
-ghost use Rattle.std.specs.Prelude.{◌≡◌, ◌++◌, IfOk, OnOk, filter, flat_map, option_copied};
+ghost use Rattle.std.specs.Prelude.{◌≡◌, ◌++◌, ◌&&◌, IfOk, OnOk, filter, find, nat_lt, option_copied};
 ghost use Rattle.cpu_ids.specs.Rows.{has_id};
+ghost use Rattle.reservations.specs.declared.record.Reservation.{Reservation as OneReservation};
 ghost use Rattle.reservations.specs.Reservations.{is_named, lasting, reservation_named};
 ghost use Rattle.ctl_state.specs.Planning;
 
@@ -15,8 +16,21 @@ use std::alloc::Global;
 // After all moments.
 const FOREVER: u64 = 1_000_000_000_000;
 
+// The first reservation that has this name and isn't over at the moment.
+fn first_lasting<'a>(
+    reservations: &'a [Reservation],
+    now: u64,
+    name: &Name,
+) -> Option<&'a Reservation>
+    ensures { option_copied result
+        ≡ find (λ (one : OneReservation). nat_lt now one.end && is_named name.now one) reservations.now }
+{
+    reservations
+        .iter()
+        .find(|one| now < one.end.get() && name.is(&one.name))
+}
+
 /// The reservation of this name that isn't over at the moment. Linear in the reservations.
-#[tactic(auto, using(crate::proofs::Lasting::find_lasting))]
 pub fn lasting_named<'a>(
     reservations: &'a Reservations,
     now: u64,
@@ -24,10 +38,7 @@ pub fn lasting_named<'a>(
 ) -> Option<&'a Reservation>
     ensures { option_copied result ≡ reservation_named name.now (lasting now reservations.now) }
 {
-    reservations
-        .records()
-        .iter()
-        .find(|one| now < one.end.get() && name.is(&one.name))
+    first_lasting(reservations.records(), now, name)
 }
 
 // Those of the places at which the reservation has nodes.
