@@ -110,7 +110,7 @@ fn work(
             Ok(update_partition(cluster, user, name, *state, room))
         }
         Request::CreateReservation(desc) => {
-            create_reservation(alloc, cluster, moment, user, desc, room)
+            create_reservation(cluster, moment, user, desc, room)
         }
         Request::DeleteReservation { name } => Ok(delete_reservation(cluster, user, name, room)),
         Request::Shutdown => Ok(shut_down(cluster, user)),

@@ -17,12 +17,10 @@ use slurm_text::memory_error::Memory;
 use slurm_text::name::Name;
 use slurm_text::plain::refusal::Refusal;
 use slurm_text::plain::reservation::ReservationDesc;
-use std::alloc::Global;
 
 /// A reservation more, at its raised moment, where the history has room for it or not. Linear in the names of its nodes,
 /// in the reservations, and in the jobs and their parts.
 pub(crate) fn create_reservation(
-    alloc: Global,
     cluster: &mut Cluster,
     moment: u64,
     user: &Name,
@@ -45,7 +43,7 @@ pub(crate) fn create_reservation(
     if !room {
         return Ok(refused(Refusal::HistoryFull));
     }
-    create(alloc, cluster, desc)?;
+    create(cluster, desc)?;
     Ok(done())
 }
 
