@@ -57,7 +57,8 @@ impl NodeList {
     }
 }
 
-/// Nodes that a job may not have from one second to before another. The rule is `Giving.is_barred`.
+/// Nodes that a job may not have from one second to before another: the seconds from its start to its end cross none of
+/// these (own). What a reservation means to other jobs, "RESERVATIONS" in scontrol(1), comes to such a time.
 #[derive(Drop, PartialEq)]
 pub struct Barred {
     /// By their places among the rooms.
@@ -126,7 +127,7 @@ pub struct PlanJob {
     pub exclusive: bool,
     /// The nodes that it may get, in the order in which they are chosen.
     pub nodes: NodeList,
-    /// The times at which it may not have some of them.
+    /// The times at which it may not have some of them. Each costs a test for each node and second that are tried.
     pub barred: BarredList,
     /// Its limit; None where it has none.
     pub seconds: Option<Ranged<1, 3153600000>>,

@@ -54,7 +54,8 @@ fn are_same(one: &[Barred], other: &[Barred]) -> bool
     one == other
 }
 
-/// Whether of the same nodes, barred at the same times, one job asks for no more tasks, processors, megabytes and seconds than the other.
+/// Whether of the same nodes, barred at the same times, one job asks for no more tasks, processors, megabytes and
+/// seconds than the other.
 pub(crate) fn is_lesser(lesser: &PlanJob, job: &PlanJob) -> bool
     ensures { OnTrue result (IsLesser lesser.now job.now) }
 {
