@@ -13,7 +13,7 @@ use Rattle.resource_profile.specs.Profiles.{HasFree}
 use Rattle.backfill_planner.specs.declared.Placed.{Placed}
 use Rattle.backfill_planner.specs.declared.job.PlanJob.{PlanJob}
 use Rattle.backfill_planner.specs.Bases.{BaseView}
-use Rattle.backfill_planner.specs.Giving.{window_end, tasks_given, give, capacities}
+use Rattle.backfill_planner.specs.Giving.{window_end, is_barred, tasks_given, give, capacities}
 use Rattle.backfill_planner.specs.Plans.{placement_at, first_second, placed_of, holds_of, plan_beside, seconds}
 
 map-same : (f g : ℕ → ℕ) (xs : List ℕ) → ((x : ℕ) → f x ≡ g x) → map f xs ≡ map g xs
@@ -34,8 +34,9 @@ least_mem-same rooms holds others node from until same =
 
 give-same : (rooms : List NodeRoom) (holds others : List Hold) (job : PlanJob) (start node : ℕ) → HoldTheSame holds others node → give rooms holds job start node ≡ give rooms others job start node
 give-same rooms holds others job start node same =
-    ap (λ cpus. tasks_given job (room_at rooms node) cpus (least_over (λ moment. free_mem rooms holds node moment) start (window_end job start))) (least_cpus-same rooms holds others node start (window_end job start) same)
-    ∙ ap (λ mem. tasks_given job (room_at rooms node) (least_over (λ moment. free_cpus rooms others node moment) start (window_end job start)) mem) (least_mem-same rooms holds others node start (window_end job start) same)
+    let given : ℕ → ℕ → ℕ = λ cpus mem. cond (is_barred job.barred node start (window_end job start)) 0 (tasks_given job (room_at rooms node) cpus mem) in
+    ap (λ cpus. given cpus (least_over (λ moment. free_mem rooms holds node moment) start (window_end job start))) (least_cpus-same rooms holds others node start (window_end job start) same)
+    ∙ ap (λ mem. given (least_over (λ moment. free_cpus rooms others node moment) start (window_end job start)) mem) (least_mem-same rooms holds others node start (window_end job start) same)
 
 hold-permuted : (holds others : List Hold) (node : ℕ) → IsPermutation holds others → HoldTheSame holds others node
 hold-permuted holds others node moved = record {

@@ -11,8 +11,9 @@ use Rattle.node_pick.specs.declared.Dealt.{Dealt}
 use Rattle.node_pick.specs.Sets.{capacity, dealt, places, IsRisingFrom, IsChosen}
 use Rattle.backfill_planner.specs.declared.Share.{Share}
 use Rattle.backfill_planner.specs.declared.job.PlanJob.{PlanJob}
-use Rattle.backfill_planner.specs.Giving.{window_end, give, capacities}
+use Rattle.backfill_planner.specs.Giving.{window_end, is_barred, tasks_given, give, capacities}
 use Rattle.backfill_planner.specs.Plans.{share_of, holds_of}
+use Rattle.backfill_planner.proofs.Barring.{given-clear}
 use Rattle.backfill_planner.proofs.Takes.{takes_what_is_free}
 use Rattle.backfill_planner.proofs.Dealing.{IsGiven, dealt-given, set_in_range}
 
@@ -43,7 +44,10 @@ free-part rooms holds job start part nodes window given =
     let cpus = least_over (λ moment. free_cpus rooms holds node moment) start (window_end job start) in
     let mem = least_over (λ moment. free_mem rooms holds node moment) start (window_end job start) in
     let gives = capacity-give rooms holds job start part.place below in
-    let takes = takes_what_is_free job (room_at rooms node) cpus mem part.tasks (rw gives at given.some) (rw gives at given.few) in
+    let some : 1 ≤ give rooms holds job start node = rw gives at given.some in
+    let few : part.tasks ≤ give rooms holds job start node = rw gives at given.few in
+    let clear = given-clear (is_barred job.barred node start (window_end job start)) (tasks_given job (room_at rooms node) cpus mem) some in
+    let takes = takes_what_is_free job (room_at rooms node) cpus mem part.tasks (rw clear at some) (rw clear at few) in
     record { node = nodes part.place 0 below; window = window; cpus = takes.free_cpus; mem = takes.free_mem }
 
 pub free-all : (rooms : List NodeRoom) (holds : List Hold) (job : PlanJob) (start : ℕ) (parts : List Dealt) → All (λ node. node < length rooms) job.nodes → start < window_end job start → All (IsGiven (capacities rooms holds job start)) parts → All (HasFree rooms holds) (map (λ part. hold_of rooms job start part) parts)

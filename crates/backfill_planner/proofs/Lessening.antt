@@ -11,6 +11,7 @@ use Rattle.resource_profile.specs.declared.NodeRoom.{NodeRoom}
 use Rattle.resource_profile.specs.declared.Hold.{Hold}
 use Rattle.resource_profile.specs.Free.{room_at, covers, free_cpus, free_mem, least_after, least_over}
 use Rattle.backfill_planner.proofs.Windows.{over_lower, over_reached}
+use Rattle.backfill_planner.proofs.Barring.{barred-longer, unless-less}
 use Rattle.node_pick.specs.Sets.{capacity, Fits}
 use Rattle.node_pick.specs.Choosing.{numbers_from, chosen}
 use Rattle.slurm_text.specs.declared.plain.mem_ask.MemAsk.{MemAsk}
@@ -18,7 +19,7 @@ use Rattle.slurm_text.specs.declared.plain.mem_ask.MemAsk.TheVariants.{All as Al
 use Rattle.backfill_planner.specs.LowerLaws.{LowerLaws}
 use Rattle.backfill_planner.specs.declared.Placed.{Placed}
 use Rattle.backfill_planner.specs.declared.job.PlanJob.{PlanJob}
-use Rattle.backfill_planner.specs.Giving.{window_end, tasks_by_mem, may_have, tasks_given, give, capacities}
+use Rattle.backfill_planner.specs.Giving.{window_end, is_barred, tasks_by_mem, may_have, tasks_given, give, capacities}
 use Rattle.backfill_planner.specs.Plans.{shares_of, placement_at, first_second, placed_of}
 use Rattle.backfill_planner.specs.Placements.{FitsAt}
 use Rattle.backfill_planner.specs.declared.seen.Seen.{Seen}
@@ -88,6 +89,8 @@ give-lesser rooms holds lesser job second node is last =
     let order = is.no_longer second last in
     let cpus = least_over (λ m. free_cpus rooms holds node m) second (window_end lesser second) in
     let mem = least_over (λ m. free_mem rooms holds node m) second (window_end lesser second) in
+    let barred : is_barred lesser.barred node second (window_end lesser second) ≡ true → is_barred job.barred node second (window_end job second) ≡ true =
+    rw is.barred (barred-longer job.barred node second (window_end lesser second) (window_end job second) order) in
     let wider = tasks-more job (room_at rooms node)
     (least_over (λ m. free_cpus rooms holds node m) second (window_end job second))
     (least_over (λ m. free_mem rooms holds node m) second (window_end job second))
@@ -96,7 +99,8 @@ give-lesser rooms holds lesser job second node is last =
     (least_after-within (λ m. free_cpus rooms holds node m) (room_at rooms node).cpus second (window_end lesser second - second - 1) (λ m. omega arith))
     (least-longer (λ m. free_mem rooms holds node m) second (window_end lesser second) (window_end job second) window order)
     (least_after-within (λ m. free_mem rooms holds node m) (room_at rooms node).mem second (window_end lesser second - second - 1) (λ m. omega arith)) in
-    omega (arith, wider, tasks-lesser lesser job (room_at rooms node) cpus mem is)
+    unless-less (is_barred job.barred node second (window_end job second)) (is_barred lesser.barred node second (window_end lesser second)) _ _ barred
+    (omega (arith, wider, tasks-lesser lesser job (room_at rooms node) cpus mem is))
 
 capacity-lesser : (rooms : List NodeRoom) (holds : List Hold) (lesser job : PlanJob) (second place : ℕ) → IsLesser lesser job → second ≤ 250002592000 → capacity (capacities rooms holds job second) place ≤ capacity (capacities rooms holds lesser second) place
 unfolding capacities
@@ -127,7 +131,9 @@ held-more amount node moment holds more all moved =
 
 give-held : (rooms : List NodeRoom) (holds more all : List Hold) (job : PlanJob) (second node : ℕ) → IsPermutation (holds ++ more) all → give rooms all job second node ≤ give rooms holds job second node
 give-held rooms holds more all job second node moved =
-    tasks-more job (room_at rooms node)
+    let barred = is_barred job.barred node second (window_end job second) in
+    unless-less barred barred _ _ (λ same. same)
+    (tasks-more job (room_at rooms node)
     (least_over (λ m. free_cpus rooms all node m) second (window_end job second))
     (least_over (λ m. free_mem rooms all node m) second (window_end job second))
     (least_over (λ m. free_cpus rooms holds node m) second (window_end job second))
@@ -135,7 +141,7 @@ give-held rooms holds more all job second node moved =
     (least_after-less (λ m. free_cpus rooms all node m) (λ m. free_cpus rooms holds node m) second (window_end job second - second - 1) (λ m. omega (arith, held-more (λ (hold : Hold). hold.cpus) node m holds more all moved)))
     (least_after-within (λ m. free_cpus rooms holds node m) (room_at rooms node).cpus second (window_end job second - second - 1) (λ m. omega arith))
     (least_after-less (λ m. free_mem rooms all node m) (λ m. free_mem rooms holds node m) second (window_end job second - second - 1) (λ m. omega (arith, held-more (λ (hold : Hold). hold.mem) node m holds more all moved)))
-    (least_after-within (λ m. free_mem rooms holds node m) (room_at rooms node).mem second (window_end job second - second - 1) (λ m. omega arith))
+    (least_after-within (λ m. free_mem rooms holds node m) (room_at rooms node).mem second (window_end job second - second - 1) (λ m. omega arith)))
 
 capacity-held : (rooms : List NodeRoom) (holds more all : List Hold) (job : PlanJob) (second place : ℕ) → IsPermutation (holds ++ more) all → capacity (capacities rooms all job second) place ≤ capacity (capacities rooms holds job second) place
 unfolding capacities

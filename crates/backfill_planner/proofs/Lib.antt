@@ -1,4 +1,5 @@
 pub mod Windows
+pub mod Barring
 pub mod Beginnings
 pub mod Takes
 pub mod Dealing

@@ -1,5 +1,5 @@
 -- What the placements of a plan are: of which jobs, when, and with which parts.
-use Rattle.std.proofs.Common.{◌≡◌, ◌≢◌, ℕ, ◌+◌, ◌≤◌, ◌<◌, suc, List, [], ◌∷◌, ◌++◌, length, map, All, Contains, arith, refl, get_or, slice_index, Option, Some, None}
+use Rattle.std.proofs.Common.{◌≡◌, ◌≢◌, ℕ, ◌+◌, ◌≤◌, ◌<◌, suc, false, List, [], ◌∷◌, ◌++◌, length, map, All, Contains, arith, refl, get_or, slice_index, Option, Some, None}
 use Rattle.std.specs.Prelude.{AllPairs, IfSome, option_map, option_to_list, unwrap_or}
 use Rattle.std.proofs.lemmas.List.{length-map, get_or-map}
 use Rattle.std.proofs.lemmas.List.Elements.{All-head, All-tail, All-cons, All-nil, All-weaker, All-map, All-contains_itself}
@@ -15,9 +15,10 @@ use Rattle.backfill_planner.specs.declared.Share.{Share}
 use Rattle.backfill_planner.specs.declared.Placed.{Placed}
 use Rattle.backfill_planner.specs.declared.job.PlanJob.{PlanJob}
 use Rattle.backfill_planner.specs.Bases.{BaseView}
-use Rattle.backfill_planner.specs.Giving.{window_end, capacities}
+use Rattle.backfill_planner.specs.Giving.{window_end, is_barred, give, capacities}
 use Rattle.backfill_planner.specs.Plans.{share_of, placed_of, holds_of, plan_beside, plan_of}
 use Rattle.backfill_planner.specs.Placements.{IsPlacement, IsPlannable, IsOnRooms, IsPart, AreParts}
+use Rattle.backfill_planner.proofs.Barring.{given-clear}
 use Rattle.backfill_planner.proofs.Takes.{takes_some, gives_usable}
 use Rattle.backfill_planner.proofs.Dealing.{IsGiven, dealt-given, dealt-some, length-capacities}
 use Rattle.backfill_planner.proofs.Holding.{HoldsFree, capacity-give, placement-holds}
@@ -58,6 +59,25 @@ placed-holds rooms holds job lo hi placed nodes is low placement =
     (rw places_are placement.is_chosen) (rw places_are refl) placement.parts
     nodes is.once (window-later job placed.start is (omega (arith, placement.last, low)))
 
+-- a node that gives is not barred
+part-clear : (rooms : List NodeRoom) (holds : List Hold) (job : PlanJob) (start : ℕ) (part : Dealt) → IsGiven (capacities rooms holds job start) part → is_barred job.barred (slice_index job.nodes part.place) start (window_end job start) ≡ false
+part-clear rooms holds job start part given =
+    let below : part.place < length job.nodes = omega (arith, given.place, length-capacities rooms holds job start) in
+    let node = slice_index job.nodes part.place in
+    let gives : 1 ≤ give rooms holds job start node = rw (capacity-give rooms holds job start part.place below) at given.some in
+    given-clear (is_barred job.barred node start (window_end job start)) _ gives
+
+pub placed-clear : LowerLaws → (rooms : List NodeRoom) (holds : List Hold) (job : PlanJob) (lo hi : ℕ) (placed : Placed) → placed_of rooms holds job lo hi ≡ Some placed
+    → All (λ (share : Share). is_barred job.barred share.node placed.start (window_end job placed.start) ≡ false) placed.parts
+placed-clear laws rooms holds job lo hi placed is =
+    let placement = placed-is laws rooms holds job lo hi placed is in
+    let caps = capacities rooms holds job placed.start in
+    let parts = dealt caps job.need.tasks placement.set in
+    let given = dealt-given caps job.need.tasks placement.set placement.is_chosen.fits.giving in
+    rw placement.parts
+    (All-map (λ (share : Share). is_barred job.barred share.node placed.start (window_end job placed.start) ≡ false) (λ part. share_of rooms job part) parts
+    (All-weaker (IsGiven caps) (λ part. is_barred job.barred (slice_index job.nodes part.place) placed.start (window_end job placed.start) ≡ false) (λ part one. part-clear rooms holds job placed.start part one) parts given))
+
 -- each of its parts is on a node that is there, with a task and a processor
 placed-each : (rooms : List NodeRoom) (holds : List Hold) (job : PlanJob) (lo hi : ℕ) (placed : Placed) → IsOnRooms rooms job → IsPlannable job → IsPlacement rooms holds job lo hi placed
     → All (IsPart rooms) placed.parts
@@ -76,12 +96,13 @@ placed-each rooms holds job lo hi placed nodes is placement =
         let node = slice_index job.nodes part.place in
         let cpus = least_over (λ moment. free_cpus rooms holds node moment) placed.start (window_end job placed.start) in
         let mem = least_over (λ moment. free_mem rooms holds node moment) placed.start (window_end job placed.start) in
-        let gives = capacity-give rooms holds job placed.start part.place below in
+        let clear = part-clear rooms holds job placed.start part given in
+        let gives : 1 ≤ give rooms holds job placed.start node = rw (capacity-give rooms holds job placed.start part.place below) at given.some in
         record {
           node = nodes part.place 0 below;
-          usable = gives_usable job (room_at rooms node) cpus mem (rw gives at given.some);
+          usable = gives_usable job (room_at rooms node) cpus mem (rw clear at gives);
           tasks = some;
-          cpus = takes_some job (room_at rooms node) cpus mem part.tasks is.cpus some (rw gives at given.some);
+          cpus = takes_some job (room_at rooms node) cpus mem part.tasks is.cpus some (rw clear at gives);
         }
 
 placed-parts : (rooms : List NodeRoom) (holds : List Hold) (job : PlanJob) (lo hi : ℕ) (placed : Placed) → IsOnRooms rooms job → IsPlannable job → hi ≤ 250002592000 → IsPlacement rooms holds job lo hi placed

@@ -1,4 +1,4 @@
--- Between two ends of holds no set comes to fit.
+-- Between two ends of holds, and of the times at which the job may not have nodes, no set comes to fit.
 use Rattle.std.proofs.Common.{◌≡◌, ◌≢◌, ℕ, ◌+◌, ◌-◌, ◌*◌, ◌/◌, ◌≤◌, ◌<◌, min, zero, suc, true, ◌&&◌, ◌||◌, not, cond, eqb, leb, List, [], ◌∷◌, map, All, sum_by, arith, refl, inl, inr, get_or, Some, None, Option}
 use Rattle.std.specs.Prelude.{option_map, unwrap_or}
 use Rattle.std.proofs.Math.Nat.{div-zero, div-mul-le_self}
@@ -11,6 +11,7 @@ use Rattle.resource_profile.specs.declared.Hold.{Hold}
 use Rattle.resource_profile.specs.Free.{room_at, covers, free_cpus, free_mem, least_over}
 use Rattle.backfill_planner.proofs.Windows.{over_lower, over_reached}
 use Rattle.backfill_planner.proofs.Windows.{what_covers, covers_at}
+use Rattle.backfill_planner.proofs.Barring.{window-order, barred-next, unless-less}
 use Rattle.node_pick.specs.declared.Need.{Need}
 use Rattle.node_pick.specs.Sets.{capacity, Fits}
 use Rattle.node_pick.specs.Choosing.{chosen}
@@ -18,8 +19,10 @@ use Rattle.backfill_planner.specs.LowerLaws.{LowerLaws}
 use Rattle.backfill_planner.specs.declared.Placed.{Placed}
 use Rattle.slurm_text.specs.declared.plain.mem_ask.MemAsk.{MemAsk}
 use Rattle.slurm_text.specs.declared.plain.mem_ask.MemAsk.TheVariants.{All as AllMem, PerNode, PerCpu}
+use Rattle.backfill_planner.specs.declared.job.Barred.{Barred}
 use Rattle.backfill_planner.specs.declared.job.PlanJob.{PlanJob}
-use Rattle.backfill_planner.specs.Giving.{window_end, tasks_by_mem, may_have, tasks_given, give, capacities}
+use Rattle.backfill_planner.specs.Sweeps.{NoneEnds}
+use Rattle.backfill_planner.specs.Giving.{window_end, is_barred, tasks_by_mem, may_have, tasks_given, give, capacities}
 use Rattle.backfill_planner.specs.Plans.{shares_of, placement_at}
 
 pub quotient-more : (less more part : ℕ) → less ≤ more → less / part ≤ more / part
@@ -101,34 +104,33 @@ window-any job start moment window early = by job.seconds window
     by None window = early
     by (Some seconds) window = omega (arith, window)
 
-window-later : (job : PlanJob) (moment : ℕ) → window_end job moment ≤ window_end job (moment + 1)
-window-later job moment = by job.seconds
-  where
-    by : (seconds : Option ℕ) → unwrap_or (option_map (λ s. moment + s) seconds) 1000000000000 ≤ unwrap_or (option_map (λ s. moment + 1 + s) seconds) 1000000000000
-    by None = omega arith
-    by (Some seconds) = omega arith
-
 least-within : (free : ℕ → ℕ) (room start end : ℕ) → start < end → ((moment : ℕ) → free moment ≤ room) → least_over free start end ≤ room
 least-within free room start end window within = omega (arith, over_lower free start end start (omega arith) window, within start)
 
-give-more : (rooms : List NodeRoom) (holds : List Hold) (job : PlanJob) (moment node : ℕ) → All (λ (hold : Hold). hold.until ≢ moment + 1) holds → moment < window_end job moment → moment + 1 < window_end job (moment + 1) → give rooms holds job (moment + 1) node ≤ give rooms holds job moment node
+-- no hold, and no time at which the job may not have nodes, ends at the second
+abbrev AllLast : List Hold → List Barred → ℕ → Type 0
+AllLast holds barred moment = All (λ (hold : Hold). hold.until ≢ moment) holds × All (λ (time : Barred). time.until ≢ moment) barred
+
+give-more : (rooms : List NodeRoom) (holds : List Hold) (job : PlanJob) (moment node : ℕ) → AllLast holds job.barred (moment + 1) → moment < window_end job moment → moment + 1 < window_end job (moment + 1) → give rooms holds job (moment + 1) node ≤ give rooms holds job moment node
 give-more rooms holds job moment node quiet window next =
-    tasks-more job (room_at rooms node)
+    unless-less (is_barred job.barred node (moment + 1) (window_end job (moment + 1))) (is_barred job.barred node moment (window_end job moment)) _ _
+    (barred-next job node moment quiet.1)
+    (tasks-more job (room_at rooms node)
     (least_over (λ m. free_cpus rooms holds node m) (moment + 1) (window_end job (moment + 1)))
     (least_over (λ m. free_mem rooms holds node m) (moment + 1) (window_end job (moment + 1)))
     (least_over (λ m. free_cpus rooms holds node m) moment (window_end job moment))
     (least_over (λ m. free_mem rooms holds node m) moment (window_end job moment))
-    (least-more (λ m. free_cpus rooms holds node m) moment (window_end job moment) (window_end job (moment + 1)) window (window-later job moment) next (omega (arith, held-kept (λ (hold : Hold). hold.cpus) node moment holds quiet)))
+    (least-more (λ m. free_cpus rooms holds node m) moment (window_end job moment) (window_end job (moment + 1)) window (window-order job moment (moment + 1) (omega arith)) next (omega (arith, held-kept (λ (hold : Hold). hold.cpus) node moment holds quiet.0)))
     (least-within (λ m. free_cpus rooms holds node m) (room_at rooms node).cpus moment (window_end job moment) window (λ m. omega arith))
-    (least-more (λ m. free_mem rooms holds node m) moment (window_end job moment) (window_end job (moment + 1)) window (window-later job moment) next (omega (arith, held-kept (λ (hold : Hold). hold.mem) node moment holds quiet)))
-    (least-within (λ m. free_mem rooms holds node m) (room_at rooms node).mem moment (window_end job moment) window (λ m. omega arith))
+    (least-more (λ m. free_mem rooms holds node m) moment (window_end job moment) (window_end job (moment + 1)) window (window-order job moment (moment + 1) (omega arith)) next (omega (arith, held-kept (λ (hold : Hold). hold.mem) node moment holds quiet.0)))
+    (least-within (λ m. free_mem rooms holds node m) (room_at rooms node).mem moment (window_end job moment) window (λ m. omega arith)))
 
 pub map-more : (f g : ℕ → ℕ) (xs : List ℕ) (i : ℕ) → ((x : ℕ) → f x ≤ g x) → get_or (map f xs) i 0 ≤ get_or (map g xs) i 0
 map-more f g [] i more = omega arith
 map-more f g (x ∷ xs) zero more = more x
 map-more f g (x ∷ xs) (suc i) more = map-more f g xs i more
 
-capacity-more : (rooms : List NodeRoom) (holds : List Hold) (job : PlanJob) (moment place : ℕ) → All (λ (hold : Hold). hold.until ≢ moment + 1) holds → moment < window_end job moment → moment + 1 < window_end job (moment + 1) → capacity (capacities rooms holds job (moment + 1)) place ≤ capacity (capacities rooms holds job moment) place
+capacity-more : (rooms : List NodeRoom) (holds : List Hold) (job : PlanJob) (moment place : ℕ) → AllLast holds job.barred (moment + 1) → moment < window_end job moment → moment + 1 < window_end job (moment + 1) → capacity (capacities rooms holds job (moment + 1)) place ≤ capacity (capacities rooms holds job moment) place
 unfolding capacities
 capacity-more rooms holds job moment place quiet window next =
     map-more (λ node. give rooms holds job (moment + 1) node) (λ node. give rooms holds job moment node) job.nodes place (λ node. give-more rooms holds job moment node quiet window next)
@@ -157,8 +159,8 @@ chosen-none_fits laws caps need nowhere = by (chosen caps need) refl
     by None is = refl
     by (Some set) is = absurd (nowhere set (laws.some caps need set is).fits)
 
--- no set comes to fit at a second at which no hold ends
-next-none : LowerLaws → (rooms : List NodeRoom) (holds : List Hold) (job : PlanJob) (moment : ℕ) → All (λ (hold : Hold). hold.until ≢ moment + 1) holds → moment < window_end job moment → moment + 1 < window_end job (moment + 1) → placement_at rooms holds job moment ≡ None → placement_at rooms holds job (moment + 1) ≡ None
+-- no set comes to fit at a second at which none of these ends
+next-none : LowerLaws → (rooms : List NodeRoom) (holds : List Hold) (job : PlanJob) (moment : ℕ) → AllLast holds job.barred (moment + 1) → moment < window_end job moment → moment + 1 < window_end job (moment + 1) → placement_at rooms holds job moment ≡ None → placement_at rooms holds job (moment + 1) ≡ None
 unfolding placement_at
 next-none laws rooms holds job moment quiet window next nothing =
     let nowhere : chosen (capacities rooms holds job moment) job.need ≡ None =
@@ -169,20 +171,16 @@ next-none laws rooms holds job moment quiet window next nothing =
     (fits-more (capacities rooms holds job (moment + 1)) (capacities rooms holds job moment) job.need set (λ place. capacity-more rooms holds job moment place quiet window next) fits)) in
     rw still refl
 
--- no hold ends after `start` and before `end`
-abbrev pub NoneEnds : List Hold → ℕ → ℕ → Type 0
-NoneEnds holds start end = (moment : ℕ) → start < moment → moment < end → All (λ (hold : Hold). hold.until ≢ moment) holds
-
-gap-none : LowerLaws → (rooms : List NodeRoom) (holds : List Hold) (job : PlanJob) (start end count : ℕ) → NoneEnds holds start end → start < window_end job start → start + count < end → start + count < 1000000000000 → placement_at rooms holds job start ≡ None → placement_at rooms holds job (start + count) ≡ None
+gap-none : LowerLaws → (rooms : List NodeRoom) (holds : List Hold) (job : PlanJob) (start end count : ℕ) → NoneEnds holds job.barred start end → start < window_end job start → start + count < end → start + count < 1000000000000 → placement_at rooms holds job start ≡ None → placement_at rooms holds job (start + count) ≡ None
 gap-none laws rooms holds job start end zero quiet window below early nothing =
     let same : start + 0 ≡ start = omega arith in rw same nothing
 gap-none laws rooms holds job start end (suc count) quiet window below early nothing =
     let next : start + suc count ≡ (start + count) + 1 = omega arith in
     let before = gap-none laws rooms holds job start end count quiet window (omega (arith, below)) (omega (arith, early)) nothing in
-    rw next (next-none laws rooms holds job (start + count) (quiet (start + count + 1) (omega arith) (omega (arith, below)))
+    rw next (next-none laws rooms holds job (start + count) (quiet.holds_last (start + count + 1) (omega arith) (omega (arith, below)), quiet.times_last (start + count + 1) (omega arith) (omega (arith, below)))
     (window-any job start (start + count) window (omega (arith, early))) (window-any job start (start + count + 1) window (omega (arith, early))) before)
 
-pub none-until : LowerLaws → (rooms : List NodeRoom) (holds : List Hold) (job : PlanJob) (start end moment : ℕ) → NoneEnds holds start end → start < window_end job start → start ≤ moment → moment < end → moment < 1000000000000 → placement_at rooms holds job start ≡ None → placement_at rooms holds job moment ≡ None
+pub none-until : LowerLaws → (rooms : List NodeRoom) (holds : List Hold) (job : PlanJob) (start end moment : ℕ) → NoneEnds holds job.barred start end → start < window_end job start → start ≤ moment → moment < end → moment < 1000000000000 → placement_at rooms holds job start ≡ None → placement_at rooms holds job moment ≡ None
 none-until laws rooms holds job start end moment quiet window from below early nothing =
     let same : moment ≡ start + (moment - start) = omega (arith, from) in
     rw same (gap-none laws rooms holds job start end (moment - start) quiet window (omega (arith, from, below)) (omega (arith, from, early)) nothing)

@@ -4,11 +4,10 @@ use Rattle.std.specs.Prelude.{find}
 use Rattle.std.proofs.lemmas.Bool.{cases_lt}
 use Rattle.resource_profile.specs.declared.NodeRoom.{NodeRoom}
 use Rattle.resource_profile.specs.declared.Hold.{Hold}
-use Rattle.resource_profile.specs.Profiles.{IsNextEnd}
-use Rattle.std.proofs.lemmas.List.Elements.{All-weaker}
 use Rattle.backfill_planner.specs.LowerLaws.{LowerLaws}
 use Rattle.backfill_planner.specs.Giving.{window_end}
-use Rattle.backfill_planner.proofs.Rises.{NoneEnds, none-until}
+use Rattle.backfill_planner.specs.Sweeps.{NoneEnds}
+use Rattle.backfill_planner.proofs.Rises.{none-until}
 use Rattle.node_pick.specs.Choosing.{numbers_from}
 use Rattle.backfill_planner.specs.declared.Placed.{Placed}
 use Rattle.backfill_planner.specs.declared.job.PlanJob.{PlanJob}
@@ -58,19 +57,9 @@ nothing_there : (placed : Option Placed) → is_some placed ≡ false → placed
 nothing_there None nothing = refl
 nothing_there (Some one) nothing = cc
 
--- none fits at a second, so none fits before the next end of a hold
-pub NonePlaced-more : LowerLaws → (rooms : List NodeRoom) (holds : List Hold) (job : PlanJob) (lo hi start end : ℕ) (placed : Option Placed) → NonePlaced rooms holds job lo hi start → placed ≡ placement_at rooms holds job start → is_some placed ≡ false → start < window_end job start → hi ≤ 250002592000 → NoneEnds holds start end → NonePlaced rooms holds job lo hi end
+-- none fits at a second, so none fits before the next end of a hold, or of a time at which the job may not have nodes
+pub NonePlaced-more : LowerLaws → (rooms : List NodeRoom) (holds : List Hold) (job : PlanJob) (lo hi start end : ℕ) (placed : Option Placed) → NonePlaced rooms holds job lo hi start → placed ≡ placement_at rooms holds job start → is_some placed ≡ false → start < window_end job start → hi ≤ 250002592000 → NoneEnds holds job.barred start end → NonePlaced rooms holds job lo hi end
 NonePlaced-more laws rooms holds job lo hi start end placed none is nothing window last quiet n low within high = elim (cases_lt n start) [
   | inl before ↦ none n low within before
   | inr at ↦ none-until laws rooms holds job start end n quiet window at high (omega (arith, within, last)) (sym is ∙ nothing_there placed nothing)
 ]
-
--- the least end that is later
-pub NoneEnds-before : (holds : List Hold) (start end : ℕ) → IsNextEnd holds start end → NoneEnds holds start end
-NoneEnds-before holds start end is moment after before =
-    All-weaker (λ (hold : Hold). start < hold.until → end ≤ hold.until) (λ (hold : Hold). hold.until ≢ moment) (λ hold least same. omega (arith, least (omega (arith, after, same)), same, before)) holds is.least
-
--- no end is later
-pub NoneEnds-ever : (holds : List Hold) (start end : ℕ) → All (λ (hold : Hold). hold.until ≤ start) holds → NoneEnds holds start end
-NoneEnds-ever holds start end none moment after before =
-    All-weaker (λ (hold : Hold). hold.until ≤ start) (λ (hold : Hold). hold.until ≢ moment) (λ hold early same. omega (arith, early, same, after)) holds none

@@ -1,6 +1,7 @@
 -- What a node gives stays while its window's bounds meet no change.
-use Rattle.std.proofs.Common.{◌≡◌, ◌≢◌, ℕ, ◌+◌, ◌-◌, ◌*◌, ◌^◌, ◌≤◌, ◌<◌, min, List, [], ◌∷◌, ◌++◌, length, get_or, sum, All, slice_set, arith, refl, sym, ap, ◌∙◌, inl, inr, Some, None}
+use Rattle.std.proofs.Common.{◌≡◌, ◌≢◌, true, false, ℕ, ◌+◌, ◌-◌, ◌*◌, ◌^◌, ◌≤◌, ◌<◌, min, List, [], ◌∷◌, ◌++◌, length, get_or, sum, All, slice_set, arith, refl, sym, ap, ◌∙◌, inl, inr, Some, None}
 use Rattle.std.proofs.Common.{suc-mul}
+use Rattle.std.specs.Prelude.{find, option_map}
 use Rattle.std.proofs.lemmas.Bool.{cases_eq}
 use Rattle.std.proofs.lemmas.List.{get_or-set_same, get_or-set_other, length-set, get_or_push, get_or_append_left}
 use Rattle.std.proofs.lemmas.List.Elements.{All-head, All-tail}
@@ -12,8 +13,11 @@ use Rattle.resource_profile.specs.declared.Hold.{Hold}
 use Rattle.resource_profile.specs.declared.levels.Window.{Window}
 use Rattle.resource_profile.specs.Free.{room_at, free_mem, least_over}
 use Rattle.resource_profile.specs.Windows.{free_of, IsSteady}
+use Rattle.cpu_ids.specs.Rows.{has_id}
+use Rattle.backfill_planner.specs.declared.job.Barred.{Barred}
 use Rattle.backfill_planner.specs.declared.job.PlanJob.{PlanJob}
-use Rattle.backfill_planner.specs.Giving.{window_end, tasks_given, capacities}
+use Rattle.backfill_planner.proofs.Barring.{clear-later, barred-until}
+use Rattle.backfill_planner.specs.Giving.{window_end, bars, is_barred, tasks_given, capacities}
 use Rattle.backfill_planner.specs.Sweeps.{GivesUntil}
 use Rattle.backfill_planner.proofs.Holding.{capacity-give}
 use Rattle.backfill_planner.proofs.Dealing.{length-capacities}
@@ -26,16 +30,26 @@ pub record IsInReach (job : PlanJob) (from until begins_before ends_up_to : ℕ)
   pub no_later : (second : ℕ) → second < until → window_end job second ≤ ends_up_to
   pub window : (second : ℕ) → second ≤ 250002592000 → second < window_end job second
 
-pub gives-until : (rooms : List NodeRoom) (holds : List Hold) (job : PlanJob) (from node tasks until : ℕ) (window : Window) → tasks ≡ tasks_given job (room_at rooms node) window.free.cpus window.free.mem → IsSteady (λ moment. free_of rooms holds node moment) from (window_end job from) window → IsInReach job from until window.begins_before window.ends_up_to → GivesUntil rooms holds job from node tasks until
-gives-until rooms holds job from node tasks until window tasks_is steady reach = record {
+-- what is given where the job may have the node, as long as its window ends no later than the next time begins
+pub gives-until : (rooms : List NodeRoom) (holds : List Hold) (job : PlanJob) (from node tasks until last : ℕ) (window : Window) → tasks ≡ tasks_given job (room_at rooms node) window.free.cpus window.free.mem → IsSteady (λ moment. free_of rooms holds node moment) from (window_end job from) window → IsInReach job from until window.begins_before last → last ≤ window.ends_up_to
+    → is_barred job.barred node from (window_end job from) ≡ false → All (λ (time : Barred). has_id time.nodes node ≡ true → window_end job from ≤ time.from → last ≤ time.from) job.barred → GivesUntil rooms holds job from node tasks until
+gives-until rooms holds job from node tasks until last window tasks_is steady reach within clear begins = record {
   later = reach.later;
-  same = λ second low high last.
+  same = λ second low high latest.
       let early : second < window.begins_before = omega (arith, high, reach.begins) in
-      let cpus = steady.cpus second (window_end job second) low early (reach.no_earlier second low) (reach.no_later second high) (reach.window second last) in
-      let mem = steady.mem second (window_end job second) low early (reach.no_earlier second low) (reach.no_later second high) (reach.window second last) in
+      let ends = reach.no_later second high in
+      let cpus = steady.cpus second (window_end job second) low early (reach.no_earlier second low) (omega (arith, ends, within)) (reach.window second latest) in
+      let mem = steady.mem second (window_end job second) low early (reach.no_earlier second low) (omega (arith, ends, within)) (reach.window second latest) in
       let least_mem = least_over (λ m. free_mem rooms holds node m) second (window_end job second) in
-      ap (λ n. tasks_given job (room_at rooms node) n least_mem) (sym cpus) ∙ ap (λ n. tasks_given job (room_at rooms node) window.free.cpus n) (sym mem) ∙ sym tasks_is;
+      let still = clear-later job.barred node from (window_end job from) second (window_end job second) last clear begins low ends in
+      rw still (ap (λ n. tasks_given job (room_at rooms node) n least_mem) (sym cpus) ∙ ap (λ n. tasks_given job (room_at rooms node) window.free.cpus n) (sym mem) ∙ sym tasks_is);
 }
+
+-- nothing is given until the time is over that was found
+pub gives-none : (rooms : List NodeRoom) (holds : List Hold) (job : PlanJob) (from node until : ℕ) → option_map (λ (time : Barred). time.until) (find (bars node from (window_end job from)) job.barred) ≡ Some until → GivesUntil rooms holds job from node 0 until
+gives-none rooms holds job from node until is =
+    let barred = barred-until job node from until is in
+    record { later = barred.later; same = λ second low high latest. rw (barred.barred second low high) refl }
 
 pub in-reach-some : (job : PlanJob) (from seconds begins_before ends_up_to : ℕ) → job.seconds ≡ Some seconds → 1 ≤ seconds → from < begins_before → from + seconds ≤ ends_up_to → IsInReach job from (min begins_before (ends_up_to - (seconds - 1))) begins_before ends_up_to
 in-reach-some job from seconds begins_before ends_up_to is some begins ends =

@@ -1,10 +1,13 @@
 -- What a node can give to a job over the job's window, and what the job then takes of it.
-use Rattle.std.specs.Prelude.{ℕ, ◌+◌, ◌*◌, ◌/◌, min, Bool, ◌&&◌, ◌||◌, not, nat_eq, nat_le, if◌then◌else◌, List, map, unwrap_or, option_map}
+use Rattle.std.specs.Prelude.{ℕ, ◌+◌, ◌*◌, ◌/◌, min, Bool, ◌&&◌, ◌||◌, not, nat_eq, nat_le, nat_lt, if◌then◌else◌, List, map, unwrap_or, option_map}
+use Rattle.std.specs.List.{list_any}
+use Rattle.cpu_ids.specs.Rows.{has_id}
 use Rattle.resource_profile.specs.declared.NodeRoom.{NodeRoom}
 use Rattle.resource_profile.specs.declared.Hold.{Hold}
 use Rattle.resource_profile.specs.Free.{room_at, free_cpus, free_mem, least_over}
 use Rattle.slurm_text.specs.declared.plain.mem_ask.MemAsk.{MemAsk}
 use Rattle.slurm_text.specs.declared.plain.mem_ask.MemAsk.TheVariants.{All, PerNode, PerCpu}
+use Rattle.backfill_planner.specs.declared.job.Barred.{Barred}
 use Rattle.backfill_planner.specs.declared.job.PlanJob.{PlanJob}
 
 -- where the job's window ends that begins at `start`; without a limit it ends after all moments
@@ -28,10 +31,21 @@ tasks_given job room cpus mem =
     then tasks_by_mem job.mem_ask job.cpus_per_task room mem (min job.per_node (cpus / job.cpus_per_task))
     else 0
 
--- how many tasks the node can give over every second of the job's window that begins at `start`
+-- the time is one at which the node may not be had, and crosses the seconds from `from` on and before `until`
+abbrev pub bars : ℕ → ℕ → ℕ → Barred → Bool
+bars node from until time = has_id time.nodes node && (nat_lt from time.until && nat_lt time.from until)
+
+-- one of the times at which the job may not have the node crosses these seconds
+abbrev pub is_barred : List Barred → ℕ → ℕ → ℕ → Bool
+is_barred barred node from until = list_any (bars node from until) barred
+
+-- how many tasks the node can give over every second of the job's window that begins at `start`: none, if the job may
+-- not have it at one of them
 abbrev pub give : List NodeRoom → List Hold → PlanJob → ℕ → ℕ → ℕ
 give rooms holds job start node =
-    tasks_given job (room_at rooms node)
+    if is_barred job.barred node start (window_end job start)
+    then 0
+    else tasks_given job (room_at rooms node)
     (least_over (λ moment. free_cpus rooms holds node moment) start (window_end job start))
     (least_over (λ moment. free_mem rooms holds node moment) start (window_end job start))
 

@@ -16,10 +16,11 @@ IsNoMoreMem (PerNode lesser) (PerNode asked) = lesser ≤ asked
 IsNoMoreMem (PerCpu lesser) (PerCpu asked) = (1 ≤ lesser) × (lesser ≤ asked)
 IsNoMoreMem _ _ = ⊥
 
--- of the same nodes it asks for no more tasks, processors, megabytes and seconds
+-- of the same nodes, barred at the same times, it asks for no more tasks, processors, megabytes and seconds
 pub record IsLesser (lesser job : PlanJob) : Type 0 where
   pub need : AsksNoMore lesser.need job.need
   pub nodes : lesser.nodes ≡ job.nodes
+  pub barred : lesser.barred ≡ job.barred
   pub some_cpus : 1 ≤ lesser.cpus_per_task
   pub cpus : lesser.cpus_per_task ≤ job.cpus_per_task
   pub per_node : job.per_node ≤ lesser.per_node

@@ -1,11 +1,17 @@
 -- How a search keeps what the job's nodes can give from a second to the next. Of the proof alone: no public call speaks
 -- of it.
-use Rattle.std.specs.Prelude.{◌≡◌, ℕ, ◌*◌, ◌^◌, ◌≤◌, ◌<◌, List, length, slice_index, sum, All}
+use Rattle.std.specs.Prelude.{◌≡◌, ◌≢◌, ℕ, ◌*◌, ◌^◌, ◌≤◌, ◌<◌, List, length, slice_index, sum, All}
 use Rattle.resource_profile.specs.declared.NodeRoom.{NodeRoom}
 use Rattle.resource_profile.specs.declared.Hold.{Hold}
+use Rattle.backfill_planner.specs.declared.job.Barred.{Barred}
 use Rattle.backfill_planner.specs.declared.job.PlanJob.{PlanJob}
 use Rattle.backfill_planner.specs.declared.sweep.Sweep.{Sweep}
 use Rattle.backfill_planner.specs.Giving.{give}
+
+-- no hold ends after `start` and before `end`, and none of the times at which the job may not have nodes
+pub record NoneEnds (holds : List Hold) (barred : List Barred) (start end : ℕ) : Type 0 where
+  pub holds_last : (moment : ℕ) → start < moment → moment < end → All (λ (hold : Hold). hold.until ≢ moment) holds
+  pub times_last : (moment : ℕ) → start < moment → moment < end → All (λ (time : Barred). time.until ≢ moment) barred
 
 -- the node gives so many tasks to the job at each second from `from` on and before `until`
 pub record GivesUntil (rooms : List NodeRoom) (holds : List Hold) (job : PlanJob) (from node tasks until : ℕ)

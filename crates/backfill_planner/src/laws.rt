@@ -1,9 +1,11 @@
 // What holds of every plan. Each law is the contract of a function that does nothing.
-ghost use Rattle.std.specs.Prelude.{◌≡◌, ◌≢◌, ℕ, ◌≤◌, List, ◌++◌, length, take, map, Some, None, All, AllPairs, Contains};
+ghost use Rattle.std.specs.Prelude.{◌≡◌, ◌≢◌, ℕ, ◌≤◌, List, ◌++◌, false, length, take, map, Some, None, All, AllPairs, Contains};
 ghost use Rattle.resource_profile.specs.declared.NodeRoom.{NodeRoom};
 ghost use Rattle.resource_profile.specs.declared.Hold.{Hold};
 ghost use Rattle.resource_profile.specs.Profiles.{AreWithin};
+ghost use Rattle.backfill_planner.specs.declared.Share.{Share};
 ghost use Rattle.backfill_planner.specs.declared.Placed.{Placed};
+ghost use Rattle.backfill_planner.specs.Giving.{window_end, is_barred};
 ghost use Rattle.backfill_planner.specs.Placements.{FitsAt, IsPlacement, IsPlannable, IsOnRooms, AreParts, StartsFit};
 ghost use Rattle.backfill_planner.specs.declared.job.PlanJob.{PlanJob};
 ghost use Rattle.backfill_planner.specs.Bases.{BaseView};
@@ -86,6 +88,16 @@ pub fn starts_fit()
         → AreWithin base.rooms base.holds → base.horizon ≤ 250002592000
         → All (IsOnRooms base.rooms) ranked → All IsPlannable ranked
         → StartsFit base (plan_of base ranked now) now }
+{
+    lower_laws();
+}
+
+/// A placed job has no node at a time at which it may not have it.
+pub fn placements_keep_out_of_barred_times()
+    ensures { (rooms : List NodeRoom) (holds : List Hold) (job : PlanJob) (lo hi : ℕ) (placed : Placed)
+        → placed_of rooms holds job lo hi ≡ Some placed
+        → All (λ (share : Share).
+        is_barred job.barred share.node placed.start (window_end job placed.start) ≡ false) placed.parts }
 {
     lower_laws();
 }

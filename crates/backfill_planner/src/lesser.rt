@@ -3,7 +3,7 @@ ghost use Rattle.std.specs.Bool.{OnTrue};
 ghost use Rattle.node_pick.specs.Sets.{AsksNoMore};
 ghost use Rattle.backfill_planner.specs.Lesser.{IsNoMoreMem, IsLesser};
 
-use crate::job::PlanJob;
+use crate::job::{Barred, PlanJob};
 use node_pick::Need;
 use slurm_text::plain::mem_ask::MemAsk;
 
@@ -47,7 +47,15 @@ fn window_length(job: &PlanJob) -> u64
     }
 }
 
-/// Whether of the same nodes one job asks for no more tasks, processors, megabytes and seconds than the other.
+// Whether these are the same times, in one order.
+fn are_same(one: &[Barred], other: &[Barred]) -> bool
+    ensures { OnTrue result (one.now ≡ other.now) }
+{
+    one == other
+}
+
+/// Whether of the same nodes, barred at the same times, one job asks for no more tasks, processors, megabytes and
+/// seconds than the other.
 pub(crate) fn is_lesser(lesser: &PlanJob, job: &PlanJob) -> bool
     ensures { OnTrue result (IsLesser lesser.now job.now) }
 {
@@ -64,4 +72,5 @@ pub(crate) fn is_lesser(lesser: &PlanJob, job: &PlanJob) -> bool
         return false;
     }
     lesser.nodes.as_slice() == job.nodes.as_slice()
+        && are_same(lesser.barred.as_slice(), job.barred.as_slice())
 }

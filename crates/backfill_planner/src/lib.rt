@@ -8,6 +8,7 @@ use slurm_text::items::Items;
 use slurm_text::memory_error::Memory;
 use std::alloc::Global;
 
+mod barred_times;
 mod base;
 mod job;
 pub mod laws;
@@ -18,7 +19,7 @@ mod seen;
 mod sweep;
 
 pub use base::Base;
-pub use job::{NodeList, PlanJob};
+pub use job::{Barred, BarredList, NodeList, PlanJob};
 pub use placing::place;
 pub use planned::{Planned, plan};
 pub use slurm_text::plain::mem_ask::MemAsk;

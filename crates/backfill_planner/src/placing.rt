@@ -5,8 +5,9 @@ ghost use Rattle.resource_profile.specs.declared.Hold.{Hold};
 ghost use Rattle.node_pick.specs.declared.Dealt.{Dealt};
 ghost use Rattle.backfill_planner.specs.Giving;
 ghost use Rattle.backfill_planner.specs.Plans;
-ghost use Rattle.backfill_planner.specs.Sweeps.{IsSwept};
+ghost use Rattle.backfill_planner.specs.Sweeps.{IsSwept, NoneEnds};
 
+use crate::barred_times::next_end;
 use crate::base::Base;
 use crate::job::PlanJob;
 use crate::laws::lower_laws;
@@ -147,9 +148,23 @@ fn placement_at(
     }))
 }
 
+// The least second after `start` at which a hold ends, or one of the job's barred times; `last` where none does.
+fn next_second(profile: &Profile, job: &PlanJob, start: u64, last: u64) -> u64
+    requires { start < last }
+    ensures later { start < result }
+    ensures quiet { NoneEnds profile.now.holds job.now.barred start result }
+{
+    let rise = match profile.next_rise(start) {
+        Some(rise) => rise,
+        None => last,
+    };
+    next_end(job.barred.as_slice(), start, rise)
+}
+
 /// Where and when the job begins at the earliest, from the second `lo` to `hi`, beside the profile's holds. It counts
-/// one step. None exactly where no set fits at any of these seconds. It tries `lo` and the ends of holds after it, and
-/// from one second to the next counts anew only what the nodes give that may have changed.
+/// one step. None exactly where no set fits at any of these seconds. It tries `lo` and, after it, the ends of holds and
+/// of the job's barred times, since between these no set comes to fit; and from one second to the next it counts anew
+/// only what the nodes give that may have changed.
 pub fn place<L>(
     alloc: Global,
     profile: &Profile,
@@ -184,10 +199,7 @@ pub fn place<L>(
         if placed.is_some() {
             return Ok(placed);
         }
-        let Some(rise) = profile.next_rise(start) else {
-            return Ok(None);
-        };
-        start = rise;
+        start = next_second(profile, job, start, hi + 1);
     }
     Ok(None)
 }

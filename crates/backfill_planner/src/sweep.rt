@@ -1,7 +1,8 @@
-ghost use Rattle.std.specs.Prelude.{◌≡◌, ◌≢◌, AllPairs, ◌+◌, ◌*◌, ◌^◌, ◌≤◌, ◌<◌, length, sum, slice_set, IfOk, All};
+ghost use Rattle.std.specs.Prelude.{◌≡◌, ◌≢◌, false, AllPairs, ◌+◌, ◌*◌, ◌^◌, ◌≤◌, ◌<◌, length, sum, slice_set, IfOk, All};
 ghost use Rattle.backfill_planner.specs.Giving;
 ghost use Rattle.backfill_planner.specs.Sweeps.{GivesUntil, IsSwept};
 
+use crate::barred_times::{barred_until, next_begin};
 use crate::job::PlanJob;
 use crate::placing::{tasks_given, window_end};
 use resource_profile::{NodeRoom, Profile};
@@ -26,7 +27,39 @@ pub(crate) struct Sweep {
     pub(crate) total: u64,
 }
 
-// What the node can give at the second and from it on.
+// What the node can give at the second and from it on, where the job may have it over the window that begins there.
+fn given_from_free(
+    profile: &Profile,
+    rooms: &[NodeRoom],
+    job: &PlanJob,
+    node: u32,
+    second: u64,
+) -> Given
+    requires rooms { profile.now.rooms ≡ rooms.now }
+    requires node { node < length rooms.now }
+    requires second { second ≤ 250002592000 }
+    requires clear { Giving.is_barred job.now.barred node second (Giving.window_end job.now second) ≡ false }
+    ensures gives { GivesUntil rooms.now profile.now.holds job.now second node result.tasks result.until }
+    ensures small { result.tasks * job.now.cpus_per_task < 2 ^ 32 }
+    ensures word { result.tasks < 2 ^ 32 }
+{
+    let end = window_end(job, second);
+    let window = profile.free_over(node, second, end);
+    let tasks = tasks_given(
+        job,
+        &rooms[node as usize],
+        window.free.cpus,
+        window.free.mem,
+    );
+    let last = next_begin(job.barred.as_slice(), node, end, window.ends_up_to);
+    let until = match job.seconds {
+        Some(seconds) => window.begins_before.min(last - (seconds.get() - 1)),
+        None => window.begins_before,
+    };
+    Given { tasks, until }
+}
+
+// What the node can give at the second and from it on: nothing until a barred time of it is over.
 fn given_from(profile: &Profile, rooms: &[NodeRoom], job: &PlanJob, node: u32, second: u64) -> Given
     requires rooms { profile.now.rooms ≡ rooms.now }
     requires node { node < length rooms.now }
@@ -35,20 +68,11 @@ fn given_from(profile: &Profile, rooms: &[NodeRoom], job: &PlanJob, node: u32, s
     ensures small { result.tasks * job.now.cpus_per_task < 2 ^ 32 }
     ensures word { result.tasks < 2 ^ 32 }
 {
-    let window = profile.free_over(node, second, window_end(job, second));
-    let tasks = tasks_given(
-        job,
-        &rooms[node as usize],
-        window.free.cpus,
-        window.free.mem,
-    );
-    let until = match job.seconds {
-        Some(seconds) => window
-            .begins_before
-            .min(window.ends_up_to - (seconds.get() - 1)),
-        None => window.begins_before,
-    };
-    Given { tasks, until }
+    let end = window_end(job, second);
+    if let Some(until) = barred_until(job.barred.as_slice(), node, second, end) {
+        return Given { tasks: 0, until };
+    }
+    given_from_free(profile, rooms, job, node, second)
 }
 
 impl Sweep {

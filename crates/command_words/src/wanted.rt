@@ -32,10 +32,7 @@ pub(crate) fn read_command(
     Ok(without(attachment, asked))
 }
 
-fn without(
-    attachment: Option<&[u8]>,
-    asked: Result<Request, BadWord>,
-) -> Result<Request, WordFault>
+fn without(attachment: Option<&[u8]>, asked: Result<Request, BadWord>) -> Result<Request, WordFault>
     ensures { result ≡ without (option_copied attachment.entry) asked }
 {
     match (attachment, asked) {

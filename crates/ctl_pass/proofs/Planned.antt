@@ -41,7 +41,7 @@ use Rattle.ctl_state.specs.Counted.{counted_of, holding}
 use Rattle.ctl_state.specs.Holding.{parts_of, mem_held, IsPartOf}
 use Rattle.ctl_state.specs.Laws.{JobNodes, OrderMoves, OrderKeepsApart}
 use Rattle.ctl_state.specs.Ordered.{ordered_by}
-use Rattle.ctl_state.specs.Planning.{barred_of, places_for, plan_job, room_of, seconds_of}
+use Rattle.ctl_state.specs.Planning.{barred_of, plan_job, room_of, seconds_of}
 use Rattle.ctl_state.specs.Soundness.{IsSound, IsKept, IsLimit, pending_ids}
 use Rattle.ctl_state.specs.State.{State, partition_of, last_moment, last_job_id}
 use Rattle.ctl_rank.specs.FairShare.{rank_at, user_count, user_usage}
@@ -52,7 +52,7 @@ use Rattle.ctl_rank.specs.Rank.{is_higher}
 use Rattle.ctl_rank.specs.Usage.{usage_at}
 use Rattle.ctl_pass.specs.Awaiting.{Awaits, CanBegin}
 use Rattle.ctl_pass.specs.Limits.{holds_of_job, hold_end, timed_out}
-use Rattle.ctl_waiting.specs.Candidates.{is_candidate, candidates, needs_of, ranked}
+use Rattle.ctl_waiting.specs.Candidates.{is_candidate, candidates, need_in, needs_of, ranked}
 use Rattle.ctl_pass.specs.Readiness.{goes, jobs_left, ready, base_of, planned, placements}
 use Rattle.ctl_pass.specs.Taking.{CanStart}
 use Rattle.ctl_waiting.specs.Reasons.{exceeds_wall, held_reason, hindrance, hindrances_in, is_early, is_too_late, lacks_node, most_tasks, reason_of}
@@ -337,8 +337,7 @@ needs-ready : RankLaws → (s : State) (now : ℕ) (job : JobRecord) → needs_o
 unfolding needs_of
 needs-ready laws s now job =
     ap (λ some. partition_of s job >>= λ partition. bounds_of partition job.desc >>= λ bounds.
-    Some (plan_job s.nodes partition (places_for s.nodes some partition job.desc.reservation)
-    (barred_of some job.desc.reservation) bounds job)) (laws.lasting_twice now s.reservations)
+    Some (need_in s some partition bounds job)) (laws.lasting_twice now s.reservations)
 
 filter_map-agree : {X Y : Type 0} (f g : X → Option Y) → ((x : X) → f x ≡ g x) → (xs : List X)
     → filter_map f xs ≡ filter_map g xs

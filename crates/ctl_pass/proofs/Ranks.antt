@@ -16,12 +16,12 @@ use Rattle.job_table.specs.JobStates.{is_pending}
 use Rattle.ctl_state.specs.Ordered.{put, ordered_by}
 use Rattle.ctl_state.specs.Laws.{OrderMoves, OrderKeepsApart}
 use Rattle.reservations.specs.Reservations.{lasting}
-use Rattle.ctl_state.specs.Planning.{barred_of, places_for, plan_job}
+use Rattle.ctl_state.specs.Planning.{plan_job}
 use Rattle.ctl_state.specs.Soundness.{pending_ids}
 use Rattle.job_table.specs.Table.{HaveRisingIds}
 use Rattle.ctl_state.specs.State.{State, partition_of}
 use Rattle.ctl_rank.specs.Rank.{is_higher}
-use Rattle.ctl_waiting.specs.Candidates.{is_candidate, candidates, needs_of, ranked}
+use Rattle.ctl_waiting.specs.Candidates.{is_candidate, candidates, need_in, needs_of, ranked}
 use Rattle.ctl_waiting.specs.Reasons.{hindrance}
 use Rattle.ctl_pass.proofs.Lists.{pairs-head, pairs-tail}
 
@@ -80,30 +80,22 @@ pub candidates-wait : (s : State) (now : ℕ) (jobs : List JobRecord)
 candidates-wait s now [] = refl
 candidates-wait s now (job ∷ jobs) = grind (arith, nat_tests, candidates-wait s now jobs)
 
--- what a job needs in this partition, on so many nodes
-abbrev pub need_in : State → ℕ → JobRecord → PartRecord → ℕ × ℕ → PlanJob
-need_in s now job partition bounds =
-    plan_job s.nodes partition
-    (places_for s.nodes (lasting now s.reservations) partition job.desc.reservation)
-    (barred_of (lasting now s.reservations) job.desc.reservation)
-    bounds job
-
 -- what holds of what a job needs in its partition
 needs-all : (P : PlanJob → Type 0) (s : State) (now : ℕ) (job : JobRecord)
     → ((partition : PartRecord) (bounds : ℕ × ℕ) → slice_get s.partitions job.partition ≡ Some partition
-    → P (need_in s now job partition bounds))
+    → P (need_in s (lasting now s.reservations) partition bounds job))
     → IfSome (needs_of s now job) P
 unfolding needs_of
 needs-all P s now job each = by (partition_of s job) refl
   where
     by_bounds : (partition : PartRecord) (some : Option (ℕ × ℕ)) → slice_get s.partitions job.partition ≡ Some partition
-        → IfSome (some >>= λ bounds. Some (need_in s now job partition bounds)) P
+        → IfSome (some >>= λ bounds. Some (need_in s (lasting now s.reservations) partition bounds job)) P
     by_bounds partition None is = tt
     by_bounds partition (Some bounds) is = each partition bounds is
 
     by : (some : Option PartRecord) → slice_get s.partitions job.partition ≡ some
         → IfSome (some >>= λ partition. bounds_of partition job.desc >>= λ bounds.
-        Some (need_in s now job partition bounds)) P
+        Some (need_in s (lasting now s.reservations) partition bounds job)) P
     by None is = tt
     by (Some partition) is = by_bounds partition (bounds_of partition job.desc) is
 
@@ -121,7 +113,7 @@ ranked-of moves P s now each =
 pub ranked-all : OrderMoves JobRecord → (P : PlanJob → Type 0) (s : State) (now : ℕ)
     → All (λ (job : JobRecord). (partition : PartRecord) (bounds : ℕ × ℕ)
     → slice_get s.partitions job.partition ≡ Some partition
-    → P (need_in s now job partition bounds)) (waiting s.jobs)
+    → P (need_in s (lasting now s.reservations) partition bounds job)) (waiting s.jobs)
     → All P (ranked s now)
 ranked-all moves P s now each =
     let needs : JobRecord → Type 0 = λ job. IfSome (needs_of s now job) P in

@@ -17,7 +17,11 @@ use slurm_text::plain::view::{PartRow, Row};
 use std::alloc::Global;
 
 /// The names of the nodes at places. Linear in these.
-pub(crate) fn names_at(alloc: Global, nodes: &[NodeRecord], places: &[u32]) -> Result<Vec<Name>, Memory>
+pub(crate) fn names_at(
+    alloc: Global,
+    nodes: &[NodeRecord],
+    places: &[u32],
+) -> Result<Vec<Name>, Memory>
     ensures { IfOk result (λ names. names.items ≡ Records.names_at nodes.now places.now) }
 {
     let mut names = Vec::with_capacity(alloc, places.len())?;

@@ -9,4 +9,5 @@ pub mod Shut
 pub mod Indexed
 pub mod Ordering
 pub mod Choosing
+pub mod Lasting
 mod Holding

@@ -1,7 +1,8 @@
 //! What reservations leave to a job.
 
-ghost use Rattle.std.specs.Prelude.{◌≡◌, ◌++◌, IfOk, OnOk, filter, flat_map, option_copied};
+ghost use Rattle.std.specs.Prelude.{◌≡◌, ◌++◌, ◌&&◌, IfOk, OnOk, filter, find, nat_lt, option_copied};
 ghost use Rattle.cpu_ids.specs.Rows.{has_id};
+ghost use Rattle.reservations.specs.declared.record.Reservation.{Reservation as OneReservation};
 ghost use Rattle.reservations.specs.Reservations.{is_named, lasting, reservation_named};
 ghost use Rattle.ctl_state.specs.Planning;
 
@@ -15,6 +16,20 @@ use std::alloc::Global;
 // After all moments.
 const FOREVER: u64 = 1_000_000_000_000;
 
+// The first reservation that has this name and isn't over at the moment.
+fn first_lasting<'a>(
+    reservations: &'a [Reservation],
+    now: u64,
+    name: &Name,
+) -> Option<&'a Reservation>
+    ensures { option_copied result
+        ≡ find (λ (one : OneReservation). nat_lt now one.end && is_named name.now one) reservations.now }
+{
+    reservations
+        .iter()
+        .find(|one| now < one.end.get() && name.is(&one.name))
+}
+
 /// The reservation of this name that isn't over at the moment. Linear in the reservations.
 pub fn lasting_named<'a>(
     reservations: &'a Reservations,
@@ -23,10 +38,20 @@ pub fn lasting_named<'a>(
 ) -> Option<&'a Reservation>
     ensures { option_copied result ≡ reservation_named name.now (lasting now reservations.now) }
 {
-    reservations
-        .records()
-        .iter()
-        .find(|one| now < one.end.get() && name.is(&one.name))
+    first_lasting(reservations.records(), now, name)
+}
+
+// Those of the places at which the reservation has nodes.
+fn kept_places(alloc: Global, reservation: &Reservation, places: &[u32]) -> Result<Vec<u32>, Memory>
+    ensures { IfOk result (λ kept. kept.items ≡ filter (has_id reservation.now.nodes) places.now) }
+{
+    Ok(
+        places
+            .iter()
+            .copied()
+            .filter(|place| reservation.nodes.contains(*place))
+            .collect(alloc)?,
+    )
 }
 
 /// Those of the places at which the reservation has nodes. Linear in the places.
@@ -37,13 +62,7 @@ pub fn places_in(
 ) -> Result<NodeList, Memory>
     ensures { IfOk result (λ kept. kept ≡ filter (has_id reservation.now.nodes) places.now) }
 {
-    let kept = places
-        .as_slice()
-        .iter()
-        .copied()
-        .filter(|place| reservation.nodes.contains(*place))
-        .collect(alloc)?;
-    NodeList::from_vec(kept)
+    NodeList::from_vec(kept_places(alloc, reservation, places.as_slice())?)
 }
 
 // Whether the job that names this reservation, or none, names this one.

@@ -15,7 +15,7 @@ use slurm_text::plain::dependency::{DepId, DepItem, DepKind, DepSpec};
 use slurm_text::plain::target::Target;
 
 // Whether the number names a job. Logarithmic in the jobs, and linear in those that have it.
-#[tactic(auto, using(crate::proofs::Named::any-named))]
+#[tactic(auto, using(crate::proofs::Named::any_named))]
 fn names_any(jobs: &Jobs, id: &DepId) -> bool
     requires { AreTogether jobs.now.records }
     ensures { result ≡ list_any (is_named_by id.now.id id.now.index) jobs.now.records }
@@ -33,9 +33,8 @@ fn names_any(jobs: &Jobs, id: &DepId) -> bool
 fn has_indices(arrays: &[ArrayRecord], id: u32, indices: &Indices) -> bool
     ensures { result ≡ Submission.has_indices arrays.now id indices.now }
 {
-    arrays
-        .iter()
-        .any(|array| array.id == id && array.indices.iter().as_slice() == indices.iter().as_slice())
+    arrays.iter().any(|array| array.id == id
+        && array.indices.iter().as_slice() == indices.iter().as_slice())
 }
 
 // Whether each task of the array that is handed in has one of its index to wait for.
@@ -49,12 +48,7 @@ fn corresponds(arrays: &[ArrayRecord], array: &Option<ArraySpec>, id: &DepId) ->
 }
 
 // Whether the number names no job, or an array that has other tasks.
-fn is_bad_number(
-    cluster: &Cluster,
-    array: &Option<ArraySpec>,
-    kind: DepKind,
-    id: &DepId,
-) -> bool
+fn is_bad_number(cluster: &Cluster, array: &Option<ArraySpec>, kind: DepKind, id: &DepId) -> bool
     requires { AreTogether cluster.now.jobs.records }
     ensures { result ≡ Submission.is_bad_number (state_of cluster.now) array.now kind id.now }
 {
@@ -87,7 +81,10 @@ pub(crate) fn is_bad_dependency(
     ensures { result ≡ Submission.is_bad_dependency (state_of cluster.now) array.now dependency.now }
 {
     match dependency {
-        Some(spec) => spec.items.iter().any(|item| is_bad_item(cluster, array, item)),
+        Some(spec) => spec
+            .items
+            .iter()
+            .any(|item| is_bad_item(cluster, array, item)),
         None => false,
     }
 }

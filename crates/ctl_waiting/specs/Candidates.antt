@@ -2,7 +2,9 @@
 use Rattle.std.specs.Prelude.{ℕ, Bool, ◌&&◌, is_none, List, filter, filter_map, Option, Some}
 use Rattle.slurm_text.specs.Options.{◌>>=◌}
 use Rattle.backfill_planner.specs.declared.job.PlanJob.{PlanJob}
+use Rattle.partitions.specs.declared.record.PartRecord.{PartRecord}
 use Rattle.partitions.specs.Partitions.{bounds_of}
+use Rattle.reservations.specs.declared.record.Reservation.{Reservation}
 use Rattle.job_table.specs.declared.record.JobRecord.{JobRecord}
 use Rattle.job_table.specs.JobStates.{is_pending}
 use Rattle.ctl_state.specs.Ordered.{ordered_by}
@@ -20,15 +22,18 @@ is_candidate s now job = is_pending job.state && is_none (hindrance s now job)
 unfoldable pub candidates : State → ℕ → List JobRecord
 candidates s now = ordered_by (is_higher s now) (filter (is_candidate s now) s.jobs)
 
+-- what a job needs in this partition, on so many nodes at least and at most, beside these reservations
+abbrev pub need_in : State → List Reservation → PartRecord → ℕ × ℕ → JobRecord → PlanJob
+need_in s reservations partition bounds job =
+    let places = places_for s.nodes reservations partition job.desc.reservation in
+    plan_job s.nodes partition places (barred_of reservations job.desc.reservation) bounds job
+
 -- what a job needs in its partition, beside the reservations that aren't over at the moment
 unfoldable pub needs_of : State → ℕ → JobRecord → Option PlanJob
 needs_of s now job = do
   partition ← partition_of s job
   bounds ← bounds_of partition job.desc
-  Some (plan_job s.nodes partition
-  (places_for s.nodes (lasting now s.reservations) partition job.desc.reservation)
-  (barred_of (lasting now s.reservations) job.desc.reservation)
-  bounds job)
+  Some (need_in s (lasting now s.reservations) partition bounds job)
 
 -- what the candidates need
 unfoldable pub ranked : State → ℕ → List PlanJob

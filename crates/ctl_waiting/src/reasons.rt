@@ -14,7 +14,7 @@ use ctl_state::cluster::Cluster;
 use ctl_state::counting::counted_of;
 use ctl_state::limits::exceeds;
 use ctl_state::reserved::lasting_named;
-use dependencies::standing::{Standing, standing};
+use dependencies::standing::{Standing, standing_among};
 use job_table::record::JobRecord;
 use node_state::nodes::Nodes;
 use partitions::bounds::bounds_of;
@@ -46,7 +46,7 @@ fn dependency_hindrance(cluster: &Cluster, job: &JobRecord) -> Option<Reason>
     requires { AreTogether cluster.now.jobs.records }
     ensures { result ≡ Reasons.reason_of (standing cluster.now.jobs.records job.now) }
 {
-    match standing(&cluster.jobs, job) {
+    match standing_among(&cluster.jobs, job) {
         Standing::Satisfied => None,
         Standing::Waiting => Some(Reason::Dependency),
         Standing::Never => Some(Reason::DependencyNeverSatisfied),
@@ -210,7 +210,7 @@ fn node_hindrance(cluster: &Cluster, job: &JobRecord) -> Option<Reason>
 
 /// Why a pending job can't be planned at a moment, in seconds; None where nothing hinders it. Linear in its
 /// association's way up to root, in the reservations where it names one, and in the nodes that it must have; where it
-/// waits for others it costs what `dependencies::standing` does besides. "JOB REASON CODES" in squeue(1), and `--begin`,
+/// waits for others it costs what `dependencies::standing_among` does besides. "JOB REASON CODES" in squeue(1), and `--begin`,
 /// `--dependency`, `--reservation` in sbatch(1).
 pub fn hindrance(cluster: &Cluster, tally: &Tally, moment: u64, job: &JobRecord) -> Option<Reason>
     requires together { AreTogether cluster.now.jobs.records }

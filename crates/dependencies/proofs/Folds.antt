@@ -75,7 +75,8 @@ pub all_of-passed : {X : Type 0} (f : X → Standing) (test : X → Bool) (xs : 
 all_of-passed f test xs i d inside passes =
     let front = filter test (take i xs) in
     let same : filter test (take (i + 1) xs) ≡ front =
-    filter_more test xs i d inside ∙ ap (λ found. front ++ cond found (get_or xs i d ∷ []) []) passes ∙ append-nil front in
+    filter_more test xs i d inside ∙ ap (λ found. front ++ cond found (get_or xs i d ∷ []) []) passes
+    ∙ append-nil front in
     ap (λ found. all_of (map f found)) same
 
 pub ruleset steps = (all_of-more, one_of-more, all_of-found, all_of-passed)

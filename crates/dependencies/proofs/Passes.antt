@@ -172,7 +172,8 @@ module _ (jobs : List JobRecord) (change : JobRecord → JobRecord) (goes : JobR
   by_id-same kind id is_of =
       let named = is_named_by id.id (index_meant kind own id) in
       ap all_of (found-left change goes (standing_of kind) named jobs
-      (λ k d inside. named-same id.id (index_meant kind own id) (get_or jobs k d) (change (get_or jobs k d)) (same k d inside))
+      (λ k d inside.
+      named-same id.id (index_meant kind own id) (get_or jobs k d) (change (get_or jobs k d)) (same k d inside))
       (λ k d inside. standing_of-same kind (get_or jobs k d) (change (get_or jobs k d)) (same k d inside))
       (named-stays kind id is_of))
 

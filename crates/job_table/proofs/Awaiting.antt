@@ -46,9 +46,11 @@ names-same spec one other same array index =
 awaits-same : (waiting one other : JobRecord) → one.id ≡ other.id → one.array ≡ other.array
     → index_of one ≡ index_of other
     → awaits waiting one ≡ awaits waiting other
-awaits-same waiting one other same array index = ap (λ named. is_pending waiting.state && named) (by waiting.desc.dependency)
+awaits-same waiting one other same array index =
+    ap (λ named. is_pending waiting.state && named) (by waiting.desc.dependency)
   where
-    by : (dependency : Option DepSpec) → unwrap_or (option_map (λ (spec : DepSpec). names_job spec one) dependency) false
+    by : (dependency : Option DepSpec)
+        → unwrap_or (option_map (λ (spec : DepSpec). names_job spec one) dependency) false
         ≡ unwrap_or (option_map (λ (spec : DepSpec). names_job spec other) dependency) false
     by None = refl
     by (Some spec) = names-same spec one other same array index
@@ -122,27 +124,21 @@ awaited-without_others (one ∷ jobs) goes job others =
   where
     by : (b : Bool) → (b ≡ true → is_pending one.state ≡ false)
         → is_found job (filter (λ other. not (goes other)) jobs) ≡ is_found job jobs
-        → is_found job (cond (not b) (one ∷ filter (λ other. not (goes other)) jobs) (filter (λ other. not (goes other)) jobs))
+        → is_found job
+        (cond (not b) (one ∷ filter (λ other. not (goes other)) jobs) (filter (λ other. not (goes other)) jobs))
         ≡ (awaits one job || is_found job jobs)
     by true idle rest = rest ∙ sym (ap (λ found. found || is_found job jobs) (idle-waiting one job (idle refl)))
     by false idle rest = ap (λ later. awaits one job || later) rest
 
 -- What is added by one member of a list after the other.
-pub adds-nothing : (test : JobRecord → Bool) (jobs : List JobRecord) (awaited : Awaited)
-    → ((job : JobRecord) → test job ≡ false)
-    → AddsAwaited test jobs awaited awaited
-adds-nothing test jobs awaited none = record {
-  each = λ k d inside. grind (arith, none (get_or jobs k d));
-}
-
 or-more : (new middle old here before more : Bool) → new ≡ (middle || here) → middle ≡ (old || before)
     → more ≡ (before || here)
     → new ≡ (old || more)
 or-more new middle true here before more second first both = second ∙ ap (λ found. found || here) first
 or-more new middle false here before more second first both = second ∙ ap (λ found. found || here) first ∙ sym both
 
-pub adds-more : {X : Type 0} (by : X → JobRecord → Bool) (xs : List X) (jobs : List JobRecord) (old middle new : Awaited)
-    (i : ℕ) (x : X)
+pub adds-more : {X : Type 0} (by : X → JobRecord → Bool) (xs : List X) (jobs : List JobRecord)
+    (old middle new : Awaited) (i : ℕ) (x : X)
     → i < length xs → x ≡ get_or xs i x → AddsAwaited (λ job. list_any (λ one. by one job) (take i xs)) jobs old middle
     → AddsAwaited (by x) jobs middle new
     → AddsAwaited (λ job. list_any (λ one. by one job) (take (i + 1) xs)) jobs old new

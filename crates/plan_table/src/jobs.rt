@@ -2,8 +2,9 @@
 ghost use Rattle.std.specs.Prelude.{◌<◌, All, IfOk};
 ghost use Rattle.backfill_planner.specs.declared.job.PlanJob.{PlanJob};
 
+use crate::barring::barred_list;
 use crate::numbers::narrow_row;
-use backfill_planner::{MemAsk, NodeList, PlanJob};
+use backfill_planner::{BarredList, MemAsk, NodeList, PlanJob};
 use node_pick::Need;
 use slurm_text::ranged::Ranged;
 use std::alloc::Global;
@@ -53,8 +54,13 @@ fn seconds(text: &[u8]) -> Result<Option<Ranged<1, 3153600000>>, Unanswered> {
     }
 }
 
-// The words of a job.
-fn job_of(alloc: Global, words: &[&[u8]], count: usize) -> Result<PlanJob, Unanswered>
+// The job of these words, and of the times at which it may not have nodes.
+fn job_of(
+    alloc: Global,
+    words: &[&[u8]],
+    barred: BarredList,
+    count: usize,
+) -> Result<PlanJob, Unanswered>
     ensures { IfOk result (λ job. All (λ node. node < count) job.nodes) }
 {
     if words.len() != 11 {
@@ -88,15 +94,23 @@ fn job_of(alloc: Global, words: &[&[u8]], count: usize) -> Result<PlanJob, Unans
         mem_ask,
         exclusive: room == b"whole".as_slice(),
         nodes,
+        barred,
         seconds,
     })
 }
 
-// `ID/TASKS/LEAST/MOST/REQUIRED/CPUS/PER_NODE/MEM/whole or shared/NODES/SECONDS`.
+// `ID/TASKS/LEAST/MOST/REQUIRED/CPUS/PER_NODE/MEM/whole or shared/NODES/SECONDS`, and with `/TIMES` behind it the times
+// at which it may not have nodes.
 fn job(alloc: Global, text: &[u8], count: usize) -> Result<PlanJob, Unanswered>
     ensures { IfOk result (λ job. All (λ node. node < count) job.nodes) }
 {
-    job_of(alloc, parts(alloc, text, b'/')?.as_slice(), count)
+    let words = parts(alloc, text, b'/')?;
+    let words = words.as_slice();
+    if words.len() == 12 {
+        let barred = barred_list(alloc, words[11])?;
+        return job_of(alloc, &words[..11], barred, count);
+    }
+    job_of(alloc, words, barred_list(alloc, b"")?, count)
 }
 
 /// Jobs of so many nodes.

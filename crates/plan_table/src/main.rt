@@ -1,6 +1,7 @@
 //! Calls the choice of nodes, profiles and plans that the lines of a table name, and prints each line with the answer.
 #![tactic(auto)]
 
+mod barring;
 mod chance;
 mod jobs;
 mod numbers;

@@ -2,12 +2,13 @@
 ghost use Rattle.std.specs.Prelude.{◌≡◌, ◌≤◌, ◌<◌, length, IfOk, All};
 ghost use Rattle.backfill_planner.specs.declared.job.PlanJob.{PlanJob};
 
+use crate::barring::barred_list;
 use crate::chance::Chance;
 use crate::numbers::narrow_row;
 use crate::plans::{base, planned};
 use crate::profiles::try_hold;
 use crate::sums::sum_of;
-use backfill_planner::{Base, MemAsk, NodeList, Placed, PlanJob, Planned};
+use backfill_planner::{BarredList, Base, MemAsk, NodeList, Placed, PlanJob, Planned};
 use node_pick::Need;
 use resource_profile::{Hold, NodeRoom, Profile};
 use slurm_text::ranged::Ranged;
@@ -149,6 +150,7 @@ fn limit(
 fn pending_job(
     size: &Size,
     nodes: &NodeList,
+    barred: &BarredList,
     id: u32,
     chance: &mut Chance,
 ) -> Result<PlanJob, Unanswered>
@@ -170,6 +172,7 @@ fn pending_job(
         mem_ask: MemAsk::PerCpu(Ranged::new(1)),
         exclusive: false,
         nodes: nodes.share()?,
+        barred: barred.share()?,
         seconds,
     })
 }
@@ -182,8 +185,9 @@ fn pending_jobs(alloc: Global, size: &Size, chance: &mut Chance) -> Result<Vec<P
         return Ok(jobs);
     }
     let nodes = all_nodes(alloc, size.nodes)?;
+    let barred = barred_list(alloc, b"")?;
     for id in 0..size.pending {
-        jobs.push(pending_job(size, &nodes, id, chance)?)?;
+        jobs.push(pending_job(size, &nodes, &barred, id, chance)?)?;
     }
     Ok(jobs)
 }

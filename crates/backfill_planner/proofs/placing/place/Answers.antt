@@ -1,8 +1,6 @@
-use Rattle.std.proofs.Common.{◌≡◌, ◌+◌, ◌≤◌, All, true, false, is_some, arith}
-use Rattle.resource_profile.specs.declared.Hold.{Hold}
-use Rattle.resource_profile.specs.Profiles.{IsNextEnd}
+use Rattle.std.proofs.Common.{◌≡◌, ◌+◌, true, false, is_some, arith}
 use Rattle.backfill_planner.specs.Plans.{placement_at}
-use Rattle.backfill_planner.proofs.Seconds.{placed-none, placed-some, NonePlaced-more, NoneEnds-before, NoneEnds-ever}
+use Rattle.backfill_planner.proofs.Seconds.{placed-none, placed-some, NonePlaced-more}
 use Rattle.backfill_planner.proofs.placing.place.Goals as goal
 
 pub returns-then-is_some-clause-placed : goal.returns-then-is_some-clause-placed
@@ -14,30 +12,18 @@ returns-then-is_some-clause-placed g c =
     placed-some c.args.base.now.rooms c.args.profile.now.holds c.args.job.now c.args.lo c.args.hi c.loop-start.start c.in_ok-placed.placed
     c.loop-start.invariant.from c.loop-start-test.true c.loop-start.invariant.none_placed is there
 
-pub returns-in_default-clause-placed : goal.returns-in_default-clause-placed
-returns-in_default-clause-placed g c =
-    let rooms_are : c.as_slice-rooms.result.now ≡ c.args.base.now.rooms = cc in
-    let nothing : is_some c.in_ok-placed.placed ≡ false = cc in
-    let is : c.in_ok-placed.placed ≡ placement_at c.args.base.now.rooms c.args.profile.now.holds c.args.job.now c.loop-start.start =
-    rw rooms_are at c.in_ok-placed.ensures.placement in
-    let none : All (λ (hold : Hold). hold.until ≤ c.loop-start.start) c.args.profile.now.holds = rw c.in_default.is at c.next_rise.ensures.none in
-    placed-none c.args.base.now.rooms c.args.profile.now.holds c.args.job.now c.args.lo c.args.hi (c.args.hi + 1) (omega arith)
-    (NonePlaced-more c.lower_laws.ensures c.args.base.now.rooms c.args.profile.now.holds c.args.job.now c.args.lo c.args.hi c.loop-start.start (c.args.hi + 1) c.in_ok-placed.placed
-    c.loop-start.invariant.none_placed is nothing c.placement_at.ensures.window c.requires.last (NoneEnds-ever c.args.profile.now.holds c.loop-start.start (c.args.hi + 1) none))
-
 pub loop-start-preserved : goal.loop-start-preserved
 loop-start-preserved g c =
     let rooms_are : c.as_slice-rooms.result.now ≡ c.args.base.now.rooms = cc in
     let nothing : is_some c.in_ok-placed.placed ≡ false = cc in
     let is : c.in_ok-placed.placed ≡ placement_at c.args.base.now.rooms c.args.profile.now.holds c.args.job.now c.loop-start.start =
     rw rooms_are at c.in_ok-placed.ensures.placement in
-    let next : IsNextEnd c.args.profile.now.holds c.loop-start.start c.in-Some.rise = rw c.in-Some.is at c.next_rise.ensures.some in
     record {
-      none_placed = NonePlaced-more c.lower_laws.ensures c.args.base.now.rooms c.args.profile.now.holds c.args.job.now c.args.lo c.args.hi c.loop-start.start c.in-Some.rise c.in_ok-placed.placed
-          c.loop-start.invariant.none_placed is nothing c.placement_at.ensures.window c.requires.last (NoneEnds-before c.args.profile.now.holds c.loop-start.start c.in-Some.rise next);
-      from = omega (arith, c.loop-start.invariant.from, next.later);
+      none_placed = NonePlaced-more c.lower_laws.ensures c.args.base.now.rooms c.args.profile.now.holds c.args.job.now c.args.lo c.args.hi c.loop-start.start c.next_second-start.result c.in_ok-placed.placed
+          c.loop-start.invariant.none_placed is nothing c.placement_at.ensures.window c.requires.last c.next_second-start.ensures.quiet;
+      from = omega (arith, c.loop-start.invariant.from, c.next_second-start.ensures.later);
       swept = rw rooms_are at c.placement_at.ensures.swept;
-      order = omega (arith, c.placement_at.ensures.second, next.later);
+      order = omega (arith, c.placement_at.ensures.second, c.next_second-start.ensures.later);
     }
 
 pub returns-clause-placed : goal.returns-clause-placed

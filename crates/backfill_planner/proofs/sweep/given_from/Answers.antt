@@ -1,23 +1,21 @@
-use Rattle.std.proofs.Common.{arith}
-use Rattle.resource_profile.specs.Windows.{free_of, IsSteady}
-use Rattle.backfill_planner.specs.Giving.{window_end}
-use Rattle.backfill_planner.proofs.Sweeping.{gives-until, in-reach-some, in-reach-none, end-some, end-none}
+use Rattle.std.proofs.Common.{◌≡◌, sym, ◌∙◌, Some, None}
+use Rattle.std.specs.Prelude.{find, option_map}
+use Rattle.backfill_planner.specs.declared.job.Barred.{Barred}
+use Rattle.backfill_planner.specs.Giving.{window_end, bars}
+use Rattle.backfill_planner.proofs.Barring.{found-none}
+use Rattle.backfill_planner.proofs.Sweeping.{gives-none}
 use Rattle.backfill_planner.proofs.sweep.given_from.Goals as goal
 
 pub returns-in-Some-clause-gives : goal.returns-in-Some-clause-gives
 returns-in-Some-clause-gives c =
-    let window = c.free_over-window.result in
     let job = c.args.job.now in
-    let steady : IsSteady (λ moment. free_of c.args.rooms.now c.args.profile.now.holds c.args.node moment) c.args.second (window_end job c.args.second) window = rw (← c.window_end.ensures.end, ← c.requires.rooms) c.free_over-window.ensures in
-    let ends = end-some job c.args.second c.in-Some.seconds c.in-Some.is in
-    let reach = in-reach-some job c.args.second c.in-Some.seconds window.begins_before window.ends_up_to c.in-Some.is (omega (arith, c.get.ensures.range.0, c.get.ensures.value)) steady.begins (rw ends at steady.ends) in
-    rw (c.min-until.ensures, c.get.ensures.value) (gives-until c.args.rooms.now c.args.profile.now.holds job c.args.second c.args.node c.tasks_given-tasks.result _ window c.tasks_given-tasks.ensures.tasks steady reach)
+    let found : option_map (λ (time : Barred). time.until) (find (bars c.args.node c.args.second (window_end job c.args.second)) job.barred) ≡ Some c.in-Some.until =
+    rw (← c.window_end-end.ensures.end, ← c.as_slice.ensures) (sym c.barred_until.ensures ∙ c.in-Some.is) in
+    gives-none c.args.rooms.now c.args.profile.now.holds job c.args.second c.args.node c.in-Some.until found
 
-pub returns-in-None-clause-gives : goal.returns-in-None-clause-gives
-returns-in-None-clause-gives c =
-    let window = c.free_over-window.result in
+pub given_from_free-requires-clause-clear : goal.given_from_free-requires-clause-clear
+given_from_free-requires-clause-clear c =
     let job = c.args.job.now in
-    let steady : IsSteady (λ moment. free_of c.args.rooms.now c.args.profile.now.holds c.args.node moment) c.args.second (window_end job c.args.second) window = rw (← c.window_end.ensures.end, ← c.requires.rooms) c.free_over-window.ensures in
-    let ends = end-none job c.args.second c.in-None.is in
-    let reach = in-reach-none job c.args.second window.begins_before window.ends_up_to c.in-None.is steady.begins (rw ends at steady.ends) in
-    gives-until c.args.rooms.now c.args.profile.now.holds job c.args.second c.args.node c.tasks_given-tasks.result _ window c.tasks_given-tasks.ensures.tasks steady reach
+    let nothing : option_map (λ (time : Barred). time.until) (find (bars c.args.node c.args.second (window_end job c.args.second)) job.barred) ≡ None =
+    rw (← c.window_end-end.ensures.end, ← c.as_slice.ensures) (sym c.barred_until.ensures ∙ c.in_default.is) in
+    found-none (bars c.args.node c.args.second (window_end job c.args.second)) job.barred nothing

@@ -5,4 +5,5 @@ use Rattle.dependencies.specs.Standing.{all_of, standing_of}
 use Rattle.dependencies.proofs.standing.standing_of_named.Given as goal
 
 abbrev pub invariant-loop-job : goal.invariant-loop-job
-invariant-loop-job l = l.standing ≡ all_of (map (standing_of l.kind) (filter (is_named l.target) (take l.job-index l.jobs)))
+invariant-loop-job l =
+    l.standing ≡ all_of (map (standing_of l.kind) (filter (is_named l.target) (take l.job-index l.jobs)))
