@@ -1,5 +1,5 @@
 -- What stays true of every state, whatever happens. Each is proved as the contract of a law.
-use Rattle.std.specs.Prelude.{◌≡◌, ◌≢◌, ℕ, ◌+◌, ◌<◌, ◌≤◌, Bool, true, false, IfSome, Some, List, [], ◌∷◌, length, map, ◌++◌, All, AllPairs, Contains}
+use Rattle.std.specs.Prelude.{◌≡◌, ◌≢◌, ℕ, ◌+◌, ◌<◌, ◌≤◌, Bool, true, false, IfSome, Option, Some, List, [], ◌∷◌, length, map, ◌++◌, All, AllPairs, Contains}
 use Rattle.std.specs.Cmp.{IsStrictWeakOrder}
 use Rattle.std.specs.List.Sorted.{IsPermutation, IsSortedBy, IsStableBy}
 use Rattle.backfill_planner.specs.declared.Placed.{Placed}
@@ -169,6 +169,13 @@ JobNodes = (nodes : List NodeRecord) (reservations : List Reservation) (partitio
     → let places = places_for nodes reservations partition job.desc.reservation in
     All (λ node. node < length nodes) (plan_job nodes partition places barred bounds job).nodes
     × AllPairs (λ one other. one ≢ other) (plan_job nodes partition places barred bounds job).nodes
+
+-- Those that reservations leave of a partition's nodes are nodes that there are.
+abbrev pub PlacesThere : Type 0
+PlacesThere = (nodes : List NodeRecord) (reservations : List Reservation) (partition : PartRecord)
+    (name : Option (List ℕ))
+    → IsOnNodes (length nodes) partition
+    → All (λ place. place < length nodes) (places_for nodes reservations partition name)
 
 -- A list in order has the elements of the list.
 abbrev pub OrderMoves : Type 0 → Type 0

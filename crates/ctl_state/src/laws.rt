@@ -103,9 +103,10 @@ pub fn no_two_parts_share_a_processor()
     ensures { (s : State) → IsSound s → AllPairs AreApart (parts_of s.jobs) }
 {}
 
-/// The nodes that a job may get are nodes that there are, each once.
+/// The nodes that a job may get are nodes that there are, each once, and so are those that reservations leave it.
 pub fn jobs_get_nodes_that_are_there()
-    ensures { Laws.JobNodes }
+    ensures nodes { Laws.JobNodes }
+    ensures places { Laws.PlacesThere }
 {}
 
 /// A list in order has the elements of the list, and a stable sort makes it.

@@ -21,29 +21,33 @@ first-of : (first : Option Reason) (later : List (Option Reason))
 first-of None later = refl
 first-of (Some reason) later = refl
 
-pub reasons-joined : (first second middle last : Option Reason) (some others : List (Option Reason))
-    → option_or (option_or (option_or (option_or (option_or first second) (first_reason some)) middle)
-    (first_reason others)) last
-    ≡ first_reason (first ∷ (second ∷ (some ++ (middle ∷ (others ++ last ∷ [])))))
-reasons-joined first second middle last some others =
-    let end = behind others (last ∷ []) in
+pub reasons-joined : (first second third middle fourth last : Option Reason) (some others : List (Option Reason))
+    → option_or (option_or (option_or (option_or (option_or (option_or (option_or first second) third)
+    (first_reason some)) middle) (first_reason others)) fourth) last
+    ≡ first_reason (first ∷ (second ∷ (third ∷ (some ++ (middle ∷ (others ++ (fourth ∷ last ∷ [])))))))
+reasons-joined first second third middle fourth last some others =
+    let end : List (Option Reason) = fourth ∷ last ∷ [] in
     rw (
-      ← first-of first (second ∷ (some ++ (middle ∷ (others ++ last ∷ [])))),
-      ← first-of second (some ++ (middle ∷ (others ++ last ∷ []))),
-      ← behind some (middle ∷ (others ++ last ∷ [])),
-      ← first-of middle (others ++ last ∷ []),
-      ← end,
+      ← first-of first (second ∷ (third ∷ (some ++ (middle ∷ (others ++ end))))),
+      ← first-of second (third ∷ (some ++ (middle ∷ (others ++ end)))),
+      ← first-of third (some ++ (middle ∷ (others ++ end))),
+      ← behind some (middle ∷ (others ++ end)),
+      ← first-of middle (others ++ end),
+      ← behind others end,
+      ← first-of fourth (last ∷ []),
       ← first-of last [],
     )
-    (by first second (first_reason some) middle (first_reason others) last)
+    (by first second third (first_reason some) middle (first_reason others) fourth last)
   where
-    by : (a b c d e f : Option Reason)
-        → option_or (option_or (option_or (option_or (option_or a b) c) d) e) f
-        ≡ option_or a (option_or b (option_or c (option_or d (option_or e (option_or f None)))))
-    by None None None None None None = refl
-    by None None None None None (Some f) = refl
-    by None None None None (Some e) f = refl
-    by None None None (Some d) e f = refl
-    by None None (Some c) d e f = refl
-    by None (Some b) c d e f = refl
-    by (Some a) b c d e f = refl
+    by : (a b c d e f g h : Option Reason)
+        → option_or (option_or (option_or (option_or (option_or (option_or (option_or a b) c) d) e) f) g) h
+        ≡ option_or a (option_or b (option_or c (option_or d (option_or e (option_or f (option_or g (option_or h None)))))))
+    by None None None None None None None None = refl
+    by None None None None None None None (Some h) = refl
+    by None None None None None None (Some g) h = refl
+    by None None None None None (Some f) g h = refl
+    by None None None None (Some e) f g h = refl
+    by None None None (Some d) e f g h = refl
+    by None None (Some c) d e f g h = refl
+    by None (Some b) c d e f g h = refl
+    by (Some a) b c d e f g h = refl

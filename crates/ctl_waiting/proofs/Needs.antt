@@ -1,5 +1,5 @@
 -- What the candidates need, one after another, and the order of nodes that stands at a place.
-use Rattle.std.proofs.Common.{◌≡◌, ℕ, ◌+◌, ◌<◌, List, [], ◌∷◌, ◌++◌, length, map, take, get_or, Option, Some, refl, ap, ◌∙◌}
+use Rattle.std.proofs.Common.{◌≡◌, ℕ, ◌+◌, ◌<◌, List, [], ◌∷◌, ◌++◌, length, filter, map, take, get_or, true, false, Option, Some, refl, ap, ◌∙◌}
 use Rattle.std.specs.Prelude.{slice_get, filter_map, option_map}
 use Rattle.std.specs.List.{cons_option}
 use Rattle.std.proofs.lemmas.Option.{slice_get-map, get_or_from_slice_get}
@@ -29,3 +29,12 @@ pub order-at : (nodes : List NodeRecord) (partitions : List PartRecord) (orders 
 order-at nodes partitions orders place partition order are at is =
     is ∙ get_or_from_slice_get orders place (node_order nodes partition) order
     (rw are (slice_get-map (node_order nodes) partitions place ∙ ap (option_map (node_order nodes)) at))
+
+-- all pass, or none does
+pub filter-all : {X : Type 0} (xs : List X) → filter (λ x. true) xs ≡ xs
+filter-all [] = refl
+filter-all (x ∷ xs) = ap (λ rest. x ∷ rest) (filter-all xs)
+
+pub filter-none : {X : Type 0} (xs : List X) → filter (λ x. false) xs ≡ []
+filter-none [] = refl
+filter-none (x ∷ xs) = filter-none xs

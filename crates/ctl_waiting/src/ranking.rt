@@ -23,7 +23,7 @@ use backfill_planner::{BarredList, NodeList, PlanJob};
 use ctl_rank::{Factors, RankKey, is_above, key_of};
 use ctl_state::cluster::Cluster;
 use ctl_state::jobs::is_pending;
-use ctl_state::laws::a_stable_sort_makes_the_order;
+use ctl_state::laws::{a_stable_sort_makes_the_order, jobs_get_nodes_that_are_there};
 use ctl_state::planning::{node_order, plan_job};
 use ctl_state::reserved::{barred_for, lasting_named, places_in};
 use job_table::record::JobRecord;
@@ -133,11 +133,9 @@ fn places_for(
     order: &NodeList,
     job: &JobRecord,
 ) -> Result<NodeList, Memory>
-    requires there { IsOnNodes (length cluster.now.nodes.records) partition.now }
-    requires order { order.now ≡ Planning.node_order cluster.now.nodes.records partition.now }
-    ensures places { IfOk result (λ places. places ≡ Planning.places_for cluster.now.nodes.records
+    requires { order.now ≡ Planning.node_order cluster.now.nodes.records partition.now }
+    ensures { IfOk result (λ places. places ≡ Planning.places_for cluster.now.nodes.records
         (lasting moment cluster.now.reservations) partition.now job.now.desc.reservation) }
-    ensures nodes { IfOk result (λ places. All (λ place. place < length cluster.now.nodes.records) places) }
 {
     let Some(name) = &job.desc.reservation else {
         return order.share();
@@ -201,6 +199,7 @@ fn need_of(
         All (λ node. node < length cluster.now.nodes.records) plan.nodes)) }
     ensures tasks { IfOk result (λ need. IfSome need (λ plan. 1 ≤ plan.need.tasks)) }
 {
+    jobs_get_nodes_that_are_there();
     let Some(partition) = cluster.partitions.at(job.partition) else {
         return Ok(None);
     };

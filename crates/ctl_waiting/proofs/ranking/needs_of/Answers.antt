@@ -12,7 +12,7 @@ pub loop-candidate-preserved : goal.loop-candidate-preserved
 loop-candidate-preserved c =
     let before = c.loop-candidate.invariant in
     let count = length c.args.cluster.now.nodes.records in
-    let more = filter_map-more (needs_of (state_of c.args.cluster.now)) (λ (one : Candidate). one.job.now)
+    let more = filter_map-more (needs_of (state_of c.args.cluster.now) c.args.grounds.now.moment) (λ (one : Candidate). one.job.now)
     c.args.candidates.now c.loop-candidate.candidate-index c.candidate-item.result c.loop-candidate-test.true
     c.candidate-item.is in
     elim c.match-branch-3.branch [
