@@ -25,5 +25,7 @@ returns-clause-made c s after now user request reply = step-changes (record {
   submissions = c.a_submission_changes_the_state.ensures;
   jobs = c.where_no_job_changes_nothing_does.ensures.only;
   nodes = c.an_idle_order_changes_nothing.ensures.only;
+  creations = c.making_and_taking_reservations_changes_the_state.ensures.creations;
+  deletions = c.making_and_taking_reservations_changes_the_state.ensures.deletions;
   passes = c.an_idle_pass_changes_nothing.ensures.only;
 }) s now user request
