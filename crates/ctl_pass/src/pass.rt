@@ -11,7 +11,9 @@ ghost use Rattle.ctl_state.specs.declared.record.ArrayRecord.{ArrayRecord};
 ghost use Rattle.ctl_pass.specs.Live.{has_array};
 ghost use Rattle.job_table.specs.Awaiting.{ShowsAwaited, has_gone};
 ghost use Rattle.reservations.specs.declared.record.Reservation.{Reservation as OneReservation};
-ghost use Rattle.ctl_pass.specs.Readiness.{jobs_left, ready};
+ghost use Rattle.run_limits.specs.Tallies.{Shows};
+ghost use Rattle.ctl_state.specs.Counted.{holding};
+ghost use Rattle.ctl_pass.specs.Readiness.{jobs_left, placements, ready};
 ghost use Rattle.ctl_pass.specs.SamePlans.{same_plans};
 ghost use Rattle.ctl_pass.specs.Passing;
 
@@ -34,6 +36,7 @@ use job_table::awaited::Awaited;
 use job_table::laws::who_is_awaited_stays;
 use reservations::record::Reservation;
 use resource_profile::Steps;
+use run_limits::tally::Tally;
 use slurm_text::memory_error::Memory;
 use slurm_text::name::Name;
 use slurm_text::plain::refusal::Refusal;
@@ -65,6 +68,36 @@ pub fn refusal_of(cluster: &Cluster, user: &Name) -> Option<Refusal>
     }
 }
 
+// The plan from scratch of what the pass's first steps leave, beside what the jobs hold. It counts a step for each job
+// that it plans, and after want of memory at most that many.
+fn plan_from_scratch<L>(
+    alloc: Global,
+    cluster: &Cluster,
+    now: u64,
+    awaited: &Awaited,
+    tally: &Tally,
+    steps: &mut Steps<L>,
+) -> Result<Vec<Placed>, Memory>
+    requires sound { IsSound (state_of cluster.now) }
+    requires raised { cluster.now.moment ≤ now }
+    requires in_time { now ≤ last_moment }
+    requires awaited { ShowsAwaited awaited.now cluster.now.jobs.records }
+    requires counted { Shows cluster.now.assocs.records tally.now (holding cluster.now.jobs.records) }
+    ensures plan { IfOk result (λ plan. plan.items ≡ placements (state_of cluster.now) now) }
+    ensures steps { OnOk result (steps.new ≡ ticked steps.old (Passing.jobs_planned (state_of cluster.now) now)) }
+    ensures steps_err { OnErr result (IsTickedUpTo
+        (Passing.jobs_planned (state_of cluster.now) now) steps.old steps.new) }
+{
+    what_is_ranked_stays();
+    let base = base_of(alloc, cluster, now, awaited)?;
+    let factors = measure(alloc, cluster, now)?;
+    let ranked = rank(alloc, cluster, tally, &factors)?;
+    match plan(alloc, base, ranked, now, steps) {
+        Ok(planned) => Ok(planned.into_placements()),
+        Err(_) => Err(Memory),
+    }
+}
+
 /// What a pass at its raised moment does. Linear in jobs, parts and nodes, and for each candidate that names nodes or
 /// features in the nodes of its partition, beside what its plan costs; the nodes of each partition are sorted, and so
 /// are the users by what they have used and the candidates by rank, each once. What priorities rest on is found once.
@@ -85,17 +118,11 @@ pub fn decide<L>(
     ensures steps_err { OnErr result (IsTickedUpTo
         (Passing.jobs_planned (state_of cluster.now) now) steps.old steps.new) }
 {
-    what_is_ranked_stays();
     who_is_awaited_stays();
     let awaited = Awaited::of(alloc, &cluster.jobs)?;
-    let base = base_of(alloc, cluster, now, &awaited)?;
     let tally = count_holding(alloc, &cluster.assocs, cluster.jobs.records())?;
-    let factors = measure(alloc, cluster, now)?;
-    let ranked = rank(alloc, cluster, &tally, &factors)?;
-    let Ok(planned) = plan(alloc, base, ranked, now, steps) else {
-        return Err(Memory);
-    };
-    let (starts, stays) = split(alloc, cluster, now, tally, planned.into_placements())?;
+    let plan = plan_from_scratch(alloc, cluster, now, &awaited, &tally, steps)?;
+    let (starts, stays) = split(alloc, cluster, now, tally, plan)?;
     let age = cluster.settings.min_job_age.get();
     Ok(Decided {
         ended: count_over(now, cluster.jobs.records()) as u32,

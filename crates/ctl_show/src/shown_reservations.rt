@@ -55,10 +55,11 @@ pub(crate) fn reservation_rows(
 ) -> Result<Vec<Row>, Memory>
     ensures { IfOk result (λ rows. rows.items ≡ Records.reservation_rows (state_of cluster.now) asked.now) }
 {
+    let nodes = cluster.nodes.records();
     let mut rows = Vec::new(alloc);
     for reservation in cluster.reservations.records() {
         if is_meant(asked, reservation) {
-            let row = reservation_row(alloc, cluster.nodes.records(), reservation)?;
+            let row = reservation_row(alloc, nodes, reservation)?;
             rows.push(Row::Reservation(row))?;
         }
     }

@@ -1,5 +1,5 @@
 -- Whether a member of a list is found among those that a test finds.
-use Rattle.std.proofs.Common.{◌≡◌, Bool, List, [], ◌∷◌, filter, refl, sym, ap, ◌∙◌, inl, inr}
+use Rattle.std.proofs.Common.{◌≡◌, Bool, true, false, List, [], ◌∷◌, filter, refl, sym, ap, ◌∙◌, inl, inr}
 use Rattle.std.specs.List.{list_any}
 use Rattle.std.proofs.lemmas.Bool.{cases_Bool}
 
@@ -13,3 +13,12 @@ any_filter p (x ∷ xs) = elim (cases_Bool (p x)) [
 pub any_named : {X : Type 0} (p : X → Bool) (some all : List X) → filter p some ≡ filter p all
     → list_any p some ≡ list_any p all
 any_named p some all same = sym (any_filter p some) ∙ ap (list_any p) same ∙ any_filter p all
+
+-- all pass, or none does
+pub filter_all : {X : Type 0} (xs : List X) → filter (λ x. true) xs ≡ xs
+filter_all [] = refl
+filter_all (x ∷ xs) = ap (λ rest. x ∷ rest) (filter_all xs)
+
+pub filter_none : {X : Type 0} (xs : List X) → filter (λ x. false) xs ≡ []
+filter_none [] = refl
+filter_none (x ∷ xs) = filter_none xs

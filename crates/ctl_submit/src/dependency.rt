@@ -2,20 +2,29 @@
 
 ghost use Rattle.std.specs.Prelude.{◌≡◌};
 ghost use Rattle.std.specs.List.{list_any};
+ghost use Rattle.job_table.specs.Targets as spec;
 ghost use Rattle.job_table.specs.Targets.{AreTogether, is_named_by};
+ghost use Rattle.slurm_text.specs.declared.plain.dependency.DepItem.{DepItem as OneItem};
 ghost use Rattle.ctl_state.specs.State.{state_of};
 ghost use Rattle.ctl_submit.specs.Submission;
 
 use ctl_state::cluster::Cluster;
 use ctl_state::record::ArrayRecord;
 use job_table::jobs::Jobs;
+use job_table::record::JobRecord;
 use job_table::targets::{is_named, span_of};
 use slurm_text::plain::array::{ArraySpec, Indices};
 use slurm_text::plain::dependency::{DepId, DepItem, DepKind, DepSpec};
 use slurm_text::plain::target::Target;
 
+// Whether the target names one of the jobs.
+fn any_named(jobs: &[JobRecord], target: &Target) -> bool
+    ensures { result ≡ list_any (spec.is_named target.now) jobs.now }
+{
+    jobs.iter().any(|job| is_named(target, job))
+}
+
 // Whether the number names a job. Logarithmic in the jobs, and linear in those that have it.
-#[tactic(auto, using(crate::proofs::Named::any_named))]
 fn names_any(jobs: &Jobs, id: &DepId) -> bool
     requires { AreTogether jobs.now.records }
     ensures { result ≡ list_any (is_named_by id.now.id id.now.index) jobs.now.records }
@@ -24,9 +33,7 @@ fn names_any(jobs: &Jobs, id: &DepId) -> bool
         id: id.id,
         index: id.index,
     };
-    span_of(jobs.records(), &target)
-        .iter()
-        .any(|job| is_named(&target, job))
+    any_named(span_of(jobs.records(), &target), &target)
 }
 
 // Whether the array with this number was handed in with these indices. Linear in the arrays, and in the indices.
@@ -69,6 +76,15 @@ fn is_bad_item(cluster: &Cluster, array: &Option<ArraySpec>, item: &DepItem) -> 
         .any(|id| is_bad_number(cluster, array, item.kind, id))
 }
 
+// Whether an item is such.
+fn has_bad_item(cluster: &Cluster, array: &Option<ArraySpec>, items: &[DepItem]) -> bool
+    requires { AreTogether cluster.now.jobs.records }
+    ensures { result ≡ list_any (λ (item : OneItem).
+        list_any (Submission.is_bad_number (state_of cluster.now) array.now item.kind) item.ids) items.now }
+{
+    items.iter().any(|item| is_bad_item(cluster, array, item))
+}
+
 /// Whether the dependency names a job that there isn't, or, where tasks wait for those of their indices, an array with
 /// others. `--dependency` in sbatch(1). For each number logarithmic in the jobs and linear in those that have it, and
 /// for tasks by their indices linear in the arrays besides.
@@ -81,10 +97,7 @@ pub(crate) fn is_bad_dependency(
     ensures { result ≡ Submission.is_bad_dependency (state_of cluster.now) array.now dependency.now }
 {
     match dependency {
-        Some(spec) => spec
-            .items
-            .iter()
-            .any(|item| is_bad_item(cluster, array, item)),
+        Some(needs) => has_bad_item(cluster, array, needs.items.as_slice()),
         None => false,
     }
 }

@@ -1,6 +1,6 @@
 //! Whether a job could ever run.
 
-ghost use Rattle.std.specs.Prelude.{◌≡◌, ◌<◌, All, IfOk, length};
+ghost use Rattle.std.specs.Prelude.{◌≡◌, IfOk, length};
 ghost use Rattle.partitions.specs.Partitions.{IsOnNodes};
 ghost use Rattle.ctl_state.specs.Planning;
 ghost use Rattle.ctl_state.specs.State.{state_of};
@@ -9,6 +9,7 @@ ghost use Rattle.ctl_submit.specs.Submission;
 
 use backfill_planner::{BarredList, Base, NodeList, place};
 use ctl_state::cluster::Cluster;
+use ctl_state::laws::jobs_get_nodes_that_are_there;
 use ctl_state::planning::{node_order, open_rooms_of, plan_job};
 use ctl_state::reserved::places_in;
 use job_table::record::JobRecord;
@@ -38,9 +39,8 @@ fn places_for(
     desc: &JobDesc,
 ) -> Result<NodeList, Memory>
     requires { IsOnNodes (length cluster.now.nodes.records) partition.now }
-    ensures places { IfOk result (λ places. places
+    ensures { IfOk result (λ places. places
         ≡ Planning.places_for cluster.now.nodes.records cluster.now.reservations partition.now desc.now.reservation) }
-    ensures there { IfOk result (λ places. All (λ place. place < length cluster.now.nodes.records) places) }
 {
     let order = node_order(alloc, cluster.nodes.records(), partition)?;
     let Some(name) = &desc.reservation else {
@@ -65,6 +65,7 @@ pub(crate) fn is_placeable(
     requires there { IsOnNodes (length cluster.now.nodes.records) partition.now }
     ensures { IfOk result (λ could. could ≡ Submission.is_placeable (state_of cluster.now) partition.now job.now) }
 {
+    jobs_get_nodes_that_are_there();
     let nodes = cluster.nodes.records();
     let places = places_for(alloc, cluster, partition, &job.desc)?;
     let bounds = own_bounds(&job.desc);

@@ -21,6 +21,7 @@ loop-reservation-preserved c =
             w.in_ok-push.ensures.items,
             c.loop-reservation.invariant,
             w.in_ok-row.ensures,
+            c.records-nodes.ensures.value,
             more,
             w.if-is_meant.true,
           ) refl
