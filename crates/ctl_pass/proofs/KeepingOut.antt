@@ -118,7 +118,7 @@ IsClear node from until time = bars node from until time ≡ false
 
 none-passes : {X : Type 0} (p : X → Bool) (xs : List X) → list_any p xs ≡ false → All (λ x. p x ≡ false) xs
 none-passes p xs none k d below =
-    false_from_ne_true (p (get_or xs k d)) (λ is. both_ways (list_any p xs) (list_any_at p xs k d below is) none)
+    false_from_ne_true (p (get_or xs k d)) (λ is. both_ways (list_any p xs) none (list_any_at p xs k d below is))
 
 each-clear : (reservations : List Reservation) (name : Option (List ℕ)) (node from until : ℕ)
     → is_barred (barred_of reservations name) node from until ≡ false
@@ -209,7 +209,7 @@ planned-keeps laws s now reservations same =
       (
         found.4.id ∙ sym (laws.first base.rooms holds need now base.horizon placed is).id,
         need-keeps reservations need found.1 placed found.4
-        (laws.clear base.rooms holds need now base.horizon placed is),
+            (laws.clear base.rooms holds need now base.horizon placed is),
       ),
     ))
     base.holds (ranked s now) (ranked-needs laws.moves s now reservations same)
