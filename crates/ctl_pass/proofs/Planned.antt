@@ -287,7 +287,7 @@ timed_out-others now job =
       desc = refl;
       starts = refl;
       ended = sym others.0;
-      final = λ ended. absurd (both_ways (is_ended job.state) ended others.0);
+      final = λ ended. absurd (both_ways (is_ended job.state) others.0 ended);
     })
     (λ within. record {
       id = refl;

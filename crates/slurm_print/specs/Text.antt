@@ -5,7 +5,7 @@ use Rattle.slurm_text.specs.declared.plain.query.Query.TheVariants.{Squeue, Sinf
 use Rattle.slurm_text.specs.declared.plain.reply.Reply.{Reply}
 use Rattle.slurm_text.specs.declared.plain.reply.Reply.TheVariants.{Submitted, Done, Passed, Orders, Idle, Shown, Refused, NotBuilt}
 use Rattle.slurm_text.specs.declared.plain.request.Request.{Request}
-use Rattle.slurm_text.specs.declared.plain.request.Request.TheVariants.{Submit, Cancel, Report, Pass, Show}
+use Rattle.slurm_text.specs.declared.plain.request.Request.TheVariants.{Submit, Cancel, CreateReservation, Report, Pass, Show}
 use Rattle.slurm_text.specs.declared.plain.view.View.{View}
 use Rattle.slurm_print.specs.Malformed.{not_built_text}
 use Rattle.slurm_print.specs.Orders.{orders_text}
@@ -64,9 +64,17 @@ abbrev pub shown_text : Request → View → List ℕ
 shown_text (Show query) view = query_text query view
 shown_text request view = []
 
+abbrev pub reservation_line : List ℕ → List ℕ
+reservation_line name = codes "Reservation created: " ++ name ++ codes "\n"
+
+-- what was done is told of a reservation alone that was made
+abbrev pub done_text : Request → List ℕ
+done_text (CreateReservation desc) = reservation_line desc.name
+done_text request = []
+
 abbrev pub text_of : Request → Reply → List ℕ
 text_of request (Submitted id) = submitted_text (is_parsable request) id
-text_of request Done = []
+text_of request Done = done_text request
 text_of request (Passed ended started planned) = passed_line ended started planned
 text_of request (Orders orders) = orders_text orders
 text_of request Idle = idle_text request

@@ -1,7 +1,7 @@
 //! The text of a reply.
 
 ghost use Rattle.std.specs.Prelude.{◌≡◌, ◌++◌, IfOk, OnOk};
-ghost use Rattle.slurm_print.specs.Text.{text_of, command_of, command_asking, is_parsable, submitted_text, passed_line, idle_text, query_text, shown_text};
+ghost use Rattle.slurm_print.specs.Text.{text_of, command_of, command_asking, is_parsable, submitted_text, passed_line, done_text, reservation_line, idle_text, query_text, shown_text};
 
 use crate::line::{push_labelled, push_number, push_text};
 use crate::malformed::not_built;
@@ -12,6 +12,7 @@ use crate::sinfo::push_sinfo;
 use crate::sprio::push_sprio;
 use crate::squeue::push_view;
 use slurm_text::memory_error::Memory;
+use slurm_text::name::Name;
 use slurm_text::plain::query::Query;
 use slurm_text::plain::reply::Reply;
 use slurm_text::plain::request::Request;
@@ -38,7 +39,7 @@ fn push_reply(
 {
     match reply {
         Reply::Submitted { id } => push_submitted(out, is_parsable(request), *id),
-        Reply::Done => Ok(()),
+        Reply::Done => push_done(out, request),
         Reply::Passed {
             ended,
             started,
@@ -70,6 +71,24 @@ fn push_submitted(out: &mut Vec<u8>, parsable: bool, id: u32) -> Result<(), Memo
     } else {
         push_labelled(out, b"Submitted batch job ", u64::from(id))?;
     }
+    push_text(out, b"\n")
+}
+
+// What was done is told of a reservation alone that was made. "create" in scontrol(1).
+fn push_done(out: &mut Vec<u8>, request: &Request) -> Result<(), Memory>
+    ensures { OnOk result (out.new.items ≡ out.old.items ++ done_text request.now) }
+{
+    match request {
+        Request::CreateReservation(desc) => push_created(out, &desc.name),
+        _ => Ok(()),
+    }
+}
+
+fn push_created(out: &mut Vec<u8>, name: &Name) -> Result<(), Memory>
+    ensures { OnOk result (out.new.items ≡ out.old.items ++ reservation_line name.now) }
+{
+    push_text(out, b"Reservation created: ")?;
+    push_text(out, name.as_bytes())?;
     push_text(out, b"\n")
 }
 
