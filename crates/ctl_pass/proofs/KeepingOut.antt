@@ -1,4 +1,5 @@
--- What a pass plans keeps to the reservations: each placement keeps out of the times at which its job may not have nodes.
+-- What a pass plans keeps to the reservations: each placement keeps out of the times at which its job may not have
+-- nodes.
 use Rattle.std.proofs.Common.{◌≡◌, ℕ, ◌+◌, ◌≤◌, ◌<◌, Bool, true, false, ◌&&◌, cond, leb, ltb, List, [], ◌∷◌, ◌++◌, flat_map, get_or, unwrap_or, All, Any, Option, Some, None, option_map, refl, ap, sym, ◌∙◌, arith}
 use Rattle.std.specs.Prelude.{filter, option_to_list, slice_get}
 use Rattle.std.specs.List.{list_any}
