@@ -10,3 +10,4 @@ pub mod Planned
 pub mod Begun
 pub mod Passes
 pub mod Few
+pub mod KeepingOut

@@ -6,4 +6,5 @@ pub mod Passing
 pub mod Awaiting
 pub mod Live
 pub mod Taking
+pub mod Reserved
 pub mod Freedom

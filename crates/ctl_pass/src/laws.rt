@@ -11,11 +11,15 @@ ghost use Rattle.ctl_state.specs.Verdicts.{stamped};
 ghost use Rattle.ctl_waiting.specs.Candidates.{is_candidate};
 ghost use Rattle.ctl_pass.specs.Readiness.{RankedStays, jobs_left, ready, placements};
 ghost use Rattle.ctl_pass.specs.Starting.{HasStarted, JobStart, WasHeldBack, begun, may_start};
+ghost use Rattle.ctl_pass.specs.Reserved.{PlansKeepToReservations};
 ghost use Rattle.ctl_pass.specs.Freedom.{StartsAreFree};
 ghost use Rattle.ctl_pass.specs.Taking.{CanStart, unplanned};
 ghost use Rattle.ctl_pass.specs.Passing.{outcome, pass_after, placements_due, is_idle};
 
-use backfill_planner::laws::{parts_are_apart, placements_are_of_ranked_jobs, starts_fit};
+use backfill_planner::laws::{
+    parts_are_apart, placements_are_first, placements_are_of_ranked_jobs,
+    placements_keep_out_of_barred_times, starts_fit,
+};
 use ctl_rank::laws::priorities_stay;
 use ctl_state::laws::{
     a_stable_sort_makes_the_order, charging_keeps_all_sound, every_change_but_a_start_lets_go,
@@ -108,12 +112,25 @@ pub fn planned_jobs_are_candidates()
     placements_are_of_ranked_jobs();
 }
 
-/// Both together: whatever state a pass comes in, it starts jobs alone that nothing hinders.
+/// What is planned keeps to the reservations that aren't over: a job that names one has its nodes within its time alone,
+/// and every other job outside it.
+pub fn placements_keep_to_reservations()
+    ensures { (s : State) (now : ℕ) → PlansKeepToReservations s now }
+{
+    a_stable_sort_makes_the_order::<JobRecord>();
+    placements_are_first();
+    placements_keep_out_of_barred_times();
+    reservations_stay_apart();
+}
+
+/// All of it together: whatever state a pass comes in, it starts jobs alone that nothing hinders, and keeps them to the
+/// reservations.
 pub fn starts_are_free()
     ensures { (s : State) (now : ℕ) → StartsAreFree s now }
 {
     no_start_exceeds_a_limit();
     planned_jobs_are_candidates();
+    placements_keep_to_reservations();
 }
 
 /// A job that runs after a pass ran before it just so, or a placement that begins now is of it.
