@@ -23,7 +23,8 @@ use ctl_nodes::laws::{an_idle_order_changes_nothing, updating_nodes_keeps_all_so
 use ctl_pass::laws::{a_pass_keeps_all_sound, an_idle_pass_changes_nothing};
 use ctl_report::laws::a_report_keeps_all_sound;
 use ctl_reservations::laws::{
-    making_and_taking_reservations_changes_the_state, making_and_taking_reservations_keeps_all_sound,
+    making_and_taking_reservations_changes_the_state,
+    making_and_taking_reservations_keeps_all_sound,
 };
 use ctl_state::laws::{
     a_shutdown_keeps_all_sound, sizes_keep_all_sound, states_of_partitions_keep_all_sound,
