@@ -15,7 +15,7 @@ invariant_of-result c = (
       })
       c.in_ok-partitions.ensures.on_nodes
       (rw c.records-2.ensures.value at c.partitions_in_range.ensures)
-      c.in_ok-jobs.ensures.records c.new-3.ensures.items c.new-4.ensures c.get.ensures.range refl refl,
+      c.in_ok-jobs.ensures.records c.new-4.ensures.items c.new-2.ensures c.get.ensures.range refl refl,
   shows-none _ _ c.in_ok-nodes.ensures.held c.in_ok-jobs.ensures.records,
 )
 
