@@ -11,6 +11,7 @@ use crate::show::push_show;
 use crate::sinfo::push_sinfo;
 use crate::sprio::push_sprio;
 use crate::squeue::push_view;
+use crate::values::push_pair;
 use slurm_text::memory_error::Memory;
 use slurm_text::name::Name;
 use slurm_text::plain::query::Query;
@@ -87,8 +88,7 @@ fn push_done(out: &mut Vec<u8>, request: &Request) -> Result<(), Memory>
 fn push_created(out: &mut Vec<u8>, name: &Name) -> Result<(), Memory>
     ensures { OnOk result (out.new.items ≡ out.old.items ++ reservation_line name.now) }
 {
-    push_text(out, b"Reservation created: ")?;
-    push_text(out, name.as_bytes())?;
+    push_pair(out, b"Reservation created: ", name.as_bytes())?;
     push_text(out, b"\n")
 }
 
