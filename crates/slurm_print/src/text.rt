@@ -89,7 +89,8 @@ fn push_created(out: &mut Vec<u8>, name: &Name) -> Result<(), Memory>
     ensures { OnOk result (out.new.items ≡ out.old.items ++ reservation_line name.now) }
 {
     push_pair(out, b"Reservation created: ", name.as_bytes())?;
-    push_text(out, b"\n")
+    push_text(out, b"\n")?;
+    Ok(())
 }
 
 fn push_passed(out: &mut Vec<u8>, ended: u32, started: u32, planned: u32) -> Result<(), Memory>
