@@ -1,10 +1,15 @@
-use Rattle.std.proofs.Common.{ap, ◌∙◌}
+use Rattle.std.proofs.Common.{ap, ◌∙◌, sym, ℕ, Result, Ok, Err, OnErr}
 use Rattle.slurm_text.specs.declared.plain.request.Request.TheVariants.{Pass}
 use Rattle.ctl_state.specs.State.{State}
-use Rattle.ctl_core.specs.Step.{reply_of}
+use Rattle.ctl_core.specs.Step.{reply_of, steps_of}
 use Rattle.ctl_desk.specs.History.{History, present}
 use Rattle.ctl_desk.proofs.Entering.{IsHistory-decided}
+use Rattle.resource_profile.specs.Counts.{IsTickedUpTo}
 use Rattle.ctl_desk.proofs.book.Book.pass.Goals as goal
+
+on_err : {T E P : Type 0} (r : Result T E) → P → OnErr r P
+on_err (Ok _) p = tt
+on_err (Err _) p = p
 
 pub invariant_of-self-2 : goal.invariant_of-self-2
 invariant_of-self-2 g c =
@@ -28,3 +33,8 @@ returns-clause-reply g c =
     c.enter.ensures.reply ∙ c.in_ok-decided.ensures.reply
     ∙ ap (λ (s : State). reply_of s c.args.now c.args.user.now Pass)
     (c.self.invariant.1 ∙ ap (λ (h : History). present h) c.self.view_is)
+
+pub returns-in_err-decided-clause-steps_err : goal.returns-in_err-decided-clause-steps_err
+returns-in_err-decided-clause-steps_err g c =
+    on_err c.from_residual-in_err-decided.result
+    (rw (sym (c.self.invariant.1 ∙ ap (λ (h : History). present h) c.self.view_is)) c.in_err-decided.ensures.steps_err)
