@@ -161,24 +161,6 @@ pub fn other_headers()
         ≡ codes "scontrol: error: word 2: MissingWord\n" }
 {}
 
-/// Reservations keep others out, and jobs wait for others.
-#[tactic(none)]
-pub fn reserved()
-    ensures none { script_of on_one_node (codes "0 alice scontrol show reservation\n") ≡ codes "" }
-    ensures kept_out { script_of on_one_node
-        (codes "0 root scontrol create ReservationName=r StartTime=now+60 Duration=1 Nodes=n1 Users=bob\n"
-        ++ codes "0 alice sbatch -n 1 -t 2\n0 alice sbatch -n 1 -t 1\n0 root pass\n")
-        ≡ codes "Reservation created: r\nSubmitted batch job 1\nSubmitted batch job 2\n"
-        ++ codes "pass: ended 0 started 1 planned 1\n" }
-    ensures refused { script_of on_one_node
-        (codes "0 alice scontrol delete ReservationName=r\n0 root scontrol delete ReservationName=r\n")
-        ≡ codes "scontrol: error: AccessDenied (11)\nscontrol: error: InvalidReservation (14)\n" }
-    ensures waits { script_of on_one_node
-        (codes "0 alice sbatch -n 1 -t 1\n0 alice sbatch -n 1 -t 1 -d after:1\n1 root pass\n1 root pass\n")
-        ≡ codes "Submitted batch job 1\nSubmitted batch job 2\n"
-        ++ codes "pass: ended 0 started 1 planned 0\npass: ended 0 started 1 planned 0\n" }
-{}
-
 /// What scontrol(1) does to jobs, and to the controller.
 #[tactic(none)]
 pub fn operated()
