@@ -4,7 +4,7 @@
 use Rattle.std.proofs.Common.{◌≡◌, ◌≢◌, ℕ, zero, suc, ◌<◌, ◌∙◌, Bool, true, false, List, [], ◌∷◌, length, drop, get_or, Option, Some, None, refl, sym, ap, arith, inl, inr, if◌then◌else◌}
 use Rattle.std.specs.Prelude.{nat_lt, not, is_none, option_and_then, slice_get, IfSome}
 use Rattle.std.specs.List.{list_any}
-use Rattle.std.proofs.lemmas.Bool.{cases_Bool, both_ways}
+use Rattle.std.proofs.lemmas.Bool.{cases_Bool, both_ways, cond_both}
 use Rattle.std.proofs.lemmas.Bool.Decides.{nat_tests}
 use Rattle.std.proofs.lemmas.List.Quantifiers.{position-Some}
 use Rattle.slurm_text.specs.declared.plain.job.JobDesc.{JobDesc}
@@ -23,10 +23,11 @@ use Rattle.node_state.specs.Nodes.{is_named, place_named}
 use Rattle.ctl_state.specs.State.{State, last_moment}
 use Rattle.ctl_state.specs.Refusals.{refused_if, first_refusal, unless_refused, is_privileged}
 use Rattle.ctl_state.specs.Soundness.{IsSound}
-use Rattle.ctl_state.specs.Verdicts.{Verdict, Refuses, Tells, Stays, Unbuilt, Makes, reply_by, left_by}
-use Rattle.ctl_pass.specs.Passing.{pass_after, pass_made, is_idle}
+use Rattle.ctl_state.specs.Verdicts.{Verdict, Refuses, Tells, Stays, Makes, reply_by, left_by}
 use Rattle.ctl_report.specs.Reporting.{heard_of, heard_nodes}
-use Rattle.ctl_report.specs.Answering.{node_of, last_heard, staleness, made_by_report}
+use Rattle.ctl_report.specs.Answering.{is_restarted, node_of, last_heard, staleness}
+use Rattle.ctl_node_side.specs.Passes.{after_pass, made_by_pass, pass_is_idle}
+use Rattle.ctl_node_side.specs.Restarting.{made_by_report, met}
 use Rattle.ctl_submit.specs.Submission.{made_under, submit_made, terms_of}
 use Rattle.ctl_jobs.specs.declared.action.Action.{Action}
 use Rattle.ctl_jobs.specs.declared.action.Action.TheVariants as act
@@ -38,7 +39,7 @@ use Rattle.reservations.specs.Reservations.{reservation_named}
 use Rattle.ctl_reservations.specs.Reserving.{created, deleted}
 use Rattle.ctl_core.specs.Operating.{is_in_state, partition_after, partition_made, shut}
 use Rattle.ctl_core.specs.Sizes.{has_room}
-use Rattle.ctl_core.specs.Step.{raised, refusals_of, made, worked, ChangesNothing, early_refusals, unless_full, verdict_of, reply_of, is_closed, is_unbuilt}
+use Rattle.ctl_core.specs.Step.{raised, refusals_of, made, worked, ChangesNothing, early_refusals, unless_full, verdict_of, reply_of, is_closed}
 use Rattle.ctl_core.proofs.Partitions.{in-state-had, in-state-stays}
 
 -- what is known of requests that change nothing
@@ -51,7 +52,7 @@ pub record OnlyIdle : Type 0 where
       → update_after s now names state ≡ s → changes_any s names state ≡ false
   pub creations : (s : State) (desc : ReservationDesc) → created s desc ≢ s
   pub deletions : (s : State) (name : List ℕ) → is_none (reservation_named name s.reservations) ≡ false → deleted s name ≢ s
-  pub passes : (s : State) (now : ℕ) → pass_after s now ≡ s → is_idle s now ≡ true
+  pub passes : (s : State) (now : ℕ) → after_pass s now ≡ s → pass_is_idle s now ≡ true
 
 -- the first of refusals that come to none: none of them stands
 none-first : (refusal : Refusal) (stands : Bool) (later : List (Option Refusal))
@@ -76,7 +77,6 @@ full-made true verdict makes = makes
 full-made false (Refuses refusal) makes = absurd (cc)
 full-made false (Tells view) makes = absurd (cc)
 full-made false Stays makes = absurd (cc)
-full-made false Unbuilt makes = absurd (cc)
 full-made false (Makes other left) makes = absurd (cc)
 
 -- a report wouldn't come after itself
@@ -106,12 +106,14 @@ told-changes : (s : State) (now : ℕ) (report : Told) (node : Option ℕ) {repl
     → made_by_report s now report node ≡ Makes reply after → after ≢ s
 told-changes s now report None named fresh makes same = absurd (cc)
 told-changes s now report (Some node) named fresh makes same =
+    let met_nodes : (met s now node report).nodes ≡ s.nodes =
+    cond_both (is_restarted s report) _ s (λ (t : State). t.nodes ≡ s.nodes) (λ restarted. refl) (λ other. refl) in
     nodes-change now report s.nodes node (named-within report.node s.nodes node named) fresh
-    (ap (λ (t : State). t.nodes) (made-after makes ∙ same))
+    (ap (heard_nodes now node report) (sym met_nodes) ∙ ap (λ (t : State). t.nodes) (made-after makes ∙ same))
 
 -- a pass that would change nothing is idle
-pub pass-stays : ((s : State) (now : ℕ) → pass_after s now ≡ s → is_idle s now ≡ true)
-    → (s : State) (now : ℕ) → pass_after s now ≡ s → pass_made s now ≡ Stays
+pub pass-stays : ((s : State) (now : ℕ) → after_pass s now ≡ s → pass_is_idle s now ≡ true)
+    → (s : State) (now : ℕ) → after_pass s now ≡ s → made_by_pass s now ≡ Stays
 pass-stays only s now same = rw (only s now same)
 
 -- what is done to jobs and would change nothing changes no job
@@ -134,10 +136,10 @@ pub partition-stays : (s : State) (place : ℕ) (state : PartState)
 partition-stays s place state same = rw (in-state-had place state s.partitions (ap (λ (t : State). t.partitions) same))
 
 pass-changes : OnlyIdle → (s : State) (now : ℕ) {reply : Reply} {after : State}
-    → pass_made s now ≡ Makes reply after → after ≢ s
-pass-changes only s now makes same = elim (cases_Bool (is_idle s now)) [
+    → made_by_pass s now ≡ Makes reply after → after ≢ s
+pass-changes only s now makes same = elim (cases_Bool (pass_is_idle s now)) [
   | inl idle ↦ let stays = rw idle at makes in absurd (cc)
-  | inr busy ↦ both_ways (is_idle s now) busy (only.passes s now (made-after (rw busy at makes) ∙ same))
+  | inr busy ↦ both_ways (pass_is_idle s now) busy (only.passes s now (made-after (rw busy at makes) ∙ same))
 ]
 
 jobs-change : OnlyIdle → (s : State) (now : ℕ) (user : List ℕ) (action : Action) (named : JobRecord → Bool)
@@ -218,18 +220,14 @@ made-changes only s moment user (Show query) accepts none makes same = absurd (c
 -- What an accepted request makes is another state.
 pub step-changes : OnlyIdle → (s : State) (now : ℕ) (user : List ℕ) (request : Request) {reply : Reply} {after : State}
     → verdict_of s now user request ≡ Makes reply after → after ≢ s
-step-changes only s now user request makes same = elim (cases_Bool (is_unbuilt s request)) [
-  | inl unbuilt ↦ let never = rw unbuilt at makes in absurd (cc)
-  | inr built ↦
-      let moment = raised s now in
-      let early = judged (first_refusal (early_refusals s now request)) (worked s moment user request)
-      (rw built at makes) in
-      let late = none-first MomentTooLarge (nat_lt last_moment now) _ early.0 in
-      let accepts = none-first ShuttingDown (is_closed s request) _ late.1 in
-      let judged = judged (first_refusal (refusals_of s moment user request)) _ early.1 in
-      let made = full-made (has_room s request) (made s moment user request) judged.1 in
-      made-changes only s moment user request accepts.0 judged.0 made same
-]
+step-changes only s now user request makes same =
+    let moment = raised s now in
+    let early = judged (first_refusal (early_refusals s now request)) (worked s moment user request) makes in
+    let late = none-first MomentTooLarge (nat_lt last_moment now) _ early.0 in
+    let accepts = none-first ShuttingDown (is_closed s request) _ late.1 in
+    let judged = judged (first_refusal (refusals_of s moment user request)) _ early.1 in
+    let made = full-made (has_room s request) (made s moment user request) judged.1 in
+    made-changes only s moment user request accepts.0 judged.0 made same
 
 -- what an idle request is known by
 pub record IdleKeeps : Type 0 where
@@ -237,7 +235,7 @@ pub record IdleKeeps : Type 0 where
       → IsSound s → list_any (goes s user action named) s.jobs ≡ false → change_after s now user action named ≡ s
   pub nodes : (s : State) (now : ℕ) (names : List (List ℕ)) (state : NodeOrder)
       → IsSound s → changes_any s names state ≡ false → update_after s now names state ≡ s
-  pub passes : (s : State) (now : ℕ) → is_idle s now ≡ true → pass_after s now ≡ s
+  pub passes : (s : State) (now : ℕ) → pass_is_idle s now ≡ true → after_pass s now ≡ s
 
 -- a verdict whose reply is that nothing changes is refused for nothing, and has room or needs none
 judged-idle : (refusal : Option Refusal) (verdict : Verdict)
@@ -250,7 +248,6 @@ full-idle true verdict idle = idle
 full-idle false (Refuses refusal) idle = absurd (cc)
 full-idle false (Tells view) idle = absurd (cc)
 full-idle false Stays idle = refl
-full-idle false Unbuilt idle = absurd (cc)
 full-idle false (Makes reply after) idle = absurd (cc)
 
 jobs-idle : IdleKeeps → (s : State) (moment : ℕ) (user : List ℕ) (action : Action) (named : JobRecord → Bool)
@@ -301,7 +298,7 @@ made-idle keeps s moment user (Report report) idle =
     elim (node_of s report)
     as (λ node. reply_by (made_by_report s moment report node) ≡ Idle → ⊥)
     [ None ↦ λ idle. absurd (cc) | Some node ↦ λ idle. absurd (cc) ] idle
-made-idle keeps s moment user Pass idle = elim (cases_Bool (is_idle s moment)) [
+made-idle keeps s moment user Pass idle = elim (cases_Bool (pass_is_idle s moment)) [
   | inl stays ↦ keeps.passes s moment stays
   | inr busy ↦ let passed = rw busy at idle in absurd (cc)
 ]
@@ -313,12 +310,8 @@ made-idle keeps s moment user (Show query) idle = absurd (cc)
 -- A request that is idle is one that would change nothing.
 pub step-idle : IdleKeeps → (s : State) (now : ℕ) (user : List ℕ) (request : Request)
     → reply_of s now user request ≡ Idle → ChangesNothing s (raised s now) user request
-step-idle keeps s now user request idle = elim (cases_Bool (is_unbuilt s request)) [
-  | inl unbuilt ↦ let never = rw unbuilt at idle in absurd (cc)
-  | inr built ↦
-      let moment = raised s now in
-      let early = judged-idle (first_refusal (early_refusals s now request)) (worked s moment user request)
-      (rw built at idle) in
-      let judged = judged-idle (first_refusal (refusals_of s moment user request)) _ early in
-      made-idle keeps s moment user request (full-idle (has_room s request) (made s moment user request) judged)
-]
+step-idle keeps s now user request idle =
+    let moment = raised s now in
+    let early = judged-idle (first_refusal (early_refusals s now request)) (worked s moment user request) idle in
+    let judged = judged-idle (first_refusal (refusals_of s moment user request)) _ early in
+    made-idle keeps s moment user request (full-idle (has_room s request) (made s moment user request) judged)

@@ -7,9 +7,9 @@ use Rattle.slurm_text.specs.declared.plain.request.Request.{Request}
 use Rattle.ctl_state.specs.State.{State, last_moment}
 use Rattle.ctl_state.specs.Soundness.{IsSound}
 use Rattle.ctl_state.specs.Refusals.{first_refusal, refused_if, unless_refused}
-use Rattle.ctl_state.specs.Verdicts.{Verdict, Unbuilt, reply_by, left_by}
+use Rattle.ctl_state.specs.Verdicts.{Verdict, reply_by, left_by}
 use Rattle.ctl_core.specs.Sizes.{size_of}
-use Rattle.ctl_core.specs.Step.{early_refusals, raised, worked, verdict_of, reply_of, state_after, entered, is_closed, is_entered, is_unbuilt}
+use Rattle.ctl_core.specs.Step.{early_refusals, raised, worked, verdict_of, reply_of, state_after, entered, is_closed, is_entered}
 
 raised-twice : (s : State) (now : ℕ) → raised s (raised s now) ≡ raised s now
 raised-twice s now = omega arith
@@ -28,11 +28,11 @@ late-alike s now sound = elim (cases_Bool (nat_lt last_moment now)) [
 verdict-alike : (s : State) (now : ℕ) (user : List ℕ) (request : Request) → IsSound s
     → verdict_of s (raised s now) user request ≡ verdict_of s now user request
 verdict-alike s now user request sound =
-    ap (λ (late : Bool). if is_unbuilt s request then Unbuilt else
+    ap (λ (late : Bool).
     unless_refused (first_refusal (refused_if late MomentTooLarge ∷ refused_if (is_closed s request) ShuttingDown ∷ []))
     (worked s (raised s (raised s now)) user request))
     (late-alike s now sound)
-    ∙ ap (λ (moment : ℕ). if is_unbuilt s request then Unbuilt else
+    ∙ ap (λ (moment : ℕ).
     unless_refused (first_refusal (early_refusals s now request)) (worked s moment user request))
     (raised-twice s now)
 

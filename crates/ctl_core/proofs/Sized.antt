@@ -5,12 +5,15 @@ use Rattle.std.specs.Prelude.{slice_get}
 use Rattle.std.proofs.lemmas.Bool.{cond_both}
 use Rattle.slurm_text.specs.declared.plain.refusal.Refusal.{Refusal}
 use Rattle.slurm_text.specs.declared.plain.request.Request.{Request}
+use Rattle.slurm_text.specs.declared.plain.report.Report.{Report as Told}
 use Rattle.slurm_text.specs.declared.plain.request.Request.TheVariants.{Submit, Cancel, Hold, Release, Requeue, UpdateJob, UpdateNode, UpdatePartition, CreateReservation, DeleteReservation, Report, Pass, Shutdown, Show}
 use Rattle.ctl_state.specs.State.{State}
 use Rattle.ctl_state.specs.Refusals.{first_refusal, unless_refused}
-use Rattle.ctl_state.specs.Verdicts.{Verdict, Refuses, Tells, Stays, Unbuilt, Makes, reply_by, left_by}
-use Rattle.ctl_pass.specs.Passing.{is_idle}
-use Rattle.ctl_report.specs.Answering.{made_by_report, node_of}
+use Rattle.ctl_state.specs.Verdicts.{Verdict, Refuses, Tells, Stays, Makes, reply_by, left_by}
+use Rattle.ctl_report.specs.Answering.{is_restarted, node_of}
+use Rattle.ctl_node_side.specs.Passes.{pass_is_idle}
+use Rattle.ctl_node_side.specs.Restarting.{made_by_report, met}
+use Rattle.ctl_node_side.specs.Silence.{any_silent, silenced}
 use Rattle.ctl_submit.specs.Submission.{made_under, terms_of}
 use Rattle.ctl_jobs.specs.declared.action.Action.{Action}
 use Rattle.ctl_jobs.specs.declared.action.Action.TheVariants as act
@@ -29,13 +32,21 @@ abbrev pub KeepsSize : State → Verdict → Type 0
 KeepsSize s (Refuses refusal) = Unit {0}
 KeepsSize s (Tells view) = Unit {0}
 KeepsSize s Stays = Unit {0}
-KeepsSize s Unbuilt = Unit {0}
 KeepsSize s (Makes reply after) = after.size ≡ s.size
 
 jobs-sized : (s : State) (moment : ℕ) (user : List ℕ) (action : Action) (named : JobRecord → Bool)
     → KeepsSize s (change_made s moment user action named)
 jobs-sized s moment user action named =
     cond_both (list_any (goes s user action named) s.jobs) _ Stays (KeepsSize s) (λ some. refl) (λ none. tt)
+
+-- what is lost takes no room
+met-sized : (s : State) (moment node : ℕ) (report : Told) → (met s moment node report).size ≡ s.size
+met-sized s moment node report =
+    cond_both (is_restarted s report) _ s (λ (t : State). t.size ≡ s.size) (λ restarted. refl) (λ other. refl)
+
+silenced-sized : (s : State) (moment : ℕ) → (silenced s moment).size ≡ s.size
+silenced-sized s moment =
+    cond_both (any_silent s moment) _ s (λ (t : State). t.size ≡ s.size) (λ some. refl) (λ none. refl)
 
 made-sized : (s : State) (moment : ℕ) (user : List ℕ) (request : Request) → KeepsSize s (made s moment user request)
 made-sized s moment user (Submit desc) =
@@ -57,8 +68,9 @@ made-sized s moment user (DeleteReservation name) = refl
 made-sized s moment user Shutdown = refl
 made-sized s moment user (Report report) =
     elim (node_of s report) as (λ node. KeepsSize s (made_by_report s moment report node))
-    [ None ↦ tt | Some node ↦ refl ]
-made-sized s moment user Pass = cond_both (is_idle s moment) Stays _ (KeepsSize s) (λ idle. tt) (λ busy. refl)
+    [ None ↦ tt | Some node ↦ met-sized s moment node report ]
+made-sized s moment user Pass =
+    cond_both (pass_is_idle s moment) Stays _ (KeepsSize s) (λ idle. tt) (λ busy. silenced-sized s moment)
 made-sized s moment user (Show query) = tt
 
 full-sized : (s : State) (room : Bool) (verdict : Verdict) → KeepsSize s verdict
@@ -67,7 +79,6 @@ full-sized s true verdict sized = sized
 full-sized s false (Refuses refusal) sized = tt
 full-sized s false (Tells view) sized = tt
 full-sized s false Stays sized = tt
-full-sized s false Unbuilt sized = tt
 full-sized s false (Makes reply after) sized = tt
 
 judged-sized : (s : State) (refusal : Option Refusal) (verdict : Verdict) → KeepsSize s verdict
@@ -85,7 +96,6 @@ pub left-sized : (s : State) (verdict : Verdict) → KeepsSize s verdict → (le
 left-sized s (Refuses refusal) sized = refl
 left-sized s (Tells view) sized = refl
 left-sized s Stays sized = refl
-left-sized s Unbuilt sized = refl
 left-sized s (Makes reply after) sized = sized
 
 -- what is entered has room
@@ -94,7 +104,6 @@ full-entered true verdict entered = refl
 full-entered false (Refuses refusal) entered = absurd (cc)
 full-entered false (Tells view) entered = absurd (cc)
 full-entered false Stays entered = absurd (cc)
-full-entered false Unbuilt entered = absurd (cc)
 full-entered false (Makes reply after) entered = absurd (cc)
 
 judged-entered : (refusal : Option Refusal) (verdict : Verdict)

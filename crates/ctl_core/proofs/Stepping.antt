@@ -19,10 +19,11 @@ use Rattle.ctl_state.specs.State.{State, last_moment, last_size, shutdown_size}
 use Rattle.ctl_state.specs.Laws.{PartitionStates, Shutting, Sizing}
 use Rattle.ctl_state.specs.Soundness.{IsSound, IsAsked, IsLimit}
 use Rattle.ctl_state.specs.Refusals.{refused_if, first_refusal, unless_refused}
-use Rattle.ctl_state.specs.Verdicts.{Verdict, Refuses, Tells, Stays, Unbuilt, Makes, reply_by, left_by, stamped}
-use Rattle.ctl_pass.specs.Passing.{pass_after, is_idle}
+use Rattle.ctl_state.specs.Verdicts.{Verdict, Refuses, Tells, Stays, Makes, reply_by, left_by, stamped}
 use Rattle.ctl_report.specs.Reporting.{report_after}
-use Rattle.ctl_report.specs.Answering.{made_by_report, node_of}
+use Rattle.ctl_report.specs.Answering.{node_of}
+use Rattle.ctl_node_side.specs.Passes.{after_pass, pass_is_idle}
+use Rattle.ctl_node_side.specs.Restarting.{made_by_report, met}
 use Rattle.ctl_submit.specs.Submission.{submit_refusals, submit_made}
 use Rattle.ctl_jobs.specs.declared.action.Action.{Action}
 use Rattle.ctl_jobs.specs.declared.action.Action.TheVariants as act
@@ -34,7 +35,7 @@ use Rattle.ctl_reservations.specs.Reserving.{create_refusals, created, deleted}
 use Rattle.ctl_core.specs.Operating.{is_in_state, partition_made, shut, shutdown_refusals}
 use Rattle.ctl_core.specs.declared.reply.Decided.{Decided}
 use Rattle.ctl_core.specs.Sizes.{has_room, size_of}
-use Rattle.ctl_core.specs.Step.{raised, refusals_of, made, worked, unless_full, verdict_of, is_closed, is_entered, is_unbuilt, entered, state_after, IsInRange}
+use Rattle.ctl_core.specs.Step.{raised, refusals_of, made, worked, unless_full, verdict_of, is_closed, is_entered, entered, state_after, IsInRange}
 use Rattle.ctl_core.proofs.Sized.{KeepsSize, worked-sized}
 
 -- what a verdict makes is sound, once it bears the moment
@@ -42,7 +43,6 @@ abbrev pub MakesSound : State → ℕ → Verdict → Type 0
 MakesSound s now (Refuses refusal) = Unit {0}
 MakesSound s now (Tells view) = Unit {0}
 MakesSound s now Stays = Unit {0}
-MakesSound s now Unbuilt = Unit {0}
 MakesSound s now (Makes reply after) = IsSound (stamped now after)
 
 -- what accepted requests keep
@@ -63,9 +63,9 @@ pub record AllKeep : Type 0 where
   pub shutdown : Shutting
   pub later : (s : State) (now : ℕ) → IsSound s → s.moment ≤ now → now ≤ last_moment → IsSound (stamped now s)
   pub reports : (s : State) (now node : ℕ) (report : Told)
-      → IsSound s → s.moment ≤ now → now ≤ last_moment → IsSound (stamped now (report_after s now node report))
+      → IsSound s → s.moment ≤ now → now ≤ last_moment → IsSound (stamped now (report_after (met s now node report) now node report))
   pub passes : (s : State) (now : ℕ)
-      → IsSound s → s.moment ≤ now → now ≤ last_moment → IsSound (stamped now (pass_after s now))
+      → IsSound s → s.moment ≤ now → now ≤ last_moment → IsSound (stamped now (after_pass s now))
   pub sizes : Sizing
 
 -- a verdict makes what is sound, if whatever state it makes is
@@ -75,7 +75,6 @@ sound-by : (s : State) (now : ℕ) (verdict : Verdict)
 sound-by s now (Refuses refusal) makes = tt
 sound-by s now (Tells view) makes = tt
 sound-by s now Stays makes = tt
-sound-by s now Unbuilt makes = tt
 sound-by s now (Makes reply after) makes = makes reply after refl
 
 -- what is done to jobs, and another state of a partition
@@ -125,7 +124,7 @@ sound-made keep s moment user (Report report) sound later in_time ranges none =
     elim (node_of s report) as (λ node. MakesSound s moment (made_by_report s moment report node))
     [ None ↦ tt | Some node ↦ keep.reports s moment node report sound later in_time ]
 sound-made keep s moment user Pass sound later in_time ranges none =
-    cond_both (is_idle s moment) Stays _ (MakesSound s moment) (λ idle. tt)
+    cond_both (pass_is_idle s moment) Stays _ (MakesSound s moment) (λ idle. tt)
     (λ busy. keep.passes s moment sound later in_time)
 sound-made keep s moment user (Show query) sound later in_time ranges none = tt
 
@@ -135,7 +134,6 @@ sound-full s moment true verdict makes = makes
 sound-full s moment false (Refuses refusal) makes = tt
 sound-full s moment false (Tells view) makes = tt
 sound-full s moment false Stays makes = tt
-sound-full s moment false Unbuilt makes = tt
 sound-full s moment false (Makes reply after) makes = tt
 
 sound-judged : (s : State) (moment : ℕ) (refusal : Option Refusal) (verdict : Verdict)
@@ -148,7 +146,6 @@ abbrev pub Fits : State → ℕ → Verdict → Type 0
 Fits s size (Refuses refusal) = Unit {0}
 Fits s size (Tells view) = Unit {0}
 Fits s size Stays = Unit {0}
-Fits s size Unbuilt = Unit {0}
 Fits s size (Makes reply after) =
     (s.size + size ≤ last_size + shutdown_size) × (after.is_shut ≡ false → s.size + size ≤ last_size)
 
@@ -163,14 +160,12 @@ fits-full s size verdict = elim (cases_Bool (nat_le (s.size + size) last_size)) 
     fits-within (Refuses refusal) within = tt
     fits-within (Tells view) within = tt
     fits-within Stays within = tt
-    fits-within Unbuilt within = tt
     fits-within (Makes reply after) within = (omega (arith, within), λ accepts. within)
 
     fits-not : (verdict : Verdict) → Fits s size (unless_full false verdict)
     fits-not (Refuses refusal) = tt
     fits-not (Tells view) = tt
     fits-not Stays = tt
-    fits-not Unbuilt = tt
     fits-not (Makes reply after) = tt
 
 fits-judged : (s : State) (size : ℕ) (refusal : Option Refusal) (verdict : Verdict) → Fits s size verdict
@@ -196,7 +191,6 @@ sound-left : Sizing → (s : State) (moment size : ℕ) (verdict : Verdict)
 sound-left sizes s moment size (Refuses refusal) sound makes sized room = sound
 sound-left sizes s moment size (Tells view) sound makes sized room = sound
 sound-left sizes s moment size Stays sound makes sized room = sound
-sound-left sizes s moment size Unbuilt sound makes sized room = sound
 sound-left sizes s moment size (Makes reply after) sound makes sized room =
     cond_both (is_entered reply) (entered moment size after) s IsSound
     (λ enters. sizes (stamped moment after) (after.size + size) makes (rw sized room.0) (λ accepts. rw sized (room.1 accepts)))
@@ -236,9 +230,7 @@ kept-early keep s now user request false false sound ranges early accepts =
 kept-verdict : AllKeep → (s : State) (now : ℕ) (user : List ℕ) (request : Request)
     → IsSound s → IsInRange request → IsKept s (raised s now) request (verdict_of s now user request)
 kept-verdict keep s now user request sound ranges =
-    cond_both (is_unbuilt s request) Unbuilt _ (IsKept s (raised s now) request)
-    (λ unbuilt. record { makes = tt; sized = tt; room = tt })
-    (λ built. kept-early keep s now user request (nat_lt last_moment now) (is_closed s request) sound ranges refl refl)
+    kept-early keep s now user request (nat_lt last_moment now) (is_closed s request) sound ranges refl refl
 
 -- Whatever is asked, what is sound stays sound.
 pub sound-step : AllKeep → (s : State) (now : ℕ) (user : List ℕ) (request : Request)

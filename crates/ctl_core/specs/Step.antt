@@ -10,9 +10,11 @@ use Rattle.partitions.specs.Partitions.{place_meant}
 use Rattle.ctl_state.specs.State.{State, last_moment}
 use Rattle.ctl_state.specs.Soundness.{IsAsked, IsLimit, IsSound}
 use Rattle.ctl_state.specs.Refusals.{refused_if, first_refusal, unless_refused, is_privileged}
-use Rattle.ctl_state.specs.Verdicts.{Verdict, Refuses, Unbuilt, Tells, Makes, reply_by, left_by, stamped}
-use Rattle.ctl_pass.specs.Passing.{pass_refusals, pass_after, pass_made, jobs_planned}
-use Rattle.ctl_report.specs.Answering.{is_restarted, report_refusals, report_made}
+use Rattle.ctl_state.specs.Verdicts.{Verdict, Refuses, Tells, Makes, reply_by, left_by, stamped}
+use Rattle.ctl_pass.specs.Passing.{pass_refusals}
+use Rattle.ctl_report.specs.Answering.{report_refusals}
+use Rattle.ctl_node_side.specs.Passes.{after_pass, made_by_pass, planned_by_pass}
+use Rattle.ctl_node_side.specs.Restarting.{report_made}
 use Rattle.ctl_submit.specs.Submission.{submit_refusals, submit_made}
 use Rattle.ctl_jobs.specs.declared.action.Action.TheVariants as act
 use Rattle.ctl_nodes.specs.Updating.{update_after, update_made, update_refusals}
@@ -25,11 +27,6 @@ use Rattle.ctl_core.specs.Sizes.{has_room, size_of}
 -- the moment of a request: the one handed in, or the last one where that is later
 abbrev pub raised : State → ℕ → ℕ
 raised s now = max s.moment now
-
--- what the controller can't do yet: the reports of restarted daemons
-abbrev pub is_unbuilt : State → Request → Bool
-is_unbuilt s (Report report) = is_restarted s report
-is_unbuilt s request = false
 
 -- a controller that was shut down only shows things
 abbrev pub is_closed : State → Request → Bool
@@ -68,7 +65,7 @@ made s moment user (CreateReservation desc) = create_made s desc
 made s moment user (DeleteReservation name) = delete_made s name
 made s moment user Shutdown = Makes Done (shut s)
 made s moment user (Report report) = report_made s moment report
-made s moment user Pass = pass_made s moment
+made s moment user Pass = made_by_pass s moment
 made s moment user (Show query) = Tells (view_of s moment user query)
 
 -- What an idle request is: a pass, or another state of a partition, that leaves the state as it is, or, where all is
@@ -87,7 +84,7 @@ ChangesNothing s moment user (UpdateJob target limit nice) =
 ChangesNothing s moment user (UpdateNode nodes state) = IsSound s → update_after s moment nodes state ≡ s
 ChangesNothing s moment user (UpdatePartition name state) =
     IfSome (place_meant (Some name) s.partitions) (λ place. partition_after s place state ≡ s)
-ChangesNothing s moment user Pass = pass_after s moment ≡ s
+ChangesNothing s moment user Pass = after_pass s moment ≡ s
 ChangesNothing s moment user request = ⊥
 
 -- what would make an entry is refused where the history can't take it
@@ -112,7 +109,6 @@ early_refusals s now request =
 -- What a user's request at a moment comes to.
 abbrev pub verdict_of : State → ℕ → List ℕ → Request → Verdict
 verdict_of s now user request =
-    if is_unbuilt s request then Unbuilt else
     unless_refused (first_refusal (early_refusals s now request)) (worked s (raised s now) user request)
 
 -- the reply to it
@@ -145,7 +141,7 @@ state_after s now user request =
 abbrev pub steps_of : State → ℕ → List ℕ → ℕ
 steps_of s now user =
     if not (nat_lt last_moment now) && (not s.is_shut && is_privileged s user)
-    then jobs_planned s (raised s now)
+    then planned_by_pass s (raised s now)
     else 0
 
 -- the request is in its ranges, as its type keeps them

@@ -8,7 +8,7 @@ ghost use Rattle.ctl_state.specs.Index.{IsIndexed};
 ghost use Rattle.ctl_state.specs.Soundness.{IsSound};
 ghost use Rattle.ctl_core.specs.Answering.{Answers};
 ghost use Rattle.ctl_core.specs.Sizes.{has_room};
-ghost use Rattle.ctl_core.specs.Step.{reply_of, state_after, entered, is_closed, is_entered, is_unbuilt, raised, steps_of, worked};
+ghost use Rattle.ctl_core.specs.Step.{reply_of, state_after, entered, is_closed, is_entered, raised, steps_of, worked};
 
 use crate::changing::{cancel_jobs, change_job, change_jobs};
 use crate::laws::a_step_keeps_all_sound;
@@ -22,7 +22,6 @@ use crate::showing::show;
 use crate::sizes::room_for;
 use crate::submitting::submit;
 use ctl_jobs::Action;
-use ctl_report::is_restarted;
 use ctl_state::cluster::Cluster;
 use resource_profile::{Steps, start};
 use slurm_text::memory_error::Memory;
@@ -130,26 +129,6 @@ fn is_closed(cluster: &Cluster, request: &Request) -> bool
     }
 }
 
-// Whether the request is one that isn't worked yet.
-fn is_unbuilt(cluster: &Cluster, request: &Request) -> bool
-    ensures { result ≡ is_unbuilt (state_of cluster.now) request.now }
-{
-    match request {
-        Request::Report(report) => is_restarted(cluster, report),
-        _ => false,
-    }
-}
-
-fn unbuilt() -> Answered
-    ensures reply { result.reply ≡ Reply.NotBuilt }
-    ensures entered { result.entered ≡ None }
-{
-    Answered {
-        reply: Reply::NotBuilt,
-        entered: None,
-    }
-}
-
 /// The answer to a request that is done, and tells nothing.
 pub(crate) fn done() -> Answered
     ensures reply { result.reply ≡ Reply.Done }
@@ -202,9 +181,6 @@ fn answer(
     ensures indexed { IsIndexed cluster.new }
 {
     let moment = cluster.moment.max(now);
-    if is_unbuilt(cluster, request) {
-        return Ok(stamp(cluster, moment, 0, unbuilt()));
-    }
     if now > LAST_MOMENT {
         return Ok(stamp(cluster, moment, 0, refused(Refusal::MomentTooLarge)));
     }

@@ -107,6 +107,14 @@ impl Ctl {
         self.cluster.is_shut
     }
 
+    /// The table of jobs, with what their associations have used. It takes no memory.
+    pub fn jobs(&self) -> &Jobs
+        ensures records { result.now.records ≡ self.now.state.jobs }
+        ensures usage { result.now.usage ≡ self.now.state.usage }
+    {
+        &self.cluster.jobs
+    }
+
     /// A pass, whatever plan is at hand. It counts a step for each job that it plans, where it is allowed, and
     /// after want of memory at most that many.
     pub fn pass<L>(

@@ -11,7 +11,7 @@ ghost use Rattle.job_table.specs.declared.record.JobRecord.{JobRecord};
 ghost use Rattle.ctl_state.specs.State.{State};
 ghost use Rattle.ctl_state.specs.Soundness.{IsSound};
 ghost use Rattle.ctl_state.specs.Verdicts.{Stays, Makes};
-ghost use Rattle.ctl_pass.specs.Passing.{pass_after, pass_made};
+ghost use Rattle.ctl_node_side.specs.Passes.{after_pass, made_by_pass};
 ghost use Rattle.ctl_jobs.specs.declared.action.Action.{Action};
 ghost use Rattle.ctl_jobs.specs.Changing.{change_after, change_made};
 ghost use Rattle.ctl_nodes.specs.Updating.{update_after, update_made};
@@ -19,9 +19,10 @@ ghost use Rattle.ctl_core.specs.Operating.{partition_after, partition_made};
 ghost use Rattle.ctl_core.specs.Step.{verdict_of, reply_of, state_after, raised, ChangesNothing, IsInRange};
 
 use ctl_jobs::laws::{what_users_do_keeps_all_sound, where_no_job_changes_nothing_does};
+use ctl_node_side::laws::{
+    a_report_met_keeps_all_sound, a_whole_pass_keeps_all_sound, an_idle_whole_pass_changes_nothing,
+};
 use ctl_nodes::laws::{an_idle_order_changes_nothing, updating_nodes_keeps_all_sound};
-use ctl_pass::laws::{a_pass_keeps_all_sound, an_idle_pass_changes_nothing};
-use ctl_report::laws::a_report_keeps_all_sound;
 use ctl_reservations::laws::{
     making_and_taking_reservations_changes_the_state,
     making_and_taking_reservations_keeps_all_sound,
@@ -41,8 +42,8 @@ pub fn a_step_keeps_all_sound()
     what_users_do_keeps_all_sound();
     updating_nodes_keeps_all_sound();
     making_and_taking_reservations_keeps_all_sound();
-    a_report_keeps_all_sound();
-    a_pass_keeps_all_sound();
+    a_report_met_keeps_all_sound();
+    a_whole_pass_keeps_all_sound();
     sizes_keep_all_sound();
     states_of_partitions_keep_all_sound();
     a_shutdown_keeps_all_sound();
@@ -62,7 +63,7 @@ pub fn raised_moments_decide_alike()
 pub fn idle_requests_change_nothing()
     ensures idle { (s : State) (now : ℕ) (user : List ℕ) (request : Request)
         → reply_of s now user request ≡ Idle → ChangesNothing s (raised s now) user request }
-    ensures pass { (s : State) (moment : ℕ) → pass_after s moment ≡ s → pass_made s moment ≡ Stays }
+    ensures pass { (s : State) (moment : ℕ) → after_pass s moment ≡ s → made_by_pass s moment ≡ Stays }
     ensures jobs { (s : State) (moment : ℕ) (user : List ℕ) (action : Action) (named : JobRecord → Bool)
         → change_after s moment user action named ≡ s → change_made s moment user action named ≡ Stays }
     ensures nodes { (s : State) (moment : ℕ) (names : List (List ℕ)) (state : NodeOrder)
@@ -76,5 +77,5 @@ pub fn idle_requests_change_nothing()
     where_no_job_changes_nothing_does();
     an_idle_order_changes_nothing();
     making_and_taking_reservations_changes_the_state();
-    an_idle_pass_changes_nothing();
+    an_idle_whole_pass_changes_nothing();
 }

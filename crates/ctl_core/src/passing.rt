@@ -6,14 +6,15 @@ ghost use Rattle.ctl_state.specs.State.{state_of, last_moment};
 ghost use Rattle.ctl_state.specs.Index.{IsIndexed};
 ghost use Rattle.ctl_state.specs.Soundness.{IsSound};
 ghost use Rattle.ctl_state.specs.Refusals.{first_refusal, unless_refused, is_privileged};
-ghost use Rattle.ctl_pass.specs.Passing.{pass_refusals, pass_made, jobs_planned};
+ghost use Rattle.ctl_pass.specs.Passing.{pass_refusals};
+ghost use Rattle.ctl_node_side.specs.Passes.{made_by_pass, planned_by_pass};
 ghost use Rattle.ctl_core.specs.Answering.{Answers};
 ghost use Rattle.ctl_core.specs.Step.{unless_full};
 
 use crate::answering::{idle, refused};
 use crate::reply::Answered;
-use ctl_pass::laws::few_start_or_stay;
-use ctl_pass::{act, decide, is_idle, refusal_of};
+use ctl_node_side::PassOutcome;
+use ctl_pass::refusal_of;
 use ctl_state::cluster::Cluster;
 use resource_profile::Steps;
 use slurm_text::memory_error::Memory;
@@ -55,29 +56,27 @@ pub(crate) fn pass<L>(
     requires indexed { IsIndexed cluster.old }
     ensures ok { IfOk result (Answers (state_of cluster.old) (state_of cluster.new)
         (unless_refused (first_refusal (pass_refusals (state_of cluster.old) user.now))
-        (unless_full room (pass_made (state_of cluster.old) moment)))) }
+        (unless_full room (made_by_pass (state_of cluster.old) moment)))) }
     ensures err { OnErr result (state_of cluster.new ≡ state_of cluster.old) }
     ensures steps { OnOk result (steps.new ≡ ticked steps.old
-        (if is_privileged (state_of cluster.old) user.now then jobs_planned (state_of cluster.old) moment else 0)) }
+        (if is_privileged (state_of cluster.old) user.now then planned_by_pass (state_of cluster.old) moment else 0)) }
     ensures steps_err { OnErr result (IsTickedUpTo
-        (if is_privileged (state_of cluster.old) user.now then jobs_planned (state_of cluster.old) moment else 0)
+        (if is_privileged (state_of cluster.old) user.now then planned_by_pass (state_of cluster.old) moment else 0)
         steps.old steps.new) }
     ensures indexed { IsIndexed cluster.new }
 {
     if let Some(refusal) = refusal_of(cluster, user) {
         return Ok(refused(refusal));
     }
-    few_start_or_stay();
-    let decided = decide(alloc, cluster, moment, steps)?;
-    if is_idle(cluster, moment, &decided) {
-        return Ok(idle());
-    }
-    if !room {
-        return Ok(refused(Refusal::HistoryFull));
-    }
-    let started = decided.starts.len() as u32;
-    let planned = decided.stays.len() as u32;
-    let answered = passed(decided.ended, started, planned);
-    act(cluster, moment, decided);
-    Ok(answered)
+    Ok(
+        match ctl_node_side::pass(alloc, cluster, moment, room, steps)? {
+            PassOutcome::Idle => idle(),
+            PassOutcome::Full => refused(Refusal::HistoryFull),
+            PassOutcome::Passed {
+                ended,
+                started,
+                planned,
+            } => passed(ended, started, planned),
+        },
+    )
 }

@@ -1,17 +1,19 @@
 //! Reports of nodes.
 
-ghost use Rattle.std.specs.Prelude.{◌≡◌, IfOk, OnErr};
-ghost use Rattle.ctl_state.specs.State.{state_of};
+ghost use Rattle.std.specs.Prelude.{◌≡◌, ◌≤◌, IfOk, OnErr};
+ghost use Rattle.ctl_state.specs.State.{state_of, last_moment};
 ghost use Rattle.ctl_state.specs.Index.{IsIndexed};
 ghost use Rattle.ctl_state.specs.Soundness.{IsSound};
 ghost use Rattle.ctl_state.specs.Refusals.{first_refusal, unless_refused};
-ghost use Rattle.ctl_report.specs.Answering.{report_refusals, report_made};
+ghost use Rattle.ctl_report.specs.Answering.{report_refusals};
+ghost use Rattle.ctl_node_side.specs.Restarting.{report_made};
 ghost use Rattle.ctl_core.specs.Answering.{Answers};
 ghost use Rattle.ctl_core.specs.Step.{unless_full};
 
 use crate::answering::refused;
 use crate::reply::Answered;
-use ctl_report::{accept, node_of, orders, refusal_of};
+use ctl_node_side::{accept, orders};
+use ctl_report::{node_of, refusal_of};
 use ctl_state::cluster::Cluster;
 use slurm_text::memory_error::Memory;
 use slurm_text::name::Name;
@@ -30,6 +32,8 @@ pub(crate) fn report(
     room: bool,
 ) -> Result<Answered, Memory>
     requires sound { IsSound (state_of cluster.old) }
+    requires raised { cluster.old.moment ≤ moment }
+    requires in_time { moment ≤ last_moment }
     requires indexed { IsIndexed cluster.old }
     ensures ok { IfOk result (Answers (state_of cluster.old) (state_of cluster.new)
         (unless_refused (first_refusal (report_refusals (state_of cluster.old) user.now report.now))

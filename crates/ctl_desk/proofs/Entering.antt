@@ -5,7 +5,7 @@ use Rattle.std.proofs.lemmas.Bool.{cases_lt, cases_Bool, true≢false, false≢t
 use Rattle.std.proofs.lemmas.List.{take-append-le, take_all}
 use Rattle.slurm_text.specs.declared.plain.request.Request.{Request}
 use Rattle.slurm_text.specs.declared.plain.request.Request.TheVariants.{Pass}
-use Rattle.ctl_pass.specs.Freedom.{StartsAreFree}
+use Rattle.ctl_node_side.specs.Passes.{PassIsFree}
 use Rattle.ctl_state.specs.State.{State}
 use Rattle.ctl_state.specs.Soundness.{IsSound}
 use Rattle.ctl_state.specs.Verdicts.{left_by}
@@ -40,13 +40,13 @@ StaysSound-push s es e sound last n =
 
 -- the law that every pass starts jobs alone that nothing hinders
 abbrev pub AllFree : Type 0
-AllFree = (s : State) (now : ℕ) → StartsAreFree s now
+AllFree = (s : State) (now : ℕ) → PassIsFree s now
 
 pub all-free : AllFree → (opening : State) (entries : List Entry) → StartsFree opening entries
 all-free free opening entries n = by (slice_get entries n)
   where
     by : (found : Option Entry)
-        → IfSome found (λ (e : Entry). e.request ≡ Pass → StartsAreFree (after_all opening (take n entries)) e.moment)
+        → IfSome found (λ (e : Entry). e.request ≡ Pass → PassIsFree (after_all opening (take n entries)) e.moment)
     by None = tt
     by (Some e) = λ pass. free (after_all opening (take n entries)) e.moment
 

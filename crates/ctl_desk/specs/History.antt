@@ -4,7 +4,7 @@ use Rattle.slurm_text.specs.declared.plain.request.Request.{Request}
 use Rattle.slurm_text.specs.declared.plain.request.Request.TheVariants.{Pass}
 use Rattle.ctl_state.specs.State.{State}
 use Rattle.ctl_state.specs.Soundness.{IsSound}
-use Rattle.ctl_pass.specs.Freedom.{StartsAreFree}
+use Rattle.ctl_node_side.specs.Passes.{PassIsFree}
 use Rattle.ctl_core.specs.Step.{reply_of, state_after, is_entered, raised}
 use Rattle.ctl_desk.specs.declared.entry.Entry.{Entry}
 
@@ -31,7 +31,7 @@ StaysSound opening entries = (n : ℕ) → IsSound (after_all opening (take n en
 -- a pass that is entered starts jobs alone that nothing hinders, and that reach no limit just before
 abbrev pub StartsFree : State → List Entry → Type 0
 StartsFree opening entries = (n : ℕ) → IfSome (slice_get entries n)
-    (λ (e : Entry). e.request ≡ Pass → StartsAreFree (after_all opening (take n entries)) e.moment)
+    (λ (e : Entry). e.request ≡ Pass → PassIsFree (after_all opening (take n entries)) e.moment)
 
 -- the entry that a session's request makes in a state
 abbrev pub entry_of : State → ℕ → ℕ → List ℕ → Request → Entry

@@ -12,7 +12,7 @@ use backfill_planner::Planned;
 use ctl_core::controller::Ctl;
 use ctl_core::laws::raised_moments_decide_alike;
 use ctl_core::reply::Decided;
-use ctl_pass::laws::starts_are_free;
+use ctl_node_side::laws::passes_are_free;
 use resource_profile::Steps;
 use slurm_text::memory_error::Memory;
 use slurm_text::name::Name;
@@ -63,6 +63,21 @@ impl Book {
         self.entries.len() as u64
     }
 
+    /// The controller, as the entries have left it. It takes no memory.
+    pub fn ctl(&self) -> &Ctl
+        ensures { result.now.state ≡ present self.now }
+    {
+        &self.ctl
+    }
+
+    /// The entries, in order. It takes no memory.
+    pub fn entries(&self) -> &[Entry]
+        ensures value { result.now ≡ self.now.entries }
+        ensures history { IsHistory self.now }
+    {
+        self.entries.as_slice()
+    }
+
     /// Decides a request of a session, and enters it where it is accepted. The cost is the controller's.
     pub fn ask(
         &mut self,
@@ -80,7 +95,7 @@ impl Book {
         ensures err { OnErr result (self.new ≡ self.old) }
     {
         raised_moments_decide_alike();
-        starts_are_free();
+        passes_are_free();
         self.entries.reserve(1)?;
         let name = user.copy()?;
         let decided = self.ctl.ask(now, user, &request)?;
@@ -108,7 +123,7 @@ impl Book {
         ensures steps_err { OnErr result (IsTickedUpTo (steps_of (present self.old) now user.now) steps.old steps.new) }
     {
         raised_moments_decide_alike();
-        starts_are_free();
+        passes_are_free();
         self.entries.reserve(1)?;
         let name = user.copy()?;
         let decided = self.ctl.pass(now, user, hint, steps)?;

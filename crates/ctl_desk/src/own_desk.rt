@@ -43,6 +43,18 @@ pub fn own_desk(book: Book) -> OwnDesk
     OwnDesk { book, before }
 }
 
+impl OwnDesk {
+    ghost use Rattle.std.specs.Prelude.{◌≡◌, ◌++◌};
+
+    /// The book, with all that was entered. It takes no memory.
+    pub fn into_book(self) -> Book
+        ensures opening { result.opening ≡ self.opening }
+        ensures entries { result.entries ≡ self.before ++ self.since }
+    {
+        self.book
+    }
+}
+
 impl Desk for OwnDesk {
     ghost use Rattle.ctl_desk.specs.Desk.{sight_of};
 

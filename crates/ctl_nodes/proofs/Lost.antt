@@ -1,7 +1,7 @@
 -- What becomes of a job that holds something of lost nodes: once it has failed, node by node, and in sum.
 use Rattle.std.proofs.Common.{ℕ, zero, suc, ◌≡◌, ◌+◌, ◌<◌, Bool, true, false, not, List, [], ◌∷◌, length, sum_by, get_or, Some, None, refl, sym, ap, ◌∙◌, arith, inl, inr, rules, tests, cond}
 use Rattle.std.specs.List.{list_any}
-use Rattle.std.proofs.lemmas.Bool.{both_ways, cases_Bool, cond-false, cond-true, eq-eqb, eqb-true, or_left, or_right, or_from, or_parts}
+use Rattle.std.proofs.lemmas.Bool.{both_ways, cases_Bool, cond-false, cond-true, cond_both, eq-eqb, eqb-true, or_left, or_right, or_from, or_parts}
 use Rattle.std.proofs.lemmas.Bool.Decides.{nat_tests}
 use Rattle.std.proofs.lemmas.List.Filters.{sum_by-filter_both}
 use Rattle.std.proofs.lemmas.List.Sums.{count_by-le-length, length-filter, sum_by-append}
@@ -277,3 +277,27 @@ left_shown giving held after now lost place jobs d below some shows gives =
           (parts_lost lost (get_or jobs place d).parts) held after shows.once times mem shows.shown gives;
       once = λ on cpu. omega (arith, times on cpu, shows.once on cpu);
     }
+
+-- ---- numbers
+
+left-number : (now : ℕ) (final : Final) (rest : List Part) (job : JobRecord)
+    → (with_left now final rest job).id ≡ job.id
+left-number now final [] job = refl
+left-number now final (part ∷ later) job = refl
+
+failed-number : (now : ℕ) (job : JobRecord) → (failed now job).id ≡ job.id
+failed-number now job = cond_both (is_running job.state) _ job (λ (one : JobRecord). one.id ≡ job.id)
+    (λ h. refl) (λ h. refl)
+
+number-in : (now : ℕ) (lost : ℕ → Bool) (job : JobRecord) (state : JobState)
+    → (off_lost now lost job state).id ≡ job.id
+number-in now lost job Pending = refl
+number-in now lost job Running =
+    left-number now (failing job) (parts_kept lost job.parts) (failed now job) ∙ failed-number now job
+number-in now lost job (Completing final) = left-number now final (parts_kept lost job.parts) job
+number-in now lost job (Ended final) = refl
+
+-- each job keeps its number
+pub numbers_stay : (now : ℕ) (lost : ℕ → Bool) (job : JobRecord) → (after_loss now lost job).id ≡ job.id
+numbers_stay now lost job = cond_both (loses lost job) _ job (λ (one : JobRecord). one.id ≡ job.id)
+    (λ h. number-in now lost job job.state) (λ h. refl)

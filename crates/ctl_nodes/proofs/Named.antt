@@ -15,7 +15,8 @@ use Rattle.node_state.specs.Laws.{NamesLeadToPlaces, PlacesAreNamed}
 use Rattle.node_state.specs.Nodes.{AreNamedOnce, change_at, changed, place_named}
 use Rattle.job_table.specs.Walks.{NothingAtPlace, SameAtPlace, WalkGoesOn, WalkKeepsRest, walked}
 use Rattle.ctl_state.specs.Planning.{is_at}
-use Rattle.ctl_nodes.specs.Updating.{alters, changed_if, is_among}
+use Rattle.ctl_nodes.specs.Changing.{changed_where}
+use Rattle.ctl_nodes.specs.Updating.{alters, is_among}
 use Rattle.ctl_nodes.proofs.Walked.{node_at, unwalked_at}
 
 -- a name leads to this place
@@ -99,34 +100,32 @@ test_at test (node ∷ nodes) (suc place) b below is d = test_at test nodes plac
 
 -- a step of the walk over the nodes
 pub changed_there : SameAtPlace NodeRecord → WalkGoesOn NodeRecord → WalkKeepsRest NodeRecord → (change : NodeChange)
-    (names : List (List ℕ)) (place : ℕ) (nodes before : List NodeRecord)
-    → before ≡ walked (changed_if change names) place nodes → place < length nodes
-    → is_at (is_among names) nodes place ≡ true
-    → change_at place change before ≡ walked (changed_if change names) (place + 1) nodes
-changed_there same goes_on rest change names place nodes before is below has =
-    let f : NodeRecord → NodeRecord = changed_if change names in
+    (test : NodeRecord → Bool) (place : ℕ) (nodes before : List NodeRecord)
+    → before ≡ walked (changed_where change test) place nodes → place < length nodes
+    → is_at test nodes place ≡ true
+    → change_at place change before ≡ walked (changed_where change test) (place + 1) nodes
+changed_there same goes_on rest change test place nodes before is below has =
+    let f : NodeRecord → NodeRecord = changed_where change test in
     let w = walked f place nodes in
-    let there = unwalked_at rest (λ node. is_among names node ≡ true) f place nodes below
-    (test_at (is_among names) nodes place true below has) in
+    let there = unwalked_at rest (λ node. test node ≡ true) f place nodes below
+    (test_at test nodes place true below has) in
     ap (change_at place change) is ∙ node_at place change w
     ∙ same (changed change) f place w
-    (λ d. sym (cond-true (is_among names (get_or w place d)) (changed change (get_or w place d)) (get_or w place d)
-    (there d)))
+    (λ d. sym (cond-true (test (get_or w place d)) (changed change (get_or w place d)) (get_or w place d) (there d)))
     ∙ goes_on f place nodes below
 
 pub others_there : NothingAtPlace NodeRecord → WalkGoesOn NodeRecord → WalkKeepsRest NodeRecord → (change : NodeChange)
-    (names : List (List ℕ)) (place : ℕ) (nodes before : List NodeRecord)
-    → before ≡ walked (changed_if change names) place nodes → place < length nodes
-    → is_at (is_among names) nodes place ≡ false
-    → before ≡ walked (changed_if change names) (place + 1) nodes
-others_there nothing goes_on rest change names place nodes before is below has =
-    let f : NodeRecord → NodeRecord = changed_if change names in
+    (test : NodeRecord → Bool) (place : ℕ) (nodes before : List NodeRecord)
+    → before ≡ walked (changed_where change test) place nodes → place < length nodes
+    → is_at test nodes place ≡ false
+    → before ≡ walked (changed_where change test) (place + 1) nodes
+others_there nothing goes_on rest change test place nodes before is below has =
+    let f : NodeRecord → NodeRecord = changed_where change test in
     let w = walked f place nodes in
-    let there = unwalked_at rest (λ node. is_among names node ≡ false) f place nodes below
-    (test_at (is_among names) nodes place false below has) in
+    let there = unwalked_at rest (λ node. test node ≡ false) f place nodes below
+    (test_at test nodes place false below has) in
     is ∙ sym (nothing f place w
-    (λ d. cond-false (is_among names (get_or w place d)) (changed change (get_or w place d)) (get_or w place d)
-    (there d)))
+    (λ d. cond-false (test (get_or w place d)) (changed change (get_or w place d)) (get_or w place d) (there d)))
     ∙ goes_on f place nodes below
 
 -- a node that the order names and makes another one of, or doesn't

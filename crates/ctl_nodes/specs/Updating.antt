@@ -11,11 +11,13 @@ use Rattle.node_state.specs.declared.record.DownBy.TheVariants as down
 use Rattle.node_state.specs.declared.record.NodeRecord.{NodeRecord}
 use Rattle.node_state.specs.declared.record.NodeChange.{NodeChange}
 use Rattle.node_state.specs.declared.record.NodeChange.TheVariants as change
-use Rattle.node_state.specs.Nodes.{changed, place_named}
-use Rattle.ctl_state.specs.Planning.{has, is_at}
+use Rattle.node_state.specs.Nodes.{place_named}
+use Rattle.reservations.specs.Reservations.{has}
+use Rattle.ctl_state.specs.Planning.{is_at}
 use Rattle.ctl_state.specs.Refusals.{is_privileged, refused_if}
 use Rattle.ctl_state.specs.State.{State}
 use Rattle.ctl_state.specs.Verdicts.{Verdict, Stays, Makes}
+use Rattle.ctl_nodes.specs.Changing.{changed_where}
 use Rattle.ctl_nodes.specs.Failing.{lost_after}
 
 -- why an order to nodes is refused, in their order; all names are tested before any node changes
@@ -37,7 +39,7 @@ is_among names node = has names node.conf.name
 
 -- the node once this was done to those with these names
 abbrev pub changed_if : NodeChange → List (List ℕ) → NodeRecord → NodeRecord
-changed_if change names node = if is_among names node then changed change node else node
+changed_if change names node = changed_where change (is_among names) node
 
 -- a node that is set down is lost
 abbrev pub is_lost_by : NodeOrder → Bool

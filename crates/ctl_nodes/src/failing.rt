@@ -35,8 +35,8 @@ fn failing(job: &JobRecord) -> Final
     }
 }
 
-// Whether the job holds something of a lost node.
-fn loses(lost: &CpuIds, job: &JobRecord) -> bool
+/// Whether the job holds something of a lost node. Linear in its parts.
+pub fn loses(lost: &CpuIds, job: &JobRecord) -> bool
     ensures { result ≡ Failing.loses (has_id lost.now) job.now }
 {
     job.parts

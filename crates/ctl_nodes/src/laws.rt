@@ -3,12 +3,13 @@
 
 ghost use Rattle.std.specs.Prelude.{◌≡◌, ℕ, ◌≤◌, Bool, List, map, All, false};
 ghost use Rattle.slurm_text.specs.declared.plain.request.NodeOrder.{NodeOrder};
+ghost use Rattle.job_table.specs.declared.record.JobRecord.{JobRecord};
 ghost use Rattle.job_table.specs.declared.record.Part.{Part};
 ghost use Rattle.ctl_state.specs.Holding.{parts_of};
 ghost use Rattle.ctl_state.specs.Soundness.{IsSound};
 ghost use Rattle.ctl_state.specs.State.{State, last_moment};
 ghost use Rattle.ctl_state.specs.Verdicts.{stamped};
-ghost use Rattle.ctl_nodes.specs.Failing.{after_loss, lost_after};
+ghost use Rattle.ctl_nodes.specs.Failing.{after_loss, loses, lost_after};
 ghost use Rattle.ctl_nodes.specs.Updating.{changes_any, update_after};
 
 use ctl_state::laws::{
@@ -30,6 +31,19 @@ pub fn lost_nodes_keep_all_sound()
     every_change_but_a_start_lets_go();
     jobs_are_kept();
 }
+
+/// Which nodes are lost is all that counts.
+pub fn the_same_nodes_are_lost_alike()
+    ensures { (s : State) (now : ℕ) (lost other : ℕ → Bool) → ((place : ℕ) → lost place ≡ other place)
+        → lost_after s now lost ≡ lost_after s now other }
+{}
+
+/// A job that holds nothing of the lost nodes stays as it is, and each keeps its number.
+pub fn others_stay_where_nodes_are_lost()
+    ensures stays { (now : ℕ) (lost : ℕ → Bool) (job : JobRecord) → loses lost job ≡ false
+        → after_loss now lost job ≡ job }
+    ensures number { (now : ℕ) (lost : ℕ → Bool) (job : JobRecord) → (after_loss now lost job).id ≡ job.id }
+{}
 
 /// What operators say of nodes keeps all sound.
 pub fn updating_nodes_keeps_all_sound()

@@ -6,6 +6,6 @@ pub mod laws;
 mod names;
 mod updating;
 
-pub use failing::lose;
-pub use names::places_of;
+pub use failing::{lose, loses};
+pub use names::{change_places, places_of};
 pub use updating::{changes_any, refusal_of, update};

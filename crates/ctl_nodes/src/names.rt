@@ -1,9 +1,11 @@
 //! The nodes that have some names.
 
-ghost use Rattle.std.specs.Prelude.{◌≡◌, ℕ, map};
+ghost use Rattle.std.specs.Prelude.{◌≡◌, ℕ, Bool, map};
 ghost use Rattle.cpu_ids.specs.Rows.{has_id};
+ghost use Rattle.node_state.specs.declared.record.NodeRecord.{NodeRecord as OneNode};
 ghost use Rattle.node_state.specs.Nodes.{AreNamedOnce};
 ghost use Rattle.ctl_state.specs.Planning.{is_at};
+ghost use Rattle.ctl_nodes.specs.Changing.{changed_where};
 ghost use Rattle.ctl_nodes.specs.Updating.{changed_if, is_among};
 
 use cpu_ids::CpuIds;
@@ -28,18 +30,29 @@ pub fn places_of(nodes: &Nodes, names: &[Name]) -> CpuIds
     places
 }
 
+/// Changes the nodes at these places: so all of which something holds, where it holds of those at these places and of no
+/// others. Linear in the nodes; it takes no memory.
+pub fn change_places(nodes: &mut Nodes, places: &CpuIds, change: NodeChange)
+    ensures records { (test : OneNode → Bool)
+        → ((place : ℕ) → has_id places.now place ≡ is_at test nodes.old.records place)
+        → nodes.new.records ≡ map (changed_where change test) nodes.old.records }
+    ensures held { nodes.new.held ≡ nodes.old.held }
+{
+    a_walk_changes_all::<NodeRecord>();
+    a_change_is_of_its_place::<NodeRecord>();
+    for place in 0..nodes.len() {
+        if places.contains(place) {
+            nodes.set_state(place, change);
+        }
+    }
+}
+
 /// Changes the nodes with these names. Linear in the names and in the nodes; it takes no memory.
 pub(crate) fn change_named(nodes: &mut Nodes, names: &[Name], change: NodeChange)
     requires { AreNamedOnce nodes.old.records }
     ensures records { nodes.new.records ≡ map (changed_if change names.now) nodes.old.records }
     ensures held { nodes.new.held ≡ nodes.old.held }
 {
-    a_walk_changes_all::<NodeRecord>();
-    a_change_is_of_its_place::<NodeRecord>();
     let named = places_of(nodes, names);
-    for place in 0..nodes.len() {
-        if named.contains(place) {
-            nodes.set_state(place, change);
-        }
-    }
+    change_places(nodes, &named, change);
 }

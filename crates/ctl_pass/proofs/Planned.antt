@@ -55,7 +55,7 @@ use Rattle.ctl_pass.specs.Limits.{holds_of_job, hold_end, timed_out}
 use Rattle.ctl_waiting.specs.Candidates.{is_candidate, candidates, need_in, needs_of, ranked}
 use Rattle.ctl_pass.specs.Readiness.{goes, jobs_left, ready, base_of, planned, placements}
 use Rattle.ctl_pass.specs.Taking.{CanStart}
-use Rattle.ctl_waiting.specs.Reasons.{exceeds_wall, held_reason, hindrance, hindrances_in, is_early, is_too_late, lacks_node, most_tasks, reason_of}
+use Rattle.ctl_waiting.specs.Reasons.{exceeds_wall, held_reason, hindrance, hindrances_in, is_early, is_too_late, lacks_node, most_tasks, awaiting_reason}
 use Rattle.ctl_pass.proofs.Held.{held-counted, free-counted}
 use Rattle.ctl_pass.proofs.Lists.{sum_by-larger, sum_by-map, joined-larger, length-rising, at-place, All-joins, All-joined}
 use Rattle.ctl_pass.proofs.Ranks.{IsOfCandidate, waiting, candidates-wait, ordered-agree, ranked-all, ranked-candidates, ranked-waits, ranked-apart}
@@ -258,7 +258,7 @@ abbrev hindered : State → ℕ → JobRecord → List Counted → Standing → 
 hindered s now job counted stands reservations =
     let beside : Beside = record { assocs = s.assocs; qos = s.qos; holding = counted } in
     first_reason (held_reason job.held_by
-    ∷ (reason_of stands
+    ∷ (awaiting_reason stands
     ∷ (reason_if (is_early now job) BeginTime
     ∷ (hindrances_in (partition_of s job) job
     ++ (reason_if (exceeds_wall s job) QosMaxWallDurationPerJobLimit

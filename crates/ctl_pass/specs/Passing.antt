@@ -1,11 +1,9 @@
--- A pass: it ends what is over its limit, drops old records, plans the pending jobs, and starts those planned at once.
+-- A pass in a state in which no node falls silent: it ends what is over its limit, drops old records, plans the pending jobs, and starts those planned at once.
 use Rattle.std.specs.Prelude.{◌≡◌, ℕ, Bool, ◌&&◌, not, nat_eq, if◌then◌else◌, List, [], ◌∷◌, length, count_by, All, Option}
-use Rattle.slurm_text.specs.declared.plain.reply.Reply.TheVariants.{Passed}
 use Rattle.slurm_text.specs.declared.plain.refusal.Refusal.{Refusal}
 use Rattle.slurm_text.specs.declared.plain.refusal.Refusal.TheVariants.{AccessDenied}
 use Rattle.backfill_planner.specs.declared.Placed.{Placed}
 use Rattle.ctl_state.specs.State.{State}
-use Rattle.ctl_state.specs.Verdicts.{Verdict, Stays, Makes}
 use Rattle.ctl_state.specs.Refusals.{refused_if, is_privileged}
 use Rattle.std.specs.List.{list_any}
 use Rattle.job_table.specs.declared.record.JobRecord.{JobRecord}
@@ -47,14 +45,6 @@ is_idle s now =
 -- why a pass may be refused
 abbrev pub pass_refusals : State → List ℕ → List (Option Refusal)
 pass_refusals s user = refused_if (not (is_privileged s user)) AccessDenied ∷ []
-
--- what a pass makes
-abbrev pub pass_made : State → ℕ → Verdict
-pass_made s now =
-    if is_idle s now then Stays else
-    Makes
-    (Passed (count_by (is_over now) s.jobs) (length (outcome s now).starts) (length (outcome s now).stays))
-    (pass_after s now)
 
 -- how many jobs a pass plans
 abbrev pub jobs_planned : State → ℕ → ℕ

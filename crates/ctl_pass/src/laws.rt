@@ -193,3 +193,8 @@ pub fn few_start_or_stay()
 {
     a_stable_sort_makes_the_order::<JobRecord>();
 }
+
+/// There are no more jobs than numbers.
+pub fn there_are_few_jobs()
+    ensures { (s : State) → IsSound s → length s.jobs ≤ last_job_id + 1 }
+{}

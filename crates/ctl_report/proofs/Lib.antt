@@ -4,3 +4,4 @@ pub mod Places
 pub mod Reported
 pub mod Launching
 pub mod Dropped
+pub mod Empty

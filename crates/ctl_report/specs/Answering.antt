@@ -1,16 +1,13 @@
--- What comes of a node's report.
+-- Which node reports, and why its report may be refused.
 use Rattle.std.specs.Prelude.{ℕ, Bool, false, not, nat_lt, is_none, unwrap_or, List, [], ◌∷◌, Option, Some, None, option_map, option_and_then}
 use Rattle.slurm_text.specs.declared.plain.report.Report.{Report}
 use Rattle.slurm_text.specs.declared.plain.refusal.Refusal.{Refusal}
 use Rattle.slurm_text.specs.declared.plain.refusal.Refusal.TheVariants.{AccessDenied, UnknownNode, StaleReport}
-use Rattle.slurm_text.specs.declared.plain.reply.Reply.TheVariants.{Orders}
 use Rattle.slurm_text.specs.declared.plain.report.Heard.{Heard}
 use Rattle.ctl_state.specs.State.{State}
-use Rattle.ctl_state.specs.Verdicts.{Verdict, Refuses, Makes}
 use Rattle.ctl_state.specs.Refusals.{refused_if, is_privileged}
 use Rattle.node_state.specs.Nodes.{place_named}
-use Rattle.ctl_report.specs.Reporting.{heard_of, is_after, report_after}
-use Rattle.ctl_report.specs.Ordering.{orders_of}
+use Rattle.ctl_report.specs.Reporting.{heard_of, is_after}
 
 -- the place of the node that reports
 abbrev pub node_of : State → Report → Option ℕ
@@ -20,7 +17,7 @@ node_of s report = place_named report.node s.nodes
 abbrev pub last_heard : State → Report → Option Heard
 last_heard s report = option_and_then (heard_of s.nodes) (node_of s report)
 
--- the daemon was restarted since its last accepted report, which isn't worked yet
+-- the daemon was restarted since its last accepted report
 abbrev pub is_restarted : State → Report → Bool
 is_restarted s report =
     unwrap_or (option_map (λ (heard : Heard). nat_lt heard.boot report.boot) (last_heard s report)) false
@@ -37,11 +34,3 @@ report_refusals s user report =
     ∷ refused_if (is_none (node_of s report)) UnknownNode
     ∷ staleness report (last_heard s report)
     ∷ []
-
--- what an accepted report makes
-abbrev pub made_by_report : State → ℕ → Report → Option ℕ → Verdict
-made_by_report s now report None = Refuses UnknownNode
-made_by_report s now report (Some node) = Makes (Orders (orders_of s now node report)) (report_after s now node report)
-
-abbrev pub report_made : State → ℕ → Report → Verdict
-report_made s now report = made_by_report s now report (node_of s report)

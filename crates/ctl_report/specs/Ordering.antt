@@ -11,7 +11,6 @@ use Rattle.job_table.specs.declared.record.Part.{Part}
 use Rattle.job_table.specs.declared.record.JobRecord.{JobRecord}
 use Rattle.job_table.specs.JobStates.{is_running}
 use Rattle.job_table.specs.Changes.{is_on}
-use Rattle.ctl_state.specs.State.{State}
 use Rattle.ctl_report.specs.Reporting.{is_last_start, is_listed, done_of, is_at, is_batch_host, reported}
 
 -- the job's last start
@@ -65,14 +64,14 @@ launch_of node report job =
     then option_map (launch_part node job) (find (is_on node) job.parts)
     else None
 
--- The orders that answer the report of the node at a place: what won't run there any more is killed, what is over
--- forgotten.
-unfoldable pub orders_of : State → ℕ → ℕ → Report → Orders
-orders_of s now node report = record {
+-- The orders that answer the report of the node at a place, by the jobs in whose midst it is worked: what won't run
+-- there any more is killed, what is over forgotten.
+unfoldable pub orders_of : List JobRecord → ℕ → ℕ → Report → Orders
+orders_of jobs now node report = record {
   node = report.node;
   boot = report.boot;
   number = report.number;
-  kills = in_order (killed now node report s.jobs report.running);
+  kills = in_order (killed now node report jobs report.running);
   forgets = in_order (map (λ (done : Done). done.start) report.done);
-  launches = filter_map (launch_of node report) s.jobs;
+  launches = filter_map (launch_of node report) jobs;
 }

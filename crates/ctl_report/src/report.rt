@@ -1,6 +1,7 @@
 //! A report: its refusals, its orders and what it does.
 
 ghost use Rattle.std.specs.Prelude.{◌≡◌, ◌<◌, ℕ, IfOk, IfSome, length};
+ghost use Rattle.job_table.specs.Table.{HaveRisingIds};
 ghost use Rattle.ctl_state.specs.State.{state_of};
 ghost use Rattle.ctl_state.specs.Index.{IsIndexed};
 ghost use Rattle.ctl_state.specs.Soundness.{IsSound};
@@ -13,6 +14,7 @@ use crate::jobs::report_jobs;
 use crate::nodes::{hear, heard_of, is_after};
 use crate::ordering::{forgets, kills, launches};
 use ctl_state::cluster::Cluster;
+use job_table::record::JobRecord;
 use slurm_text::memory_error::Memory;
 use slurm_text::name::Name;
 use slurm_text::plain::orders::Orders;
@@ -71,24 +73,24 @@ pub fn refusal_of(cluster: &Cluster, user: &Name, report: &Report) -> Option<Ref
     staleness(cluster, report)
 }
 
-/// What the node at a place is ordered in answer to its report, whatever its moment. Linear in the jobs, and for each
-/// that holds something of the node in what the report tells.
+/// What the node at a place is ordered in answer to its report, by the jobs in whose midst it is worked, whatever its
+/// moment. Linear in the jobs, and for each that holds something of the node in what the report tells.
 pub fn orders(
     alloc: Global,
-    cluster: &Cluster,
+    jobs: &[JobRecord],
     node: u32,
     report: &Report,
 ) -> Result<Orders, Memory>
-    requires sound { IsSound (state_of cluster.now) }
-    ensures { IfOk result (λ orders. (now : ℕ) → orders ≡ orders_of (state_of cluster.now) now node report.now) }
+    requires { HaveRisingIds jobs.now }
+    ensures { IfOk result (λ orders. (now : ℕ) → orders ≡ orders_of jobs.now now node report.now) }
 {
     Ok(Orders {
         node: report.node.copy()?,
         boot: report.boot,
         number: report.number,
-        kills: kills(alloc, cluster.jobs.records(), node, report)?,
+        kills: kills(alloc, jobs, node, report)?,
         forgets: forgets(alloc, report.done.as_slice())?,
-        launches: launches(alloc, cluster.jobs.records(), node, report)?,
+        launches: launches(alloc, jobs, node, report)?,
     })
 }
 

@@ -13,14 +13,11 @@ use Rattle.job_table.specs.declared.record.JobRecord.{JobRecord}
 use Rattle.reservations.specs.declared.record.Reservation.{Reservation}
 use Rattle.reservations.specs.Reservations.{is_named, is_refused, overlaps, reservation_named}
 use Rattle.ctl_state.specs.Holds.{holds_of_job}
-use Rattle.ctl_state.specs.Planning.{has, is_at}
+use Rattle.ctl_state.specs.Planning.{is_at}
+use Rattle.ctl_nodes.specs.Updating.{is_among}
 use Rattle.ctl_state.specs.Refusals.{is_privileged, refused_if}
 use Rattle.ctl_state.specs.State.{State}
 use Rattle.ctl_state.specs.Verdicts.{Verdict, Makes}
-
--- the node has one of the names
-abbrev pub is_among : List (List ℕ) → NodeRecord → Bool
-is_among names node = has names node.conf.name
 
 -- the places of the nodes with these names, from the least on
 abbrev pub places_among : List NodeRecord → List (List ℕ) → List ℕ

@@ -1,5 +1,5 @@
 -- What the planner is told of nodes and jobs.
-use Rattle.std.specs.Prelude.{ℕ, ◌*◌, Bool, true, false, ◌&&◌, ◌||◌, not, nat_eq, nat_lt, if◌then◌else◌, unwrap_or, List, [], ◌∷◌, ◌++◌, length, filter, filter_map, flat_map, slice_get, bytes_eq, Option, Some, None, option_map}
+use Rattle.std.specs.Prelude.{ℕ, ◌*◌, Bool, true, false, ◌&&◌, ◌||◌, not, nat_eq, nat_lt, if◌then◌else◌, unwrap_or, List, [], ◌∷◌, ◌++◌, length, filter, filter_map, flat_map, slice_get, Option, Some, None, option_map}
 use Rattle.std.specs.List.{list_all, list_any}
 use Rattle.slurm_text.specs.declared.plain.limit.Limit.{Limit}
 use Rattle.slurm_text.specs.declared.plain.limit.Limit.TheVariants.{Minutes, Unlimited}
@@ -10,7 +10,7 @@ use Rattle.resource_profile.specs.declared.NodeRoom.{NodeRoom}
 use Rattle.backfill_planner.specs.declared.job.Barred.{Barred}
 use Rattle.backfill_planner.specs.declared.job.PlanJob.{PlanJob}
 use Rattle.reservations.specs.declared.record.Reservation.{Reservation}
-use Rattle.reservations.specs.Reservations.{is_named as has_name, reservation_named}
+use Rattle.reservations.specs.Reservations.{has, is_named as has_name, reservation_named}
 use Rattle.cpu_ids.specs.Rows.{has_id}
 use Rattle.node_state.specs.declared.record.NodeRecord.{NodeRecord}
 use Rattle.node_state.specs.Nodes.{is_available, is_named, has_features}
@@ -44,10 +44,6 @@ is_taken_before nodes one other =
 -- the nodes of a partition, in the order in which jobs take them
 unfoldable pub node_order : List NodeRecord → PartRecord → List ℕ
 node_order nodes partition = ordered_by (is_taken_before nodes) partition.nodes
-
--- the name is among the names
-abbrev pub has : List (List ℕ) → List ℕ → Bool
-has names name = list_any (bytes_eq name) names
 
 -- the node has the features that are wanted, if any are
 abbrev pub has_wanted : Option FeatureExpr → NodeRecord → Bool

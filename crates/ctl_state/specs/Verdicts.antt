@@ -3,15 +3,14 @@ use Rattle.std.specs.Prelude.{ℕ}
 use Rattle.slurm_text.specs.declared.plain.refusal.Refusal.{Refusal}
 use Rattle.slurm_text.specs.declared.plain.view.View.{View}
 use Rattle.slurm_text.specs.declared.plain.reply.Reply.{Reply}
-use Rattle.slurm_text.specs.declared.plain.reply.Reply.TheVariants.{Idle, Shown, Refused, NotBuilt}
+use Rattle.slurm_text.specs.declared.plain.reply.Reply.TheVariants.{Idle, Shown, Refused}
 use Rattle.ctl_state.specs.State.{State}
 
--- It is refused, tells something, changes nothing but the moment, can't be worked yet, or makes a reply and a state.
+-- It is refused, tells something, changes nothing but the moment, or makes a reply and a state.
 pub data Verdict : Type 0 where
   Refuses : (refusal : Refusal) → Verdict
   Tells : (view : View) → Verdict
   Stays : Verdict
-  Unbuilt : Verdict
   Makes : (reply : Reply) (after : State) → Verdict
 
 -- the reply to it
@@ -19,7 +18,6 @@ abbrev pub reply_by : Verdict → Reply
 reply_by (Refuses refusal) = Refused refusal
 reply_by (Tells view) = Shown view
 reply_by Stays = Idle
-reply_by Unbuilt = NotBuilt
 reply_by (Makes reply after) = reply
 
 -- a state that an entry of this moment has made
@@ -31,5 +29,4 @@ abbrev pub left_by : State → Verdict → State
 left_by s (Refuses refusal) = s
 left_by s (Tells view) = s
 left_by s Stays = s
-left_by s Unbuilt = s
 left_by s (Makes reply after) = after

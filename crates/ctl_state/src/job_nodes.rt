@@ -3,7 +3,8 @@
 ghost use Rattle.std.specs.Prelude.{◌≡◌, ◌↔◌, ◌<◌, [], length, filter, None, IfOk, IsTrue, All};
 ghost use Rattle.std.specs.List.{list_any};
 ghost use Rattle.node_state.specs.Nodes.{is_named};
-ghost use Rattle.ctl_state.specs.Planning.{are_there, has, is_at, may_run, must_have, nodes_among, required_first};
+ghost use Rattle.reservations.specs.Reservations.{has};
+ghost use Rattle.ctl_state.specs.Planning.{are_there, is_at, may_run, must_have, nodes_among, required_first};
 
 use backfill_planner::NodeList;
 use node_state::record::NodeRecord;

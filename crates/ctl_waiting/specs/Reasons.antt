@@ -51,10 +51,10 @@ held_reason held.User = Some JobHeldUser
 held_reason held.Admin = Some JobHeldAdmin
 
 -- it waits for something that hasn't come, or can't come any more
-abbrev pub reason_of : Standing → Option Reason
-reason_of Satisfied = None
-reason_of Waiting = Some Dependency
-reason_of Never = Some DependencyNeverSatisfied
+abbrev pub awaiting_reason : Standing → Option Reason
+awaiting_reason Satisfied = None
+awaiting_reason Waiting = Some Dependency
+awaiting_reason Never = Some DependencyNeverSatisfied
 
 -- the job isn't to begin yet
 abbrev pub is_early : ℕ → JobRecord → Bool
@@ -113,7 +113,7 @@ lacks_reservation s now job =
 abbrev pub hindrances : State → ℕ → JobRecord → List (Option Reason)
 hindrances s now job =
     held_reason job.held_by
-    ∷ (reason_of (standing s.jobs job)
+    ∷ (awaiting_reason (standing s.jobs job)
     ∷ (reason_if (is_early now job) BeginTime
     ∷ (hindrances_in (partition_of s job) job
     ++ (reason_if (exceeds_wall s job) QosMaxWallDurationPerJobLimit

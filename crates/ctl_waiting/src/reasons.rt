@@ -44,7 +44,7 @@ fn held_reason(held_by: HeldBy) -> Option<Reason>
 // What hinders a job by what it waits for. `--dependency` in sbatch(1).
 fn dependency_hindrance(cluster: &Cluster, job: &JobRecord) -> Option<Reason>
     requires { AreTogether cluster.now.jobs.records }
-    ensures { result ≡ Reasons.reason_of (standing cluster.now.jobs.records job.now) }
+    ensures { result ≡ Reasons.awaiting_reason (standing cluster.now.jobs.records job.now) }
 {
     match standing_among(&cluster.jobs, job) {
         Standing::Satisfied => None,

@@ -9,7 +9,7 @@ use Rattle.indexmap.specs.IndexMap.{insert_entry, set_value_at}
 use Rattle.job_table.specs.declared.record.JobRecord.{JobRecord}
 use Rattle.job_table.specs.declared.change.Change.{Change}
 use Rattle.job_table.specs.Changes.{changed}
-use Rattle.job_table.specs.Table.{HaveRisingIds, IsTable, changed_if, entry_of, has_id, job_with}
+use Rattle.job_table.specs.Table.{HaveRisingIds, IsTable, changed_if, entry_of, has_id, job_with, put_back_if}
 use Rattle.job_table.specs.Walks.{map_at}
 use Rattle.job_table.proofs.Table.{changed-id, id_of, pairs-before, pairs-front}
 
@@ -141,3 +141,28 @@ pub filter-table : (keep : JobRecord → Bool) (entries : List (ℕ × JobRecord
     → filter (λ entry. keep entry.1) entries ≡ map entry_of (filter keep (values_of entries))
 filter-table keep entries table = ap (filter (λ entry. keep entry.1)) table.under_ids
     ∙ filter-entries keep (values_of entries)
+
+-- a record that is put back at a place, or nowhere
+put-entries : (one : JobRecord) (place : ℕ) (jobs : List JobRecord)
+    → HoldsAt (λ (job : JobRecord). job.id ≡ one.id) jobs place
+    → set_value_at (map entry_of jobs) place one ≡ map entry_of (map_at place (λ job. one) jobs)
+put-entries one place [] same = refl
+put-entries one zero (job ∷ jobs) same = ap (λ id. (id, one) ∷ map entry_of jobs) (same job)
+put-entries one (suc place) (job ∷ jobs) same = ap (λ rest. entry_of job ∷ rest) (put-entries one place jobs same)
+
+pub put-table : (one : JobRecord) (place : ℕ) (entries : List (ℕ × JobRecord)) → IsTable entries
+    → HoldsAt (λ (job : JobRecord). job.id ≡ one.id) (values_of entries) place
+    → set_value_at entries place one ≡ map entry_of (map_at place (λ job. one) (values_of entries))
+put-table one place entries table same =
+    ap (λ es. set_value_at es place one) table.under_ids ∙ put-entries one place (values_of entries) same
+
+pub put-none : (one : JobRecord) (jobs : List JobRecord) → job_with one.id jobs ≡ None
+    → map (put_back_if one) jobs ≡ jobs
+put-none one [] none = refl
+put-none one (job ∷ jobs) none = by (has_id one.id job) (λ later. put-none one jobs later) none
+  where
+    by : (b : Bool) → (job_with one.id jobs ≡ None → map (put_back_if one) jobs ≡ jobs)
+        → cond b (Some job) (job_with one.id jobs) ≡ None
+        → cond b one job ∷ map (put_back_if one) jobs ≡ job ∷ jobs
+    by true rest some = cc
+    by false rest later = ap (λ same. job ∷ same) (rest later)

@@ -13,7 +13,7 @@ use Rattle.job_table.specs.declared.change.Change.{Change}
 use Rattle.job_table.specs.declared.change.Change.TheVariants.{Start, Leave, CancelPending, CancelRequeue, DropPart, SetHold, SetLimit, SetNice}
 use Rattle.job_table.specs.Changes.{changed, not_again, off_node, parts_off, with_left}
 use Rattle.job_table.specs.JobStates.{is_pending, is_running}
-use Rattle.job_table.specs.Table.{HaveRisingIds}
+use Rattle.job_table.specs.Table.{HaveRisingIds, put_back_if}
 use Rattle.job_table.specs.Walks.{map_at}
 use Rattle.job_table.proofs.Walks.{map-same}
 
@@ -137,3 +137,15 @@ pub rising-map_at : (change : Change) (place : ℕ) (jobs : List JobRecord) → 
     → HaveRisingIds (map_at place (changed change) jobs)
 rising-map_at change place jobs rising =
     rising-same (map_at place (changed change) jobs) jobs (ids-map_at change place jobs) rising
+
+-- nor does a record that is put back change a number
+ids-put : (one : JobRecord) (jobs : List JobRecord) → map id_of (map (put_back_if one) jobs) ≡ map id_of jobs
+ids-put one [] = refl
+ids-put one (job ∷ jobs) =
+    let here : (put_back_if one job).id ≡ job.id = grind (arith, nat_tests) in
+    let rest = ids-put one jobs in
+    cc
+
+pub rising-put : (one : JobRecord) (jobs : List JobRecord) → HaveRisingIds jobs
+    → HaveRisingIds (map (put_back_if one) jobs)
+rising-put one jobs rising = rising-same (map (put_back_if one) jobs) jobs (ids-put one jobs) rising

@@ -36,6 +36,10 @@ job_with id jobs = find (has_id id) jobs
 abbrev pub changed_if : ℕ → Change → JobRecord → JobRecord
 changed_if id change job = if has_id id job then changed change job else job
 
+-- a record, or this one in its place where it has its number
+abbrev pub put_back_if : JobRecord → JobRecord → JobRecord
+put_back_if one job = if has_id one.id job then one else job
+
 -- a job ended so long ago that its record goes; an age of 0 keeps all
 abbrev pub is_old : ℕ → ℕ → JobRecord → Bool
 is_old age now job = is_ended job.state && (not (nat_eq age 0) && nat_le (unwrap_or job.ended 0 + age) now)

@@ -4,7 +4,7 @@ ghost use Rattle.std.specs.Prelude.{◌≡◌, ◌+◌, ◌^◌, ◌<◌, ◌≤
 ghost use Rattle.indexmap.specs.IndexMap.{spare, values};
 ghost use Rattle.job_table.specs.declared.record.JobRecord.{JobRecord};
 ghost use Rattle.job_table.specs.Changes.{changed};
-ghost use Rattle.job_table.specs.Table.{HaveRisingIds, IsTable, changed_if, entry_of, is_old, job_with};
+ghost use Rattle.job_table.specs.Table.{HaveRisingIds, IsTable, changed_if, entry_of, is_old, job_with, put_back_if};
 ghost use Rattle.job_table.specs.Awaiting.{has_gone};
 ghost use Rattle.job_table.specs.Usage.{Charges, IsNoStart, charged_by, is_start};
 ghost use Rattle.job_table.specs.Walks.{map_at};
@@ -181,6 +181,23 @@ impl Jobs {
         apply(alloc, &mut self.by_id[place], change);
     }
 
+    /// Puts a record in the place of the one with its number, if there is one, in constant time: so a change is taken back
+    /// whose job was copied before (own). It takes no memory.
+    pub fn put_back(&mut self, job: JobRecord)
+        ensures records { self.new.records ≡ map (put_back_if job) self.old.records }
+        ensures usage { self.new.usage ≡ self.old.usage }
+    {
+        put(&mut self.by_id, job);
+    }
+
+    /// Puts back what the associations had used (own). It takes no memory.
+    pub fn put_usage_back(&mut self, usage: Vec<u64>)
+        ensures records { self.new.records ≡ self.old.records }
+        ensures usage { self.new.usage ≡ usage.items }
+    {
+        self.usage = usage;
+    }
+
     /// Drops the records of jobs that ended so many seconds ago, but for those that are awaited, all in one walk. It
     /// takes no memory. slurm.conf(5), MinJobAge.
     pub fn purge(&mut self, now: u64, age: u64, awaited: &Awaited)
@@ -192,6 +209,16 @@ impl Jobs {
                 ensures { (result ≡ not (has_gone age now awaited.entry.now job.old)) × (job.new ≡ job.old) }
             { !has_gone(age, now, awaited, job) },
         );
+    }
+}
+
+// Puts a record in the place of the one with its number, if there is one.
+fn put(by_id: &mut IndexMap<u32, JobRecord>, job: JobRecord)
+    requires { IsTable by_id.old.entries }
+    ensures { by_id.new.entries ≡ map entry_of (map (put_back_if job) (values by_id.old)) }
+{
+    if let Some(place) = by_id.get_index_of(&job.id) {
+        by_id[place] = job;
     }
 }
 

@@ -1,11 +1,15 @@
 //! What is kept of a job.
 
+ghost use Rattle.std.specs.Prelude.{◌≡◌, IfOk};
+
 use cpu_ids::CpuIds;
 use slurm_text::items::Items;
+use slurm_text::memory_error::Memory;
 use slurm_text::name::Name;
 use slurm_text::plain::job::JobDesc;
 use slurm_text::plain::limit::Limit;
 use slurm_text::plain::state::{HeldBy, JobState};
+use std::alloc::Global;
 
 /// What a job holds of one node.
 #[derive(Drop)]
@@ -16,6 +20,29 @@ pub struct Part {
     pub cpus: CpuIds,
     /// In megabytes.
     pub mem: u64,
+}
+
+impl Part {
+    /// An equal part. It takes no memory.
+    pub fn copy(&self) -> Part
+        ensures { result ≡ self.now }
+    {
+        Part {
+            node: self.node,
+            cpus: self.cpus.copy(),
+            mem: self.mem,
+        }
+    }
+}
+
+fn copy_parts(alloc: Global, parts: &[Part]) -> Result<Vec<Part>, Memory>
+    ensures { IfOk result (λ copies. copies.items ≡ parts.now) }
+{
+    let mut copies = Vec::with_capacity(alloc, parts.len())?;
+    for part in parts {
+        copies.push(part.copy())?;
+    }
+    Ok(copies)
 }
 
 /// A job. A task of an array is a job of its own.
@@ -57,4 +84,33 @@ pub struct JobRecord {
     pub exit: Option<u32>,
     /// The nodes of its last start.
     pub last_nodes: Items<Name>,
+}
+
+impl JobRecord {
+    /// An equal record. Linear in what it names and holds.
+    pub fn copy(&self, alloc: Global) -> Result<JobRecord, Memory>
+        ensures { IfOk result (λ job. job ≡ self.now) }
+    {
+        let parts = copy_parts(alloc, self.parts.as_slice())?;
+        Ok(JobRecord {
+            id: self.id,
+            array: self.array,
+            user: self.user.copy()?,
+            desc: self.desc.copy()?,
+            assoc: self.assoc,
+            qos: self.qos,
+            partition: self.partition,
+            submit: self.submit,
+            eligible: self.eligible,
+            limit: self.limit,
+            held_by: self.held_by,
+            state: self.state,
+            starts: self.starts,
+            parts: Items::from_vec(parts),
+            started: self.started,
+            ended: self.ended,
+            exit: self.exit,
+            last_nodes: self.last_nodes.copy()?,
+        })
+    }
 }

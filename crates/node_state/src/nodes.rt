@@ -73,6 +73,26 @@ fn nothing_held(alloc: Global, nodes: &[NodeRecord]) -> Result<Vec<Held>, Memory
     Ok(held)
 }
 
+fn copy_records(alloc: Global, records: &[NodeRecord]) -> Result<Vec<NodeRecord>, Memory>
+    ensures { IfOk result (λ copies. copies.items ≡ records.now) }
+{
+    let mut copies = Vec::with_capacity(alloc, records.len())?;
+    for node in records {
+        copies.push(node.copy()?)?;
+    }
+    Ok(copies)
+}
+
+fn copy_held(alloc: Global, held: &[Held]) -> Result<Vec<Held>, Memory>
+    ensures { IfOk result (λ copies. copies.items ≡ held.now) }
+{
+    let mut copies = Vec::with_capacity(alloc, held.len())?;
+    for one in held {
+        copies.push(one.copy())?;
+    }
+    Ok(copies)
+}
+
 impl Nodes {
     ghost use Rattle.std.specs.Prelude.{◌≡◌, ◌≢◌, ◌↔◌, ◌<◌, ◌≤◌, ◌+◌, All, map, take, length, AllPairs, IfOk, IfSome, IsFalse, IsTrue, true, [], slice_get, option_copied};
     ghost use Rattle.std.specs.List.{HoldsAt};
@@ -89,6 +109,20 @@ impl Nodes {
         let records = records_of(alloc, confs)?;
         let places = places_of(alloc, records.as_slice())?;
         let held = nothing_held(alloc, records.as_slice())?;
+        Ok(Nodes {
+            records,
+            places,
+            held,
+        })
+    }
+
+    /// Equal nodes, of which equal amounts are held. Linear in the nodes and what slurm.conf(5) says of each.
+    pub fn copy(&self, alloc: Global) -> Result<Nodes, Memory>
+        ensures { IfOk result (λ nodes. nodes ≡ self.now) }
+    {
+        let records = copy_records(alloc, self.records.as_slice())?;
+        let places = places_of(alloc, records.as_slice())?;
+        let held = copy_held(alloc, self.held.as_slice())?;
         Ok(Nodes {
             records,
             places,

@@ -1,6 +1,9 @@
 //! What is kept of a node.
 
+ghost use Rattle.std.specs.Prelude.{◌≡◌, IfOk};
+
 use cpu_ids::CpuIds;
+use slurm_text::memory_error::Memory;
 use slurm_text::plain::conf::NodeConf;
 use slurm_text::plain::report::Heard;
 
@@ -28,6 +31,34 @@ pub struct NodeRecord {
     pub heard: Option<Heard>,
 }
 
+fn copy_conf(conf: &NodeConf) -> Result<NodeConf, Memory>
+    ensures { IfOk result (λ copy. copy ≡ conf.now) }
+{
+    Ok(NodeConf {
+        name: conf.name.copy()?,
+        cpus: conf.cpus,
+        mem: conf.mem,
+        weight: conf.weight,
+        features: conf.features.copy()?,
+        state: conf.state,
+    })
+}
+
+impl NodeRecord {
+    /// An equal record.
+    pub fn copy(&self) -> Result<NodeRecord, Memory>
+        ensures { IfOk result (λ node. node ≡ self.now) }
+    {
+        Ok(NodeRecord {
+            conf: copy_conf(&self.conf)?,
+            down: self.down,
+            drain: self.drain,
+            empty: self.empty,
+            heard: self.heard,
+        })
+    }
+}
+
 /// What is held of a node.
 #[derive(Drop)]
 pub struct Held {
@@ -35,6 +66,18 @@ pub struct Held {
     pub cpus: CpuIds,
     /// In megabytes.
     pub mem: u64,
+}
+
+impl Held {
+    /// Equal holdings. It takes no memory.
+    pub fn copy(&self) -> Held
+        ensures { result ≡ self.now }
+    {
+        Held {
+            cpus: self.cpus.copy(),
+            mem: self.mem,
+        }
+    }
 }
 
 /// What may happen to a node. "State" of `update NodeName` in scontrol(1), and (own) silence and reports.

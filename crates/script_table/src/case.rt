@@ -24,6 +24,8 @@ pub struct Case<'a> {
     pub failing_reads: &'a str,
     /// The numbers of the writes that fail, counted from 1.
     pub failing_writes: &'a str,
+    /// How many lines of the output are shown at most.
+    pub shown: u32,
     /// The file slurm.conf(5), where the case has one of its own.
     pub conf: Option<Vec<u8>>,
     /// The association file, where the case has one of its own.
@@ -41,6 +43,7 @@ impl<'a> Case<'a> {
             failing_files: "",
             failing_reads: "",
             failing_writes: "",
+            shown: u32::MAX,
             conf: None,
             assocs: None,
             input: Vec::new(alloc),
@@ -72,6 +75,7 @@ impl<'a> Case<'a> {
             "files" => self.failing_files = text,
             "reads" => self.failing_reads = text,
             "writes" => self.failing_writes = text,
+            "shown" => self.shown = text.parse::<u32>().unwrap_or(u32::MAX),
             "<" | "<!" | "<*" => push_text(&mut self.input, key, text)?,
             "=" | "=!" | "=*" => push_to(alloc, &mut self.conf, key, text)?,
             "@" | "@!" | "@*" => push_to(alloc, &mut self.assocs, key, text)?,

@@ -8,25 +8,39 @@ fn escaped() -> AsciiSet {
     CONTROLS.add(b'%')
 }
 
-// Each line of the text behind the mark. A last one that doesn't end has `!` behind the mark.
-fn push_lines(out: &mut String, mark: &str, text: &[u8]) -> Result<(), AllocError> {
+// A line behind the mark. One that doesn't end has `!` behind the mark.
+fn push_line(out: &mut String, mark: &str, line: &[u8]) -> Result<(), AllocError> {
+    out.push_str(mark)?;
+    let whole = line.strip_suffix(b"\n");
+    if whole.is_none() {
+        out.push_str("!")?;
+    }
+    out.push_str(" ")?;
+    percent_encode(whole.unwrap_or(line), escaped()).append_to(out)?;
+    out.push_str("\n")
+}
+
+// The lines of the text behind the mark, so many at the most, and how many more there are.
+fn push_lines(out: &mut String, mark: &str, text: &[u8], most: u32) -> Result<(), AllocError> {
+    let (mut told, mut more) = (0u32, 0u32);
     for line in text.split_inclusive(|byte| *byte == b'\n') {
-        out.push_str(mark)?;
-        let whole = line.strip_suffix(b"\n");
-        if whole.is_none() {
-            out.push_str("!")?;
+        if told < most {
+            push_line(out, mark, line)?;
+            told += 1;
+        } else {
+            more = more.saturating_add(1);
         }
-        out.push_str(" ")?;
-        percent_encode(whole.unwrap_or(line), escaped()).append_to(out)?;
-        out.push_str("\n")?;
+    }
+    if more > 0 {
+        writeln!(out, "{mark}.. {more} more")?;
     }
     Ok(())
 }
 
-/// The output behind `>`, the errors behind `*`, and the status.
-pub fn push_outcome(out: &mut String, outcome: &Outcome) -> Result<(), AllocError> {
-    push_lines(out, ">", outcome.output.as_slice())?;
-    push_lines(out, "*", outcome.errors.as_slice())?;
+/// The output behind `>`, so many lines at the most, the errors behind `*`, and the status.
+pub fn push_outcome(out: &mut String, outcome: &Outcome, shown: u32) -> Result<(), AllocError> {
+    push_lines(out, ">", outcome.output.as_slice(), shown)?;
+    push_lines(out, "*", outcome.errors.as_slice(), u32::MAX)?;
     let status = outcome.status;
     writeln!(out, "status {status}")
 }

@@ -18,7 +18,7 @@ fn push_runs(alloc: Global, out: &mut String, case: &Case<'_>) -> Result<(), All
         match &first {
             Some(told) if told.is(&ended) => writeln!(out, "the same by {word}")?,
             _ => {
-                push_outcome(out, &ended)?;
+                push_outcome(out, &ended, case.shown)?;
                 first = Some(ended);
             }
         }

@@ -64,12 +64,12 @@ abbrev pub shown_text : Request → View → List ℕ
 shown_text (Show query) view = query_text query view
 shown_text request view = []
 
-abbrev pub reservation_line : List ℕ → List ℕ
-reservation_line name = codes "Reservation created: " ++ name ++ codes "\n"
+abbrev pub created_line : List ℕ → List ℕ
+created_line name = codes "Reservation created: " ++ name ++ codes "\n"
 
 -- what was done is told of a reservation alone that was made
 abbrev pub done_text : Request → List ℕ
-done_text (CreateReservation desc) = reservation_line desc.name
+done_text (CreateReservation desc) = created_line desc.name
 done_text request = []
 
 abbrev pub text_of : Request → Reply → List ℕ

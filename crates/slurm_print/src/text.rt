@@ -1,7 +1,7 @@
 //! The text of a reply.
 
 ghost use Rattle.std.specs.Prelude.{◌≡◌, ◌++◌, IfOk, OnOk};
-ghost use Rattle.slurm_print.specs.Text.{text_of, command_of, command_asking, is_parsable, submitted_text, passed_line, done_text, reservation_line, idle_text, query_text, shown_text};
+ghost use Rattle.slurm_print.specs.Text.{text_of, command_of, command_asking, is_parsable, submitted_text, passed_line, done_text, created_line, idle_text, query_text, shown_text};
 
 use crate::line::{push_labelled, push_number, push_text};
 use crate::malformed::not_built;
@@ -86,7 +86,7 @@ fn push_done(out: &mut Vec<u8>, request: &Request) -> Result<(), Memory>
 }
 
 fn push_created(out: &mut Vec<u8>, name: &Name) -> Result<(), Memory>
-    ensures { OnOk result (out.new.items ≡ out.old.items ++ reservation_line name.now) }
+    ensures { OnOk result (out.new.items ≡ out.old.items ++ created_line name.now) }
 {
     push_pair(out, b"Reservation created: ", name.as_bytes())?;
     push_text(out, b"\n")?;

@@ -1,5 +1,6 @@
 -- Which ends a run may have, by what its files open.
-use Rattle.std.proofs.Common.{◌≡◌, ◌⊎◌, ℕ, ◌≤◌, List, [], length, Option, None, Some, IfSome, IsSomeAnd, Result, Ok, Err, inl, inr, refl, ap, arith}
+use Rattle.std.proofs.Common.{◌≡◌, ◌⊎◌, ℕ, ◌≤◌, List, [], length, Option, None, Some, IfSome, IsSomeAnd, Result, Ok, Err, inl, inr, refl, ap, subst, arith}
+use Rattle.std.specs.Io.KnownBytes.{Appends}
 use Rattle.slurm_io.specs.Shelf.{ShelfFile, bytes_named}
 use Rattle.slurm_io.specs.Wire.{Wire}
 use Rattle.assoc_reader.specs.declared.refusal.AssocKind.{AssocKind}
@@ -10,12 +11,13 @@ use Rattle.ctl_state.specs.State.{State}
 use Rattle.ctl_session.specs.declared.session.How.{How}
 use Rattle.ctl_session.specs.declared.session.How.TheVariants as how
 use Rattle.ctl_session.specs.Session.{most_blocks}
+use Rattle.generator.specs.Generated.{generated}
 use Rattle.slurm_top.specs.declared.cluster.ClusterRefusal.{ClusterRefusal}
 use Rattle.slurm_top.specs.declared.cluster.ClusterRefusal.TheVariants as cluster
 use Rattle.slurm_top.specs.declared.end.End.{End}
-use Rattle.slurm_top.specs.declared.end.End.TheVariants.{Usage, NoFile, BadConf, BadAssocs, Memory, Script}
+use Rattle.slurm_top.specs.declared.end.End.TheVariants.{Usage, NoFile, BadConf, BadAssocs, Memory, Script, Generated, WriteFault}
 use Rattle.slurm_top.specs.Lines.{CountsNone, status_of}
-use Rattle.slurm_top.specs.Run.{Outside, Named, Opens, IsEndOn, IsEnd, Finds, IsWholeScript, files_named, opened_by}
+use Rattle.slurm_top.specs.Run.{Outside, Named, Asked, ByNumber, Opens, IsEndOn, IsEndWriting, IsEndAsked, IsEnd, Finds, IsWholeScript, files_named, number_named, asked_by, asked_in, opened_by}
 use Rattle.slurm_top.specs.Script.{IsScript}
 
 -- a run on files of a shelf that tells its files, which open it so
@@ -40,13 +42,15 @@ on_files (Some files) named old new end opened e ended found = record {
   ended = ended;
 }
 
-on_named : (names : Option Named) (old new : Outside) (end : End) (opened : Option (Result State ClusterRefusal))
-    → IfSome names (λ named. IsEndOn named old new end)
+on_named : (names : Option Named) (number : Option ℕ) (old new : Outside) (end : End)
+    (opened : Option (Result State ClusterRefusal))
+    → IfSome (asked_by names number) (λ asked. IsEndAsked asked old new end)
     → IsSomeAnd names (λ named. IsSomeAnd old.files (λ files.
     opened_by (bytes_named files named.conf) (bytes_named files named.assocs) ≡ opened))
     → On old new end opened
-on_named None old new end opened ended found = absurd found
-on_named (Some named) old new end opened ended found = on_files old.files named old new end opened refl ended found
+on_named None number old new end opened ended found = absurd found
+on_named (Some named) number old new end opened ended found =
+    on_files old.files named old new end opened refl ended found
 
 -- what texts of the run's files open is what was found
 opens_found : (old new : Outside) (end : End) (found : Option (Result State ClusterRefusal))
@@ -65,11 +69,13 @@ missing_on old new (BadConf line kind) on = absurd (cc (opens_found old new _ _ 
 missing_on old new (BadAssocs line kind) on = absurd (cc (opens_found old new _ _ _ on on.ended.0))
 missing_on old new Memory on = inr refl
 missing_on old new (Script how) on = absurd (cc (opens_found old new _ _ _ on on.ended.opens))
+missing_on old new Generated on = absurd on.ended
+missing_on old new WriteFault on = absurd on.ended
 
 pub missing : (words : List (List ℕ)) (old new : Outside) (end : End) → IsEnd words old new end
     → Finds words old.files None → (status_of end ≡ 5) ⊎ (status_of end ≡ 8)
 missing words old new end ended finds =
-    missing_on old new end (on_named (files_named words) old new end None ended.on finds)
+    missing_on old new end (on_named (files_named words) (number_named words) old new end None ended.on finds)
 
 bad_conf_on : (old new : Outside) (end : End) (line : ℕ) (kind : ConfKind)
     → On old new end (Some (Err (cluster.BadConf line kind))) → CountsNone old.faults new.faults
@@ -81,13 +87,15 @@ bad_conf_on old new (BadAssocs line' kind') line kind on none =
     absurd (cc (opens_found old new _ _ _ on on.ended.0))
 bad_conf_on old new Memory line kind on none = inr refl
 bad_conf_on old new (Script how) line kind on none = absurd (cc (opens_found old new _ _ _ on on.ended.opens))
+bad_conf_on old new Generated line kind on none = absurd on.ended
+bad_conf_on old new WriteFault line kind on none = absurd on.ended
 
 pub bad_conf : (words : List (List ℕ)) (old new : Outside) (end : End) (line : ℕ) (kind : ConfKind)
     → IsEnd words old new end
     → Finds words old.files (Some (Err (cluster.BadConf line kind))) → CountsNone old.faults new.faults
     → (status_of end ≡ 3) ⊎ (status_of end ≡ 8)
 bad_conf words old new end line kind ended finds none =
-    bad_conf_on old new end line kind (on_named (files_named words) old new end
+    bad_conf_on old new end line kind (on_named (files_named words) (number_named words) old new end
     (Some (Err (cluster.BadConf line kind))) ended.on finds) none
 
 bad_assocs_on : (old new : Outside) (end : End) (line : ℕ) (kind : AssocKind)
@@ -100,13 +108,15 @@ bad_assocs_on old new (BadConf line' kind') line kind on none =
 bad_assocs_on old new (BadAssocs line' kind') line kind on none = inl refl
 bad_assocs_on old new Memory line kind on none = inr refl
 bad_assocs_on old new (Script how) line kind on none = absurd (cc (opens_found old new _ _ _ on on.ended.opens))
+bad_assocs_on old new Generated line kind on none = absurd on.ended
+bad_assocs_on old new WriteFault line kind on none = absurd on.ended
 
 pub bad_assocs : (words : List (List ℕ)) (old new : Outside) (end : End) (line : ℕ) (kind : AssocKind)
     → IsEnd words old new end
     → Finds words old.files (Some (Err (cluster.BadAssocs line kind))) → CountsNone old.faults new.faults
     → (status_of end ≡ 4) ⊎ (status_of end ≡ 8)
 bad_assocs words old new end line kind ended finds none =
-    bad_assocs_on old new end line kind (on_named (files_named words) old new end
+    bad_assocs_on old new end line kind (on_named (files_named words) (number_named words) old new end
     (Some (Err (cluster.BadAssocs line kind))) ended.on finds) none
 
 -- scripts of whole blocks are answered to their end
@@ -141,6 +151,8 @@ complete_on answered old new (BadAssocs line kind) opening on whole none reads w
 complete_on answered old new Memory opening on whole none reads writes = inr refl
 complete_on answered old new (Script how) opening on whole none reads writes =
     whole_input answered old.wire.left on.ended.opening old.wire new.wire how refl whole reads writes on.ended.script
+complete_on answered old new Generated opening on whole none reads writes = absurd on.ended
+complete_on answered old new WriteFault opening on whole none reads writes = absurd on.ended
 
 pub complete : WholeAnswered → (words : List (List ℕ)) (old new : Outside) (end : End) (opening : State)
     → IsEnd words old new end
@@ -148,5 +160,27 @@ pub complete : WholeAnswered → (words : List (List ℕ)) (old new : Outside) (
     → CountsNone old.wire.reads new.wire.reads → CountsNone old.wire.writes new.wire.writes
     → (status_of end ≡ 0) ⊎ (status_of end ≡ 8)
 complete answered words old new end opening ended finds whole none reads writes =
-    complete_on answered old new end opening (on_named (files_named words) old new end
+    complete_on answered old new end opening (on_named (files_named words) (number_named words) old new end
     (Some (Ok opening)) ended.on finds) whole none reads writes
+
+-- the script that a number stands for is written whole, or memory is wanting
+generated_by : (script : List ℕ) (old new : Wire) (end : End) → IsEndWriting script old new end
+    → CountsNone old.writes new.writes
+    → ((status_of end ≡ 0) × Appends old.taken new.taken script) ⊎ ((status_of end ≡ 8) × (new ≡ old))
+generated_by script old new Generated ended none = inl (refl, ended.0)
+generated_by script old new WriteFault ended none = absurd (omega (arith, ended.1.0, none.0, none.1))
+generated_by script old new Memory ended none = inr (refl, ended)
+generated_by script old new Usage ended none = absurd ended
+generated_by script old new NoFile ended none = absurd ended
+generated_by script old new (BadConf line kind) ended none = absurd ended
+generated_by script old new (BadAssocs line kind) ended none = absurd ended
+generated_by script old new (Script how) ended none = absurd ended
+
+pub written : (words : List (List ℕ)) (old new : Outside) (end : End) (number : ℕ) → IsEnd words old new end
+    → asked_in words ≡ Some (ByNumber number) → CountsNone old.wire.writes new.wire.writes
+    → ((status_of end ≡ 0) × Appends old.wire.taken new.wire.taken (generated number))
+    ⊎ ((status_of end ≡ 8) × (new.wire ≡ old.wire))
+written words old new end number ended asks none =
+    let on : IsEndAsked (ByNumber number) old new end =
+    subst (λ (asked : Option Asked). IfSome asked (λ one. IsEndAsked one old new end)) asks ended.on in
+    generated_by (generated number) old.wire new.wire end on.0 none

@@ -18,7 +18,7 @@ use Rattle.ctl_session.specs.declared.session.Ended.{Ended}
 use Rattle.ctl_session.specs.Answers.{Answered, Answers, entries, meanings, replies}
 use Rattle.ctl_session.specs.Meaning.{meaning_of, told, state_behind}
 use Rattle.ctl_session.specs.Session.{Ending, IsServed, IsWhole, IsCause, most_blocks}
-use Rattle.ctl_pass.specs.Freedom.{StartsAreFree}
+use Rattle.ctl_node_side.specs.Passes.{PassIsFree}
 use Rattle.slurm_top.specs.Script.{asked_first, told_all, state_behind_all, script_of, IsWritten, IsEndOf, IsScript}
 use Rattle.slurm_top.proofs.Blocks.{Laws, read_by, OneMore, worked_first, asked_up_to, asked_all}
 use Rattle.slurm_top.proofs.Telling.{RaisedAlike, Alone, told_first, leads_soundly}
@@ -242,7 +242,7 @@ sent_of old new e how.Memory cause = (0, omega arith, rw append-nil cause.2)
 
 -- the law that every pass starts jobs alone that nothing hinders
 abbrev pub AllFree : Type 0
-AllFree = (s : State) (now : ℕ) → StartsAreFree s now
+AllFree = (s : State) (now : ℕ) → PassIsFree s now
 
 script_of_session : (opening : State) (old new : Wire) (seat : Seat) (ended : Ended) (e : Ending) → RaisedAlike
     → AllFree → Laws

@@ -1,6 +1,8 @@
 -- What the program's words ask, and what a run leaves.
-use Rattle.std.specs.Prelude.{◌≡◌, ◌⊎◌, ℕ, ◌≤◌, Bool, ◌&&◌, if◌then◌else◌, Option, Some, None, IfSome, IfNone, IsSomeAnd, List, [], ◌∷◌, length, codes, Result, Ok, Err}
+use Rattle.std.specs.Prelude.{◌≡◌, ℕ, ◌≤◌, Bool, ◌&&◌, if◌then◌else◌, Option, Some, None, IfSome, IfNone, IsSomeAnd, List, [], ◌∷◌, length, codes, Result, Ok, Err}
+use Rattle.std.specs.Io.KnownBytes.{Appends}
 use Rattle.std.specs.Str.{bytes_eq}
+use Rattle.slurm_io.specs.Bytes.{AppendsFront}
 use Rattle.slurm_io.specs.Faults.{CountsOne}
 use Rattle.slurm_io.specs.Shelf.{ShelfFile, bytes_named}
 use Rattle.slurm_io.specs.Wire.{Wire}
@@ -8,11 +10,13 @@ use Rattle.block_frame.specs.declared.form.Form.TheVariants.{Plain}
 use Rattle.block_frame.specs.Grammar.{blocks_of, rest_of}
 use Rattle.ctl_state.specs.State.{State}
 use Rattle.ctl_session.specs.declared.session.How.{How}
+use Rattle.ctl_session.specs.Reading.{ReadsStay}
 use Rattle.ctl_session.specs.Session.{most_blocks}
+use Rattle.generator.specs.Generated.{number_of, generated}
 use Rattle.slurm_top.specs.declared.cluster.ClusterRefusal.{ClusterRefusal}
 use Rattle.slurm_top.specs.declared.cluster.ClusterRefusal.TheVariants as cluster
 use Rattle.slurm_top.specs.declared.end.End.{End}
-use Rattle.slurm_top.specs.declared.end.End.TheVariants.{Usage, NoFile, BadConf, BadAssocs, Memory, Script}
+use Rattle.slurm_top.specs.declared.end.End.TheVariants.{Usage, NoFile, BadConf, BadAssocs, Memory, Script, Generated, WriteFault}
 use Rattle.slurm_top.specs.declared.program.WordsFault.{WordsFault}
 use Rattle.slurm_top.specs.declared.program.WordsFault.TheVariants.{NotText}
 use Rattle.slurm_top.specs.declared.program.WordsFault.TheVariants as words
@@ -35,6 +39,30 @@ abbrev pub files_named : List (List ℕ) → Option Named
 files_named (command ∷ mode ∷ for_conf ∷ conf ∷ for_assocs ∷ assocs ∷ []) =
     if is_script_call command mode for_conf for_assocs then Some (record { conf = conf; assocs = assocs }) else None
 files_named words = None
+
+-- whether these words, which stand before a number, ask for the script that it stands for
+abbrev pub is_generate_call : List ℕ → List ℕ → Bool
+is_generate_call command mode = bytes_eq command (codes "slurmctld") && bytes_eq mode (codes "--generate")
+
+-- the number that the words name: they are `slurmctld --generate NUMBER`, and nothing else
+abbrev pub number_named : List (List ℕ) → Option ℕ
+number_named (command ∷ mode ∷ number ∷ []) = if is_generate_call command mode then number_of number else None
+number_named words = None
+
+-- what the words ask: a script on the cluster of two files, or the script that a number stands for
+pub data Asked : Type 0 where
+  ByFiles : Named → Asked
+  ByNumber : ℕ → Asked
+
+-- by the files and the number that the words name; no words name both
+abbrev pub asked_by : Option Named → Option ℕ → Option Asked
+asked_by (Some named) number = Some (ByFiles named)
+asked_by None (Some number) = Some (ByNumber number)
+asked_by None None = None
+
+-- what the words ask; None where they are off
+abbrev pub asked_in : List (List ℕ) → Option Asked
+asked_in words = asked_by (files_named words) (number_named words)
 
 -- The outside of a run, but for errors: the files of its shelf, where it tells them, how many reads of these failed,
 -- and its link.
@@ -77,12 +105,33 @@ IsEndOn named old new (BadAssocs line kind) =
 IsEndOn named old new Memory = new ≡ old
 -- the script was run
 IsEndOn named old new (Script how) = Ran old new named how
+-- these are ends of words that name a number
+IsEndOn named old new Generated = ⊥
+IsEndOn named old new WriteFault = ⊥
+
+-- What a run leaves of its link that has this end, where it was to write this script.
+abbrev pub IsEndWriting : List ℕ → Wire → Wire → End → Type 0
+-- all of the script was written, and nothing was read
+IsEndWriting script old new Generated =
+    Appends old.taken new.taken script × (new.writes ≡ old.writes) × ReadsStay old new
+-- a write failed, a beginning of the script was written, never all of it, and nothing was read
+IsEndWriting script old new WriteFault =
+    AppendsFront old.taken new.taken script × CountsOne old.writes new.writes × ReadsStay old new
+-- memory was wanting before the first write
+IsEndWriting script old new Memory = new ≡ old
+IsEndWriting script old new end = ⊥
+
+-- What a run leaves that has this end, where the words ask this. A script that a number stands for needs no file.
+abbrev pub IsEndAsked : Asked → Outside → Outside → End → Type 0
+IsEndAsked (ByFiles named) old new end = IsEndOn named old new end
+IsEndAsked (ByNumber number) old new end =
+    IsEndWriting (generated number) old.wire new.wire end × (new ≡ record old { wire = new.wire })
 
 -- What a run with these words leaves that has this end. Where the words are off, exactly there, the end is that, and
 -- nothing was read or written.
 pub record IsEnd (words : List (List ℕ)) (old new : Outside) (end : End) : Type 0 where
-  pub off : IfNone (files_named words) ((end ≡ Usage) × (new ≡ old))
-  pub on : IfSome (files_named words) (λ named. IsEndOn named old new end)
+  pub off : IfNone (asked_in words) ((end ≡ Usage) × (new ≡ old))
+  pub on : IfSome (asked_in words) (λ asked. IsEndAsked asked old new end)
 
 -- how a run ends where its words are not at hand
 abbrev pub end_without_words : WordsFault → End

@@ -7,7 +7,7 @@ use Rattle.block_frame.specs.declared.form.Form.TheVariants.{Plain}
 use Rattle.block_frame.specs.Grammar.{IsPartial, IsBad, spelled_all, blocks_of, rest_of}
 use Rattle.ctl_state.specs.State.{State}
 use Rattle.ctl_state.specs.Soundness.{IsSound}
-use Rattle.ctl_pass.specs.Freedom.{StartsAreFree}
+use Rattle.ctl_node_side.specs.Passes.{PassIsFree}
 use Rattle.command_words.specs.declared.header.Meaning.{Meaning}
 use Rattle.ctl_session.specs.declared.session.How.{How}
 use Rattle.ctl_session.specs.declared.session.How.TheVariants.{Closed, Truncated, Bad, Spent, ReadFault, WriteFault, Memory}
@@ -79,4 +79,4 @@ pub record IsScript (s : State) (old new : Wire) (how : How) : Type 0 where
   pub end : IsEndOf s old new read how
   pub written : (n : ℕ) × Appends old.taken new.taken (take n (told_all s (asked_first worked read)))
   pub sound : (n : ℕ) → n < worked → IsSound (state_behind_all s (asked_first (n + 1) read))
-  pub starts : (n now : ℕ) → StartsAreFree (state_behind_all s (asked_first n read)) now
+  pub starts : (n now : ℕ) → PassIsFree (state_behind_all s (asked_first n read)) now

@@ -28,6 +28,10 @@ pub enum End {
     Memory,
     /// The script was run, and ended so.
     Script(How),
+    /// The script that a number stands for was written.
+    Generated,
+    /// A write of it failed.
+    WriteFault,
 }
 
 impl End {
@@ -36,12 +40,12 @@ impl End {
         ensures { result ≡ status_of self }
     {
         match self {
-            End::Script(How::Closed) => 0,
+            End::Script(How::Closed) | End::Generated => 0,
             End::Usage => 2,
             End::BadConf { .. } => 3,
             End::BadAssocs { .. } => 4,
             End::NoFile | End::Script(How::ReadFault) => 5,
-            End::Script(How::WriteFault) => 6,
+            End::Script(How::WriteFault) | End::WriteFault => 6,
             End::Script(How::Truncated { .. } | How::Bad { .. }) => 7,
             End::Memory | End::Script(How::Memory) => 8,
             End::Script(How::Spent) => 9,
@@ -103,12 +107,12 @@ fn line_of(end: End) -> ArrayString<LINE_LEN>
     ensures { result.bytes ≡ line_of end }
 {
     match end {
-        End::Script(How::Closed) => ArrayString::new(),
+        End::Script(How::Closed) | End::Generated => ArrayString::new(),
         End::Usage => cause_line("usage"),
         End::BadConf { line, kind } => conf_line(line, kind),
         End::BadAssocs { line, kind } => assocs_line(line, kind),
         End::NoFile | End::Script(How::ReadFault) => cause_line("read"),
-        End::Script(How::WriteFault) => cause_line("write"),
+        End::Script(How::WriteFault) | End::WriteFault => cause_line("write"),
         End::Script(How::Truncated { place } | How::Bad { place }) => place_line(place),
         End::Memory | End::Script(How::Memory) => cause_line("memory"),
         End::Script(How::Spent) => cause_line("spent"),

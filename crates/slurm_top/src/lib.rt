@@ -4,8 +4,10 @@
 mod cluster;
 mod end;
 mod files;
+mod generate;
 mod program;
 mod script;
+mod words;
 
 pub use end::End;
 pub use program::{WordsFault, run, run_without_words};

@@ -1,6 +1,7 @@
 //! The program, over objects of the outside.
 
-ghost use Rattle.std.specs.Prelude.{◌≡◌, ◌⊎◌, ◌↔◌, ◌≤◌, ℕ, List, Some, None, Err, Ok, [], length, map, string_bytes, option_map};
+ghost use Rattle.std.specs.Prelude.{◌≡◌, ◌⊎◌, ◌↔◌, ◌≤◌, ℕ, List, Some, None, Err, Ok, [], length, map, string_bytes};
+ghost use Rattle.std.specs.Io.KnownBytes.{Appends};
 ghost use Rattle.assoc_reader.specs.declared.refusal.AssocKind.{AssocKind};
 ghost use Rattle.block_frame.specs.declared.form.Form.TheVariants.{Plain};
 ghost use Rattle.block_frame.specs.Grammar.{blocks_of, rest_of};
@@ -8,9 +9,10 @@ ghost use Rattle.conf_values.specs.declared.refusal.ConfKind.{ConfKind};
 ghost use Rattle.ctl_state.specs.State.{State};
 ghost use Rattle.ctl_session.specs.declared.session.How.{How};
 ghost use Rattle.ctl_session.specs.Session.{most_blocks};
+ghost use Rattle.generator.specs.Generated.{generated};
 ghost use Rattle.slurm_io.specs.Wire.{Wire};
 ghost use Rattle.slurm_top.specs.Lines.{CountsNone, Tells, status_of, line_of};
-ghost use Rattle.slurm_top.specs.Run.{files_named, end_without_words, IsEnd, IsEndOn, Finds, IsWholeScript};
+ghost use Rattle.slurm_top.specs.Run.{ByNumber, asked_in, end_without_words, IsEnd, IsEndOn, Finds, IsWholeScript};
 ghost use Rattle.slurm_top.specs.Script.{IsScript};
 ghost use Rattle.slurm_top.specs.Files.{named_by};
 ghost use Rattle.slurm_top.specs.declared.cluster.ClusterRefusal.{ClusterRefusal};
@@ -18,32 +20,15 @@ ghost use Rattle.slurm_top.specs.declared.cluster.ClusterRefusal.{ClusterRefusal
 use crate::cluster::ClusterRefusal;
 use crate::end::{End, tell};
 use crate::files::{FileNames, read_files};
+use crate::generate::write_generated;
 use crate::script::run_script;
+use crate::words::{Asked, asked_in};
 use block_frame::{
     bad_texts_stay, blocks_are_cut_once, blocks_go_first, kinds_are_apart, nothing_is_partial,
     texts_are_cut,
 };
 use slurm_io::{Link, Shelf, ShelfRefusal, Sink};
 use std::alloc::Global;
-
-// The names of the two files, where the words ask for a script to be run.
-fn files_named(words: &[String]) -> Option<FileNames<'_>>
-    ensures { option_map named_by result ≡ files_named (map string_bytes words.now) }
-{
-    match words {
-        [command, mode, for_conf, conf, for_assocs, assocs]
-            if command.as_str() == "slurmctld"
-                && mode.as_str() == "--script"
-                && for_conf.as_str() == "-f"
-                && for_assocs.as_str() == "-a" => {
-            Some(FileNames {
-                conf: conf.as_str(),
-                assocs: assocs.as_str(),
-            })
-        }
-        _ => None,
-    }
-}
 
 /// The script of an input of whole blocks, no more than one session answers, is answered to its end, unless a count of
 /// faults rises or memory is wanting.
@@ -91,8 +76,9 @@ fn run_words<Q: Shelf, L: Link>(alloc: Global, words: &[String], shelf: &mut Q, 
         (record { files = Q.files shelf.old; faults = Q.shelf_faults shelf.old; wire = L.wire link.old })
         (record { files = Q.files shelf.new; faults = Q.shelf_faults shelf.new; wire = L.wire link.new }) result }
 {
-    match files_named(words) {
-        Some(names) => run_on_files(alloc, &names, shelf, link),
+    match asked_in(words) {
+        Some(Asked::ByFiles(names)) => run_on_files(alloc, &names, shelf, link),
+        Some(Asked::ByNumber(number)) => write_generated(alloc, number, link),
         None => End::Usage,
     }
 }
@@ -122,7 +108,8 @@ pub fn run_without_words<E: Sink>(errors: &mut E, fault: WordsFault) -> u8
 
 /// What the program does with the words behind its name, and the status that it ends with. With `--script` it reads the
 /// file slurm.conf(5) that `-f` names and the association file, sacctmgr(1), that `-a` names, and answers the blocks of
-/// the link's input on its output by a controller of that cluster.
+/// the link's input on its output by a controller of that cluster. With `--generate` it writes the script that a number
+/// stands for on the link's output, and reads nothing.
 pub fn run<Q: Shelf, L: Link, E: Sink>(
     alloc: Global,
     words: &[String],
@@ -140,7 +127,7 @@ pub fn run<Q: Shelf, L: Link, E: Sink>(
         (record { files = Q.files shelf.new; faults = Q.shelf_faults shelf.new; wire = L.wire link.new }) end }
 
     // The words are off exactly where the status says so.
-    ensures usage { (result ≡ 2) ↔ (files_named (map string_bytes words.now) ≡ None) }
+    ensures usage { (result ≡ 2) ↔ (asked_in (map string_bytes words.now) ≡ None) }
 
     // Where the shelf tells its files: where one of the two is missing this is told by 5, and a bad slurm.conf by 3 and
     // a bad association file by 4 unless a read fails, but for want of memory.
@@ -161,6 +148,14 @@ pub fn run<Q: Shelf, L: Link, E: Sink>(
         → CountsNone (L.wire link.old).reads (L.wire link.new).reads
         → CountsNone (L.wire link.old).writes (L.wire link.new).writes
         → (result ≡ 0) ⊎ (result ≡ 8) }
+
+    // The script that the words' number stands for is written whole, unless a write fails, or memory is wanting and
+    // nothing is written.
+    ensures generated { (number : ℕ)
+        → asked_in (map string_bytes words.now) ≡ Some (ByNumber number)
+        → CountsNone (L.wire link.old).writes (L.wire link.new).writes
+        → ((result ≡ 0) × Appends (L.wire link.old).taken (L.wire link.new).taken (generated number))
+        ⊎ ((result ≡ 8) × (L.wire link.new ≡ L.wire link.old)) }
 {
     whole_inputs_are_answered();
     let end = run_words(alloc, words, shelf, link);

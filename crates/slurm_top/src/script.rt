@@ -10,7 +10,7 @@ ghost use Rattle.slurm_top.specs.Script.{IsScript};
 use crate::cluster::{ClusterRefusal, open_desk};
 use block_frame::{Form, blocks_are_cut_once, blocks_go_first, nothing_is_partial, spellings_join};
 use ctl_core::laws::raised_moments_decide_alike;
-use ctl_pass::laws::starts_are_free;
+use ctl_node_side::laws::passes_are_free;
 use ctl_session::{How, serve_link};
 use resource_profile::start;
 use slurm_io::Link;
@@ -34,7 +34,7 @@ pub fn run_script<L: Link>(
     ensures err { OnErr result (L.wire link.new ≡ L.wire link.old) }
 {
     raised_moments_decide_alike();
-    starts_are_free();
+    passes_are_free();
     blocks_are_cut_once();
     blocks_go_first();
     nothing_is_partial();

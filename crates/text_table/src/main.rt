@@ -7,6 +7,7 @@ mod lines;
 mod numbers;
 mod priorities;
 mod rows;
+mod scripts;
 mod texts;
 mod times;
 mod trees;
@@ -53,6 +54,20 @@ fn answer_of_others(
         "priority" => priorities::priority(alloc, arguments),
         "titled_priority" => priorities::titled_priority(alloc, arguments),
         "ranks" => trees::ranks(alloc, arguments),
+        _ => answer_of_scripts(alloc, function, arguments),
+    }
+}
+
+// The functions of scripts that are drawn from a number.
+fn answer_of_scripts(
+    alloc: Global,
+    function: &str,
+    arguments: &[&[u8]],
+) -> Result<Vec<u8>, Unanswered> {
+    match function {
+        "script_number" => scripts::number(alloc, arguments),
+        "script_lines" => scripts::lines(alloc, arguments),
+        "script_digest" => scripts::digest(alloc, arguments),
         _ => Err(Unanswered::Arguments),
     }
 }

@@ -74,7 +74,7 @@ pub fn reports()
         ≡ codes "orders n1 1 2\nreport: error: StaleReport (17) 1 2\n" }
     ensures restarted { script_of on_one_node
         (codes "5 root report n1 1 2\n6 root report n1 2 1\n")
-        ≡ codes "orders n1 1 2\nslurm: error: NotBuilt\n" }
+        ≡ codes "orders n1 1 2\norders n1 2 1\n" }
     ensures unknown_node { script_of on_one_node
         (codes "5 root report n2 1 1\n")
         ≡ codes "report: error: UnknownNode (16)\n" }

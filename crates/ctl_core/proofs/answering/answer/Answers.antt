@@ -3,7 +3,7 @@ use Rattle.std.specs.Prelude.{nat_lt}
 use Rattle.std.proofs.lemmas.Bool.{le-ltb}
 use Rattle.ctl_state.specs.State.{state_of, last_moment}
 use Rattle.ctl_core.specs.Sizes.{has_room, size_of}
-use Rattle.ctl_core.specs.Step.{is_closed, is_unbuilt, raised}
+use Rattle.ctl_core.specs.Step.{is_closed, raised}
 use Rattle.ctl_core.proofs.Sized.{same-size}
 use Rattle.ctl_core.proofs.Stamping.{size-asked, size-fits, state-worked}
 use Rattle.ctl_core.proofs.answering.answer.Goals as goal
@@ -21,12 +21,11 @@ pub returns-clause-after : goal.returns-clause-after
 returns-clause-after c =
     let s = state_of c.args.cluster.now in
     let request = c.args.request.now in
-    let built : is_unbuilt s request ≡ false = sym c.is_unbuilt.ensures ∙ c.if-is_unbuilt.false in
     let early : nat_lt last_moment c.args.now ≡ false = le-ltb last_moment c.args.now (omega arith) in
     let accepts : is_closed s request ≡ false = sym c.is_closed.ensures ∙ c.if-is_closed.false in
     let moment : c.max-moment.result ≡ raised s c.args.now = search rules in
     state-worked s (state_of c.work.new.cluster) (state_of c.stamp-2.new.cluster) c.args.now c.unwrap_or.result
-    c.args.user.now request c.in_ok-answered.answered built early accepts
+    c.args.user.now request c.in_ok-answered.answered early accepts
     (rw moment at c.in_ok-answered.ensures.ok)
     (λ has. c.unwrap_or.ensures
     ∙ size-asked c.room_for-size.result (has_room s request) (size_of request) c.room_for-size.ensures.room

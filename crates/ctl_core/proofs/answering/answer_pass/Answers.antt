@@ -1,12 +1,37 @@
-use Rattle.std.proofs.Common.{◌≡◌, ◌∙◌, false, refl, arith, rules}
+use Rattle.std.proofs.Common.{◌≡◌, ◌∙◌, ℕ, Result, Ok, Err, OnErr, false, subst, sym, arith, rules}
 use Rattle.std.specs.Prelude.{nat_lt}
 use Rattle.std.proofs.lemmas.Bool.{le-ltb}
 use Rattle.slurm_text.specs.declared.plain.request.Request.TheVariants.{Pass}
 use Rattle.ctl_state.specs.State.{state_of, last_moment}
 use Rattle.ctl_core.specs.Sizes.{has_room, size_of}
 use Rattle.ctl_core.specs.Step.{raised}
-use Rattle.ctl_core.proofs.Stamping.{state-worked, size-asked}
+use Rattle.resource_profile.specs.Counts.{IsTickedUpTo}
+use Rattle.ctl_core.proofs.Stamping.{reply-worked, size-asked, state-worked, steps-worked}
 use Rattle.ctl_core.proofs.answering.answer_pass.Goals as goal
+
+on_err : {T E P : Type 0} (r : Result T E) → P → OnErr r P
+on_err (Ok _) p = tt
+on_err (Err _) p = p
+
+pub returns-in_err-answered-clause-steps_err : goal.returns-in_err-answered-clause-steps_err
+returns-in_err-answered-clause-steps_err g c =
+    let s = state_of c.args.cluster.now in
+    let early : nat_lt last_moment c.args.now ≡ false = le-ltb last_moment c.args.now (omega arith) in
+    let moment : c.max-moment.result ≡ raised s c.args.now = search rules in
+    on_err c.from_residual.result
+    (subst (λ (count : ℕ). IsTickedUpTo count c.args.steps.now c.pass.new.steps)
+    (sym (steps-worked s c.args.now c.args.user.now early c.if-cluster.false))
+    (rw moment at c.in_err-answered.ensures.steps_err))
+
+pub returns-clause-reply : goal.returns-clause-reply
+returns-clause-reply g c =
+    let s = state_of c.args.cluster.now in
+    let early : nat_lt last_moment c.args.now ≡ false = le-ltb last_moment c.args.now (omega arith) in
+    let moment : c.max-moment.result ≡ raised s c.args.now = search rules in
+    let room : c.is_some.result ≡ has_room s Pass = c.is_some.ensures ∙ c.room_for-size.ensures.room in
+    c.stamp-2.ensures.reply
+    ∙ reply-worked s (state_of c.pass.new.cluster) c.args.now c.args.user.now Pass c.in_ok-answered.answered early
+    c.if-cluster.false (rw (room, moment) at c.in_ok-answered.ensures.ok)
 
 pub returns-clause-after : goal.returns-clause-after
 returns-clause-after g c =
@@ -15,7 +40,7 @@ returns-clause-after g c =
     let moment : c.max-moment.result ≡ raised s c.args.now = search rules in
     let room : c.is_some.result ≡ has_room s Pass = c.is_some.ensures ∙ c.room_for-size.ensures.room in
     state-worked s (state_of c.pass.new.cluster) (state_of c.stamp-2.new.cluster) c.args.now c.unwrap_or.result
-    c.args.user.now Pass c.in_ok-answered.answered refl early c.if-cluster.false
+    c.args.user.now Pass c.in_ok-answered.answered early c.if-cluster.false
     (rw (room, moment) at c.in_ok-answered.ensures.ok)
     (λ has. c.unwrap_or.ensures
     ∙ size-asked c.room_for-size.result (has_room s Pass) (size_of Pass) c.room_for-size.ensures.room

@@ -11,7 +11,7 @@ returns c = sound-step (record {
   partitions = c.states_of_partitions_keep_all_sound.ensures;
   shutdown = c.a_shutdown_keeps_all_sound.ensures;
   later = c.time_keeps_all_sound.ensures;
-  reports = c.a_report_keeps_all_sound.ensures;
-  passes = c.a_pass_keeps_all_sound.ensures;
+  reports = c.a_report_met_keeps_all_sound.ensures;
+  passes = c.a_whole_pass_keeps_all_sound.ensures;
   sizes = c.sizes_keep_all_sound.ensures;
 })

@@ -5,11 +5,11 @@ pub returns-clause-idle : goal.returns-clause-idle
 returns-clause-idle c = step-idle (record {
   jobs = c.where_no_job_changes_nothing_does.ensures.idle;
   nodes = c.an_idle_order_changes_nothing.ensures.idle;
-  passes = c.an_idle_pass_changes_nothing.ensures.idle;
+  passes = c.an_idle_whole_pass_changes_nothing.ensures.idle;
 })
 
 pub returns-clause-pass : goal.returns-clause-pass
-returns-clause-pass c = pass-stays c.an_idle_pass_changes_nothing.ensures.only
+returns-clause-pass c = pass-stays c.an_idle_whole_pass_changes_nothing.ensures.only
 
 pub returns-clause-jobs : goal.returns-clause-jobs
 returns-clause-jobs c = jobs-stay c.where_no_job_changes_nothing_does.ensures.only
@@ -27,5 +27,5 @@ returns-clause-made c s after now user request reply = step-changes (record {
   nodes = c.an_idle_order_changes_nothing.ensures.only;
   creations = c.making_and_taking_reservations_changes_the_state.ensures.creations;
   deletions = c.making_and_taking_reservations_changes_the_state.ensures.deletions;
-  passes = c.an_idle_pass_changes_nothing.ensures.only;
+  passes = c.an_idle_whole_pass_changes_nothing.ensures.only;
 }) s now user request

@@ -4,7 +4,5 @@ use Rattle.ctl_report.proofs.report.orders.Goals as goal
 pub returns : goal.returns
 unfolding orders_of
 returns c = λ now.
-    let kills = rw c.records.ensures.value at (c.in_ok-kills.ensures now) in
     let forgets = rw c.as_slice.ensures at c.in_ok-forgets.ensures in
-    let launches = rw c.records-2.ensures.value at c.in_ok-launches.ensures in
-    rw (c.in_ok-copy.ensures, kills, forgets, launches)
+    rw (c.in_ok-copy.ensures, c.in_ok-kills.ensures now, forgets, c.in_ok-launches.ensures)

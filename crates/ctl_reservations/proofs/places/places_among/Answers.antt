@@ -1,7 +1,8 @@
 -- Both rise, and have the same places.
 use Rattle.std.proofs.Common.{◌∙◌, ℕ, Bool, length, sym}
 use Rattle.ctl_state.specs.Planning.{is_at}
-use Rattle.ctl_reservations.specs.Reserving.{is_among, places_among}
+use Rattle.ctl_nodes.specs.Updating.{is_among}
+use Rattle.ctl_reservations.specs.Reserving.{places_among}
 use Rattle.ctl_reservations.proofs.Rising.{filter-rises, has_id-up_to, same_rising}
 use Rattle.ctl_reservations.proofs.Ways.{none_past}
 use Rattle.ctl_reservations.proofs.places.places_among.Goals as goal

@@ -2,7 +2,7 @@ use Rattle.std.proofs.Common.{◌≡◌, ◌∙◌, ap, rules}
 use Rattle.std.specs.Option.{option_or}
 use Rattle.dependencies.specs.Standing.{standing}
 use Rattle.ctl_state.specs.State.{partition_of, state_of}
-use Rattle.ctl_waiting.specs.Reasons.{exceeds_wall, held_reason, hindrance, hindrances_in, is_early, lacks_node, lacks_reservation, reached_beside, reason_of}
+use Rattle.ctl_waiting.specs.Reasons.{exceeds_wall, held_reason, hindrance, hindrances_in, is_early, lacks_node, lacks_reservation, reached_beside, awaiting_reason}
 use Rattle.run_limits.specs.Limits.{first_reason, reason_if}
 use Rattle.ctl_waiting.proofs.FirstReason.{or-else, reasons-joined}
 use Rattle.slurm_text.specs.declared.plain.state.Reason.TheVariants.{BeginTime, QosMaxWallDurationPerJobLimit, ReqNodeNotAvail, Reservation}
@@ -14,7 +14,7 @@ returns c =
     let s = state_of c.args.cluster.now in
     let job = c.args.job.now in
     let held = held_reason job.held_by in
-    let stands = reason_of (standing s.jobs job) in
+    let stands = awaiting_reason (standing s.jobs job) in
     let early = reason_if (is_early c.args.moment job) BeginTime in
     let some = hindrances_in (partition_of s job) job in
     let wall = reason_if (exceeds_wall s job) QosMaxWallDurationPerJobLimit in

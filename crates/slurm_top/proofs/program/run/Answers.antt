@@ -1,4 +1,4 @@
-use Rattle.slurm_top.proofs.Ends.{bad_assocs, bad_conf, complete, missing}
+use Rattle.slurm_top.proofs.Ends.{bad_assocs, bad_conf, complete, missing, written}
 use Rattle.slurm_top.proofs.program.run.Goals as goal
 
 pub returns-clause-missing : goal.returns-clause-missing
@@ -18,3 +18,7 @@ returns-clause-complete g c = λ opening finds whole none reads writes.
     rw c.status.ensures
     (complete c.whole_inputs_are_answered.ensures _ _ _ c.run_words-end.result opening c.run_words-end.ensures finds
     whole none reads writes)
+
+pub returns-clause-generated : goal.returns-clause-generated
+returns-clause-generated g c = λ number asks none.
+    rw c.status.ensures (written _ _ _ c.run_words-end.result number c.run_words-end.ensures asks none)

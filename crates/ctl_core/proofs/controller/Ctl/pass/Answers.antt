@@ -4,3 +4,9 @@ use Rattle.ctl_core.proofs.controller.Ctl.pass.Goals as goal
 
 pub returns-clause-reply : goal.returns-clause-reply
 returns-clause-reply g c = rw (← ap (λ (v : CtlView). v.state) c.self.view_is) c.ask_pass.ensures.reply
+
+pub returns-clause-after : goal.returns-clause-after
+returns-clause-after g c = rw (← ap (λ (v : CtlView). v.state) c.self.view_is) c.ask_pass.ensures.after
+
+pub returns-clause-steps_err : goal.returns-clause-steps_err
+returns-clause-steps_err g c = rw (← ap (λ (v : CtlView). v.state) c.self.view_is) c.ask_pass.ensures.steps_err

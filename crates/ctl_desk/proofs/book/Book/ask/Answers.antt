@@ -4,7 +4,7 @@ use Rattle.ctl_desk.proofs.book.Book.ask.Goals as goal
 pub invariant_of-self-2 : goal.invariant_of-self-2
 invariant_of-self-2 c =
     let decided = c.in_ok-decided.ensures in
-    IsHistory-decided c.starts_are_free.ensures
+    IsHistory-decided c.passes_are_free.ensures
     (record { opening = c.self.inside.opening.state; entries = c.self.inside.entries.items })
     c.args.session c.args.now c.args.user.now c.args.request c.in_ok-decided.decided c.self.inside.ctl.state
     c.ask.new.self.state c.enter.new.entries.items

@@ -1,8 +1,9 @@
-use Rattle.std.proofs.Common.{ap, ◌∙◌, sym, ℕ, Result, Ok, Err, OnErr}
+use Rattle.std.proofs.Common.{◌≡◌, ap, ◌∙◌, sym, ℕ, Result, Ok, Err, OnErr}
 use Rattle.slurm_text.specs.declared.plain.request.Request.TheVariants.{Pass}
 use Rattle.ctl_state.specs.State.{State}
-use Rattle.ctl_core.specs.Step.{reply_of, steps_of}
+use Rattle.ctl_core.specs.Step.{raised, reply_of, steps_of}
 use Rattle.ctl_desk.specs.History.{History, present}
+use Rattle.ctl_desk.proofs.Entered.{entered_as}
 use Rattle.ctl_desk.proofs.Entering.{IsHistory-decided}
 use Rattle.resource_profile.specs.Counts.{IsTickedUpTo}
 use Rattle.ctl_desk.proofs.book.Book.pass.Goals as goal
@@ -14,7 +15,7 @@ on_err (Err _) p = p
 pub invariant_of-self-2 : goal.invariant_of-self-2
 invariant_of-self-2 g c =
     let decided = c.in_ok-decided.ensures in
-    IsHistory-decided c.starts_are_free.ensures
+    IsHistory-decided c.passes_are_free.ensures
     (record { opening = c.self.inside.opening.state; entries = c.self.inside.entries.items })
     c.args.session c.args.now c.args.user.now Pass c.in_ok-decided.decided c.self.inside.ctl.state
     c.pass.new.self.state c.enter.new.entries.items
@@ -38,3 +39,18 @@ pub returns-in_err-decided-clause-steps_err : goal.returns-in_err-decided-clause
 returns-in_err-decided-clause-steps_err g c =
     on_err c.from_residual-in_err-decided.result
     (rw (sym (c.self.invariant.1 ∙ ap (λ (h : History). present h) c.self.view_is)) c.in_err-decided.ensures.steps_err)
+
+pub returns-clause-entries : goal.returns-clause-entries
+returns-clause-entries g c =
+    let h = c.args.self.now in
+    let now = c.args.now in
+    let user = c.args.user.now in
+    let decided = c.in_ok-decided.ensures in
+    let same : c.self.inside.ctl.state ≡ present h =
+    c.self.invariant.1 ∙ ap (λ (h : History). present h) c.self.view_is in
+    entered_as c.enter.new.entries.items c.reserve.new.self.items h.entries c.args.session c.in_ok-decided.decided.moment
+    (raised (present h) now) c.in_ok-name.name user Pass c.in_ok-decided.decided.reply
+    (reply_of (present h) now user Pass) c.enter.result.reply c.enter.ensures.entries c.enter.ensures.reply
+    (c.reserve.ensures.items ∙ ap (λ (h : History). h.entries) c.self.view_is)
+    (decided.moment ∙ ap (λ (s : State). raised s now) same) c.in_ok-name.ensures
+    (decided.reply ∙ ap (λ (s : State). reply_of s now user Pass) same)

@@ -1,0 +1,38 @@
+-- A whole pass: it sees to the nodes that fall silent first, and then does all that it does where none does.
+use Rattle.std.specs.Prelude.{ℕ, ◌+◌, Bool, ◌&&◌, not, if◌then◌else◌, length, count_by}
+use Rattle.slurm_text.specs.declared.plain.reply.Reply.TheVariants.{Passed}
+use Rattle.ctl_state.specs.State.{State}
+use Rattle.ctl_state.specs.Verdicts.{Verdict, Stays, Makes}
+use Rattle.ctl_pass.specs.Freedom.{StartsAreFree}
+use Rattle.ctl_pass.specs.Limits.{is_over}
+use Rattle.ctl_pass.specs.Passing.{is_idle, jobs_planned, outcome, pass_after}
+use Rattle.ctl_node_side.specs.Silence.{any_silent, failing_count, silenced}
+
+-- the state after a pass
+abbrev pub after_pass : State → ℕ → State
+after_pass s now = pass_after (silenced s now) now
+
+-- no node falls silent, and nothing else changes
+abbrev pub pass_is_idle : State → ℕ → Bool
+pass_is_idle s now = not (any_silent s now) && is_idle (silenced s now) now
+
+-- how many jobs a pass takes out of Running: those that fail with their nodes, and those past their limits
+abbrev pub ended_by_pass : State → ℕ → ℕ
+ended_by_pass s now = failing_count s now + count_by (is_over now) (silenced s now).jobs
+
+-- what a pass makes
+abbrev pub made_by_pass : State → ℕ → Verdict
+made_by_pass s now =
+    if pass_is_idle s now then Stays else
+    Makes
+    (Passed (ended_by_pass s now) (length (outcome (silenced s now) now).starts)
+    (length (outcome (silenced s now) now).stays))
+    (after_pass s now)
+
+-- how many jobs it plans
+abbrev pub planned_by_pass : State → ℕ → ℕ
+planned_by_pass s now = jobs_planned (silenced s now) now
+
+-- A pass starts jobs alone that nothing hinders, once silent nodes are seen to.
+abbrev pub PassIsFree : State → ℕ → Type 0
+PassIsFree s now = StartsAreFree (silenced s now) now

@@ -1,0 +1,12 @@
+//! What comes of the nodes' daemons: reports, also of daemons that were restarted, and passes, which see to nodes that
+//! fell silent first.
+#![tactic(auto)]
+
+mod kept;
+pub mod laws;
+mod passing;
+mod restarting;
+mod silence;
+
+pub use passing::{PassOutcome, pass};
+pub use restarting::{accept, orders};

@@ -1,0 +1,2 @@
+pub mod Daemon
+pub mod Turn
