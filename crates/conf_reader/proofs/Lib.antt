@@ -1,9 +1,7 @@
 pub mod NodeSteps
 pub mod OnceLemmas
 pub mod PartSteps
-pub mod ProductLemmas
 pub mod ReaderLemmas
-pub mod SaidLemmas
 pub mod SoundLemmas
 pub mod StepLemmas
 pub mod WholeLemmas

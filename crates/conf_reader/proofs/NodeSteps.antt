@@ -1,5 +1,7 @@
 -- What is true of a draft behind the line of nodes.
-use Rattle.std.proofs.Common.{ℕ, ◌≡◌, ◌+◌, ◌≤◌, Bool, true, false, if◌then◌else◌, nat_lt, nat_le, List, [], ◌∷◌, ◌++◌, length, map, Option, Some, None, option_map, IfSome, Ok, Err, IfOk, bytes_eq, codes, refl, ap, ◌∙◌, arith}
+use Rattle.std.proofs.Common.{ℕ, ◌≡◌, ◌+◌, ◌≤◌, Bool, true, false, if◌then◌else◌, nat_lt, nat_le, List, [], ◌∷◌, ◌++◌}
+use Rattle.std.proofs.Common.{length, map, Option, Some, None, option_map, IfSome, Ok, Err, IfOk, bytes_eq, codes, refl}
+use Rattle.std.proofs.Common.{ap, ◌∙◌, arith}
 use Rattle.std.proofs.lemmas.Bool.Decides.{nat_tests}
 use Rattle.std.proofs.lemmas.List.{map-append, length-append, length-map}
 use Rattle.std.specs.List.{list_any}
@@ -11,15 +13,17 @@ use Rattle.conf_values.specs.Values.{nodes_in}
 use Rattle.conf_values.specs.declared.keys.NodeKey.{NodeKey}
 use Rattle.conf_values.specs.declared.keys.NodeKey.TheVariants as key
 use Rattle.conf_values.specs.declared.refusal.ConfKind.TheVariants.{TwiceNamed, OverLimit}
-use Rattle.conf_reader.specs.NodeLines.{node_name, node_entry, names_fault, entry_fault, node_word, with_entry, no_node_words, node_line, over, processors, node_conf}
-use Rattle.conf_reader.specs.Reader.{is_for_nodes, listed, with_nodes, after_node_line}
+use Rattle.conf_entries.specs.NodeLines.{node_name, node_entry, names_fault, entry_fault, node_word, with_entry}
+use Rattle.conf_entries.specs.NodeLines.{no_node_words, node_line, over, processors, node_conf, is_for_nodes, listed}
+use Rattle.conf_reader.specs.Reader.{with_nodes, after_node_line}
 use Rattle.conf_reader.specs.Sound.{AreOnce, IsSound}
 use Rattle.conf_reader.specs.declared.draft.Draft.{Draft}
-use Rattle.conf_reader.specs.declared.node_lines.NodeNames.{NodeNames}
-use Rattle.conf_reader.specs.declared.node_lines.NodeNames.TheVariants.{Default, Hosts}
-use Rattle.conf_reader.specs.declared.node_lines.NodeEntry.{NodeEntry}
-use Rattle.conf_reader.specs.declared.node_lines.NodeEntry.TheVariants.{Names, Cpus, Boards, Sockets, Cores, Threads, Mem, Weight, Features, State}
-use Rattle.conf_reader.specs.declared.node_lines.NodeWords.{NodeWords}
+use Rattle.conf_entries.specs.declared.node_lines.NodeNames.{NodeNames}
+use Rattle.conf_entries.specs.declared.node_lines.NodeNames.TheVariants.{Default, Hosts}
+use Rattle.conf_entries.specs.declared.node_lines.NodeEntry.{NodeEntry}
+use Rattle.conf_entries.specs.declared.node_lines.NodeEntry.TheVariants.{Names, Cpus, Boards, Sockets, Cores, Threads}
+use Rattle.conf_entries.specs.declared.node_lines.NodeEntry.TheVariants.{Mem, Weight, Features, State}
+use Rattle.conf_entries.specs.declared.node_lines.NodeWords.{NodeWords}
 use Rattle.conf_reader.proofs.OnceLemmas.{once-nil, once-append, nodes_in-once}
 use Rattle.conf_reader.proofs.StepLemmas.{ok-then, some-mapped, some-any, entry-is, unless-is, said-is}
 

@@ -6,15 +6,16 @@ use Rattle.conf_lines.specs.Lines.{NumberedLine}
 use Rattle.slurm_text.specs.Confs.{node_names}
 use Rattle.conf_values.specs.declared.refusal.ConfKind.{ConfKind}
 use Rattle.conf_values.specs.declared.refusal.ConfKind.TheVariants.{NotUtf8}
-use Rattle.conf_reader.specs.NodeLines.{node_line}
-use Rattle.conf_reader.specs.PartitionLines.{no_part_words, partition_names, part_line}
-use Rattle.conf_reader.specs.SettingLines.{setting_line}
-use Rattle.conf_reader.specs.Reader.{kind_of, after_kind, after_node_line, after_part_line, after_line, at_line, after_lines, nothing_said}
+use Rattle.conf_entries.specs.NodeLines.{node_line}
+use Rattle.conf_entries.specs.PartitionLines.{no_part_words, partition_names, part_line}
+use Rattle.conf_entries.specs.SettingLines.{setting_line}
+use Rattle.conf_reader.specs.Reader.{kind_of, after_kind, after_node_line, after_part_line, after_line, at_line}
+use Rattle.conf_reader.specs.Reader.{after_lines, nothing_said}
 use Rattle.conf_reader.specs.Sound.{ListsOnce, IsSound}
 use Rattle.conf_reader.specs.declared.draft.Draft.{Draft}
 use Rattle.conf_reader.specs.declared.draft.LineKind.{LineKind}
 use Rattle.conf_reader.specs.declared.draft.LineKind.TheVariants.{Settings, Node, Partition}
-use Rattle.conf_reader.specs.declared.partition_lines.PartLine.{PartLine}
+use Rattle.conf_entries.specs.declared.partition_lines.PartLine.{PartLine}
 use Rattle.conf_reader.proofs.NodeSteps.{after_node_line-sound}
 use Rattle.conf_reader.proofs.NodeSteps.{line-comes as node_line-comes}
 use Rattle.conf_reader.proofs.OnceLemmas.{once-nil}

@@ -1,5 +1,7 @@
 -- What a sound draft makes is a configuration.
-use Rattle.std.proofs.Common.{ℕ, zero, suc, ◌≡◌, ◌≢◌, ◌≤◌, ◌==◌, Bool, true, false, not, ◌&&◌, ◌||◌, cond, List, [], ◌∷◌, length, map, find, All, AllPairs, Contains, get_or, Option, Some, None, option_map, Ok, Err, if◌then◌else◌, refl, ap, sym, subst, arith}
+use Rattle.std.proofs.Common.{ℕ, zero, suc, ◌≡◌, ◌≢◌, ◌≤◌, ◌==◌, Bool, true, false, not, ◌&&◌, ◌||◌, cond, List, []}
+use Rattle.std.proofs.Common.{◌∷◌, length, map, find, All, AllPairs, Contains, get_or, Option, Some, None, option_map}
+use Rattle.std.proofs.Common.{Ok, Err, if◌then◌else◌, refl, ap, sym, subst, arith}
 use Rattle.std.proofs.lemmas.Bool.Decides.{nat_tests}
 use Rattle.std.proofs.lemmas.List.Elements.{All-nil, All-cons, All-head, All-tail, All-weaker, All-contains_itself}
 use Rattle.std.proofs.lemmas.List.Folds.{Any-from_list_any}
@@ -10,13 +12,14 @@ use Rattle.slurm_text.specs.Confs.{ConfView, node_names, IsOfNodes, IsConf}
 use Rattle.slurm_text.specs.Hosts.{has}
 use Rattle.slurm_text.specs.declared.plain.conf.NodeConf.{NodeConf}
 use Rattle.slurm_text.specs.declared.plain.conf.PartConf.{PartConf}
-use Rattle.conf_reader.specs.PartitionLines.{partition_names}
-use Rattle.conf_reader.specs.Reader.{has_unknown, first_unknown, nodes_by, partitions_by, conf_of_lines, known_all, whole_file}
+use Rattle.conf_entries.specs.PartitionLines.{partition_names}
+use Rattle.conf_reader.specs.Reader.{has_unknown, first_unknown, nodes_by, partitions_by, conf_of_lines, known_all}
+use Rattle.conf_reader.specs.Reader.{whole_file}
 use Rattle.conf_reader.specs.Sound.{AreOnce, ListsOnce, IsSound}
 use Rattle.conf_reader.specs.declared.draft.Draft.{Draft}
-use Rattle.conf_reader.specs.declared.partition_lines.PartLine.{PartLine}
-use Rattle.conf_reader.specs.declared.partition_lines.PartNodes.{PartNodes}
-use Rattle.conf_reader.specs.declared.partition_lines.PartNodes.TheVariants.{All as EachNode, Listed}
+use Rattle.conf_entries.specs.declared.partition_lines.PartLine.{PartLine}
+use Rattle.conf_entries.specs.declared.partition_lines.PartNodes.{PartNodes}
+use Rattle.conf_entries.specs.declared.partition_lines.PartNodes.TheVariants.{All as EachNode, Listed}
 use Rattle.conf_values.specs.declared.refusal.ConfKind.TheVariants.{NoPartition}
 use Rattle.conf_values.specs.declared.refusal.ConfRefusal.TheVariants.{At}
 use Rattle.conf_reader.proofs.OnceLemmas.{fails_at, pairs-unmapped}

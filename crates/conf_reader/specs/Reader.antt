@@ -1,15 +1,16 @@
 -- What a file says: its logical lines one after the other, and then the whole of it.
-use Rattle.std.specs.Prelude.{ℕ, ◌==◌, nat_lt, nat_le, Bool, true, false, not, ◌&&◌, if◌then◌else◌, List, [], ◌∷◌, ◌++◌, length, map, find, codes, Option, Some, None, option_map, Result, Ok, Err}
+use Rattle.std.specs.Prelude.{ℕ, ◌==◌, nat_lt, nat_le, Bool, false, not, ◌&&◌, if◌then◌else◌, List, [], ◌∷◌, ◌++◌}
+use Rattle.std.specs.Prelude.{length, map, find, codes, Option, Some, None, option_map, Result, Ok, Err}
 use Rattle.std.specs.List.{list_any}
 use Rattle.std.specs.Str.{is_utf8}
 use Rattle.conf_lines.specs.Lines.{NumberedLine, logical_lines}
 use Rattle.conf_lines.specs.Pairs.{Pair, pair_in}
 use Rattle.conf_lines.specs.Words.{words_in}
-use Rattle.conf_reader.specs.NodeLines.{node_line, no_node_words, processors, node_conf}
-use Rattle.conf_reader.specs.NodeLines.{over as nodes_over}
-use Rattle.conf_reader.specs.PartitionLines.{part_line, partition_names, no_part_words, line_of}
-use Rattle.conf_reader.specs.PartitionLines.{over as parts_over}
-use Rattle.conf_reader.specs.SettingLines.{setting_line, no_settings, settings_of}
+use Rattle.conf_entries.specs.NodeLines.{node_line, no_node_words, processors, node_conf, is_for_nodes, listed}
+use Rattle.conf_entries.specs.NodeLines.{over as nodes_over}
+use Rattle.conf_entries.specs.PartitionLines.{part_line, partition_names, no_part_words, line_of, is_for_partitions}
+use Rattle.conf_entries.specs.PartitionLines.{over as parts_over}
+use Rattle.conf_entries.specs.SettingLines.{setting_line, no_settings, settings_of}
 use Rattle.conf_values.specs.Refusal.{◌>>=◌}
 use Rattle.slurm_text.specs.Hosts.{has}
 use Rattle.conf_values.specs.Values.{is_word}
@@ -18,17 +19,14 @@ use Rattle.slurm_text.specs.declared.plain.conf.PartConf.{PartConf}
 use Rattle.conf_reader.specs.declared.draft.Draft.{Draft}
 use Rattle.conf_reader.specs.declared.draft.LineKind.{LineKind}
 use Rattle.conf_reader.specs.declared.draft.LineKind.TheVariants.{Settings, Node, Partition}
-use Rattle.conf_reader.specs.declared.node_lines.NodeNames.{NodeNames}
-use Rattle.conf_reader.specs.declared.node_lines.NodeNames.TheVariants.{Default as AllNodes, Hosts}
-use Rattle.conf_reader.specs.declared.node_lines.NodeWords.{NodeWords}
-use Rattle.conf_reader.specs.declared.partition_lines.PartName.{PartName}
-use Rattle.conf_reader.specs.declared.partition_lines.PartName.TheVariants.{Default as AllPartitions}
-use Rattle.conf_reader.specs.declared.partition_lines.PartNodes.{PartNodes}
-use Rattle.conf_reader.specs.declared.partition_lines.PartNodes.TheVariants.{All, Listed}
-use Rattle.conf_reader.specs.declared.partition_lines.PartWords.{PartWords}
-use Rattle.conf_reader.specs.declared.partition_lines.PartLine.{PartLine}
+use Rattle.conf_entries.specs.declared.node_lines.NodeWords.{NodeWords}
+use Rattle.conf_entries.specs.declared.partition_lines.PartNodes.{PartNodes}
+use Rattle.conf_entries.specs.declared.partition_lines.PartNodes.TheVariants.{All, Listed}
+use Rattle.conf_entries.specs.declared.partition_lines.PartWords.{PartWords}
+use Rattle.conf_entries.specs.declared.partition_lines.PartLine.{PartLine}
 use Rattle.conf_values.specs.declared.refusal.ConfKind.{ConfKind}
-use Rattle.conf_values.specs.declared.refusal.ConfKind.TheVariants.{NotUtf8, BadValue, UnknownNode, NoPartition, OverLimit}
+use Rattle.conf_values.specs.declared.refusal.ConfKind.TheVariants.{NotUtf8, BadValue, UnknownNode, NoPartition}
+use Rattle.conf_values.specs.declared.refusal.ConfKind.TheVariants.{OverLimit}
 use Rattle.conf_values.specs.declared.refusal.ConfRefusal.{ConfRefusal}
 use Rattle.conf_values.specs.declared.refusal.ConfRefusal.TheVariants.{At}
 
@@ -49,16 +47,6 @@ kind_by_words (word ∷ words) = kind_by_pair (pair_in word)
 unfoldable pub kind_of : List ℕ → LineKind
 kind_of line = kind_by_words (words_in line)
 
--- whether a node's line speaks of the lines after it
-unfoldable pub is_for_nodes : Option NodeNames → Bool
-is_for_nodes (Some AllNodes) = true
-is_for_nodes _ = false
-
--- the nodes that a line names
-unfoldable pub listed : Option NodeNames → List (List ℕ)
-listed (Some (Hosts names)) = names
-listed _ = []
-
 -- nodes of too many processors are refused behind the words of their line
 unfoldable pub with_nodes : Draft → NodeWords → Result Draft ConfKind
 with_nodes draft words =
@@ -70,11 +58,6 @@ unfoldable pub after_node_line : Draft → NodeWords → Result Draft ConfKind
 after_node_line draft own =
     if is_for_nodes own.names then Ok (record draft { node_defaults = nodes_over own draft.node_defaults })
     else with_nodes draft (nodes_over own draft.node_defaults)
-
--- whether a partition's line speaks of the lines after it
-unfoldable pub is_for_partitions : Option PartName → Bool
-is_for_partitions (Some AllPartitions) = true
-is_for_partitions _ = false
 
 -- a partition without nodes is refused behind the words of its line
 abbrev pub with_partition : Draft → Option PartLine → Result Draft ConfKind

@@ -2,20 +2,20 @@
 
 ghost use Rattle.std.specs.Prelude.{ℕ, ◌≡◌, ◌≤◌, ◌<◌, ◌^◌, length, IfOk, OnOk, IsErrOf, Ok, Err};
 ghost use Rattle.std.specs.Str.{is_utf8};
-ghost use Rattle.conf_reader.specs.Reader.{kind_by_key, kind_of, is_for_nodes, listed, is_for_partitions, after_node_line, after_part_line, after_kind, after_line, nothing_said};
+ghost use Rattle.conf_reader.specs.Reader.{kind_by_key, kind_of, after_node_line, after_part_line, after_kind};
+ghost use Rattle.conf_reader.specs.Reader.{after_line, nothing_said};
 ghost use Rattle.conf_values.specs.declared.refusal.ConfKind.{ConfKind};
 
-use crate::node_lines::{NodeNames, NodeWords, read_node_line};
 use crate::part_table::PartTable;
-use crate::partition_lines::{PartLine, PartName, PartWords, read_part_line};
-use crate::setting_lines::SettingWords;
+use conf_entries::node_lines::{NodeWords, read_node_line};
+use conf_entries::partition_lines::{PartLine, PartWords, read_part_line};
+use conf_entries::setting_lines::SettingWords;
 use conf_lines::pairs::read_pair;
 use conf_lines::words::first_word;
 use conf_values::node_table::NodeTable;
 use conf_values::refusal::{ConfKind, Fault};
 use slurm_text::items::Items;
 use slurm_text::keywords::is_keyword;
-use slurm_text::name::Name;
 use slurm_text::plain::conf::NodeConf;
 use std::alloc::Global;
 
@@ -75,45 +75,11 @@ fn kind_of(line: &[u8]) -> LineKind
     }
 }
 
-impl NodeWords {
-    ghost use Rattle.std.specs.Prelude.{◌≡◌};
-    ghost use Rattle.conf_reader.specs.Reader.{is_for_nodes, listed};
-
-    #[tactic(auto, unfolding(crate::specs::Reader::is_for_nodes))]
-    fn is_for_nodes(&self) -> bool
-        ensures { result ≡ is_for_nodes self.now.names }
-    {
-        matches!(self.names, Some(NodeNames::Default))
-    }
-
-    #[tactic(auto, unfolding(crate::specs::Reader::listed))]
-    fn listed(&self) -> &[Name]
-        ensures { result.now ≡ listed self.now.names }
-    {
-        match &self.names {
-            Some(NodeNames::Hosts(names)) => names.as_slice(),
-            _ => &[],
-        }
-    }
-}
-
-impl PartWords {
-    ghost use Rattle.std.specs.Prelude.{◌≡◌};
-    ghost use Rattle.conf_reader.specs.Reader.{is_for_partitions};
-
-    #[tactic(auto, unfolding(crate::specs::Reader::is_for_partitions))]
-    fn is_for_partitions(&self) -> bool
-        ensures { result ≡ is_for_partitions self.now.name }
-    {
-        matches!(self.name, Some(PartName::Default))
-    }
-}
-
 impl Draft {
     ghost use Rattle.std.specs.Prelude.{ℕ, ◌≡◌, ◌<◌, ◌^◌, length, OnOk, IsErrOf, Ok, Err};
     ghost use Rattle.conf_reader.specs.Reader.{nothing_said, after_node_line, after_part_line, after_kind, after_line};
     ghost use Rattle.conf_reader.specs.Reader.{with_nodes, with_partition};
-    ghost use Rattle.conf_reader.specs.PartitionLines.{line_of};
+    ghost use Rattle.conf_entries.specs.PartitionLines.{line_of};
     ghost use Rattle.conf_values.specs.declared.refusal.ConfKind.{ConfKind};
     ghost use Rattle.conf_reader.specs.declared.draft.LineKind.TheVariants.{Settings, Node, Partition};
 

@@ -5,7 +5,7 @@ use Rattle.slurm_text.specs.declared.plain.request.Request.TheVariants.{Submit, 
 use Rattle.slurm_text.specs.declared.plain.refusal.Refusal.{Refusal}
 use Rattle.slurm_text.specs.declared.plain.refusal.Refusal.TheVariants.{HistoryFull, MomentTooLarge, ShuttingDown}
 use Rattle.slurm_text.specs.declared.plain.reply.Reply.{Reply}
-use Rattle.slurm_text.specs.declared.plain.reply.Reply.TheVariants.{Submitted, Done, Passed, Orders, Idle, Shown, Refused, NotBuilt}
+use Rattle.slurm_text.specs.declared.plain.reply.Reply.TheVariants.{Submitted, Done, Passed, Orders, Idle, Shown, Refused}
 use Rattle.partitions.specs.Partitions.{place_meant}
 use Rattle.ctl_state.specs.State.{State, last_moment}
 use Rattle.ctl_state.specs.Soundness.{IsAsked, IsLimit, IsSound}
@@ -124,7 +124,6 @@ is_entered (Orders orders) = true
 is_entered Idle = false
 is_entered (Shown view) = false
 is_entered (Refused refusal) = false
-is_entered NotBuilt = false
 
 -- a state that an entry of this moment and size has made
 abbrev pub entered : ℕ → ℕ → State → State

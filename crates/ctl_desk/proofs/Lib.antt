@@ -1,3 +1,4 @@
-pub mod Entering
-pub mod Owning
 pub mod Entered
+pub mod Entering
+pub mod Following
+pub mod Owning

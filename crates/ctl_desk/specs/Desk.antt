@@ -5,7 +5,7 @@ use Rattle.ctl_state.specs.State.{State}
 use Rattle.ctl_core.specs.Step.{reply_of, is_entered}
 use Rattle.ctl_desk.specs.declared.entry.Entry.{Entry}
 use Rattle.ctl_desk.specs.declared.entry.Answer.{Answer}
-use Rattle.ctl_desk.specs.History.{History, after_all, entry_of, of_session}
+use Rattle.ctl_desk.specs.History.{History, after_all, entry_of, of_session, present}
 
 -- A desk at a moment: the state before the first entry of the history, the number that the entries of this desk bear,
 -- the entries that there were when the desk was made, those that it has seen come since, and those that were made at
@@ -64,3 +64,7 @@ sight_of seat = record {
   since = seat.since;
   mine = seat.since;
 }
+
+-- the state there
+abbrev pub state_of : Seat → State
+state_of seat = present (history_of (sight_of seat))

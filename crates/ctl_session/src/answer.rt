@@ -22,7 +22,11 @@ use slurm_text::plain::request::Request;
 use std::alloc::Global;
 
 /// Asks what a header asked. After want of memory nothing of it is entered.
-fn decide<D: Desk>(desk: &mut D, steps: &mut Steps<Plain>, asked: &Asked) -> Result<Answer, Memory>
+pub fn decide<D: Desk>(
+    desk: &mut D,
+    steps: &mut Steps<Plain>,
+    asked: &Asked,
+) -> Result<Answer, Memory>
     ensures goes_on { GoesOn (D.sight desk.old) (D.sight desk.new) }
     ensures answered { IfOk result (λ answer. IsAnswered (D.sight desk.old) (D.sight desk.new)
         asked.now.moment asked.now.user asked.now.request answer) }

@@ -7,4 +7,6 @@ mod outside;
 mod reading;
 mod session;
 
+pub use answer::decide;
+pub use meaning::read_meaning;
 pub use session::{Ended, How, serve_link};

@@ -2,7 +2,6 @@
 #![tactic(auto)]
 
 mod job;
-mod line;
 mod number;
 mod script;
 

@@ -4,8 +4,8 @@ ghost use Rattle.std.specs.Prelude.{◌≡◌, ◌++◌, IfOk, OnOk};
 ghost use Rattle.generator.specs.Generated.{next_number, header_line, run_line, block_text, pass_line, job_text, script_from, jobs_drawn, generated};
 
 use crate::job::Job;
-use crate::line::{push_labelled, push_number, push_text};
 use slurm_text::memory_error::Memory;
+use slurm_text::pieces::{push_labelled, push_number, push_text};
 use std::alloc::Global;
 
 // How many jobs a script has.
@@ -25,9 +25,9 @@ fn push_header(out: &mut Vec<u8>, job: &Job) -> Result<(), Memory>
     ensures { OnOk result (out.new.items ≡ out.old.items ++ header_line job.now) }
 {
     push_number(out, job.moment)?;
-    push_labelled(out, b" u", job.user)?;
-    push_labelled(out, b" sbatch -n ", job.tasks)?;
-    push_labelled(out, b" -t ", job.minutes)?;
+    push_labelled(out, b" u", u64::from(job.user))?;
+    push_labelled(out, b" sbatch -n ", u64::from(job.tasks))?;
+    push_labelled(out, b" -t ", u64::from(job.minutes))?;
     push_text(out, b" <<\n")?;
     Ok(())
 }
@@ -35,7 +35,7 @@ fn push_header(out: &mut Vec<u8>, job: &Job) -> Result<(), Memory>
 fn push_run(out: &mut Vec<u8>, seconds: u32) -> Result<(), Memory>
     ensures { OnOk result (out.new.items ≡ out.old.items ++ run_line seconds) }
 {
-    push_labelled(out, b"#SIM run=", seconds)?;
+    push_labelled(out, b"#SIM run=", u64::from(seconds))?;
     push_text(out, b" exit=0\n")?;
     Ok(())
 }

@@ -8,4 +8,4 @@ pub mod running;
 mod starts;
 mod turn;
 
-pub use turn::daemon_turn;
+pub use turn::{daemon_turn, root};

@@ -14,8 +14,8 @@ use slurm_text::plain::reply::Reply;
 use slurm_text::plain::request::Request;
 use std::alloc::Global;
 
-// The user as whom daemons report.
-fn root(alloc: Global) -> Result<Name, Memory>
+/// The user as whom daemons report.
+pub fn root(alloc: Global) -> Result<Name, Memory>
     ensures { IfOk result (λ user. user ≡ spec.root) }
 {
     Name::read(alloc, b"root").map_err(|_| Memory)

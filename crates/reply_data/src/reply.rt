@@ -33,8 +33,6 @@ pub enum Reply {
     Shown(View),
     /// The request was refused, and changed nothing.
     Refused(Refusal),
-    /// The controller can't do this yet, and nothing changed (own).
-    NotBuilt,
 }
 
 impl Reply {
@@ -58,7 +56,6 @@ impl Reply {
             Reply::Idle => Ok(Reply::Idle),
             Reply::Shown(view) => Ok(Reply::Shown(view.copy()?)),
             Reply::Refused(refusal) => Ok(Reply::Refused(refusal.copy()?)),
-            Reply::NotBuilt => Ok(Reply::NotBuilt),
         }
     }
 }

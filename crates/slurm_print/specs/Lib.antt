@@ -1,16 +1,4 @@
-pub mod Dependency
-pub mod Field
 pub mod Malformed
 pub mod Orders
-pub mod Ranges
 pub mod Refusal
-pub mod Show
-pub mod ShowJob
-pub mod ShowNode
-pub mod ShowPartition
-pub mod ShowReservation
-pub mod Sinfo
-pub mod Sprio
-pub mod Squeue
 pub mod Text
-pub mod Values

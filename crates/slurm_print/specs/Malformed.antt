@@ -31,7 +31,3 @@ bad_header_text = codes "slurm: error: BadHeader\n"
 -- the command's name itself is bad
 abbrev pub unknown_command_text : List ℕ
 unknown_command_text = codes "slurm: error: word 1: UnknownCommand\n"
-
--- what the controller can't do yet
-abbrev pub not_built_text : List ℕ
-not_built_text = codes "slurm: error: NotBuilt\n"

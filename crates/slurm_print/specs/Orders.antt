@@ -3,7 +3,7 @@ use Rattle.std.specs.Prelude.{ℕ, List, ◌++◌, flat_map, codes, decimal, Opt
 use Rattle.slurm_text.specs.declared.plain.orders.Launch.{Launch}
 use Rattle.slurm_text.specs.declared.plain.orders.Orders.{Orders}
 use Rattle.slurm_text.specs.declared.plain.report.Start.{Start}
-use Rattle.slurm_print.specs.Ranges.{ranges_text}
+use Rattle.record_texts.specs.Ranges.{ranges_text}
 
 -- `ID.START`
 abbrev pub start_text : Start → List ℕ

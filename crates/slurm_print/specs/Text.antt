@@ -3,17 +3,16 @@ use Rattle.std.specs.Prelude.{ℕ, List, [], ◌++◌, codes, decimal, Bool, fal
 use Rattle.slurm_text.specs.declared.plain.query.Query.{Query}
 use Rattle.slurm_text.specs.declared.plain.query.Query.TheVariants.{Squeue, Sinfo, Sprio}
 use Rattle.slurm_text.specs.declared.plain.reply.Reply.{Reply}
-use Rattle.slurm_text.specs.declared.plain.reply.Reply.TheVariants.{Submitted, Done, Passed, Orders, Idle, Shown, Refused, NotBuilt}
+use Rattle.slurm_text.specs.declared.plain.reply.Reply.TheVariants.{Submitted, Done, Passed, Orders, Idle, Shown, Refused}
 use Rattle.slurm_text.specs.declared.plain.request.Request.{Request}
 use Rattle.slurm_text.specs.declared.plain.request.Request.TheVariants.{Submit, Cancel, CreateReservation, Report, Pass, Show}
 use Rattle.slurm_text.specs.declared.plain.view.View.{View}
-use Rattle.slurm_print.specs.Malformed.{not_built_text}
 use Rattle.slurm_print.specs.Orders.{orders_text}
 use Rattle.slurm_print.specs.Refusal.{refusal_line}
-use Rattle.slurm_print.specs.Show.{show_text}
-use Rattle.slurm_print.specs.Sinfo.{sinfo_text}
-use Rattle.slurm_print.specs.Sprio.{sprio_text}
-use Rattle.slurm_print.specs.Squeue.{squeue_text}
+use Rattle.record_texts.specs.Show.{show_text}
+use Rattle.table_texts.specs.Sinfo.{sinfo_text}
+use Rattle.table_texts.specs.Sprio.{sprio_text}
+use Rattle.table_texts.specs.Squeue.{squeue_text}
 
 -- the command that asks this
 abbrev pub command_asking : Query → List ℕ
@@ -80,4 +79,3 @@ text_of request (Orders orders) = orders_text orders
 text_of request Idle = idle_text request
 text_of request (Shown view) = shown_text request view
 text_of request (Refused refusal) = refusal_line (command_of request) refusal
-text_of request NotBuilt = not_built_text

@@ -2,12 +2,12 @@
 
 ghost use Rattle.std.specs.Prelude.{◌≡◌, ◌++◌, IfOk, OnOk};
 ghost use Rattle.option_words.specs.Refusal.{kind_text};
-ghost use Rattle.slurm_print.specs.Malformed.{teller, fault_line, malformed_text, bad_words_text, bad_header_text, unknown_command_text, not_built_text};
+ghost use Rattle.slurm_print.specs.Malformed.{teller, fault_line, malformed_text, bad_words_text, bad_header_text, unknown_command_text};
 
-use crate::line::{push_labelled, push_text};
 use command_words::command::Command;
 use command_words::fault::{WordFault, WordKind};
 use slurm_text::memory_error::Memory;
+use slurm_text::pieces::{push_labelled, push_text};
 use std::alloc::Global;
 
 /// The text that answers malformed words, or a malformed script (own).
@@ -55,13 +55,6 @@ pub fn unknown_command() -> &'static [u8]
     ensures { result.now ≡ unknown_command_text }
 {
     b"slurm: error: word 1: UnknownCommand\n"
-}
-
-/// The text that answers a request that the controller can't work yet (own).
-pub fn not_built() -> &'static [u8]
-    ensures { result.now ≡ not_built_text }
-{
-    b"slurm: error: NotBuilt\n"
 }
 
 fn teller(command: Command, kind: WordKind) -> &'static [u8]

@@ -2,12 +2,10 @@
 
 ghost use Rattle.std.specs.Prelude.{◌≡◌, ◌++◌, flat_map, OnOk};
 ghost use Rattle.slurm_print.specs.Orders.{orders_text, head_line, start_text, start_line, launch_line, number_or_dash};
-ghost use Rattle.slurm_print.specs.Ranges.{ranges_text};
 
-use crate::line::{push_labelled, push_number, push_text};
-use crate::ranges::push_ranges;
-use cpu_ids::CpuIds;
+use record_texts::ranges::push_cpus;
 use slurm_text::memory_error::Memory;
+use slurm_text::pieces::{push_labelled, push_number, push_text};
 use slurm_text::plain::orders::{Launch, Orders};
 use slurm_text::plain::report::Start;
 
@@ -63,14 +61,6 @@ fn push_launch(out: &mut Vec<u8>, launch: &Launch) -> Result<(), Memory>
     push_if_known(out, b" exit=", launch.exit)?;
     push_text(out, b"\n")?;
     Ok(())
-}
-
-/// Writes processor numbers. Linear in the bits of their row.
-pub(crate) fn push_cpus(out: &mut Vec<u8>, cpus: &CpuIds) -> Result<(), Memory>
-    ensures { OnOk result (out.new.items ≡ out.old.items ++ ranges_text cpus.now) }
-{
-    let numbers = cpus.to_vec(*out.allocator())?;
-    push_ranges(out, numbers.as_slice())
 }
 
 fn push_start(out: &mut Vec<u8>, start: &Start) -> Result<(), Memory>

@@ -3,8 +3,8 @@
 ghost use Rattle.std.specs.Prelude.{◌≡◌, ◌++◌, OnOk};
 ghost use Rattle.slurm_print.specs.Refusal.{refusal_line, refusal_name, refusal_number, refusal_details, which_name};
 
-use crate::line::{push_labelled, push_text};
 use slurm_text::memory_error::Memory;
+use slurm_text::pieces::{push_labelled, push_text};
 use slurm_text::plain::refusal::{Refusal, Which};
 
 /// Writes the line of a refusal, which begins with the command.

@@ -3,22 +3,21 @@
 ghost use Rattle.std.specs.Prelude.{◌≡◌, ◌++◌, IfOk, OnOk};
 ghost use Rattle.slurm_print.specs.Text.{text_of, command_of, command_asking, is_parsable, submitted_text, passed_line, done_text, created_line, idle_text, query_text, shown_text};
 
-use crate::line::{push_labelled, push_number, push_text};
-use crate::malformed::not_built;
 use crate::orders::push_orders;
 use crate::refusal::push_refusal;
-use crate::show::push_show;
-use crate::sinfo::push_sinfo;
-use crate::sprio::push_sprio;
-use crate::squeue::push_view;
-use crate::values::push_pair;
+use record_texts::show::push_show;
+use record_texts::values::push_pair;
 use slurm_text::memory_error::Memory;
 use slurm_text::name::Name;
+use slurm_text::pieces::{push_labelled, push_number, push_text};
 use slurm_text::plain::query::Query;
 use slurm_text::plain::reply::Reply;
 use slurm_text::plain::request::Request;
 use slurm_text::plain::view::View;
 use std::alloc::Global;
+use table_texts::sinfo::push_sinfo;
+use table_texts::sprio::push_sprio;
+use table_texts::squeue::push_view;
 
 /// The text that answers a request. Linear in the text, but for the names of nodes, which are sorted, and for each part
 /// of a job in the bits of a row of processors.
@@ -50,7 +49,6 @@ fn push_reply(
         Reply::Idle => push_idle(out, request),
         Reply::Shown(view) => push_shown(alloc, out, request, view),
         Reply::Refused(refusal) => push_refusal(out, command(request), refusal),
-        Reply::NotBuilt => push_text(out, not_built()),
     }
 }
 

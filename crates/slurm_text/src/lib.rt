@@ -7,4 +7,4 @@ pub mod plain;
 pub use host_lists::{folding, hosts};
 pub use line_words::words;
 pub use plain_data::{items, ranged};
-pub use small_texts::{digits, fields, keywords, memory, memory_error, moment, name};
+pub use small_texts::{digits, fields, keywords, memory, memory_error, moment, name, pieces};

@@ -2,6 +2,7 @@
 use Rattle.std.proofs.Common.{◌≡◌, ◌⊎◌, ℕ, ◌≤◌, List, [], length, Option, None, Some, IfSome, IsSomeAnd, Result, Ok, Err, inl, inr, refl, ap, subst, arith}
 use Rattle.std.specs.Io.KnownBytes.{Appends}
 use Rattle.slurm_io.specs.Shelf.{ShelfFile, bytes_named}
+use Rattle.simulation.specs.Simulation.{Simulated, summary}
 use Rattle.slurm_io.specs.Wire.{Wire}
 use Rattle.assoc_reader.specs.declared.refusal.AssocKind.{AssocKind}
 use Rattle.block_frame.specs.declared.form.Form.TheVariants.{Plain}
@@ -15,10 +16,11 @@ use Rattle.generator.specs.Generated.{generated}
 use Rattle.slurm_top.specs.declared.cluster.ClusterRefusal.{ClusterRefusal}
 use Rattle.slurm_top.specs.declared.cluster.ClusterRefusal.TheVariants as cluster
 use Rattle.slurm_top.specs.declared.end.End.{End}
-use Rattle.slurm_top.specs.declared.end.End.TheVariants.{Usage, NoFile, BadConf, BadAssocs, Memory, Script, Generated, WriteFault}
+use Rattle.slurm_top.specs.declared.end.End.TheVariants.{Usage, NoFile, BadConf, BadAssocs, Memory, Script, Generated, WriteFault, Spent}
 use Rattle.slurm_top.specs.Lines.{CountsNone, status_of}
-use Rattle.slurm_top.specs.Run.{Outside, Named, Asked, ByNumber, Opens, IsEndOn, IsEndWriting, IsEndAsked, IsEnd, Finds, IsWholeScript, files_named, number_named, asked_by, asked_in, opened_by}
+use Rattle.slurm_top.specs.Run.{Outside, Named, Asked, ByNumber, BySimulation, Opens, IsEndOn, IsEndWriting, IsEndSimulating, IsEndAsked, IsEnd, Finds, IsWholeScript, files_named, number_named, simulation_named, asked_by, asked_in, opened_by}
 use Rattle.slurm_top.specs.Script.{IsScript}
+use Rattle.slurm_top.specs.SimulatedCluster.{simulation_of}
 
 -- a run on files of a shelf that tells its files, which open it so
 record On (old new : Outside) (end : End) (opened : Option (Result State ClusterRefusal)) : Type 0 where
@@ -42,14 +44,14 @@ on_files (Some files) named old new end opened e ended found = record {
   ended = ended;
 }
 
-on_named : (names : Option Named) (number : Option ℕ) (old new : Outside) (end : End)
+on_named : (names : Option Named) (number simulation : Option ℕ) (old new : Outside) (end : End)
     (opened : Option (Result State ClusterRefusal))
-    → IfSome (asked_by names number) (λ asked. IsEndAsked asked old new end)
+    → IfSome (asked_by names number simulation) (λ asked. IsEndAsked asked old new end)
     → IsSomeAnd names (λ named. IsSomeAnd old.files (λ files.
     opened_by (bytes_named files named.conf) (bytes_named files named.assocs) ≡ opened))
     → On old new end opened
-on_named None number old new end opened ended found = absurd found
-on_named (Some named) number old new end opened ended found =
+on_named None number simulation old new end opened ended found = absurd found
+on_named (Some named) number simulation old new end opened ended found =
     on_files old.files named old new end opened refl ended found
 
 -- what texts of the run's files open is what was found
@@ -71,11 +73,12 @@ missing_on old new Memory on = inr refl
 missing_on old new (Script how) on = absurd (cc (opens_found old new _ _ _ on on.ended.opens))
 missing_on old new Generated on = absurd on.ended
 missing_on old new WriteFault on = absurd on.ended
+missing_on old new Spent on = absurd on.ended
 
 pub missing : (words : List (List ℕ)) (old new : Outside) (end : End) → IsEnd words old new end
     → Finds words old.files None → (status_of end ≡ 5) ⊎ (status_of end ≡ 8)
 missing words old new end ended finds =
-    missing_on old new end (on_named (files_named words) (number_named words) old new end None ended.on finds)
+    missing_on old new end (on_named (files_named words) (number_named words) (simulation_named words) old new end None ended.on finds)
 
 bad_conf_on : (old new : Outside) (end : End) (line : ℕ) (kind : ConfKind)
     → On old new end (Some (Err (cluster.BadConf line kind))) → CountsNone old.faults new.faults
@@ -89,13 +92,14 @@ bad_conf_on old new Memory line kind on none = inr refl
 bad_conf_on old new (Script how) line kind on none = absurd (cc (opens_found old new _ _ _ on on.ended.opens))
 bad_conf_on old new Generated line kind on none = absurd on.ended
 bad_conf_on old new WriteFault line kind on none = absurd on.ended
+bad_conf_on old new Spent line kind on none = absurd on.ended
 
 pub bad_conf : (words : List (List ℕ)) (old new : Outside) (end : End) (line : ℕ) (kind : ConfKind)
     → IsEnd words old new end
     → Finds words old.files (Some (Err (cluster.BadConf line kind))) → CountsNone old.faults new.faults
     → (status_of end ≡ 3) ⊎ (status_of end ≡ 8)
 bad_conf words old new end line kind ended finds none =
-    bad_conf_on old new end line kind (on_named (files_named words) (number_named words) old new end
+    bad_conf_on old new end line kind (on_named (files_named words) (number_named words) (simulation_named words) old new end
     (Some (Err (cluster.BadConf line kind))) ended.on finds) none
 
 bad_assocs_on : (old new : Outside) (end : End) (line : ℕ) (kind : AssocKind)
@@ -110,13 +114,14 @@ bad_assocs_on old new Memory line kind on none = inr refl
 bad_assocs_on old new (Script how) line kind on none = absurd (cc (opens_found old new _ _ _ on on.ended.opens))
 bad_assocs_on old new Generated line kind on none = absurd on.ended
 bad_assocs_on old new WriteFault line kind on none = absurd on.ended
+bad_assocs_on old new Spent line kind on none = absurd on.ended
 
 pub bad_assocs : (words : List (List ℕ)) (old new : Outside) (end : End) (line : ℕ) (kind : AssocKind)
     → IsEnd words old new end
     → Finds words old.files (Some (Err (cluster.BadAssocs line kind))) → CountsNone old.faults new.faults
     → (status_of end ≡ 4) ⊎ (status_of end ≡ 8)
 bad_assocs words old new end line kind ended finds none =
-    bad_assocs_on old new end line kind (on_named (files_named words) (number_named words) old new end
+    bad_assocs_on old new end line kind (on_named (files_named words) (number_named words) (simulation_named words) old new end
     (Some (Err (cluster.BadAssocs line kind))) ended.on finds) none
 
 -- scripts of whole blocks are answered to their end
@@ -153,6 +158,7 @@ complete_on answered old new (Script how) opening on whole none reads writes =
     whole_input answered old.wire.left on.ended.opening old.wire new.wire how refl whole reads writes on.ended.script
 complete_on answered old new Generated opening on whole none reads writes = absurd on.ended
 complete_on answered old new WriteFault opening on whole none reads writes = absurd on.ended
+complete_on answered old new Spent opening on whole none reads writes = absurd on.ended
 
 pub complete : WholeAnswered → (words : List (List ℕ)) (old new : Outside) (end : End) (opening : State)
     → IsEnd words old new end
@@ -160,7 +166,7 @@ pub complete : WholeAnswered → (words : List (List ℕ)) (old new : Outside) (
     → CountsNone old.wire.reads new.wire.reads → CountsNone old.wire.writes new.wire.writes
     → (status_of end ≡ 0) ⊎ (status_of end ≡ 8)
 complete answered words old new end opening ended finds whole none reads writes =
-    complete_on answered old new end opening (on_named (files_named words) (number_named words) old new end
+    complete_on answered old new end opening (on_named (files_named words) (number_named words) (simulation_named words) old new end
     (Some (Ok opening)) ended.on finds) whole none reads writes
 
 -- the script that a number stands for is written whole, or memory is wanting
@@ -175,6 +181,7 @@ generated_by script old new NoFile ended none = absurd ended
 generated_by script old new (BadConf line kind) ended none = absurd ended
 generated_by script old new (BadAssocs line kind) ended none = absurd ended
 generated_by script old new (Script how) ended none = absurd ended
+generated_by script old new Spent ended none = absurd ended
 
 pub written : (words : List (List ℕ)) (old new : Outside) (end : End) (number : ℕ) → IsEnd words old new end
     → asked_in words ≡ Some (ByNumber number) → CountsNone old.wire.writes new.wire.writes
@@ -184,3 +191,60 @@ written words old new end number ended asks none =
     let on : IsEndAsked (ByNumber number) old new end =
     subst (λ (asked : Option Asked). IfSome asked (λ one. IsEndAsked one old new end)) asks ended.on in
     generated_by (generated number) old.wire new.wire end on.0 none
+
+-- a result is one of a kind alone
+same_simulation : (number : ℕ) (sim other : Simulated) → simulation_of number ≡ Ok (Some sim)
+    → simulation_of number ≡ Ok (Some other) → summary other.tally ≡ summary sim.tally
+same_simulation number sim other one two =
+    let same : other ≡ sim = cc (one, two) in
+    ap (λ (s : Simulated). summary s.tally) same
+
+-- the line that tells of the simulation of a number is written whole, or memory is wanting
+summed_up : (number : ℕ) (sim : Simulated) (old new : Wire) (end : End) → IsEndSimulating number old new end
+    → simulation_of number ≡ Ok (Some sim) → CountsNone old.writes new.writes
+    → ((status_of end ≡ 0) × Appends old.taken new.taken (summary sim.tally)) ⊎ ((status_of end ≡ 8) × (new ≡ old))
+summed_up number sim old new Generated ended is none =
+    inl (refl, subst (Appends old.taken new.taken) (same_simulation number sim ended.0 is ended.1) ended.2.0)
+summed_up number sim old new WriteFault ended is none = absurd (omega (arith, ended.2.1.0, none.0, none.1))
+summed_up number sim old new Spent ended is none = absurd (cc (ended.0, is))
+summed_up number sim old new (BadConf line kind) ended is none = absurd (cc (ended.0, is))
+summed_up number sim old new (BadAssocs line kind) ended is none = absurd (cc (ended.0, is))
+summed_up number sim old new Memory ended is none = inr (refl, ended)
+summed_up number sim old new Usage ended is none = absurd ended
+summed_up number sim old new NoFile ended is none = absurd ended
+summed_up number sim old new (Script how) ended is none = absurd ended
+
+-- where a job is left behind the last round the status says so, or memory is wanting
+left_behind : (number : ℕ) (old new : Wire) (end : End) → IsEndSimulating number old new end
+    → simulation_of number ≡ Ok None
+    → ((status_of end ≡ 9) ⊎ (status_of end ≡ 8)) × (new ≡ old)
+left_behind number old new Generated ended is = absurd (cc (ended.1, is))
+left_behind number old new WriteFault ended is = absurd (cc (ended.1, is))
+left_behind number old new Spent ended is = (inl refl, ended.1)
+left_behind number old new (BadConf line kind) ended is = absurd (cc (ended.0, is))
+left_behind number old new (BadAssocs line kind) ended is = absurd (cc (ended.0, is))
+left_behind number old new Memory ended is = (inr refl, ended)
+left_behind number old new Usage ended is = absurd ended
+left_behind number old new NoFile ended is = absurd ended
+left_behind number old new (Script how) ended is = absurd ended
+
+simulating : (words : List (List ℕ)) (old new : Outside) (end : End) (number : ℕ) → IsEnd words old new end
+    → asked_in words ≡ Some (BySimulation number) → IsEndSimulating number old.wire new.wire end
+simulating words old new end number ended asks =
+    let on : IsEndAsked (BySimulation number) old new end =
+    subst (λ (asked : Option Asked). IfSome asked (λ one. IsEndAsked one old new end)) asks ended.on in
+    on.0
+
+pub told : (words : List (List ℕ)) (old new : Outside) (end : End) (number : ℕ) (sim : Simulated)
+    → IsEnd words old new end → asked_in words ≡ Some (BySimulation number) → simulation_of number ≡ Ok (Some sim)
+    → CountsNone old.wire.writes new.wire.writes
+    → ((status_of end ≡ 0) × Appends old.wire.taken new.wire.taken (summary sim.tally))
+    ⊎ ((status_of end ≡ 8) × (new.wire ≡ old.wire))
+told words old new end number sim ended asks is none =
+    summed_up number sim old.wire new.wire end (simulating words old new end number ended asks) is none
+
+pub endless : (words : List (List ℕ)) (old new : Outside) (end : End) (number : ℕ)
+    → IsEnd words old new end → asked_in words ≡ Some (BySimulation number) → simulation_of number ≡ Ok None
+    → ((status_of end ≡ 9) ⊎ (status_of end ≡ 8)) × (new.wire ≡ old.wire)
+endless words old new end number ended asks is =
+    left_behind number old.wire new.wire end (simulating words old new end number ended asks) is

@@ -4,4 +4,5 @@ pub mod Ends
 pub mod FileTexts
 pub mod Lines
 pub mod Scripts
+pub mod Summing
 pub mod Telling

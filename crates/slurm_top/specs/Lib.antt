@@ -4,3 +4,4 @@ pub mod Lines
 pub mod Run
 pub mod Script
 pub mod Words
+pub mod SimulatedCluster

@@ -8,7 +8,7 @@ use Rattle.conf_values.specs.Refusal.{kind_text}
 use Rattle.ctl_session.specs.declared.session.How.{How}
 use Rattle.ctl_session.specs.declared.session.How.TheVariants as how
 use Rattle.slurm_top.specs.declared.end.End.{End}
-use Rattle.slurm_top.specs.declared.end.End.TheVariants.{Usage, NoFile, BadConf, BadAssocs, Memory, Script, Generated, WriteFault}
+use Rattle.slurm_top.specs.declared.end.End.TheVariants.{Usage, NoFile, BadConf, BadAssocs, Memory, Script, Generated, WriteFault, Spent}
 
 -- the status of a script's run
 abbrev pub script_status : How → ℕ
@@ -30,6 +30,7 @@ status_of Memory = 8
 status_of (Script how) = script_status how
 status_of Generated = 0
 status_of WriteFault = 6
+status_of Spent = 9
 
 -- the line that tells where no block begins, or where one begins that doesn't end
 abbrev pub place_line : ℕ → List ℕ
@@ -55,7 +56,7 @@ script_line (how.Bad place) = place_line place
 script_line how.Memory = codes "slurm: error: memory\n"
 script_line how.Spent = codes "slurm: error: spent\n"
 
--- the line of a run; there is none where a script was written whole
+-- the line of a run; there is none where all was written
 abbrev pub line_of : End → List ℕ
 line_of Usage = codes "slurm: error: usage\n"
 line_of (BadConf line kind) = conf_line line kind
@@ -65,6 +66,7 @@ line_of Memory = codes "slurm: error: memory\n"
 line_of (Script how) = script_line how
 line_of Generated = []
 line_of WriteFault = codes "slurm: error: write\n"
+line_of Spent = codes "slurm: error: spent\n"
 
 -- a count of faults didn't rise, and doesn't stand at its last value
 abbrev pub CountsNone : ℕ → ℕ → Type 0

@@ -13,15 +13,17 @@ use Rattle.ctl_session.specs.declared.session.How.{How}
 use Rattle.ctl_session.specs.Reading.{ReadsStay}
 use Rattle.ctl_session.specs.Session.{most_blocks}
 use Rattle.generator.specs.Generated.{number_of, generated}
+use Rattle.simulation.specs.Simulation.{Simulated, summary}
 use Rattle.slurm_top.specs.declared.cluster.ClusterRefusal.{ClusterRefusal}
 use Rattle.slurm_top.specs.declared.cluster.ClusterRefusal.TheVariants as cluster
 use Rattle.slurm_top.specs.declared.end.End.{End}
-use Rattle.slurm_top.specs.declared.end.End.TheVariants.{Usage, NoFile, BadConf, BadAssocs, Memory, Script, Generated, WriteFault}
+use Rattle.slurm_top.specs.declared.end.End.TheVariants.{Usage, NoFile, BadConf, BadAssocs, Memory, Script, Generated, WriteFault, Spent}
 use Rattle.slurm_top.specs.declared.program.WordsFault.{WordsFault}
 use Rattle.slurm_top.specs.declared.program.WordsFault.TheVariants.{NotText}
 use Rattle.slurm_top.specs.declared.program.WordsFault.TheVariants as words
 use Rattle.slurm_top.specs.Cluster.{opening_in}
 use Rattle.slurm_top.specs.Script.{IsScript}
+use Rattle.slurm_top.specs.SimulatedCluster.{simulation_of}
 
 -- the files that the words name
 pub record Named : Type 0 where
@@ -49,20 +51,29 @@ abbrev pub number_named : List (List ℕ) → Option ℕ
 number_named (command ∷ mode ∷ number ∷ []) = if is_generate_call command mode then number_of number else None
 number_named words = None
 
--- what the words ask: a script on the cluster of two files, or the script that a number stands for
+-- the number that the words name whose jobs are to run: they are `slurmctld --generate NUMBER --run`, and nothing else
+abbrev pub simulation_named : List (List ℕ) → Option ℕ
+simulation_named (command ∷ mode ∷ number ∷ run ∷ []) =
+    if is_generate_call command mode && bytes_eq run (codes "--run") then number_of number else None
+simulation_named words = None
+
+-- what the words ask: a script on the cluster of two files, the script that a number stands for, or a simulation of its
+-- jobs
 pub data Asked : Type 0 where
   ByFiles : Named → Asked
   ByNumber : ℕ → Asked
+  BySimulation : ℕ → Asked
 
--- by the files and the number that the words name; no words name both
-abbrev pub asked_by : Option Named → Option ℕ → Option Asked
-asked_by (Some named) number = Some (ByFiles named)
-asked_by None (Some number) = Some (ByNumber number)
-asked_by None None = None
+-- by the files and the numbers that the words name; no words name two of these
+abbrev pub asked_by : Option Named → Option ℕ → Option ℕ → Option Asked
+asked_by (Some named) number simulation = Some (ByFiles named)
+asked_by None (Some number) simulation = Some (ByNumber number)
+asked_by None None (Some number) = Some (BySimulation number)
+asked_by None None None = None
 
 -- what the words ask; None where they are off
 abbrev pub asked_in : List (List ℕ) → Option Asked
-asked_in words = asked_by (files_named words) (number_named words)
+asked_in words = asked_by (files_named words) (number_named words) (simulation_named words)
 
 -- The outside of a run, but for errors: the files of its shelf, where it tells them, how many reads of these failed,
 -- and its link.
@@ -108,6 +119,7 @@ IsEndOn named old new (Script how) = Ran old new named how
 -- these are ends of words that name a number
 IsEndOn named old new Generated = ⊥
 IsEndOn named old new WriteFault = ⊥
+IsEndOn named old new Spent = ⊥
 
 -- What a run leaves of its link that has this end, where it was to write this script.
 abbrev pub IsEndWriting : List ℕ → Wire → Wire → End → Type 0
@@ -121,11 +133,31 @@ IsEndWriting script old new WriteFault =
 IsEndWriting script old new Memory = new ≡ old
 IsEndWriting script old new end = ⊥
 
--- What a run leaves that has this end, where the words ask this. A script that a number stands for needs no file.
+-- What a run leaves of its link that has this end, where it was to tell of the simulation of a number.
+abbrev pub IsEndSimulating : ℕ → Wire → Wire → End → Type 0
+-- the line was written, or a write of it failed
+IsEndSimulating number old new Generated =
+    (sim : Simulated) × (simulation_of number ≡ Ok (Some sim)) × IsEndWriting (summary sim.tally) old new Generated
+IsEndSimulating number old new WriteFault =
+    (sim : Simulated) × (simulation_of number ≡ Ok (Some sim)) × IsEndWriting (summary sim.tally) old new WriteFault
+-- a job was left behind the last round
+IsEndSimulating number old new Spent = (simulation_of number ≡ Ok None) × (new ≡ old)
+-- the cluster's own files are bad
+IsEndSimulating number old new (BadConf line kind) =
+    (simulation_of number ≡ Err (cluster.BadConf line kind)) × (new ≡ old)
+IsEndSimulating number old new (BadAssocs line kind) =
+    (simulation_of number ≡ Err (cluster.BadAssocs line kind)) × (new ≡ old)
+-- memory was wanting before the first write
+IsEndSimulating number old new Memory = new ≡ old
+IsEndSimulating number old new end = ⊥
+
+-- What a run leaves that has this end, where the words ask this. What is asked by a number needs no file.
 abbrev pub IsEndAsked : Asked → Outside → Outside → End → Type 0
 IsEndAsked (ByFiles named) old new end = IsEndOn named old new end
 IsEndAsked (ByNumber number) old new end =
     IsEndWriting (generated number) old.wire new.wire end × (new ≡ record old { wire = new.wire })
+IsEndAsked (BySimulation number) old new end =
+    IsEndSimulating number old.wire new.wire end × (new ≡ record old { wire = new.wire })
 
 -- What a run with these words leaves that has this end. Where the words are off, exactly there, the end is that, and
 -- nothing was read or written.

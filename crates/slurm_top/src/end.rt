@@ -28,10 +28,12 @@ pub enum End {
     Memory,
     /// The script was run, and ended so.
     Script(How),
-    /// The script that a number stands for was written.
+    /// The script that a number stands for was written, or the line that tells of a simulation.
     Generated,
     /// A write of it failed.
     WriteFault,
+    /// A job of a simulation is left behind its last round.
+    Spent,
 }
 
 impl End {
@@ -48,7 +50,7 @@ impl End {
             End::Script(How::WriteFault) | End::WriteFault => 6,
             End::Script(How::Truncated { .. } | How::Bad { .. }) => 7,
             End::Memory | End::Script(How::Memory) => 8,
-            End::Script(How::Spent) => 9,
+            End::Spent | End::Script(How::Spent) => 9,
         }
     }
 }
@@ -115,7 +117,7 @@ fn line_of(end: End) -> ArrayString<LINE_LEN>
         End::Script(How::WriteFault) | End::WriteFault => cause_line("write"),
         End::Script(How::Truncated { place } | How::Bad { place }) => place_line(place),
         End::Memory | End::Script(How::Memory) => cause_line("memory"),
-        End::Script(How::Spent) => cause_line("spent"),
+        End::Spent | End::Script(How::Spent) => cause_line("spent"),
     }
 }
 

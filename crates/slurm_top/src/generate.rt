@@ -9,10 +9,11 @@ use slurm_io::{Failed, Link, write_all};
 use slurm_text::memory_error::Memory;
 use std::alloc::Global;
 
-fn write_script<L: Link>(link: &mut L, script: &[u8]) -> End
-    ensures { IsEndWriting script.now (L.wire link.old) (L.wire link.new) result }
+/// Writes a text on the link, in one piece.
+pub(crate) fn write_whole<L: Link>(link: &mut L, text: &[u8]) -> End
+    ensures { IsEndWriting text.now (L.wire link.old) (L.wire link.new) result }
 {
-    match write_all(link, script) {
+    match write_all(link, text) {
         Ok(()) => End::Generated,
         Err(Failed) => End::WriteFault,
     }
@@ -24,7 +25,7 @@ pub(crate) fn write_generated<L: Link>(alloc: Global, number: u32, link: &mut L)
     ensures { IsEndWriting (generated number) (L.wire link.old) (L.wire link.new) result }
 {
     match script_of(alloc, number) {
-        Ok(script) => write_script(link, script.as_slice()),
+        Ok(script) => write_whole(link, script.as_slice()),
         Err(Memory) => End::Memory,
     }
 }

@@ -7,6 +7,7 @@ mod files;
 mod generate;
 mod program;
 mod script;
+mod simulated;
 mod words;
 
 pub use end::End;

@@ -10,10 +10,12 @@ ghost use Rattle.ctl_state.specs.State.{State};
 ghost use Rattle.ctl_session.specs.declared.session.How.{How};
 ghost use Rattle.ctl_session.specs.Session.{most_blocks};
 ghost use Rattle.generator.specs.Generated.{generated};
+ghost use Rattle.simulation.specs.Simulation.{Simulated, summary};
 ghost use Rattle.slurm_io.specs.Wire.{Wire};
 ghost use Rattle.slurm_top.specs.Lines.{CountsNone, Tells, status_of, line_of};
-ghost use Rattle.slurm_top.specs.Run.{ByNumber, asked_in, end_without_words, IsEnd, IsEndOn, Finds, IsWholeScript};
+ghost use Rattle.slurm_top.specs.Run.{ByNumber, BySimulation, asked_in, end_without_words, IsEnd, IsEndOn, Finds, IsWholeScript};
 ghost use Rattle.slurm_top.specs.Script.{IsScript};
+ghost use Rattle.slurm_top.specs.SimulatedCluster.{simulation_of};
 ghost use Rattle.slurm_top.specs.Files.{named_by};
 ghost use Rattle.slurm_top.specs.declared.cluster.ClusterRefusal.{ClusterRefusal};
 
@@ -22,6 +24,7 @@ use crate::end::{End, tell};
 use crate::files::{FileNames, read_files};
 use crate::generate::write_generated;
 use crate::script::run_script;
+use crate::simulated::write_summary;
 use crate::words::{Asked, asked_in};
 use block_frame::{
     bad_texts_stay, blocks_are_cut_once, blocks_go_first, kinds_are_apart, nothing_is_partial,
@@ -79,6 +82,7 @@ fn run_words<Q: Shelf, L: Link>(alloc: Global, words: &[String], shelf: &mut Q, 
     match asked_in(words) {
         Some(Asked::ByFiles(names)) => run_on_files(alloc, &names, shelf, link),
         Some(Asked::ByNumber(number)) => write_generated(alloc, number, link),
+        Some(Asked::BySimulation(number)) => write_summary(alloc, number, link),
         None => End::Usage,
     }
 }
@@ -109,7 +113,8 @@ pub fn run_without_words<E: Sink>(errors: &mut E, fault: WordsFault) -> u8
 /// What the program does with the words behind its name, and the status that it ends with. With `--script` it reads the
 /// file slurm.conf(5) that `-f` names and the association file, sacctmgr(1), that `-a` names, and answers the blocks of
 /// the link's input on its output by a controller of that cluster. With `--generate` it writes the script that a number
-/// stands for on the link's output, and reads nothing.
+/// stands for on the link's output, and reads nothing; with `--run` behind that it simulates the jobs of that script, and
+/// writes the line that tells of it.
 pub fn run<Q: Shelf, L: Link, E: Sink>(
     alloc: Global,
     words: &[String],
@@ -156,6 +161,18 @@ pub fn run<Q: Shelf, L: Link, E: Sink>(
         → CountsNone (L.wire link.old).writes (L.wire link.new).writes
         → ((result ≡ 0) × Appends (L.wire link.old).taken (L.wire link.new).taken (generated number))
         ⊎ ((result ≡ 8) × (L.wire link.new ≡ L.wire link.old)) }
+
+    // Likewise the line that tells of the simulation of the words' number; where none ends, the status says so.
+    ensures simulated { (number : ℕ) (sim : Simulated)
+        → asked_in (map string_bytes words.now) ≡ Some (BySimulation number)
+        → simulation_of number ≡ Ok (Some sim)
+        → CountsNone (L.wire link.old).writes (L.wire link.new).writes
+        → ((result ≡ 0) × Appends (L.wire link.old).taken (L.wire link.new).taken (summary sim.tally))
+        ⊎ ((result ≡ 8) × (L.wire link.new ≡ L.wire link.old)) }
+    ensures endless { (number : ℕ)
+        → asked_in (map string_bytes words.now) ≡ Some (BySimulation number)
+        → simulation_of number ≡ Ok None
+        → ((result ≡ 9) ⊎ (result ≡ 8)) × (L.wire link.new ≡ L.wire link.old) }
 {
     whole_inputs_are_answered();
     let end = run_words(alloc, words, shelf, link);

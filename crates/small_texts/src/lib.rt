@@ -1,4 +1,5 @@
-//! The small texts of a cluster's files, requests and replies: names, numbers, amounts of memory and moments.
+//! The small texts of a cluster's files, requests and replies: names, numbers, amounts of memory and
+//! moments; and the pieces that printed texts are joined of.
 #![tactic(auto)]
 
 mod civil;
@@ -9,3 +10,4 @@ pub mod memory;
 pub mod memory_error;
 pub mod moment;
 pub mod name;
+pub mod pieces;

@@ -8,11 +8,11 @@ use Rattle.conf_lines.specs.Pairs.{unquoted, pair_of_parts, pair_in}
 use Rattle.conf_values.specs.Keys.{setting_key, node_key, partition_key}
 use Rattle.conf_values.specs.Values.{number_in, names_in, nodes_in, node_start, part_state, yes_or_no, mem_per_cpu}
 use Rattle.conf_values.specs.Scheduler.{no_items}
-use Rattle.conf_reader.specs.Words.{entry_in, said_by}
-use Rattle.conf_reader.specs.SettingLines.{setting_entry, setting_word, with_setting, no_settings, setting_line, settings_of}
-use Rattle.conf_reader.specs.NodeLines.{node_name, node_entry, names_fault, entry_fault, node_word, with_entry, no_node_words, node_line, over, processors, node_conf}
-use Rattle.conf_reader.specs.PartitionLines.{part_name, part_nodes, part_entry, part_fault, part_word, with_part, no_part_words, part_line, over as parts_over, part_conf, line_of}
-use Rattle.conf_reader.specs.Reader.{kind_of, is_for_nodes, listed, with_nodes, after_node_line, is_for_partitions, after_part_line, after_line}
+use Rattle.conf_entries.specs.Words.{entry_in, said_by}
+use Rattle.conf_entries.specs.SettingLines.{setting_entry, setting_word, with_setting, no_settings, setting_line, settings_of}
+use Rattle.conf_entries.specs.NodeLines.{node_name, node_entry, names_fault, entry_fault, node_word, with_entry, no_node_words, node_line, over, processors, node_conf, is_for_nodes, listed}
+use Rattle.conf_entries.specs.PartitionLines.{part_name, part_nodes, part_entry, part_fault, part_word, with_part, no_part_words, part_line, over as parts_over, part_conf, line_of, is_for_partitions}
+use Rattle.conf_reader.specs.Reader.{kind_of, with_nodes, after_node_line, after_part_line, after_line}
 use Rattle.conf_reader.specs.Reader.{nothing_said, has_unknown, first_unknown, nodes_by, conf_of_lines, whole_file, conf_in}
 use Rattle.slurm_num.specs.Elapsed.{elapsed_text}
 use Rattle.slurm_num.specs.Limits.{seconds_of_clock, seconds_of_day, seconds_of_parts, seconds_of, limit_of_minutes, limit_of}
@@ -86,13 +86,13 @@ use Rattle.ctl_submit.specs.Submission.{is_placeable, new_jobs, terms_of, unende
 use Rattle.ctl_jobs.specs.Actions.{job_refusal}
 use Rattle.ctl_jobs.specs.Changing.{target_refusal}
 use Rattle.ctl_report.specs.Ordering.{in_order, orders_of}
-use Rattle.slurm_print.specs.Ranges.{run_text}
+use Rattle.record_texts.specs.Ranges.{run_text}
 use Rattle.ctl_show.specs.Showing.{highest, is_shown, row_of, is_weighed, priority_row_of, view_of}
 use Rattle.ctl_show.specs.Records.{reservation_row}
 use Rattle.ctl_show.specs.Standing.{cpus_held, names_standing, rows_of_partition, state_rows}
-use Rattle.slurm_print.specs.Squeue.{told as told_of, title, line}
-use Rattle.slurm_print.specs.Sprio.{nice_end, priority_line}
-use Rattle.slurm_print.specs.Field.{field, cell, left_cell}
+use Rattle.table_texts.specs.Squeue.{told as told_of, title, line}
+use Rattle.table_texts.specs.Sprio.{nice_end, priority_line}
+use Rattle.table_texts.specs.Field.{field, cell, left_cell}
 use Rattle.slurm_text.specs.Folding.{in_byte_order, digits_len, grouped, run_text as folded_run, group_text, folded}
 
 -- what the lines of a file say

@@ -1,4 +1,4 @@
-use Rattle.slurm_top.proofs.Ends.{bad_assocs, bad_conf, complete, missing, written}
+use Rattle.slurm_top.proofs.Ends.{bad_assocs, bad_conf, complete, endless, missing, told, written}
 use Rattle.slurm_top.proofs.program.run.Goals as goal
 
 pub returns-clause-missing : goal.returns-clause-missing
@@ -22,3 +22,11 @@ returns-clause-complete g c = λ opening finds whole none reads writes.
 pub returns-clause-generated : goal.returns-clause-generated
 returns-clause-generated g c = λ number asks none.
     rw c.status.ensures (written _ _ _ c.run_words-end.result number c.run_words-end.ensures asks none)
+
+pub returns-clause-simulated : goal.returns-clause-simulated
+returns-clause-simulated g c = λ number sim asks is none.
+    rw c.status.ensures (told _ _ _ c.run_words-end.result number sim c.run_words-end.ensures asks is none)
+
+pub returns-clause-endless : goal.returns-clause-endless
+returns-clause-endless g c = λ number asks is.
+    rw c.status.ensures (endless _ _ _ c.run_words-end.result number c.run_words-end.ensures asks is)

@@ -1,0 +1,4 @@
+pub mod NodeLines
+pub mod PartitionLines
+pub mod SettingLines
+pub mod Words

@@ -1,0 +1,60 @@
+//! What is asked at the desk of a simulation.
+
+ghost use Rattle.std.specs.Prelude.{◌≡◌, IfOk, OnOk};
+ghost use Rattle.slurm_text.specs.declared.plain.request.Request.TheVariants.{Pass};
+ghost use Rattle.ctl_desk.specs.Desk.{history_of, sight_of, state_of};
+ghost use Rattle.ctl_desk.specs.History.{IsHistory};
+ghost use Rattle.simulation.specs.Simulation.{behind, told};
+
+use ctl_desk::desk::Desk;
+use ctl_desk::laws::answers_follow_at_a_desk_of_its_own;
+use ctl_desk::own_desk::OwnDesk;
+use node_daemon::root;
+use resource_profile::{Plain, Steps};
+use slurm_text::memory_error::Memory;
+use slurm_text::plain::reply::Reply;
+use slurm_text::plain::request::Request;
+use std::alloc::Global;
+
+/// The desk's history is one that the controller keeps.
+pub(crate) fn keeps_history(desk: &OwnDesk)
+    ensures { IsHistory (history_of (sight_of desk.now)) }
+{
+    let _ = desk.seen_len();
+}
+
+/// Asks as root.
+pub(crate) fn ask(
+    alloc: Global,
+    desk: &mut OwnDesk,
+    now: u64,
+    request: Request,
+) -> Result<Reply, Memory>
+    ensures reply { IfOk result (λ reply. reply ≡ told now request (state_of desk.old)) }
+    ensures state { OnOk result (state_of desk.new ≡ behind now request (state_of desk.old)) }
+{
+    answers_follow_at_a_desk_of_its_own();
+    keeps_history(desk);
+    let root = root(alloc)?;
+    match desk.ask(now, &root, request) {
+        Ok(answer) => Ok(answer.reply),
+        Err(Memory) => Err(Memory),
+    }
+}
+
+/// Makes a pass as root.
+pub(crate) fn pass(
+    alloc: Global,
+    desk: &mut OwnDesk,
+    now: u64,
+    steps: &mut Steps<Plain>,
+) -> Result<Reply, Memory>
+    ensures reply { IfOk result (λ reply. reply ≡ told now Pass (state_of desk.old)) }
+    ensures state { OnOk result (state_of desk.new ≡ behind now Pass (state_of desk.old)) }
+{
+    answers_follow_at_a_desk_of_its_own();
+    keeps_history(desk);
+    let root = root(alloc)?;
+    let answer = desk.pass(now, &root, None, steps)?;
+    Ok(answer.reply)
+}

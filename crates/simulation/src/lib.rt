@@ -1,0 +1,12 @@
+//! Simulations: the jobs of a generated script on a cluster whose nodes' daemons run them (own).
+#![tactic(auto)]
+
+mod asking;
+mod nodes;
+mod round;
+mod script;
+mod simulating;
+mod summary;
+mod tally;
+
+pub use simulating::{SimulationRefusal, simulate};

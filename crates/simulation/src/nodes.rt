@@ -1,0 +1,61 @@
+//! The daemons of a simulation.
+
+ghost use Rattle.std.specs.Prelude.{◌≡◌, IfOk, OnOk, filter_map};
+ghost use Rattle.ctl_desk.specs.Desk.{state_of};
+ghost use Rattle.simulation.specs.Simulation.{behind, daemon_of, daemons_of, nodes_asked, rows_of, told};
+
+use crate::asking::ask;
+use ctl_desk::own_desk::OwnDesk;
+use node_daemon::daemon::DaemonState;
+use slurm_text::memory_error::Memory;
+use slurm_text::plain::query::Query;
+use slurm_text::plain::reply::Reply;
+use slurm_text::plain::request::Request;
+use slurm_text::plain::view::Row;
+use std::alloc::Global;
+
+/// The records that a reply shows.
+pub(crate) fn rows_of(reply: &Reply) -> &[Row]
+    ensures { result.now ≡ rows_of reply.now }
+{
+    match reply {
+        Reply::Shown(view) => view.rows.as_slice(),
+        _ => &[],
+    }
+}
+
+// The daemon of the node that is shown, if one is.
+fn daemon_of(alloc: Global, row: &Row) -> Result<Option<DaemonState>, Memory>
+    ensures { IfOk result (λ daemon. daemon ≡ daemon_of row.now) }
+{
+    match row {
+        Row::Node(node) => Ok(Some(DaemonState::new(alloc, &node.name, 1)?)),
+        _ => Ok(None),
+    }
+}
+
+// The daemons of the nodes that are shown.
+fn started(alloc: Global, rows: &[Row]) -> Result<Vec<DaemonState>, Memory>
+    ensures { IfOk result (λ daemons. daemons.items ≡ filter_map daemon_of rows.now) }
+{
+    let mut daemons = Vec::with_capacity(alloc, rows.len())?;
+    for row in rows {
+        if let Some(daemon) = daemon_of(alloc, row)? {
+            daemons.push(daemon)?;
+        }
+    }
+    Ok(daemons)
+}
+
+/// Starts the daemon of each node, in the order in which the controller shows them.
+pub(crate) fn start_daemons(
+    alloc: Global,
+    desk: &mut OwnDesk,
+    now: u64,
+) -> Result<Vec<DaemonState>, Memory>
+    ensures daemons { IfOk result (λ daemons. daemons.items ≡ daemons_of (told now nodes_asked (state_of desk.old))) }
+    ensures state { OnOk result (state_of desk.new ≡ behind now nodes_asked (state_of desk.old)) }
+{
+    let reply = ask(alloc, desk, now, Request::Show(Query::ShowNode(None)))?;
+    started(alloc, rows_of(&reply))
+}

@@ -1,6 +1,0 @@
-use Rattle.std.proofs.Common.{◌≡◌, ◌++◌, take, flat_map}
-use Rattle.slurm_print.specs.Squeue.{piece_text, title}
-use Rattle.slurm_print.proofs.squeue.push_titles.Given as goal
-
-abbrev pub invariant-loop-piece : goal.invariant-loop-piece
-invariant-loop-piece l = l.out.items ≡ l.initial.out.items ++ flat_map (piece_text title) (take l.piece-index l.pieces)

@@ -1,0 +1,70 @@
+-- What a simulation on the cluster of simulations comes to.
+use Rattle.std.proofs.Common.{◌≡◌, ℕ, List, [], Option, None, Some, IsSomeAnd, Ok, Err, refl, sym, ap, ◌∙◌, subst}
+use Rattle.std.specs.Io.KnownBytes.{Appends}
+use Rattle.slurm_io.specs.Bytes.{AppendsFront}
+use Rattle.slurm_io.specs.Wire.{Wire}
+use Rattle.ctl_desk.specs.Desk.{Seat, state_of}
+use Rattle.ctl_session.specs.declared.session.How.{How}
+use Rattle.ctl_state.specs.State.{State}
+use Rattle.simulation.specs.Simulation.{Simulated, simulated, summary}
+use Rattle.slurm_top.specs.declared.cluster.ClusterRefusal.{ClusterRefusal}
+use Rattle.slurm_top.specs.declared.end.End.{End}
+use Rattle.slurm_top.specs.declared.end.End.TheVariants.{Usage, NoFile, BadConf, BadAssocs, Memory, Script, Generated, WriteFault, Spent}
+use Rattle.slurm_top.specs.Cluster.{opening_in}
+use Rattle.slurm_top.specs.Run.{IsEndSimulating, IsEndWriting}
+use Rattle.slurm_top.specs.SimulatedCluster.{simulated_assocs, simulated_conf, simulation_of}
+
+-- the files give no cluster
+pub refused_by : (number : ℕ) (refusal : ClusterRefusal) → opening_in simulated_conf simulated_assocs ≡ Err refusal
+    → simulation_of number ≡ Err refusal
+unfolding simulation_of
+refused_by number refusal refused = rw refused refl
+
+-- a desk that was just opened
+abbrev pub IsFresh : State → Seat → Type 0
+IsFresh s desk = desk ≡ record { opening = s; before = []; since = [] }
+
+pub comes_to : (number : ℕ) (s : State) (desk : Seat) (sim : Option Simulated)
+    → opening_in simulated_conf simulated_assocs ≡ Ok s → IsFresh s desk → simulated (state_of desk) number ≡ sim
+    → simulation_of number ≡ Ok sim
+unfolding simulation_of
+comes_to number s desk sim opens fresh is =
+    rw opens (ap (λ (d : Seat). Ok (simulated (state_of d) number)) (sym fresh) ∙ ap Ok is)
+
+-- the line is that of what the simulation came to
+pub record IsLine (number : ℕ) (line : List ℕ) : Type 0 where
+  pub sim : Simulated
+  pub comes : simulation_of number ≡ Ok (Some sim)
+  pub is : line ≡ summary sim.tally
+
+found : (number : ℕ) (s : State) (desk : Seat) (line : List ℕ) (sim : Option Simulated)
+    → opening_in simulated_conf simulated_assocs ≡ Ok s → IsFresh s desk → simulated (state_of desk) number ≡ sim
+    → IsSomeAnd sim (λ one. line ≡ summary one.tally) → IsLine number line
+found number s desk line None opens fresh is tells = absurd tells
+found number s desk line (Some sim) opens fresh is tells = record {
+  sim = sim;
+  comes = comes_to number s desk (Some sim) opens fresh is;
+  is = tells;
+}
+
+written_line : (number : ℕ) (line : List ℕ) (old new : Wire) (end : End) → IsLine number line
+    → IsEndWriting line old new end → IsEndSimulating number old new end
+written_line number line old new Generated line_is ended =
+    (line_is.sim, line_is.comes, subst (λ text. IsEndWriting text old new Generated) line_is.is ended)
+written_line number line old new WriteFault line_is ended =
+    (line_is.sim, line_is.comes, subst (λ text. IsEndWriting text old new WriteFault) line_is.is ended)
+written_line number line old new Memory line_is ended = ended
+written_line number line old new Usage line_is ended = absurd ended
+written_line number line old new NoFile line_is ended = absurd ended
+written_line number line old new (BadConf at kind) line_is ended = absurd ended
+written_line number line old new (BadAssocs at kind) line_is ended = absurd ended
+written_line number line old new (Script how) line_is ended = absurd ended
+written_line number line old new Spent line_is ended = absurd ended
+
+pub written : (number : ℕ) (s : State) (desk : Seat) (line : List ℕ) (old new : Wire) (end : End)
+    → opening_in simulated_conf simulated_assocs ≡ Ok s → IsFresh s desk
+    → IsSomeAnd (simulated (state_of desk) number) (λ sim. line ≡ summary sim.tally)
+    → IsEndWriting line old new end → IsEndSimulating number old new end
+written number s desk line old new end opens fresh tells ended =
+    written_line number line old new end
+    (found number s desk line (simulated (state_of desk) number) opens fresh refl tells) ended

@@ -1,0 +1,6 @@
+use Rattle.std.proofs.Common.{◌≡◌, ◌++◌, take, flat_map}
+use Rattle.table_texts.specs.Squeue.{piece_text, title}
+use Rattle.table_texts.proofs.squeue.push_titles.Given as goal
+
+abbrev pub invariant-loop-piece : goal.invariant-loop-piece
+invariant-loop-piece l = l.out.items ≡ l.initial.out.items ++ flat_map (piece_text title) (take l.piece-index l.pieces)

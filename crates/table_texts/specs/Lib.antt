@@ -1,0 +1,4 @@
+pub mod Field
+pub mod Sinfo
+pub mod Sprio
+pub mod Squeue

@@ -1,0 +1,153 @@
+-- The lines of squeue.
+use Rattle.std.specs.Prelude.{ℕ, ◌*◌, Bool, if◌then◌else◌, List, [], ◌∷◌, ◌++◌, flat_map, Option, Some, None, codes, decimal}
+use Rattle.slurm_num.specs.Elapsed.{elapsed_text}
+use Rattle.slurm_text.specs.Folding.{folded}
+use Rattle.slurm_text.specs.Moment.{moment_text}
+use Rattle.slurm_text.specs.declared.plain.limit.Limit.{Limit}
+use Rattle.slurm_text.specs.declared.plain.limit.Limit.TheVariants.{Minutes, Unlimited}
+use Rattle.slurm_text.specs.declared.plain.query.JobColumn.{JobColumn}
+use Rattle.slurm_text.specs.declared.plain.query.JobColumn.TheVariants as column
+use Rattle.slurm_text.specs.declared.plain.query.JobQuery.{JobQuery}
+use Rattle.slurm_text.specs.declared.plain.query.Piece.{Piece}
+use Rattle.slurm_text.specs.declared.plain.query.Piece.TheVariants.{Plain, Column}
+use Rattle.slurm_text.specs.declared.plain.state.JobState.{JobState}
+use Rattle.slurm_text.specs.declared.plain.state.JobState.TheVariants.{Pending, Running, Completing, Ended}
+use Rattle.slurm_text.specs.declared.plain.state.Final.TheVariants.{Completed, Cancelled, Failed, Timeout, NodeFail, Requeue}
+use Rattle.slurm_text.specs.declared.plain.state.Reason.{Reason}
+use Rattle.slurm_text.specs.declared.plain.state.Reason.TheVariants.{JobHeldAdmin, JobHeldUser, DependencyNeverSatisfied, Dependency, BeginTime, PartitionInactive, PartitionDown, PartitionTimeLimit, PartitionNodeLimit, QosMaxWallDurationPerJobLimit, JobArrayTaskLimit, AssocGrpJobsLimit, AssocGrpCpuLimit, AssocMaxJobsLimit, QosGrpJobsLimit, QosGrpCpuLimit, QosMaxJobsPerUserLimit, QosMaxCpuPerUserLimit, Reservation, ReqNodeNotAvail, Resources, Priority}
+use Rattle.slurm_text.specs.declared.plain.view.JobRow.{JobRow}
+use Rattle.slurm_text.specs.declared.plain.view.Row.{Row}
+use Rattle.slurm_text.specs.declared.plain.view.Row.TheVariants as shown
+use Rattle.slurm_text.specs.declared.plain.view.View.{View}
+use Rattle.squeue_format.specs.Format.{usual}
+use Rattle.table_texts.specs.Field.{field}
+
+-- "JOB STATE CODES" in squeue(1)
+abbrev pub state_code : JobState → List ℕ
+state_code Pending = codes "PD"
+state_code Running = codes "R"
+state_code (Completing end) = codes "CG"
+state_code (Ended Completed) = codes "CD"
+state_code (Ended Cancelled) = codes "CA"
+state_code (Ended Failed) = codes "F"
+state_code (Ended Timeout) = codes "TO"
+state_code (Ended NodeFail) = codes "NF"
+state_code (Ended Requeue) = codes "RQ"
+
+abbrev pub state_word : JobState → List ℕ
+state_word Pending = codes "PENDING"
+state_word Running = codes "RUNNING"
+state_word (Completing end) = codes "COMPLETING"
+state_word (Ended Completed) = codes "COMPLETED"
+state_word (Ended Cancelled) = codes "CANCELLED"
+state_word (Ended Failed) = codes "FAILED"
+state_word (Ended Timeout) = codes "TIMEOUT"
+state_word (Ended NodeFail) = codes "NODE_FAIL"
+state_word (Ended Requeue) = codes "REQUEUED"
+
+abbrev pub reason_name : Reason → List ℕ
+reason_name JobHeldAdmin = codes "JobHeldAdmin"
+reason_name JobHeldUser = codes "JobHeldUser"
+reason_name DependencyNeverSatisfied = codes "DependencyNeverSatisfied"
+reason_name Dependency = codes "Dependency"
+reason_name BeginTime = codes "BeginTime"
+reason_name PartitionInactive = codes "PartitionInactive"
+reason_name PartitionDown = codes "PartitionDown"
+reason_name PartitionTimeLimit = codes "PartitionTimeLimit"
+reason_name PartitionNodeLimit = codes "PartitionNodeLimit"
+reason_name QosMaxWallDurationPerJobLimit = codes "QOSMaxWallDurationPerJobLimit"
+reason_name JobArrayTaskLimit = codes "JobArrayTaskLimit"
+reason_name AssocGrpJobsLimit = codes "AssocGrpJobsLimit"
+reason_name AssocGrpCpuLimit = codes "AssocGrpCpuLimit"
+reason_name AssocMaxJobsLimit = codes "AssocMaxJobsLimit"
+reason_name QosGrpJobsLimit = codes "QOSGrpJobsLimit"
+reason_name QosGrpCpuLimit = codes "QOSGrpCpuLimit"
+reason_name QosMaxJobsPerUserLimit = codes "QOSMaxJobsPerUserLimit"
+reason_name QosMaxCpuPerUserLimit = codes "QOSMaxCpuPerUserLimit"
+reason_name Reservation = codes "Reservation"
+reason_name ReqNodeNotAvail = codes "ReqNodeNotAvail"
+reason_name Resources = codes "Resources"
+reason_name Priority = codes "Priority"
+
+-- the reason in parentheses, or the nodes
+abbrev pub place_of : Option Reason → List (List ℕ) → List ℕ
+place_of None names = folded names
+place_of (Some reason) names = codes "(" ++ reason_name reason ++ codes ")"
+
+-- `ARRAY_INDEX` of a task, else the job's number
+abbrev pub id_of : ℕ → Option ℕ → Option ℕ → List ℕ
+id_of id (Some array) (Some index) = decimal array ++ codes "_" ++ decimal index
+id_of id array index = decimal id
+
+abbrev pub start_of : Option ℕ → List ℕ
+start_of None = codes "N/A"
+start_of (Some start) = moment_text start
+
+abbrev pub limit_of : Limit → List ℕ
+limit_of (Minutes minutes) = elapsed_text (minutes * 60)
+limit_of Unlimited = codes "UNLIMITED"
+
+-- what a column tells of a job
+unfoldable pub told : JobRow → JobColumn → List ℕ
+told row column.Id = id_of row.id row.array row.index
+told row column.Partition = row.partition
+told row column.JobName = row.name
+told row column.User = row.user
+told row column.Account = row.account
+told row column.Qos = row.qos
+told row column.Code = state_code row.state
+told row column.State = state_word row.state
+told row column.Time = elapsed_text row.elapsed
+told row column.Nodes = decimal row.nodes
+told row column.Place = place_of row.reason row.node_names
+told row column.Start = start_of row.start
+told row column.Priority = decimal row.priority
+told row column.Limit = limit_of row.limit
+told row column.Cpus = decimal row.cpus
+
+-- what stands above it
+unfoldable pub title : JobColumn → List ℕ
+title column.Id = codes "JOBID"
+title column.Partition = codes "PARTITION"
+title column.JobName = codes "NAME"
+title column.User = codes "USER"
+title column.Account = codes "ACCOUNT"
+title column.Qos = codes "QOS"
+title column.Code = codes "ST"
+title column.State = codes "STATE"
+title column.Time = codes "TIME"
+title column.Nodes = codes "NODES"
+title column.Place = codes "NODELIST(REASON)"
+title column.Start = codes "START_TIME"
+title column.Priority = codes "PRIORITY"
+title column.Limit = codes "TIME_LIMIT"
+title column.Cpus = codes "CPUS"
+
+-- with a width a text is cut and padded
+abbrev pub sized : Option ℕ → Bool → List ℕ → List ℕ
+sized None dot text = text
+sized (Some width) dot text = field width dot text
+
+-- a piece of a line, where the columns tell this
+abbrev pub piece_text : (JobColumn → List ℕ) → Piece → List ℕ
+piece_text tells (Plain byte) = byte ∷ []
+piece_text tells (Column column width dot) = sized width dot (tells column)
+
+unfoldable pub line : (JobColumn → List ℕ) → List Piece → List ℕ
+line tells pieces = flat_map (piece_text tells) pieces ++ codes "\n"
+
+abbrev pub row_line : List Piece → Row → List ℕ
+row_line pieces (shown.Job row) = line (told row) pieces
+row_line pieces row = []
+
+-- the format of a query
+abbrev pub format_of : Bool → Option (List Piece) → List Piece
+format_of starts None = usual starts
+format_of starts (Some pieces) = pieces
+
+-- the lines, below their titles where these are wanted
+abbrev pub lines_of : Bool → List Piece → View → List ℕ
+lines_of titles pieces view = (if titles then line title pieces else []) ++ flat_map (row_line pieces) view.rows
+
+abbrev pub squeue_text : JobQuery → View → List ℕ
+squeue_text query view = lines_of query.titles (format_of query.starts query.format) view

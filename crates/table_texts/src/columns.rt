@@ -1,0 +1,206 @@
+//! What the columns of squeue(1) tell of a job.
+
+ghost use Rattle.std.specs.Prelude.{◌≡◌, ◌≤◌, ◌++◌, OnOk};
+ghost use Rattle.slurm_num.specs.Elapsed.{elapsed_text};
+ghost use Rattle.slurm_text.specs.Moment.{moment_text};
+ghost use Rattle.table_texts.specs.Squeue;
+
+use slurm_num::print_elapsed;
+use slurm_text::folding::fold_hosts;
+use slurm_text::memory_error::Memory;
+use slurm_text::moment::print_moment;
+use slurm_text::pieces::{push_labelled, push_number, push_text};
+use slurm_text::plain::limit::Limit;
+use slurm_text::plain::query::JobColumn;
+use slurm_text::plain::state::{Final, JobState, Reason};
+use slurm_text::plain::view::JobRow;
+use slurm_text::ranged::Ranged;
+use std::alloc::Global;
+
+/// Writes what the column tells of a job. The names of its nodes take memory beside `out` while they are folded.
+#[tactic(auto, unfolding(crate::specs::Squeue::told))]
+pub fn push_told(
+    alloc: Global,
+    out: &mut Vec<u8>,
+    row: &JobRow,
+    column: JobColumn,
+) -> Result<(), Memory>
+    ensures { OnOk result (out.new.items ≡ out.old.items ++ Squeue.told row.now column) }
+{
+    match column {
+        JobColumn::Id => push_id(out, row.id, row.array, row.index),
+        JobColumn::Partition => push_text(out, row.partition.as_bytes()),
+        JobColumn::JobName => push_text(out, row.name.as_bytes()),
+        JobColumn::User => push_text(out, row.user.as_bytes()),
+        JobColumn::Account => push_text(out, row.account.as_bytes()),
+        JobColumn::Qos => push_text(out, row.qos.as_bytes()),
+        JobColumn::Code => push_text(out, state_code(row.state)),
+        JobColumn::State => push_text(out, state_word(row.state)),
+        JobColumn::Time => push_elapsed(out, row.elapsed.get()),
+        JobColumn::Nodes => push_number(out, row.nodes),
+        JobColumn::Place => push_place(alloc, out, row),
+        JobColumn::Start => push_start(out, row.start),
+        JobColumn::Priority => push_number(out, u64::from(row.priority)),
+        JobColumn::Limit => push_limit(out, row.limit),
+        JobColumn::Cpus => push_number(out, row.cpus),
+    }
+}
+
+/// The title of a column.
+#[tactic(auto, unfolding(crate::specs::Squeue::title))]
+pub fn title(column: JobColumn) -> &'static [u8]
+    ensures { result.now ≡ Squeue.title column }
+{
+    match column {
+        JobColumn::Id => b"JOBID",
+        JobColumn::Partition => b"PARTITION",
+        JobColumn::JobName => b"NAME",
+        JobColumn::User => b"USER",
+        JobColumn::Account => b"ACCOUNT",
+        JobColumn::Qos => b"QOS",
+        JobColumn::Code => b"ST",
+        JobColumn::State => b"STATE",
+        JobColumn::Time => b"TIME",
+        JobColumn::Nodes => b"NODES",
+        JobColumn::Place => b"NODELIST(REASON)",
+        JobColumn::Start => b"START_TIME",
+        JobColumn::Priority => b"PRIORITY",
+        JobColumn::Limit => b"TIME_LIMIT",
+        JobColumn::Cpus => b"CPUS",
+    }
+}
+
+/// Writes the job's number; a task of an array is named by the array and its index.
+pub fn push_id(
+    out: &mut Vec<u8>,
+    id: u32,
+    array: Option<u32>,
+    index: Option<u32>,
+) -> Result<(), Memory>
+    ensures { OnOk result (out.new.items ≡ out.old.items ++ Squeue.id_of id array index) }
+{
+    match (array, index) {
+        (Some(array), Some(index)) => {
+            push_number(out, u64::from(array))?;
+            push_labelled(out, b"_", u64::from(index))
+        }
+        _ => push_number(out, u64::from(id)),
+    }
+}
+
+/// Writes a length of time.
+pub fn push_elapsed(out: &mut Vec<u8>, seconds: u64) -> Result<(), Memory>
+    requires { seconds ≤ 1_000_000_000_000 }
+    ensures { OnOk result (out.new.items ≡ out.old.items ++ elapsed_text seconds) }
+{
+    let mut text = [0; 32];
+    let len = print_elapsed(seconds, &mut text);
+    push_text(out, &text[..len])
+}
+
+fn push_start(out: &mut Vec<u8>, start: Option<Ranged<0, 253402300799>>) -> Result<(), Memory>
+    ensures { OnOk result (out.new.items ≡ out.old.items ++ Squeue.start_of start) }
+{
+    match start {
+        Some(start) => push_moment(out, start),
+        None => push_text(out, b"N/A"),
+    }
+}
+
+/// Writes a moment.
+pub fn push_moment(out: &mut Vec<u8>, second: Ranged<0, 253402300799>) -> Result<(), Memory>
+    ensures { OnOk result (out.new.items ≡ out.old.items ++ moment_text second) }
+{
+    let mut text = [0; 19];
+    print_moment(second.get(), &mut text);
+    push_text(out, &text)
+}
+
+/// Writes a limit.
+pub fn push_limit(out: &mut Vec<u8>, limit: Limit) -> Result<(), Memory>
+    ensures { OnOk result (out.new.items ≡ out.old.items ++ Squeue.limit_of limit) }
+{
+    match limit {
+        Limit::Unlimited => push_text(out, b"UNLIMITED"),
+        Limit::Minutes(minutes) => push_elapsed(out, minutes.get() * 60),
+    }
+}
+
+fn push_place(alloc: Global, out: &mut Vec<u8>, row: &JobRow) -> Result<(), Memory>
+    ensures { OnOk result (out.new.items ≡ out.old.items ++ Squeue.place_of row.now.reason row.now.node_names) }
+{
+    match row.reason {
+        Some(reason) => {
+            push_text(out, b"(")?;
+            push_text(out, reason_name(reason))?;
+            push_text(out, b")")
+        }
+        None => push_text(
+            out,
+            fold_hosts(alloc, row.node_names.as_slice())?.as_slice(),
+        ),
+    }
+}
+
+fn state_code(state: JobState) -> &'static [u8]
+    ensures { result.now ≡ Squeue.state_code state }
+{
+    match state {
+        JobState::Pending => b"PD",
+        JobState::Running => b"R",
+        JobState::Completing(_) => b"CG",
+        JobState::Ended(Final::Completed) => b"CD",
+        JobState::Ended(Final::Cancelled) => b"CA",
+        JobState::Ended(Final::Failed) => b"F",
+        JobState::Ended(Final::Timeout) => b"TO",
+        JobState::Ended(Final::NodeFail) => b"NF",
+        JobState::Ended(Final::Requeue) => b"RQ",
+    }
+}
+
+/// The word of a state.
+pub fn state_word(state: JobState) -> &'static [u8]
+    ensures { result.now ≡ Squeue.state_word state }
+{
+    match state {
+        JobState::Pending => b"PENDING",
+        JobState::Running => b"RUNNING",
+        JobState::Completing(_) => b"COMPLETING",
+        JobState::Ended(Final::Completed) => b"COMPLETED",
+        JobState::Ended(Final::Cancelled) => b"CANCELLED",
+        JobState::Ended(Final::Failed) => b"FAILED",
+        JobState::Ended(Final::Timeout) => b"TIMEOUT",
+        JobState::Ended(Final::NodeFail) => b"NODE_FAIL",
+        JobState::Ended(Final::Requeue) => b"REQUEUED",
+    }
+}
+
+/// The name of a reason.
+pub fn reason_name(reason: Reason) -> &'static [u8]
+    ensures { result.now ≡ Squeue.reason_name reason }
+{
+    match reason {
+        Reason::JobHeldAdmin => b"JobHeldAdmin",
+        Reason::JobHeldUser => b"JobHeldUser",
+        Reason::DependencyNeverSatisfied => b"DependencyNeverSatisfied",
+        Reason::Dependency => b"Dependency",
+        Reason::BeginTime => b"BeginTime",
+        Reason::PartitionInactive => b"PartitionInactive",
+        Reason::PartitionDown => b"PartitionDown",
+        Reason::PartitionTimeLimit => b"PartitionTimeLimit",
+        Reason::PartitionNodeLimit => b"PartitionNodeLimit",
+        Reason::QosMaxWallDurationPerJobLimit => b"QOSMaxWallDurationPerJobLimit",
+        Reason::JobArrayTaskLimit => b"JobArrayTaskLimit",
+        Reason::AssocGrpJobsLimit => b"AssocGrpJobsLimit",
+        Reason::AssocGrpCpuLimit => b"AssocGrpCpuLimit",
+        Reason::AssocMaxJobsLimit => b"AssocMaxJobsLimit",
+        Reason::QosGrpJobsLimit => b"QOSGrpJobsLimit",
+        Reason::QosGrpCpuLimit => b"QOSGrpCpuLimit",
+        Reason::QosMaxJobsPerUserLimit => b"QOSMaxJobsPerUserLimit",
+        Reason::QosMaxCpuPerUserLimit => b"QOSMaxCpuPerUserLimit",
+        Reason::Reservation => b"Reservation",
+        Reason::ReqNodeNotAvail => b"ReqNodeNotAvail",
+        Reason::Resources => b"Resources",
+        Reason::Priority => b"Priority",
+    }
+}

@@ -1,0 +1,140 @@
+//! The lines of sprio(1).
+
+ghost use Rattle.std.specs.Prelude.{◌≡◌, ◌++◌, flat_map, OnOk};
+ghost use Rattle.table_texts.specs.Field.{cell};
+ghost use Rattle.table_texts.specs.Squeue.{id_of};
+ghost use Rattle.table_texts.specs.Sprio.{sprio_text, sprio_titles, sprio_row, priority_line, job_cells, number_cell, nice_end, nice_text};
+
+use crate::columns::push_id;
+use crate::field::{fit, push_cell, push_field};
+use itoa::Buffer;
+use slurm_text::memory_error::Memory;
+use slurm_text::pieces::{push_labelled, push_number, push_text};
+use slurm_text::plain::nice::Nice;
+use slurm_text::plain::priority::PriorityRow;
+use slurm_text::plain::view::{Row, View};
+
+/// Writes a line for each row, with titles above them where they are wanted.
+pub fn push_sprio(out: &mut Vec<u8>, titles: bool, view: &View) -> Result<(), Memory>
+    ensures { OnOk result (out.new.items ≡ out.old.items ++ sprio_text titles view.now) }
+{
+    if titles {
+        push_titles(out)?;
+    }
+    push_rows(out, view.rows.as_slice())
+}
+
+fn push_rows(out: &mut Vec<u8>, rows: &[Row]) -> Result<(), Memory>
+    ensures { OnOk result (out.new.items ≡ out.old.items ++ flat_map sprio_row rows.now) }
+{
+    for row in rows {
+        if let Row::Priority(priority) = row {
+            push_priority(out, priority)?;
+        }
+    }
+    Ok(())
+}
+
+fn push_titles(out: &mut Vec<u8>) -> Result<(), Memory>
+    ensures { OnOk result (out.new.items ≡ out.old.items ++ sprio_titles) }
+{
+    push_cell(out, 18, b"JOBID")?;
+    push_cell(out, 9, b"PARTITION")?;
+    push_cell(out, 8, b"USER")?;
+    push_cell(out, 10, b"PRIORITY")?;
+    push_cell(out, 10, b"AGE")?;
+    push_cell(out, 10, b"FAIRSHARE")?;
+    push_cell(out, 10, b"JOBSIZE")?;
+    push_cell(out, 10, b"PARTITION")?;
+    push_cell(out, 10, b"QOS")?;
+    push_last(out, b"NICE")?;
+    Ok(())
+}
+
+#[tactic(auto, unfolding(crate::specs::Sprio::nice_end))]
+fn push_last(out: &mut Vec<u8>, title: &[u8]) -> Result<(), Memory>
+    ensures { OnOk result (out.new.items ≡ out.old.items ++ nice_end title.now) }
+{
+    push_field(out, 11, true, title)?;
+    push_text(out, b"\n")
+}
+
+#[tactic(auto, unfolding(crate::specs::Sprio::priority_line))]
+fn push_priority(out: &mut Vec<u8>, row: &PriorityRow) -> Result<(), Memory>
+    ensures { OnOk result (out.new.items ≡ out.old.items ++ priority_line row.now) }
+{
+    push_job(out, row)?;
+    let parts = &row.parts;
+    push_numbers(
+        out,
+        &[
+            u64::from(parts.sum),
+            parts.age,
+            parts.fair_share,
+            parts.job_size,
+            parts.partition,
+            parts.qos,
+        ],
+    )?;
+    push_nice(out, parts.nice)
+}
+
+fn push_job(out: &mut Vec<u8>, row: &PriorityRow) -> Result<(), Memory>
+    ensures { OnOk result (out.new.items ≡ out.old.items
+        ++ job_cells (id_of row.now.id row.now.array row.now.index) row.now.partition row.now.user) }
+{
+    push_id_cell(out, row.id, row.array, row.index)?;
+    push_cell(out, 9, row.partition.as_bytes())?;
+    push_cell(out, 8, row.user.as_bytes())
+}
+
+#[tactic(auto, unfolding(crate::specs::Field::cell))]
+fn push_id_cell(
+    out: &mut Vec<u8>,
+    id: u32,
+    array: Option<u32>,
+    index: Option<u32>,
+) -> Result<(), Memory>
+    ensures { OnOk result (out.new.items ≡ out.old.items ++ cell 18 (id_of id array index)) }
+{
+    let start = out.len();
+    push_id(out, id, array, index)?;
+    fit(out, start, 18, true)?;
+    push_text(out, b" ")
+}
+
+fn push_numbers(out: &mut Vec<u8>, numbers: &[u64]) -> Result<(), Memory>
+    ensures { OnOk result (out.new.items ≡ out.old.items ++ flat_map number_cell numbers.now) }
+{
+    for number in numbers {
+        push_number_cell(out, *number)?;
+    }
+    Ok(())
+}
+
+fn push_number_cell(out: &mut Vec<u8>, number: u64) -> Result<(), Memory>
+    ensures { OnOk result (out.new.items ≡ out.old.items ++ number_cell number) }
+{
+    let mut buffer = Buffer::new();
+    push_cell(out, 10, buffer.format(number).as_bytes())
+}
+
+#[tactic(auto, unfolding(crate::specs::Sprio::nice_end))]
+fn push_nice(out: &mut Vec<u8>, nice: Nice) -> Result<(), Memory>
+    ensures { OnOk result (out.new.items ≡ out.old.items ++ nice_end (nice_text nice)) }
+{
+    let start = out.len();
+    push_nice_number(out, nice)?;
+    fit(out, start, 11, true)?;
+    push_text(out, b"\n")
+}
+
+/// Writes a nice value.
+pub fn push_nice_number(out: &mut Vec<u8>, nice: Nice) -> Result<(), Memory>
+    ensures { OnOk result (out.new.items ≡ out.old.items ++ nice_text nice) }
+{
+    match nice {
+        Nice::Lower(number) => push_number(out, number.get()),
+        Nice::Raise(number) => push_labelled(out, b"-", number.get()),
+    }
+}
