@@ -50,7 +50,7 @@ capacities-permuted rooms holds others job start moved =
     map-same (λ node. give rooms holds job start node) (λ node. give rooms others job start node) job.nodes
     (λ node. give-same rooms holds others job start node (hold-permuted holds others node moved))
 
-placement-permuted : (rooms : List NodeRoom) (holds others : List Hold) (job : PlanJob) (start : ℕ) → IsPermutation holds others → placement_at rooms holds job start ≡ placement_at rooms others job start
+pub placement-permuted : (rooms : List NodeRoom) (holds others : List Hold) (job : PlanJob) (start : ℕ) → IsPermutation holds others → placement_at rooms holds job start ≡ placement_at rooms others job start
 unfolding placement_at
 placement-permuted rooms holds others job start moved = rw (capacities-permuted rooms holds others job start moved) refl
 

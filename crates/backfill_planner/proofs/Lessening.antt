@@ -23,7 +23,7 @@ use Rattle.backfill_planner.specs.Giving.{window_end, is_barred, tasks_by_mem, m
 use Rattle.backfill_planner.specs.Plans.{shares_of, placement_at, first_second, placed_of}
 use Rattle.backfill_planner.specs.Placements.{FitsAt}
 use Rattle.backfill_planner.specs.declared.seen.Seen.{Seen}
-use Rattle.backfill_planner.specs.Searches.{IsSeen}
+use Rattle.backfill_planner.specs.Searches.{IsSeen, bound_of}
 use Rattle.backfill_planner.specs.Lesser.{IsNoMoreMem, IsLesser, NoneBefore}
 use Rattle.backfill_planner.proofs.Rises.{chosen-none_fits, tasks-more, map-more, none-chosen, fits-more}
 use Rattle.backfill_planner.proofs.Seconds.{placed-none}
@@ -226,11 +226,6 @@ pub seen-held : LowerLaws → (rooms : List NodeRoom) (holds more all : List Hol
 seen-held laws rooms holds more all ranked now seen moved each k d inside =
     let one = each k d inside in
     record { there = one.there; none = λ job. held-none laws rooms holds more all (get_or ranked (get_or seen k d).place job) now (get_or seen k d).bound moved (one.none job) }
-
--- the second before which a search has shown that none fits
-abbrev pub bound_of : Option Placed → ℕ → ℕ
-bound_of None hi = hi + 1
-bound_of (Some placed) hi = placed.start
 
 pub bound-shown : LowerLaws → (rooms : List NodeRoom) (holds : List Hold) (job : PlanJob) (now hi : ℕ) (placed : Option Placed) → placed ≡ placed_of rooms holds job now hi → NoneBefore rooms holds job now (bound_of placed hi)
 bound-shown laws rooms holds job now hi None is = none-placed laws rooms holds job now hi is

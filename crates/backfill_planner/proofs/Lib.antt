@@ -15,3 +15,5 @@ pub mod Within
 pub mod Starts
 pub mod Sweeping
 pub mod Lessening
+pub mod Staying
+pub mod Settling

@@ -78,6 +78,18 @@ placed-clear laws rooms holds job lo hi placed is =
     (All-map (λ (share : Share). is_barred job.barred share.node placed.start (window_end job placed.start) ≡ false) (λ part. share_of rooms job part) parts
     (All-weaker (IsGiven caps) (λ part. is_barred job.barred (slice_index job.nodes part.place) placed.start (window_end job placed.start) ≡ false) (λ part one. part-clear rooms holds job placed.start part one) parts given))
 
+-- each of its parts is on a node of the job
+pub placed-own : LowerLaws → (rooms : List NodeRoom) (holds : List Hold) (job : PlanJob) (lo hi : ℕ) (placed : Placed) → placed_of rooms holds job lo hi ≡ Some placed → All (λ (share : Share). Contains job.nodes share.node) placed.parts
+placed-own laws rooms holds job lo hi placed is =
+    let placement = placed-is laws rooms holds job lo hi placed is in
+    let caps = capacities rooms holds job placed.start in
+    let parts = dealt caps job.need.tasks placement.set in
+    let given = dealt-given caps job.need.tasks placement.set placement.is_chosen.fits.giving in
+    rw placement.parts
+    (All-map (λ (share : Share). Contains job.nodes share.node) (λ part. share_of rooms job part) parts
+    (All-weaker (IsGiven caps) (λ part. Contains job.nodes (slice_index job.nodes part.place))
+    (λ part one. All-contains_itself job.nodes part.place 0 (omega (arith, one.place, length-capacities rooms holds job placed.start))) parts given))
+
 -- each of its parts is on a node that is there, with a task and a processor
 placed-each : (rooms : List NodeRoom) (holds : List Hold) (job : PlanJob) (lo hi : ℕ) (placed : Placed) → IsOnRooms rooms job → IsPlannable job → IsPlacement rooms holds job lo hi placed
     → All (IsPart rooms) placed.parts

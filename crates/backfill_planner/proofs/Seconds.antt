@@ -1,5 +1,5 @@
 -- The least second at which some set fits.
-use Rattle.std.proofs.Common.{◌≡◌, ◌≢◌, ℕ, All, ◌+◌, ◌-◌, ◌≤◌, ◌<◌, zero, suc, Bool, true, false, List, arith, refl, ap, sym, ◌∙◌, inl, inr, Some, None, is_some, Option}
+use Rattle.std.proofs.Common.{◌≡◌, ℕ, ◌+◌, ◌-◌, ◌≤◌, ◌<◌, zero, suc, Bool, true, false, List, arith, refl, ap, sym, ◌∙◌, inl, inr, Some, None, is_some, Option}
 use Rattle.std.specs.Prelude.{find}
 use Rattle.std.proofs.lemmas.Bool.{cases_lt}
 use Rattle.resource_profile.specs.declared.NodeRoom.{NodeRoom}

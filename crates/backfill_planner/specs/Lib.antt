@@ -5,4 +5,6 @@ pub mod Placements
 pub mod Sweeps
 pub mod Lesser
 pub mod Searches
+pub mod Making
+pub mod Staying
 pub mod LowerLaws

@@ -1,5 +1,5 @@
 -- The plan of a ranked list of jobs.
-use Rattle.std.specs.Prelude.{ℕ, ◌+◌, ◌-◌, nat_eq, if◌then◌else◌, List, [], ◌∷◌, ◌++◌, map, find, filter, sum_by, slice_index, is_some, Option, Some, None, option_map, option_and_then, option_to_list}
+use Rattle.std.specs.Prelude.{ℕ, ◌+◌, ◌-◌, nat_eq, if◌then◌else◌, List, [], ◌∷◌, ◌++◌, map, find, filter, take, sum_by, slice_index, is_some, Option, Some, None, option_map, option_and_then, option_to_list}
 use Rattle.resource_profile.specs.declared.NodeRoom.{NodeRoom}
 use Rattle.resource_profile.specs.declared.Hold.{Hold}
 use Rattle.resource_profile.specs.Free.{room_at}
@@ -83,6 +83,15 @@ plan_holds_beside base now holds (job ∷ later) =
 unfoldable pub plan_holds_of : BaseView → List PlanJob → ℕ → List Hold
 plan_holds_of base ranked now = plan_holds_beside base now base.holds ranked
 
+-- what is held when the job at a place of the list is planned: what the base holds, and the jobs before it
+abbrev pub holds_before : BaseView → List PlanJob → ℕ → ℕ → List Hold
+holds_before base ranked now place = base.holds ++ plan_holds_of base (take place ranked) now
+
+-- the placement of the job that stands at this place of the list
+abbrev pub placement_of : BaseView → List PlanJob → ℕ → ℕ → PlanJob → Option Placed
+placement_of base ranked now place job =
+    placed_of base.rooms (holds_before base ranked now place) job now base.horizon
+
 -- the placements that begin at the moment
 abbrev pub starts_at : ℕ → List Placed → List Placed
 starts_at now placements = filter (λ (placed : Placed). nat_eq placed.start now) placements
@@ -99,3 +108,10 @@ pub record PlannedView : Type 0 where
   pub base : BaseView
   pub ranked : List PlanJob
   pub moment : ℕ
+
+-- a plan in the making: so many of the first jobs are planned
+pub record PlanningView : Type 0 where
+  pub base : BaseView
+  pub ranked : List PlanJob
+  pub moment : ℕ
+  pub done : ℕ

@@ -1,8 +1,9 @@
 -- What a plan keeps in mind of its searches. Of the proof alone: no public call speaks of it.
-use Rattle.std.specs.Prelude.{ℕ, ◌<◌, List, length, slice_index_or}
+use Rattle.std.specs.Prelude.{ℕ, ◌+◌, ◌<◌, List, length, slice_index_or, Option, Some, None}
 use Rattle.resource_profile.specs.declared.NodeRoom.{NodeRoom}
 use Rattle.resource_profile.specs.declared.Hold.{Hold}
 use Rattle.backfill_planner.specs.declared.job.PlanJob.{PlanJob}
+use Rattle.backfill_planner.specs.declared.Placed.{Placed}
 use Rattle.backfill_planner.specs.declared.seen.Seen.{Seen}
 use Rattle.backfill_planner.specs.Lesser.{NoneBefore}
 
@@ -11,3 +12,8 @@ pub record IsSeen (rooms : List NodeRoom) (holds : List Hold) (ranked : List Pla
     : Type 0 where
   pub there : seen.place < length ranked
   pub none : (d : PlanJob) → NoneBefore rooms holds (slice_index_or ranked seen.place d) now seen.bound
+
+-- the second before which no set fits of the job that has this placement, or none, among the seconds up to `hi`
+abbrev pub bound_of : Option Placed → ℕ → ℕ
+bound_of None hi = hi + 1
+bound_of (Some placed) hi = placed.start

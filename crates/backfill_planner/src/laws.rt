@@ -1,5 +1,5 @@
 // What holds of every plan. Each law is the contract of a function that does nothing.
-ghost use Rattle.std.specs.Prelude.{◌≡◌, ◌≢◌, ℕ, ◌≤◌, List, ◌++◌, false, length, take, map, Some, None, All, AllPairs, Contains};
+ghost use Rattle.std.specs.Prelude.{◌≡◌, ◌≢◌, ℕ, ◌+◌, ◌≤◌, ◌<◌, List, ◌++◌, false, length, take, map, slice_index_or, Some, None, All, AllPairs, Contains};
 ghost use Rattle.resource_profile.specs.declared.NodeRoom.{NodeRoom};
 ghost use Rattle.resource_profile.specs.declared.Hold.{Hold};
 ghost use Rattle.resource_profile.specs.Profiles.{AreWithin};
@@ -9,7 +9,9 @@ ghost use Rattle.backfill_planner.specs.Giving.{window_end, is_barred};
 ghost use Rattle.backfill_planner.specs.Placements.{FitsAt, IsPlacement, IsPlannable, IsOnRooms, AreParts, StartsFit};
 ghost use Rattle.backfill_planner.specs.declared.job.PlanJob.{PlanJob};
 ghost use Rattle.backfill_planner.specs.Bases.{BaseView};
-ghost use Rattle.backfill_planner.specs.Plans.{placed_of, plan_of, plan_holds_of};
+ghost use Rattle.backfill_planner.specs.Plans.{holds_before, holds_of, placed_of, placement_of, plan_of, plan_holds_of};
+ghost use Rattle.backfill_planner.specs.Lesser.{NoneBefore};
+ghost use Rattle.backfill_planner.specs.Staying.{EndsInTime, StaysFrom};
 ghost use Rattle.backfill_planner.specs.LowerLaws.{LowerLaws};
 
 use node_pick::laws::{chosen_is_first, lesser_needs_fit};
@@ -101,3 +103,40 @@ pub fn placements_keep_out_of_barred_times()
 {
     lower_laws();
 }
+
+/// The parts of a placement are on nodes that the job may have.
+pub fn parts_are_on_own_nodes()
+    ensures { (rooms : List NodeRoom) (holds : List Hold) (job : PlanJob) (lo hi : ℕ) (placed : Placed)
+        → placed_of rooms holds job lo hi ≡ Some placed
+        → All (λ (share : Share). Contains job.nodes share.node) placed.parts }
+{
+    lower_laws();
+}
+
+/// Where nothing has changed from a moment on of the nodes that a job may have, its placement stands that begins no
+/// earlier; and where it had none, no set fits before the seconds that weren't tried.
+pub fn placements_stay()
+    ensures some { (rooms : List NodeRoom) (holds : List Hold) (new_rooms : List NodeRoom) (new_holds : List Hold)
+        (job : PlanJob) (before now last hi : ℕ) (placed : Placed)
+        → EndsInTime job → before ≤ now → hi ≤ 250002592000
+        → All (StaysFrom rooms holds new_rooms new_holds now) job.nodes
+        → placed_of rooms holds job before last ≡ Some placed → now ≤ placed.start → placed.start ≤ hi
+        → placed_of new_rooms new_holds job now hi ≡ Some placed }
+    ensures none { (rooms : List NodeRoom) (holds : List Hold) (new_rooms : List NodeRoom) (new_holds : List Hold)
+        (job : PlanJob) (before now last : ℕ)
+        → EndsInTime job → before ≤ now → All (StaysFrom rooms holds new_rooms new_holds now) job.nodes
+        → placed_of rooms holds job before last ≡ None → NoneBefore new_rooms new_holds job now (last + 1) }
+    ensures nowhere { (rooms : List NodeRoom) (holds : List Hold) (job : PlanJob) (now last hi : ℕ)
+        → hi ≤ last → hi ≤ 250002592000 → NoneBefore rooms holds job now (last + 1)
+        → placed_of rooms holds job now hi ≡ None }
+{
+    lower_laws();
+}
+
+/// The plan of one job more is the plan of those before it and its own placement, beside what these hold.
+pub fn plans_go_on()
+    ensures { (base : BaseView) (ranked : List PlanJob) (now place : ℕ) (job : PlanJob)
+        → place < length ranked → slice_index_or ranked place job ≡ job
+        → holds_before base ranked now (place + 1)
+        ≡ holds_before base ranked now place ++ holds_of job (placement_of base ranked now place job) }
+{}

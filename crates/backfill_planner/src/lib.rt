@@ -15,6 +15,7 @@ pub mod laws;
 mod lesser;
 mod placing;
 mod planned;
+mod planning;
 mod seen;
 mod sweep;
 
@@ -22,6 +23,7 @@ pub use base::Base;
 pub use job::{Barred, BarredList, NodeList, PlanJob};
 pub use placing::place;
 pub use planned::{Planned, plan};
+pub use planning::Planning;
 pub use slurm_text::plain::mem_ask::MemAsk;
 
 /// A job's part on one node.

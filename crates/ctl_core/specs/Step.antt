@@ -136,7 +136,7 @@ state_after s now user request =
     then entered (raised s now) (size_of request) (left_by s (verdict_of s now user request))
     else s
 
--- how many steps a pass of this user counts: one for each job that it plans, where it is allowed
+-- how many steps a pass of this user counts at most: one for each job that it plans, where it is allowed
 abbrev pub steps_of : State → ℕ → List ℕ → ℕ
 steps_of s now user =
     if not (nat_lt last_moment now) && (not s.is_shut && is_privileged s user)

@@ -2,7 +2,7 @@
 
 ghost use Rattle.std.specs.Prelude.{◌≡◌, ◌+◌, ◌^◌, ◌<◌, ◌≤◌, IfOk, OnOk, OnErr, if◌then◌else◌, Some, None};
 ghost use Rattle.slurm_text.specs.declared.plain.request.Request.TheVariants.{Pass};
-ghost use Rattle.resource_profile.specs.Counts.{ticked, IsTickedUpTo};
+ghost use Rattle.resource_profile.specs.Counts.{IsTickedUpTo};
 ghost use Rattle.ctl_state.specs.State.{state_of, last_moment};
 ghost use Rattle.ctl_state.specs.Index.{IsIndexed};
 ghost use Rattle.ctl_state.specs.Soundness.{IsSound};
@@ -21,6 +21,7 @@ use crate::reserving::{create_reservation, delete_reservation};
 use crate::showing::show;
 use crate::sizes::room_for;
 use crate::submitting::submit;
+use backfill_planner::Planned;
 use ctl_jobs::Action;
 use ctl_state::cluster::Cluster;
 use resource_profile::{Steps, start};
@@ -114,7 +115,7 @@ fn work(
         Request::DeleteReservation { name } => Ok(delete_reservation(cluster, user, name, room)),
         Request::Shutdown => Ok(shut_down(cluster, user)),
         Request::Report(told) => report(alloc, cluster, moment, user, told, room),
-        Request::Pass => pass(alloc, cluster, moment, user, room, &mut start()),
+        Request::Pass => pass(alloc, cluster, &mut None, moment, user, room, &mut start()),
         Request::Show(query) => show(alloc, cluster, moment, user, query),
     }
 }
@@ -196,6 +197,7 @@ fn answer(
 fn answer_pass<L>(
     alloc: Global,
     cluster: &mut Cluster,
+    kept: &mut Option<Planned>,
     now: u64,
     user: &Name,
     steps: &mut Steps<L>,
@@ -208,8 +210,7 @@ fn answer_pass<L>(
     ensures moment { IfOk result (λ decided. decided.moment ≡ raised (state_of cluster.old) now) }
     ensures after { OnOk result (state_of cluster.new ≡ state_after (state_of cluster.old) now user.now Pass) }
     ensures err { OnErr result (state_of cluster.new ≡ state_of cluster.old) }
-    ensures steps { OnOk result (steps.new ≡ ticked steps.old (steps_of (state_of cluster.old) now user.now)) }
-    ensures steps_err { OnErr result (IsTickedUpTo (steps_of (state_of cluster.old) now user.now) steps.old steps.new) }
+    ensures steps { IsTickedUpTo (steps_of (state_of cluster.old) now user.now) steps.old steps.new }
     ensures indexed { IsIndexed cluster.new }
 {
     let moment = cluster.moment.max(now);
@@ -220,7 +221,7 @@ fn answer_pass<L>(
         return Ok(stamp(cluster, moment, 0, refused(Refusal::ShuttingDown)));
     }
     let size = room_for(cluster, &Request::Pass);
-    let answered = pass(alloc, cluster, moment, user, size.is_some(), steps)?;
+    let answered = pass(alloc, cluster, kept, moment, user, size.is_some(), steps)?;
     Ok(stamp(cluster, moment, size.unwrap_or(0), answered))
 }
 
@@ -252,6 +253,7 @@ pub(crate) fn ask(
 pub(crate) fn ask_pass<L>(
     alloc: Global,
     cluster: &mut Cluster,
+    kept: &mut Option<Planned>,
     now: u64,
     user: &Name,
     steps: &mut Steps<L>,
@@ -264,11 +266,10 @@ pub(crate) fn ask_pass<L>(
     ensures moment { IfOk result (λ decided. decided.moment ≡ raised (state_of cluster.old) now) }
     ensures after { OnOk result (state_of cluster.new ≡ state_after (state_of cluster.old) now user.now Pass) }
     ensures err { OnErr result (state_of cluster.new ≡ state_of cluster.old) }
-    ensures steps { OnOk result (steps.new ≡ ticked steps.old (steps_of (state_of cluster.old) now user.now)) }
-    ensures steps_err { OnErr result (IsTickedUpTo (steps_of (state_of cluster.old) now user.now) steps.old steps.new) }
+    ensures steps { IsTickedUpTo (steps_of (state_of cluster.old) now user.now) steps.old steps.new }
     ensures sound { IsSound (state_of cluster.new) }
     ensures indexed { IsIndexed cluster.new }
 {
     a_step_keeps_all_sound();
-    answer_pass(alloc, cluster, now, user, steps)
+    answer_pass(alloc, cluster, kept, now, user, steps)
 }

@@ -2,7 +2,7 @@
 
 ghost use Rattle.std.specs.Prelude.{◌≡◌, IfOk, OnOk, OnErr, if◌then◌else◌, Some, None, map, All};
 ghost use Rattle.slurm_text.specs.declared.plain.request.Request.TheVariants.{Pass};
-ghost use Rattle.resource_profile.specs.Counts.{ticked, IsTickedUpTo};
+ghost use Rattle.resource_profile.specs.Counts.{IsTickedUpTo};
 ghost use Rattle.ctl_state.specs.State.{opening};
 ghost use Rattle.ctl_state.specs.Soundness.{IsSound, IsLimit, IsNode, HasLimits, HasRanges};
 ghost use Rattle.ctl_core.specs.Step.{reply_of, state_after, is_entered, raised, steps_of};
@@ -33,6 +33,8 @@ use std::marker::Model;
 pub struct Ctl {
     alloc: Global,
     cluster: Cluster,
+    // The plan of the last pass, over which the next one is made. Whichever is kept, a pass does the same.
+    kept: Option<Planned>,
 }
 
 impl Model for Ctl {
@@ -75,7 +77,11 @@ impl Ctl {
             is_shut: false,
             moment: 0,
         };
-        Ok(Ctl { alloc, cluster })
+        Ok(Ctl {
+            alloc,
+            cluster,
+            kept: None,
+        })
     }
 
     /// Decides one request, and changes the state where it is accepted. A submission is linear in associations,
@@ -115,8 +121,8 @@ impl Ctl {
         &self.cluster.jobs
     }
 
-    /// A pass, whatever plan is at hand. It counts a step for each job that it plans, where it is allowed, and
-    /// after want of memory at most that many.
+    /// A pass, whatever plan is at hand: it is made over the hint, else over the plan of the last pass, and is the same.
+    /// It counts a step for each job that it searches for: at most one for each that it plans, where it is allowed.
     pub fn pass<L>(
         &mut self,
         now: u64,
@@ -130,12 +136,25 @@ impl Ctl {
         ensures moment { IfOk result (λ decided. decided.moment ≡ raised self.old.state now) }
         ensures after { OnOk result (self.new.state ≡ state_after self.old.state now user.now Pass) }
         ensures err { OnErr result (self.new ≡ self.old) }
-        ensures steps { OnOk result (steps.new ≡ ticked steps.old (steps_of self.old.state now user.now)) }
-        ensures steps_err { OnErr result (IsTickedUpTo (steps_of self.old.state now user.now) steps.old steps.new) }
+        ensures steps { IsTickedUpTo (steps_of self.old.state now user.now) steps.old steps.new }
         ensures sound { IsSound self.old.state × IsSound self.new.state }
     {
-        drop(hint);
-        ask_pass(self.alloc, &mut self.cluster, now, user, steps)
+        take_hint(&mut self.kept, hint);
+        ask_pass(
+            self.alloc,
+            &mut self.cluster,
+            &mut self.kept,
+            now,
+            user,
+            steps,
+        )
+    }
+}
+
+// A hint takes the place of the plan that is kept. Nothing that a contract tells depends on either.
+fn take_hint(kept: &mut Option<Planned>, hint: Option<Planned>) {
+    if hint.is_some() {
+        *kept = hint;
     }
 }
 

@@ -1,7 +1,7 @@
 //! Passes.
 
 ghost use Rattle.std.specs.Prelude.{◌≡◌, ◌≤◌, IfOk, OnOk, OnErr, if◌then◌else◌, Some, None};
-ghost use Rattle.resource_profile.specs.Counts.{ticked, IsTickedUpTo};
+ghost use Rattle.resource_profile.specs.Counts.{IsTickedUpTo};
 ghost use Rattle.ctl_state.specs.State.{state_of, last_moment};
 ghost use Rattle.ctl_state.specs.Index.{IsIndexed};
 ghost use Rattle.ctl_state.specs.Soundness.{IsSound};
@@ -13,6 +13,7 @@ ghost use Rattle.ctl_core.specs.Step.{unless_full};
 
 use crate::answering::{idle, refused};
 use crate::reply::Answered;
+use backfill_planner::Planned;
 use ctl_node_side::PassOutcome;
 use ctl_pass::refusal_of;
 use ctl_state::cluster::Cluster;
@@ -41,10 +42,12 @@ fn passed(ended: u32, started: u32, planned: u32) -> Answered
     }
 }
 
-/// A pass at its raised moment, where the history has room for it or not; it counts its steps in each case.
+/// A pass at its raised moment, where the history has room for it or not; it counts its steps in each case. Its
+/// plan is made over the kept one, if any, and kept in its place.
 pub(crate) fn pass<L>(
     alloc: Global,
     cluster: &mut Cluster,
+    kept: &mut Option<Planned>,
     moment: u64,
     user: &Name,
     room: bool,
@@ -58,18 +61,16 @@ pub(crate) fn pass<L>(
         (unless_refused (first_refusal (pass_refusals (state_of cluster.old) user.now))
         (unless_full room (made_by_pass (state_of cluster.old) moment)))) }
     ensures err { OnErr result (state_of cluster.new ≡ state_of cluster.old) }
-    ensures steps { OnOk result (steps.new ≡ ticked steps.old
-        (if is_privileged (state_of cluster.old) user.now then planned_by_pass (state_of cluster.old) moment else 0)) }
-    ensures steps_err { OnErr result (IsTickedUpTo
+    ensures steps { IsTickedUpTo
         (if is_privileged (state_of cluster.old) user.now then planned_by_pass (state_of cluster.old) moment else 0)
-        steps.old steps.new) }
+        steps.old steps.new }
     ensures indexed { IsIndexed cluster.new }
 {
     if let Some(refusal) = refusal_of(cluster, user) {
         return Ok(refused(refusal));
     }
     Ok(
-        match ctl_node_side::pass(alloc, cluster, moment, room, steps)? {
+        match ctl_node_side::pass(alloc, cluster, kept, moment, room, steps)? {
             PassOutcome::Idle => idle(),
             PassOutcome::Full => refused(Refusal::HistoryFull),
             PassOutcome::Passed {

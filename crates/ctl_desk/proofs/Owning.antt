@@ -153,7 +153,7 @@ before-place : (entered : Bool) (place : ℕ) (old new : List Entry) (entry : En
 before-place true place old new entry at all = rw (all, at) (take-append_seam old (entry ∷ []))
 before-place false place old new entry at all = rw all (take_all place old (omega (arith, at)))
 
--- a pass counts the jobs that are planned at its place
+-- a pass counts at most the jobs that are planned at its place
 pub own_counted : {E : Type 0} (result : Result Answer E) (now : ℕ) (user : List ℕ) (before counted counted' : ℕ)
     (old new : History)
     → let s = after_all old.opening old.entries in
@@ -161,22 +161,22 @@ pub own_counted : {E : Type 0} (result : Result Answer E) (now : ℕ) (user : Li
     → IfOk result
     (λ answer. new.entries
     ≡ (if is_entered answer.reply then old.entries ++ entry_of s 0 now user Pass ∷ [] else old.entries))
-    → OnOk result (counted' ≡ ticked counted (steps_of s now user))
-    → IfOk result (λ answer. counted' ≡ ticked counted (steps_of
-    (state_at old.opening (seen (at_book before new)) answer.place) now user))
+    → IsTickedUpTo (steps_of s now user) counted counted'
+    → IfOk result (λ answer. IsTickedUpTo (steps_of
+    (state_at old.opening (seen (at_book before new)) answer.place) now user) counted counted')
 own_counted (Ok answer) now user before counted counted' old new place entered counts =
     let s = after_all old.opening old.entries in
     let front = before-place (is_entered answer.reply) answer.place old.entries new.entries
     (entry_of s 0 now user Pass) place entered in
     let there : state_at old.opening (seen (at_book before new)) answer.place ≡ s =
     ap (λ es. after_all old.opening (take answer.place es)) (all_seen before new) ∙ ap (after_all old.opening) front in
-    counts ∙ ap (λ at. ticked counted (steps_of at now user)) (sym there)
+    subst (λ (at : State). IsTickedUpTo (steps_of at now user) counted counted') (sym there) counts
 own_counted (Err e) now user before counted counted' old new place entered counts = tt
 
 -- after want of memory the book is as it was, and so is what the desk has seen
 pub own_counted_up_to : {E : Type 0} (result : Result Answer E) (now : ℕ) (user : List ℕ)
     (before counted counted' : ℕ) (old new : History) → OnErr result (new ≡ old)
-    → OnErr result (IsTickedUpTo (steps_of (present old) now user) counted counted')
+    → IsTickedUpTo (steps_of (present old) now user) counted counted'
     → OnErr result (IsTickedUpTo (steps_of (present (history_of (at_book before new))) now user) counted counted')
 own_counted_up_to (Ok answer) now user before counted counted' old new stays counts = tt
 own_counted_up_to (Err e) now user before counted counted' old new stays counts =

@@ -2,7 +2,7 @@
 
 ghost use Rattle.std.specs.Prelude.{◌≡◌, ◌<◌, ◌++◌, ◌∷◌, [], IfOk, OnOk, OnErr, if◌then◌else◌, length, Some, None, vec_len, vec_capacity};
 ghost use Rattle.slurm_text.specs.declared.plain.request.Request.TheVariants.{Pass};
-ghost use Rattle.resource_profile.specs.Counts.{ticked, IsTickedUpTo};
+ghost use Rattle.resource_profile.specs.Counts.{IsTickedUpTo};
 ghost use Rattle.ctl_state.specs.Soundness.{IsSound};
 ghost use Rattle.ctl_core.specs.Step.{reply_of, is_entered, steps_of};
 ghost use Rattle.ctl_desk.specs.History.{entry_of, present, IsHistory};
@@ -119,8 +119,7 @@ impl Book {
             else self.old.entries)) }
         ensures opening { self.new.opening ≡ self.old.opening }
         ensures err { OnErr result (self.new ≡ self.old) }
-        ensures steps { OnOk result (steps.new ≡ ticked steps.old (steps_of (present self.old) now user.now)) }
-        ensures steps_err { OnErr result (IsTickedUpTo (steps_of (present self.old) now user.now) steps.old steps.new) }
+        ensures steps { IsTickedUpTo (steps_of (present self.old) now user.now) steps.old steps.new }
     {
         raised_moments_decide_alike();
         passes_are_free();

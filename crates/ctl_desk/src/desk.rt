@@ -2,7 +2,7 @@
 
 ghost use Rattle.std.specs.Prelude.{◌≡◌, length, IfOk, OnErr};
 ghost use Rattle.slurm_text.specs.declared.plain.request.Request.TheVariants.{Pass};
-ghost use Rattle.resource_profile.specs.Counts.{ticked, IsTickedUpTo};
+ghost use Rattle.resource_profile.specs.Counts.{IsTickedUpTo};
 ghost use Rattle.ctl_core.specs.Step.{steps_of};
 ghost use Rattle.ctl_desk.specs.Desk.{Sight, GoesOn, IsAnswered, seen, history_of, state_at};
 ghost use Rattle.ctl_desk.specs.History.{IsHistory, present};
@@ -27,9 +27,9 @@ pub trait Desk {
             IsAnswered (sight self.old) (sight self.new) now user.now request answer) }
         ensures err { OnErr result ((sight self.new).mine ≡ (sight self.old).mine) };
 
-    /// Makes a pass for a user at a moment, whatever plan is at hand. Where it is answered it counts a step for each
-    /// job that it plans at its place. After want of memory nothing of it is entered, and it has counted at most a step
-    /// for each job that it would plan after all that the desk has seen.
+    /// Makes a pass for a user at a moment, whatever plan is at hand. It counts at most a step for each job that it plans:
+    /// where it is answered, at its place. After want of memory nothing of it is entered, and these are the jobs that it
+    /// would plan after all that the desk has seen.
     fn pass(
         &mut self,
         now: u64,
@@ -41,8 +41,9 @@ pub trait Desk {
         ensures answered { IfOk result (λ answer.
             IsAnswered (sight self.old) (sight self.new) now user.now Pass answer) }
         ensures err { OnErr result ((sight self.new).mine ≡ (sight self.old).mine) }
-        ensures steps { IfOk result (λ answer. steps.new ≡ ticked steps.old
-            (steps_of (state_at (sight self.old).opening (seen (sight self.new)) answer.place) now user.now)) }
+        ensures steps { IfOk result (λ answer. IsTickedUpTo
+            (steps_of (state_at (sight self.old).opening (seen (sight self.new)) answer.place) now user.now)
+            steps.old steps.new) }
         ensures steps_err { OnErr result (IsTickedUpTo
             (steps_of (present (history_of (sight self.new))) now user.now) steps.old steps.new) };
 

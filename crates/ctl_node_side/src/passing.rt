@@ -2,7 +2,7 @@
 
 ghost use Rattle.std.specs.Prelude.{◌≡◌, ◌≢◌, ◌≤◌, ◌+◌, ◌<◌, ◌^◌, ℕ, true, false, IfOk, OnOk, OnErr, length};
 ghost use Rattle.cpu_ids.specs.Rows.{has_id};
-ghost use Rattle.resource_profile.specs.Counts.{ticked, IsTickedUpTo};
+ghost use Rattle.resource_profile.specs.Counts.{IsTickedUpTo};
 ghost use Rattle.ctl_state.specs.Index.{IsIndexed};
 ghost use Rattle.ctl_state.specs.Soundness.{IsSound};
 ghost use Rattle.ctl_state.specs.State.{state_of, last_moment};
@@ -14,6 +14,7 @@ ghost use Rattle.ctl_node_side.specs.Silence.{any_silent, silent_at, silenced};
 use crate::kept::{keep, put_back};
 use crate::laws::{kept_jobs_are_put_back, silence_keeps_all_sound};
 use crate::silence::{count_failing, fall_silent, silent_places};
+use backfill_planner::Planned;
 use cpu_ids::CpuIds;
 use ctl_pass::laws::{few_start_or_stay, there_are_few_jobs};
 use ctl_pass::{Decided, act, decide, is_idle};
@@ -69,6 +70,7 @@ fn finish(cluster: &mut Cluster, moment: u64, failed: u32, decided: Decided) -> 
 fn pass_heard<L>(
     alloc: Global,
     cluster: &mut Cluster,
+    kept: &mut Option<Planned>,
     moment: u64,
     room: bool,
     steps: &mut Steps<L>,
@@ -80,13 +82,11 @@ fn pass_heard<L>(
     requires heard { any_silent (state_of cluster.old) moment ≡ false }
     ensures came { IfOk result (Came (state_of cluster.old) (state_of cluster.new) moment room) }
     ensures err { OnErr result (state_of cluster.new ≡ state_of cluster.old) }
-    ensures steps { OnOk result (steps.new ≡ ticked steps.old (planned_by_pass (state_of cluster.old) moment)) }
-    ensures steps_err { OnErr result (IsTickedUpTo
-        (planned_by_pass (state_of cluster.old) moment) steps.old steps.new) }
+    ensures steps { IsTickedUpTo (planned_by_pass (state_of cluster.old) moment) steps.old steps.new }
     ensures indexed { IsIndexed cluster.new }
 {
     there_are_few_jobs();
-    let decided = decide(alloc, cluster, moment, steps)?;
+    let decided = decide(alloc, cluster, kept, moment, steps)?;
     if is_idle(cluster, moment, &decided) {
         return Ok(PassOutcome::Idle);
     }
@@ -100,6 +100,7 @@ fn pass_heard<L>(
 fn pass_silenced<L>(
     alloc: Global,
     cluster: &mut Cluster,
+    kept: &mut Option<Planned>,
     moment: u64,
     silent: &CpuIds,
     room: bool,
@@ -113,25 +114,23 @@ fn pass_silenced<L>(
     requires some { any_silent (state_of cluster.old) moment ≡ true }
     ensures came { IfOk result (Came (state_of cluster.old) (state_of cluster.new) moment room) }
     ensures err { OnErr result (state_of cluster.new ≡ state_of cluster.old) }
-    ensures steps { OnOk result (steps.new ≡ ticked steps.old (planned_by_pass (state_of cluster.old) moment)) }
-    ensures steps_err { OnErr result (IsTickedUpTo
-        (planned_by_pass (state_of cluster.old) moment) steps.old steps.new) }
+    ensures steps { IsTickedUpTo (planned_by_pass (state_of cluster.old) moment) steps.old steps.new }
     ensures indexed { IsIndexed cluster.new }
 {
     silence_keeps_all_sound();
     kept_jobs_are_put_back();
     there_are_few_jobs();
-    let kept = keep(alloc, cluster, silent)?;
+    let before = keep(alloc, cluster, silent)?;
     let failed = count_failing(silent, cluster.jobs.records()) as u32;
     fall_silent(cluster, moment, silent);
-    match decide(alloc, cluster, moment, steps) {
+    match decide(alloc, cluster, kept, moment, steps) {
         Ok(decided) if room => Ok(finish(cluster, moment, failed, decided)),
         Ok(_) => {
-            put_back(cluster, kept);
+            put_back(cluster, before);
             Ok(PassOutcome::Full)
         }
         Err(memory) => {
-            put_back(cluster, kept);
+            put_back(cluster, before);
             Err(memory)
         }
     }
@@ -139,11 +138,12 @@ fn pass_silenced<L>(
 
 /// A whole pass at its raised moment, where the history has room for it or not. Where no node falls silent it costs what
 /// `ctl_pass::decide` and `act` cost, beside a look at each node; where some do it copies the jobs that hold something of
-/// them too, and walks over all jobs once more. It counts a step for each job that it plans, and after want of memory at
-/// most that many. SlurmdTimeout in slurm.conf(5).
+/// them too, and walks over all jobs once more. Its plan is made over the kept one, if any, and kept in its place; it
+/// counts at most a step for each job that it plans. SlurmdTimeout in slurm.conf(5).
 pub fn pass<L>(
     alloc: Global,
     cluster: &mut Cluster,
+    kept: &mut Option<Planned>,
     moment: u64,
     room: bool,
     steps: &mut Steps<L>,
@@ -154,15 +154,13 @@ pub fn pass<L>(
     requires indexed { IsIndexed cluster.old }
     ensures came { IfOk result (Came (state_of cluster.old) (state_of cluster.new) moment room) }
     ensures err { OnErr result (state_of cluster.new ≡ state_of cluster.old) }
-    ensures steps { OnOk result (steps.new ≡ ticked steps.old (planned_by_pass (state_of cluster.old) moment)) }
-    ensures steps_err { OnErr result (IsTickedUpTo
-        (planned_by_pass (state_of cluster.old) moment) steps.old steps.new) }
+    ensures steps { IsTickedUpTo (planned_by_pass (state_of cluster.old) moment) steps.old steps.new }
     ensures indexed { IsIndexed cluster.new }
 {
     let silent = silent_places(cluster, moment);
     if silent.is_empty() {
-        pass_heard(alloc, cluster, moment, room, steps)
+        pass_heard(alloc, cluster, kept, moment, room, steps)
     } else {
-        pass_silenced(alloc, cluster, moment, &silent, room, steps)
+        pass_silenced(alloc, cluster, kept, moment, &silent, room, steps)
     }
 }

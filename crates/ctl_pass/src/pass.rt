@@ -1,8 +1,10 @@
 //! A pass: what it decides, and what it does.
 
-ghost use Rattle.std.specs.Prelude.{◌≡◌, ◌≤◌, ◌&&◌, not, nat_eq, nat_lt, IfOk, OnOk, OnErr, filter, length};
+ghost use Rattle.std.specs.Prelude.{◌≡◌, ◌≤◌, ◌<◌, ◌&&◌, not, nat_eq, nat_lt, IfOk, filter, length, All};
 ghost use Rattle.std.specs.List.{list_all, list_any};
-ghost use Rattle.resource_profile.specs.Counts.{ticked, IsTickedUpTo};
+ghost use Rattle.resource_profile.specs.Counts.{IsTickedUpTo};
+ghost use Rattle.backfill_planner.specs.declared.job.PlanJob.{PlanJob as AJob};
+ghost use Rattle.backfill_planner.specs.Plans.{plan_of};
 ghost use Rattle.ctl_state.specs.State.{state_of, last_moment};
 ghost use Rattle.ctl_state.specs.Index.{IsIndexed};
 ghost use Rattle.ctl_state.specs.Soundness.{IsSound};
@@ -25,7 +27,7 @@ use crate::live_arrays::{LiveArrays, live_arrays};
 use crate::same_plans::are_same;
 use crate::split::split;
 use crate::starts::DueStart;
-use backfill_planner::{Placed, plan};
+use backfill_planner::{Base, Placed, PlanJob, Planned, plan};
 use ctl_rank::measure;
 use ctl_state::cluster::Cluster;
 use ctl_state::counting::count_holding;
@@ -34,6 +36,7 @@ use ctl_state::record::ArrayRecord;
 use ctl_waiting::rank;
 use job_table::awaited::Awaited;
 use job_table::laws::who_is_awaited_stays;
+use plan_keeper::replan;
 use reservations::record::Reservation;
 use resource_profile::Steps;
 use run_limits::tally::Tally;
@@ -68,45 +71,76 @@ pub fn refusal_of(cluster: &Cluster, user: &Name) -> Option<Refusal>
     }
 }
 
-// The plan from scratch of what the pass's first steps leave, beside what the jobs hold. It counts a step for each job
-// that it plans, and after want of memory at most that many.
-fn plan_from_scratch<L>(
+// The plan of the ranked jobs, over one that is kept.
+fn make_plan<L>(
+    alloc: Global,
+    kept: Option<&Planned>,
+    base: Base,
+    ranked: Vec<PlanJob>,
+    now: u64,
+    steps: &mut Steps<L>,
+) -> Result<Planned, Memory>
+    requires nodes { All (λ (job : AJob). All (λ node. node < length base.rooms) job.nodes) ranked.items }
+    ensures parts { IfOk result (λ planned. planned ≡ record { base = base; ranked = ranked.items; moment = now }) }
+    ensures steps { IsTickedUpTo (length ranked.items) steps.old steps.new }
+{
+    match kept {
+        Some(kept) => replan(alloc, kept, base, ranked, now, steps),
+        None => plan(alloc, base, ranked, now, steps),
+    }
+}
+
+// Equal placements, in their order.
+fn copy_all(alloc: Global, placements: &[Placed]) -> Result<Vec<Placed>, Memory>
+    ensures { IfOk result (λ copies. copies.items ≡ placements.now) }
+{
+    let mut copies = Vec::with_capacity(alloc, placements.len())?;
+    for placed in placements {
+        copies.push(placed.copy(alloc)?)?;
+    }
+    Ok(copies)
+}
+
+// The plan of what the pass's first steps leave, beside what the jobs hold: made over a plan that is kept, or from
+// scratch, which comes to the same. It counts a step for each job that it searches for.
+fn plan_over<L>(
     alloc: Global,
     cluster: &Cluster,
+    kept: Option<&Planned>,
     now: u64,
     awaited: &Awaited,
     tally: &Tally,
     steps: &mut Steps<L>,
-) -> Result<Vec<Placed>, Memory>
+) -> Result<Planned, Memory>
     requires sound { IsSound (state_of cluster.now) }
     requires raised { cluster.now.moment ≤ now }
     requires in_time { now ≤ last_moment }
     requires awaited { ShowsAwaited awaited.now cluster.now.jobs.records }
     requires counted { Shows cluster.now.assocs.records tally.now (holding cluster.now.jobs.records) }
-    ensures plan { IfOk result (λ plan. plan.items ≡ placements (state_of cluster.now) now) }
-    ensures steps { OnOk result (steps.new ≡ ticked steps.old (Passing.jobs_planned (state_of cluster.now) now)) }
-    ensures steps_err { OnErr result (IsTickedUpTo
-        (Passing.jobs_planned (state_of cluster.now) now) steps.old steps.new) }
+    ensures plan { IfOk result (λ planned.
+        plan_of planned.base planned.ranked planned.moment ≡ placements (state_of cluster.now) now) }
+    ensures steps { IsTickedUpTo (Passing.jobs_planned (state_of cluster.now) now) steps.old steps.new }
 {
     what_is_ranked_stays();
     let base = base_of(alloc, cluster, now, awaited)?;
     let factors = measure(alloc, cluster, now)?;
     let ranked = rank(alloc, cluster, tally, &factors)?;
-    match plan(alloc, base, ranked, now, steps) {
-        Ok(planned) => Ok(planned.into_placements()),
-        Err(_) => Err(Memory),
-    }
+    let planned = make_plan(alloc, kept, base, ranked, now, steps)?;
+    Ok(planned)
 }
 
-/// What a pass at its raised moment does. Linear in jobs, parts and nodes, and for each candidate that names nodes or
-/// features in the nodes of its partition, beside what its plan costs; the nodes of each partition are sorted, and so
-/// are the users by what they have used and the candidates by rank, each once. What priorities rest on is found once.
-/// The jobs that hold processors are counted once, in one walk over all; each of them, each pending job and each
-/// placement that begins now costs its association's way up to root besides.
-/// It counts a step for each job that it plans, and after want of memory at most that many.
+/// What a pass at its raised moment does. Its plan is made over the one that is kept, if any, and kept then in its place;
+/// whichever was kept, the pass does the same. Linear in jobs, parts and
+/// nodes, and for each candidate in the nodes that it may have, beside what its plan costs; the nodes of each partition
+/// are sorted, and so are the users by what they have used and the candidates by rank, each once. What priorities rest on
+/// is found once. The jobs that hold processors are counted once, in one walk over all; each of them, each pending job
+/// and each placement that begins now costs its association's way up to root besides.
+/// It counts a step for each job that it searches for: at most one for each that it plans, and over a plan that is kept
+/// none for those which stand as they stood in it.
 pub fn decide<L>(
     alloc: Global,
     cluster: &Cluster,
+    kept: &mut Option<Planned>,
     now: u64,
     steps: &mut Steps<L>,
 ) -> Result<Decided, Memory>
@@ -114,14 +148,36 @@ pub fn decide<L>(
     requires raised { cluster.now.moment ≤ now }
     requires in_time { now ≤ last_moment }
     ensures decided { IfOk result (Passing.IsDecided (state_of cluster.now) now) }
-    ensures steps { OnOk result (steps.new ≡ ticked steps.old (Passing.jobs_planned (state_of cluster.now) now)) }
-    ensures steps_err { OnErr result (IsTickedUpTo
-        (Passing.jobs_planned (state_of cluster.now) now) steps.old steps.new) }
+    ensures steps { IsTickedUpTo (Passing.jobs_planned (state_of cluster.now) now) steps.old steps.new }
 {
     who_is_awaited_stays();
     let awaited = Awaited::of(alloc, &cluster.jobs)?;
     let tally = count_holding(alloc, &cluster.assocs, cluster.jobs.records())?;
-    let plan = plan_from_scratch(alloc, cluster, now, &awaited, &tally, steps)?;
+    let planned = plan_over(alloc, cluster, kept.as_ref(), now, &awaited, &tally, steps)?;
+    let plan = copy_all(alloc, planned.placements())?;
+    let decided = decide_with(alloc, cluster, now, awaited, tally, plan)?;
+    *kept = Some(planned);
+    Ok(decided)
+}
+
+// What a pass with this plan does.
+fn decide_with(
+    alloc: Global,
+    cluster: &Cluster,
+    now: u64,
+    awaited: Awaited,
+    tally: Tally,
+    plan: Vec<Placed>,
+) -> Result<Decided, Memory>
+    requires sound { IsSound (state_of cluster.now) }
+    requires raised { cluster.now.moment ≤ now }
+    requires in_time { now ≤ last_moment }
+    requires awaited { ShowsAwaited awaited cluster.now.jobs.records }
+    requires counted { Shows cluster.now.assocs.records tally (holding cluster.now.jobs.records) }
+    requires plan { plan.items ≡ placements (state_of cluster.now) now }
+    ensures { IfOk result (Passing.IsDecided (state_of cluster.now) now) }
+{
+    who_is_awaited_stays();
     let (starts, stays) = split(alloc, cluster, now, tally, plan)?;
     let age = cluster.settings.min_job_age.get();
     Ok(Decided {

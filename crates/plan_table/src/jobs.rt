@@ -11,8 +11,8 @@ use std::alloc::Global;
 use table_lines::answer::Unanswered;
 use table_lines::fields::{narrow_numbers, number, parts};
 
-// Some of so many nodes, each once, as `0+1`.
-fn nodes(alloc: Global, text: &[u8], count: usize) -> Result<NodeList, Unanswered>
+/// Some of so many nodes, each once, as `0+1`.
+pub fn nodes(alloc: Global, text: &[u8], count: usize) -> Result<NodeList, Unanswered>
     ensures { IfOk result (All (λ node. node < count)) }
 {
     let mut nodes = Vec::new(alloc);

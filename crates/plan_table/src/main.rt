@@ -8,6 +8,7 @@ mod numbers;
 mod picks;
 mod plans;
 mod profiles;
+mod replans;
 mod scenes;
 mod sums;
 
@@ -22,6 +23,8 @@ fn answer(alloc: Global, function: &str, arguments: &[&[u8]]) -> Result<Vec<u8>,
         "plan" => plans::plan(alloc, arguments),
         "free" => profiles::free(alloc, arguments),
         "rise" => profiles::rise(alloc, arguments),
+        "replan" => replans::replan(alloc, arguments),
+        "replans" => replans::replans(alloc, arguments),
         "scene" => scenes::scene(alloc, arguments),
         _ => Err(Unanswered::Arguments),
     }

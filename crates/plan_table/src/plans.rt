@@ -20,8 +20,8 @@ fn push_shares(out: &mut Vec<u8>, shares: &[Share]) -> Result<(), Unanswered> {
     Ok(())
 }
 
-// `ID@START`, and its parts, of each job that has a start, and then the steps.
-fn plan_text(alloc: Global, placements: &[Placed], steps: u64) -> Result<Vec<u8>, Unanswered> {
+/// `ID@START`, and its parts, of each job that has a start, and then the steps.
+pub fn plan_text(alloc: Global, placements: &[Placed], steps: u64) -> Result<Vec<u8>, Unanswered> {
     let mut out = Vec::new(alloc);
     for placed in placements {
         let (id, start) = (placed.id, placed.start);
@@ -67,8 +67,8 @@ pub fn planned(
     Ok((planned, steps.count()))
 }
 
-// What the plan of a line begins with.
-fn line_base(
+/// What the plan of a line begins with.
+pub fn line_base(
     alloc: Global,
     rooms_text: &[u8],
     holds: &[u8],

@@ -1,9 +1,9 @@
 //! A simulation, from the script to the last round.
 
-ghost use Rattle.std.specs.Prelude.{◌≡◌, ◌<◌, Some, None, All, IfOk, IsErrOf, IsSomeAnd, if◌then◌else◌};
+ghost use Rattle.std.specs.Prelude.{◌≡◌, ◌<◌, Some, None, option_map, All, IfOk, OnOk, IsErrOf, IsSomeAnd, if◌then◌else◌};
 ghost use Rattle.node_daemon.specs.Daemon.{Daemon};
 ghost use Rattle.ctl_desk.specs.Desk.{state_of};
-ghost use Rattle.simulation.specs.Simulation.{most_rounds, rounds, simulated, summary};
+ghost use Rattle.simulation.specs.Simulation.{Simulated, most_rounds, rounds, simulated, summary};
 
 use crate::nodes::start_daemons;
 use crate::round::make_round;
@@ -64,8 +64,8 @@ fn make_rounds(
 
 /// Works the script that a number stands for at a desk that nobody else asks, then lets the daemons of the cluster's
 /// nodes report every half minute, each time with a pass behind, until all jobs are over, and tells how many started,
-/// were completed or reached their limits, in one line. It makes 300,000 rounds at the most. The desk keeps what was
-/// entered, also after a refusal (own).
+/// were completed or reached their limits, in one line. It makes 300,000 rounds at the most. The desk is left with the
+/// state of the last round, and keeps what was entered, also after a refusal (own).
 #[tactic(auto, unfolding(crate::specs::Simulation::simulated))]
 pub fn simulate(
     alloc: Global,
@@ -75,6 +75,8 @@ pub fn simulate(
 ) -> Result<Vec<u8>, SimulationRefusal>
     ensures line { IfOk result (λ line. IsSomeAnd (simulated (state_of desk.old) number)
         (λ sim. line.items ≡ summary sim.tally)) }
+    ensures state { OnOk result (option_map (λ (sim : Simulated). sim.state) (simulated (state_of desk.old) number)
+        ≡ Some (state_of desk.new)) }
     ensures spent { IsErrOf result SimulationRefusal.Spent → simulated (state_of desk.old) number ≡ None }
 {
     let script = script_of(alloc, number)?;

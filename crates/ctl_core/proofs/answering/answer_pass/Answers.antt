@@ -1,4 +1,4 @@
-use Rattle.std.proofs.Common.{◌≡◌, ◌∙◌, ℕ, Result, Ok, Err, OnErr, false, subst, sym, arith, rules}
+use Rattle.std.proofs.Common.{◌≡◌, ◌∙◌, ℕ, false, subst, sym, arith, rules}
 use Rattle.std.specs.Prelude.{nat_lt}
 use Rattle.std.proofs.lemmas.Bool.{le-ltb}
 use Rattle.slurm_text.specs.declared.plain.request.Request.TheVariants.{Pass}
@@ -9,19 +9,23 @@ use Rattle.resource_profile.specs.Counts.{IsTickedUpTo}
 use Rattle.ctl_core.proofs.Stamping.{reply-worked, size-asked, state-worked, steps-worked}
 use Rattle.ctl_core.proofs.answering.answer_pass.Goals as goal
 
-on_err : {T E P : Type 0} (r : Result T E) → P → OnErr r P
-on_err (Ok _) p = tt
-on_err (Err _) p = p
-
-pub returns-in_err-answered-clause-steps_err : goal.returns-in_err-answered-clause-steps_err
-returns-in_err-answered-clause-steps_err g c =
+pub returns-in_err-answered-clause-steps : goal.returns-in_err-answered-clause-steps
+returns-in_err-answered-clause-steps g c =
     let s = state_of c.args.cluster.now in
     let early : nat_lt last_moment c.args.now ≡ false = le-ltb last_moment c.args.now (omega arith) in
     let moment : c.max-moment.result ≡ raised s c.args.now = search rules in
-    on_err c.from_residual.result
-    (subst (λ (count : ℕ). IsTickedUpTo count c.args.steps.now c.pass.new.steps)
+    subst (λ (count : ℕ). IsTickedUpTo count c.args.steps.now c.pass.new.steps)
     (sym (steps-worked s c.args.now c.args.user.now early c.if-cluster.false))
-    (rw moment at c.in_err-answered.ensures.steps_err))
+    (rw moment at c.in_err-answered.ensures.steps)
+
+pub returns-clause-steps : goal.returns-clause-steps
+returns-clause-steps g c =
+    let s = state_of c.args.cluster.now in
+    let early : nat_lt last_moment c.args.now ≡ false = le-ltb last_moment c.args.now (omega arith) in
+    let moment : c.max-moment.result ≡ raised s c.args.now = search rules in
+    subst (λ (count : ℕ). IsTickedUpTo count c.args.steps.now c.pass.new.steps)
+    (sym (steps-worked s c.args.now c.args.user.now early c.if-cluster.false))
+    (rw moment at c.in_ok-answered.ensures.steps)
 
 pub returns-clause-reply : goal.returns-clause-reply
 returns-clause-reply g c =

@@ -66,7 +66,7 @@ returns-in-Ok-2-clause-came g c = (
   c.if-room.false,
   ap state_of c.put_back.ensures
       ∙ state_back c.kept_jobs_are_put_back.ensures c.args.moment (has_id c.args.silent.now) c.args.cluster.now
-      c.fall_silent.new.cluster c.in_ok-kept.kept c.requires.places c.in_ok-kept.ensures c.requires.sound.rising
+      c.fall_silent.new.cluster c.in_ok-before.before c.requires.places c.in_ok-before.ensures c.requires.sound.rising
       c.fall_silent.ensures.after,
 )
 
@@ -74,19 +74,19 @@ pub returns-in-Ok-2-clause-indexed : goal.returns-in-Ok-2-clause-indexed
 returns-in-Ok-2-clause-indexed g c =
     subst IsIndexed (sym c.put_back.ensures)
     (index_back c.kept_jobs_are_put_back.ensures c.args.moment (has_id c.args.silent.now) c.args.cluster.now
-    c.fall_silent.new.cluster c.in_ok-kept.kept c.requires.places c.in_ok-kept.ensures c.requires.sound.rising
+    c.fall_silent.new.cluster c.in_ok-before.before c.requires.places c.in_ok-before.ensures c.requires.sound.rising
     c.fall_silent.ensures.after c.requires.indexed)
 
 pub returns-in-Err-clause-err : goal.returns-in-Err-clause-err
 returns-in-Err-clause-err g c =
     ap state_of c.put_back-in-Err.ensures
     ∙ state_back c.kept_jobs_are_put_back.ensures c.args.moment (has_id c.args.silent.now) c.args.cluster.now
-    c.fall_silent.new.cluster c.in_ok-kept.kept c.requires.places c.in_ok-kept.ensures c.requires.sound.rising
+    c.fall_silent.new.cluster c.in_ok-before.before c.requires.places c.in_ok-before.ensures c.requires.sound.rising
     c.fall_silent.ensures.after
 
 pub returns-in-Err-clause-indexed : goal.returns-in-Err-clause-indexed
 returns-in-Err-clause-indexed g c =
     subst IsIndexed (sym c.put_back-in-Err.ensures)
     (index_back c.kept_jobs_are_put_back.ensures c.args.moment (has_id c.args.silent.now) c.args.cluster.now
-    c.fall_silent.new.cluster c.in_ok-kept.kept c.requires.places c.in_ok-kept.ensures c.requires.sound.rising
+    c.fall_silent.new.cluster c.in_ok-before.before c.requires.places c.in_ok-before.ensures c.requires.sound.rising
     c.fall_silent.ensures.after c.requires.indexed)

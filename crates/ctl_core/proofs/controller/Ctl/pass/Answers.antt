@@ -8,5 +8,5 @@ returns-clause-reply g c = rw (← ap (λ (v : CtlView). v.state) c.self.view_is
 pub returns-clause-after : goal.returns-clause-after
 returns-clause-after g c = rw (← ap (λ (v : CtlView). v.state) c.self.view_is) c.ask_pass.ensures.after
 
-pub returns-clause-steps_err : goal.returns-clause-steps_err
-returns-clause-steps_err g c = rw (← ap (λ (v : CtlView). v.state) c.self.view_is) c.ask_pass.ensures.steps_err
+pub returns-clause-steps : goal.returns-clause-steps
+returns-clause-steps g c = rw (← ap (λ (v : CtlView). v.state) c.self.view_is) c.ask_pass.ensures.steps

@@ -1,4 +1,4 @@
-use Rattle.std.proofs.Common.{◌≡◌, ap, ◌∙◌, sym, ℕ, Result, Ok, Err, OnErr}
+use Rattle.std.proofs.Common.{◌≡◌, ap, ◌∙◌, sym, ℕ}
 use Rattle.slurm_text.specs.declared.plain.request.Request.TheVariants.{Pass}
 use Rattle.ctl_state.specs.State.{State}
 use Rattle.ctl_core.specs.Step.{raised, reply_of, steps_of}
@@ -7,10 +7,6 @@ use Rattle.ctl_desk.proofs.Entered.{entered_as}
 use Rattle.ctl_desk.proofs.Entering.{IsHistory-decided}
 use Rattle.resource_profile.specs.Counts.{IsTickedUpTo}
 use Rattle.ctl_desk.proofs.book.Book.pass.Goals as goal
-
-on_err : {T E P : Type 0} (r : Result T E) → P → OnErr r P
-on_err (Ok _) p = tt
-on_err (Err _) p = p
 
 pub invariant_of-self-2 : goal.invariant_of-self-2
 invariant_of-self-2 g c =
@@ -35,10 +31,11 @@ returns-clause-reply g c =
     ∙ ap (λ (s : State). reply_of s c.args.now c.args.user.now Pass)
     (c.self.invariant.1 ∙ ap (λ (h : History). present h) c.self.view_is)
 
-pub returns-in_err-decided-clause-steps_err : goal.returns-in_err-decided-clause-steps_err
-returns-in_err-decided-clause-steps_err g c =
-    on_err c.from_residual-in_err-decided.result
-    (rw (sym (c.self.invariant.1 ∙ ap (λ (h : History). present h) c.self.view_is)) c.in_err-decided.ensures.steps_err)
+pub returns-in_err-decided-clause-steps : goal.returns-in_err-decided-clause-steps
+returns-in_err-decided-clause-steps g c = rw (sym (c.self.invariant.1 ∙ ap (λ (h : History). present h) c.self.view_is)) c.in_err-decided.ensures.steps
+
+pub returns-clause-steps : goal.returns-clause-steps
+returns-clause-steps g c = rw (sym (c.self.invariant.1 ∙ ap (λ (h : History). present h) c.self.view_is)) c.in_ok-decided.ensures.steps
 
 pub returns-clause-entries : goal.returns-clause-entries
 returns-clause-entries g c =

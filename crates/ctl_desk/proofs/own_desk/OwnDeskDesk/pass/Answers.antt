@@ -30,4 +30,4 @@ pub returns-clause-steps_err : goal.returns-clause-steps_err
 returns-clause-steps_err c =
     let called = c.pass.ensures in
     own_counted_up_to _ c.args.now c.args.user.now c.self.inside.before _ _ c.self.inside.book c.pass.new.self
-    called.err called.steps_err
+    called.err called.steps

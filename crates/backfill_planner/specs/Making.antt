@@ -1,0 +1,38 @@
+-- How a plan in the making, and a plan, are kept. Of the proof alone: no public call speaks of it.
+use Rattle.std.specs.Prelude.{◌≡◌, ℕ, ◌+◌, ◌≤◌, List, length, take, slice_index_or, All}
+use Rattle.std.specs.List.Sorted.{IsPermutation}
+use Rattle.resource_profile.specs.Profiles.{ProfileView, AreWithin}
+use Rattle.backfill_planner.specs.declared.Placed.{Placed}
+use Rattle.backfill_planner.specs.declared.job.PlanJob.{PlanJob}
+use Rattle.backfill_planner.specs.declared.seen.Seen.{Seen}
+use Rattle.backfill_planner.specs.Bases.{BaseView}
+use Rattle.backfill_planner.specs.Placements.{IsOnRooms, IsPlannable}
+use Rattle.backfill_planner.specs.Plans.{holds_before, plan_of}
+use Rattle.backfill_planner.specs.Searches.{IsSeen}
+
+-- how many placements the first jobs have, for each number of these from 0 to `done`
+pub record AreCounted (base : BaseView) (ranked : List PlanJob) (now done : ℕ) (counts : List ℕ) : Type 0 where
+  pub long : length counts ≡ done + 1
+  pub each : (first d : ℕ) → first ≤ done
+      → slice_index_or counts first d ≡ length (plan_of base (take first ranked) now)
+
+-- the first jobs are planned, and what they hold is in the profile
+pub record IsPlanning (base : BaseView) (ranked : List PlanJob) (now done : ℕ) (made : List Placed)
+    (counts : List ℕ) (profile : ProfileView) (searches : List Seen) : Type 0 where
+  pub within : AreWithin base.rooms base.holds
+  pub low : base.horizon ≤ 250002592000
+  pub nodes : All (IsOnRooms base.rooms) ranked
+  pub jobs : All IsPlannable (take done ranked)
+  pub few : done ≤ length ranked
+  pub placements : made ≡ plan_of base (take done ranked) now
+  pub counted : AreCounted base ranked now done counts
+  pub rooms : profile.rooms ≡ base.rooms
+  pub held : IsPermutation (holds_before base ranked now done) profile.holds
+  pub seen : All (IsSeen base.rooms profile.holds ranked now) searches
+
+-- a plan's parts agree
+pub record IsPlanned (base : BaseView) (ranked : List PlanJob) (now : ℕ) (made : List Placed) (counts : List ℕ)
+    : Type 0 where
+  pub nodes : All (IsOnRooms base.rooms) ranked
+  pub placements : made ≡ plan_of base ranked now
+  pub counted : AreCounted base ranked now (length ranked) counts

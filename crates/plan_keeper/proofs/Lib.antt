@@ -1,0 +1,11 @@
+pub mod Times
+pub mod Frees
+pub mod Marking
+pub mod Settled
+pub mod Listing
+pub mod Turning
+pub mod Freeing
+pub mod SameJobs
+pub mod Beginning
+pub mod Stepping
+pub mod SameTimes

@@ -1,0 +1,169 @@
+-- How the marks go on from job to job.
+use Rattle.std.proofs.Common.{◌≡◌, ◌≢◌, ℕ, ◌+◌, ◌-◌, ◌≤◌, ◌<◌, zero, suc, Bool, true, false, ◌&&◌, not, List, [], ◌∷◌, ◌++◌, length, take, set, All, arith, refl, ap, sym, ◌∙◌, inl, inr, get_or, sum_by, replicate}
+use Rattle.std.proofs.lemmas.Bool.{cases_Bool, cases_eq, cases_lt, and_parts}
+use Rattle.std.proofs.lemmas.List.{append-nil, length-set, get_or-set_same, get_or-set_other}
+use Rattle.resource_profile.specs.declared.Hold.{Hold}
+use Rattle.backfill_planner.specs.declared.job.PlanJob.{PlanJob}
+use Rattle.backfill_planner.specs.Bases.{BaseView}
+use Rattle.backfill_planner.specs.Plans.{PlannedView, holds_of, holds_before, placement_of, plan_holds_of, plan_holds_beside}
+use Rattle.backfill_planner.specs.Staying.{StaysFrom}
+use Rattle.plan_keeper.specs.Steady.{may_have_node, AreSteady}
+use Rattle.plan_keeper.specs.Planner.{PlannerLaws}
+use Rattle.plan_keeper.specs.Marks.{on, times, depth, IsMatched, IsMet, IsUnsettled, AreMarks, Fits, Counts, Without, AreFirst}
+use Rattle.plan_keeper.proofs.Times.{times-next, times-past, times-up_to, not-on, has-on, sums-tell, sums-same, owned, own-nodes}
+use Rattle.plan_keeper.proofs.Frees.{stays-beside, stays-new, stays-on, place-off}
+
+-- what is marked as met stays so
+pub met-more : (met : List Bool) (before other : ℕ) → before < length met → get_or met other false ≡ true → get_or (set met before true) other false ≡ true
+met-more met before other inside marked = elim (cases_eq other before) [
+  | inl same ↦ rw same (get_or-set_same met before true false inside)
+  | inr apart ↦ get_or-set_other met before other true false apart ∙ marked
+]
+
+counted-more : (base : BaseView) (ranked : List PlanJob) (place : ℕ) (counts new : List ℕ) (job : PlanJob) → length counts ≡ length base.rooms → ((node d : ℕ) → node < length base.rooms → get_or counts node d ≡ times node (take place ranked)) → place < length ranked → ((d : PlanJob) → get_or ranked place d ≡ job) → Counts counts job new
+    → (node d : ℕ) → node < length base.rooms → get_or new node d ≡ times node (take (place + 1) ranked)
+counted-more base ranked place counts new job long counted below is more node d inside =
+    more.each node d (omega (arith, inside, long)) ∙ ap (λ n. n + on node job) (counted node d inside)
+    ∙ ap (λ one. times node (take place ranked) + on node one) (sym (is job)) ∙ sym (times-next node ranked place job below)
+
+met-before : (old ranked : List PlanJob) (place before : ℕ) → IsMet old ranked place before → IsMet old ranked (place + 1) before
+met-before old ranked place before met = record { at = met.at; above = omega (arith, met.above); same = met.same }
+
+unsettled-before : (ranked : List PlanJob) (steady : ℕ → Bool) (place node : ℕ) → IsUnsettled ranked steady place node → IsUnsettled ranked steady (place + 1) node
+unsettled-before ranked steady place node one = record { at = one.at; above = omega (arith, one.above); has = one.has; other = one.other }
+
+-- a node that the job may not have stays matched
+matched-off : PlannerLaws → (old : PlannedView) (base : BaseView) (ranked : List PlanJob) (now place : ℕ) (met new_met : List Bool) (node : ℕ) (job : PlanJob) → place < length ranked → ((d : PlanJob) → get_or ranked place d ≡ job) → may_have_node node job ≡ false → ((other : ℕ) → get_or met other false ≡ true → get_or new_met other false ≡ true) → IsMatched old base ranked now place met node → IsMatched old base ranked now (place + 1) new_met node
+matched-off laws old base ranked now place met new_met node job below is without more was = record {
+  passed = λ before d inside has fewer. more before (was.passed before d inside has (omega (arith, fewer, same)));
+  stays = λ before few level.
+      rw (laws.goes_on base ranked now place job below (is job))
+      (stays-new old.base.rooms (holds_before old.base old.ranked old.moment before) base.rooms (holds_before base ranked now place) (holds_of job (placement_of base ranked now place job)) now node (place-off laws base ranked now place node job without) (was.stays before few (level ∙ same)));
+}
+  where
+    same : times node (take (place + 1) ranked) ≡ times node (take place ranked)
+    same = times-next node ranked place job below ∙ omega (arith, ap (λ one. on node one) (is job), not-on node job without)
+
+-- a node of the job stays matched, where it is placed as it was
+matched-on : PlannerLaws → (old : PlannedView) (base : BaseView) (ranked : List PlanJob) (now place : ℕ) (met : List Bool) (node : ℕ) (job : PlanJob) (before : ℕ) → length met ≡ length old.ranked → place < length ranked → ((d : PlanJob) → get_or ranked place d ≡ job) → before < length old.ranked → ((d : PlanJob) → get_or old.ranked before d ≡ job) → may_have_node node job ≡ true → times node (take place ranked) ≡ times node (take before old.ranked) → placement_of base ranked now place job ≡ placement_of old.base old.ranked old.moment before job → IsMatched old base ranked now place met node → IsMatched old base ranked now (place + 1) (set met before true) node
+matched-on laws old base ranked now place met node job before long below is there was_is has level same was = record {
+  passed = λ other d inside some fewer. elim (cases_lt other before) [
+    | inl earlier ↦ met-more met before other in_met (was.passed other d inside some (omega (arith, level, some, times-past node old.ranked other before d earlier (omega (arith, there)))))
+    | inr at ↦ elim (cases_eq other before) [
+      | inl here ↦ rw here (get_or-set_same met before true false in_met)
+      | inr apart ↦ absurd (omega (arith, fewer, next, level, old_next, times-up_to node old.ranked (before + 1) other (omega (arith, at, apart)) (omega (arith, inside))))
+    ]
+  ];
+  stays = λ other few is_level. elim (cases_lt before other) [
+    | inl later ↦
+        let more : (before + 1) + (other - (before + 1)) ≡ other = omega (arith, later) in
+        let count : times node (take ((before + 1) + (other - (before + 1))) old.ranked) ≡ times node (take (before + 1) old.ranked) = rw more (is_level ∙ omega (arith, next, level, old_next)) in
+        let whole = stays-on laws old.base old.ranked old.moment now node (before + 1) (other - (before + 1)) base.rooms (holds_before base ranked now (place + 1)) (omega (arith, more, few)) count stays_here in
+        rw more at whole
+    | inr earlier ↦ absurd (omega (arith, is_level, next, level, some_on, times-up_to node old.ranked other before earlier (omega (arith, there))))
+  ];
+}
+  where
+    in_met : before < length met
+    in_met = omega (arith, long, there)
+
+    some_on : 1 ≤ on node job
+    some_on = has-on node job has
+
+    next : times node (take (place + 1) ranked) ≡ times node (take place ranked) + on node job
+    next = times-next node ranked place job below ∙ ap (λ one. times node (take place ranked) + on node one) (is job)
+
+    old_next : times node (take (before + 1) old.ranked) ≡ times node (take before old.ranked) + on node job
+    old_next = times-next node old.ranked before job there ∙ ap (λ one. times node (take before old.ranked) + on node one) (was_is job)
+
+    stays_here : StaysFrom old.base.rooms (holds_before old.base old.ranked old.moment (before + 1)) base.rooms (holds_before base ranked now (place + 1)) now node
+    stays_here =
+        rw (laws.goes_on base ranked now place job below (is job), laws.goes_on old.base old.ranked old.moment before job there (was_is job), same)
+        (stays-beside old.base.rooms (holds_before old.base old.ranked old.moment before) base.rooms (holds_before base ranked now place) (holds_of job (placement_of old.base old.ranked old.moment before job)) now node (was.stays before (omega (arith, there)) (sym level)))
+
+-- the job is placed as it was
+pub kept-marks : PlannerLaws → (old : PlannedView) (base : BaseView) (ranked : List PlanJob) (now place : ℕ) (same : List Bool) (counts : List ℕ) (met : List Bool) (new_counts : List ℕ) (job : PlanJob) (before : ℕ) → AreMarks old base ranked now place same counts met → place < length ranked → ((d : PlanJob) → get_or ranked place d ≡ job) → Fits old.ranked same counts met job before → All (λ node. times node (take place ranked) ≡ times node (take before old.ranked)) job.nodes → placement_of base ranked now place job ≡ placement_of old.base old.ranked old.moment before job → Counts counts job new_counts → AreMarks old base ranked now (place + 1) same new_counts (set met before true)
+kept-marks laws old base ranked now place same counts met new_counts job before marks below is fits level placed more = record {
+  same_long = marks.same_long;
+  counts_long = more.long ∙ marks.counts_long;
+  met_long = length-set met before true ∙ marks.met_long;
+  counted = counted-more base ranked place counts new_counts job marks.counts_long marks.counted below is more;
+  known = λ other inside marked. elim (cases_eq other before) [
+    | inl here ↦ record { at = place; above = omega arith; same = λ d. rw here (is d ∙ sym (fits.is d)) }
+    | inr apart ↦ met-before old.ranked ranked place other (marks.known other inside (sym (get_or-set_other met before other true false apart) ∙ marked))
+  ];
+  matched = λ node inside marked. elim (cases_Bool (may_have_node node job)) [
+    | inl has ↦ matched-on laws old base ranked now place met node job before marks.met_long below is fits.there fits.is has (owned (λ node. times node (take place ranked) ≡ times node (take before old.ranked)) job node level has) placed (marks.matched node inside marked)
+    | inr without ↦ matched-off laws old base ranked now place met (set met before true) node job below is without (λ other marked. met-more met before other (omega (arith, fits.there, marks.met_long)) marked) (marks.matched node inside marked)
+  ];
+  changed = λ steady are node inside unmarked old_inside stays. unsettled-before ranked steady place node (marks.changed steady are node inside unmarked old_inside stays);
+}
+
+-- the job is placed anew
+pub other-marks : PlannerLaws → (old : PlannedView) (base : BaseView) (ranked : List PlanJob) (now place : ℕ) (same : List Bool) (counts : List ℕ) (met new_same : List Bool) (new_counts : List ℕ) (job : PlanJob) → AreMarks old base ranked now place same counts met → place < length ranked → ((d : PlanJob) → get_or ranked place d ≡ job) → ((steady : ℕ → Bool) → AreSteady old base ranked now steady → steady place ≡ false) → Without same job new_same → Counts counts job new_counts → AreMarks old base ranked now (place + 1) new_same new_counts met
+other-marks laws old base ranked now place same counts met new_same new_counts job marks below is other without more = record {
+  same_long = without.long ∙ marks.same_long;
+  counts_long = more.long ∙ marks.counts_long;
+  met_long = marks.met_long;
+  counted = counted-more base ranked place counts new_counts job marks.counts_long marks.counted below is more;
+  known = λ before inside marked. met-before old.ranked ranked place before (marks.known before inside marked);
+  matched = λ node inside marked.
+      let both = and_parts (get_or same node false) (not (may_have_node node job)) (sym (without.each node (omega (arith, inside, marks.same_long))) ∙ marked) in
+      matched-off laws old base ranked now place met met node job below is (not-true (may_have_node node job) both.1) (λ before marked. marked) (marks.matched node inside both.0);
+  changed = λ steady are node inside unmarked old_inside stays. elim (cases_Bool (get_or same node false)) [
+    | inr changed ↦ unsettled-before ranked steady place node (marks.changed steady are node inside changed old_inside stays)
+    | inl was ↦ elim (cases_Bool (may_have_node node job)) [
+      | inl has ↦ record { at = place; above = omega arith; has = λ d. rw (is d) has; other = other steady are }
+      | inr has_not ↦ absurd (let wrong = rw (without.each node (omega (arith, inside, marks.same_long)), was, has_not) at unmarked in cc)
+    ]
+  ];
+}
+  where
+    not-true : (b : Bool) → not b ≡ true → b ≡ false
+    not-true false marked = refl
+    not-true true marked = cc
+
+-- before the first job
+pub holds-first : (base : BaseView) (ranked : List PlanJob) (now : ℕ) → holds_before base ranked now 0 ≡ base.holds
+unfolding plan_holds_of plan_holds_beside
+holds-first base ranked now = append-nil base.holds
+
+pub first-marks : PlannerLaws → (old : PlannedView) (base : BaseView) (ranked : List PlanJob) (now : ℕ) (same : List Bool) (counts : List ℕ) (met : List Bool) → AreFirst old base now same → length counts ≡ length base.rooms → ((node d : ℕ) → node < length counts → get_or counts node d ≡ 0) → length met ≡ length old.ranked → ((before : ℕ) → before < length met → get_or met before false ≡ false) → AreMarks old base ranked now 0 same counts met
+first-marks laws old base ranked now same counts met first counts_long zeros met_long none = record {
+  same_long = first.long;
+  counts_long = counts_long;
+  met_long = met_long;
+  counted = λ node d inside. zeros node d (omega (arith, inside, counts_long));
+  known = λ before inside marked. absurd (let wrong = sym (none before (omega (arith, inside, met_long))) ∙ marked in cc);
+  matched = λ node inside marked. record {
+    passed = λ before d there has fewer. absurd (omega (arith, fewer));
+    stays = λ before few level.
+        let start : StaysFrom old.base.rooms (holds_before old.base old.ranked old.moment 0) base.rooms (holds_before base ranked now 0) now node = rw (holds-first base ranked now, holds-first old.base old.ranked old.moment) (first.stays node inside marked) in
+        let on_from = stays-on laws old.base old.ranked old.moment now node 0 before base.rooms (holds_before base ranked now 0) in
+        let same : 0 + before ≡ before = omega arith in
+        rw same at (on_from (omega (arith, few)) (rw same level) start);
+  };
+  changed = λ steady are node inside unmarked old_inside stays. absurd (first.changed node inside unmarked old_inside stays);
+}
+
+-- a job that fits has as many above it on each of its nodes as it had
+pub levels : (old : PlannedView) (base : BaseView) (ranked : List PlanJob) (now place : ℕ) (same : List Bool) (counts : List ℕ) (met : List Bool) (job : PlanJob) (before : ℕ) → AreMarks old base ranked now place same counts met → All (λ node. node < length base.rooms) job.nodes → Fits old.ranked same counts met job before → All (λ node. times node (take place ranked) ≡ times node (take before old.ranked)) job.nodes
+levels old base ranked now place same counts met job before marks nodes fits =
+    sums-tell (λ node. times node (take place ranked)) (λ node. times node (take before old.ranked)) job.nodes
+    (λ k d below. no_more (get_or job.nodes k d) (nodes k d below) (fits.unchanged k d below) (own-nodes job k d below))
+    (sym (sums-same (λ node. get_or counts node 0) (λ node. times node (take place ranked)) job.nodes (λ k d below. marks.counted (get_or job.nodes k d) 0 (nodes k d below))) ∙ fits.level)
+  where
+    no_more : (node : ℕ) → node < length base.rooms → get_or same node false ≡ true → may_have_node node job ≡ true → times node (take place ranked) ≤ times node (take before old.ranked)
+    no_more node inside marked has = elim (cases_lt (times node (take before old.ranked)) (times node (take place ranked))) [
+      | inl fewer ↦
+          let some : 1 ≤ on node (get_or old.ranked before job) = rw (fits.is job) (has-on node job has) in
+          let passed = (marks.matched node inside marked).passed before job fits.there some fewer in
+          absurd (let wrong = sym fits.fresh ∙ passed in cc)
+      | inr most ↦ most
+    ]
+
+-- and nothing has changed on them
+pub nodes-stay : (old : PlannedView) (base : BaseView) (ranked : List PlanJob) (now place : ℕ) (same : List Bool) (counts : List ℕ) (met : List Bool) (job : PlanJob) (before : ℕ) → AreMarks old base ranked now place same counts met → All (λ node. node < length base.rooms) job.nodes → Fits old.ranked same counts met job before → All (StaysFrom old.base.rooms (holds_before old.base old.ranked old.moment before) base.rooms (holds_before base ranked now place) now) job.nodes
+nodes-stay old base ranked now place same counts met job before marks nodes fits k d below =
+    let node = get_or job.nodes k d in
+    (marks.matched node (nodes k d below) (fits.unchanged k d below)).stays before (omega (arith, fits.there)) (sym (levels old base ranked now place same counts met job before marks nodes fits k d below))

@@ -1,0 +1,54 @@
+-- What the next job's placement is, and how the marks go on.
+use Rattle.std.proofs.Common.{◌≡◌, ◌≢◌, ℕ, ◌+◌, ◌≤◌, ◌<◌, Bool, true, false, cond, List, length, take, set, All, arith, refl, ap, subst, sym, ◌∙◌, inl, inr, get_or, Option, Some, None}
+use Rattle.std.specs.Prelude.{IfSome, IfNone, AllPairs}
+use Rattle.std.proofs.lemmas.Bool.{cases_Bool}
+use Rattle.resource_profile.specs.Counts.{ticked, IsTickedUpTo}
+use Rattle.backfill_planner.specs.declared.Placed.{Placed}
+use Rattle.backfill_planner.specs.declared.job.PlanJob.{PlanJob}
+use Rattle.backfill_planner.specs.Bases.{BaseView}
+use Rattle.backfill_planner.specs.Lesser.{NoneBefore}
+use Rattle.backfill_planner.specs.Placements.{IsOnRooms}
+use Rattle.backfill_planner.specs.Plans.{PlannedView, PlanningView, holds_before, placement_of}
+use Rattle.plan_keeper.specs.Steady.{AreSteady}
+use Rattle.plan_keeper.specs.Planner.{PlannerLaws}
+use Rattle.plan_keeper.specs.Marks.{AreMarks, Fits, Counts, Without}
+use Rattle.plan_keeper.specs.Turns.{IsFound, IsAgain, StandsAgain}
+use Rattle.plan_keeper.proofs.Marking.{kept-marks, other-marks, levels}
+use Rattle.plan_keeper.proofs.Settled.{steady-fits}
+
+pub stands-some : PlannerLaws → (old : PlannedView) (planning : PlanningView) (before : ℕ) (placed : Placed) → (stands : StandsAgain old planning before) → old.moment ≤ planning.moment → planning.base.horizon ≤ 250002592000 → placement_of old.base old.ranked old.moment before stands.job ≡ Some placed → planning.moment ≤ placed.start → placed.start ≤ planning.base.horizon → placement_of planning.base planning.ranked planning.moment planning.done stands.job ≡ Some placed
+stands-some laws old planning before placed stands order low was from within =
+    laws.some old.base.rooms (holds_before old.base old.ranked old.moment before) planning.base.rooms (holds_before planning.base planning.ranked planning.moment planning.done) stands.job old.moment planning.moment old.base.horizon planning.base.horizon placed stands.in_time order low stands.nodes was from within
+
+pub stands-none : PlannerLaws → (old : PlannedView) (planning : PlanningView) (before : ℕ) → (stands : StandsAgain old planning before) → old.moment ≤ planning.moment → placement_of old.base old.ranked old.moment before stands.job ≡ None → NoneBefore planning.base.rooms (holds_before planning.base planning.ranked planning.moment planning.done) stands.job planning.moment (old.base.horizon + 1)
+stands-none laws old planning before stands order was =
+    laws.none old.base.rooms (holds_before old.base old.ranked old.moment before) planning.base.rooms (holds_before planning.base planning.ranked planning.moment planning.done) stands.job old.moment planning.moment old.base.horizon stands.in_time order stands.nodes was
+
+pub stands-nowhere : PlannerLaws → (old : PlannedView) (planning : PlanningView) (before : ℕ) → (stands : StandsAgain old planning before) → old.moment ≤ planning.moment → planning.base.horizon ≤ 250002592000 → planning.base.horizon ≤ old.base.horizon → placement_of old.base old.ranked old.moment before stands.job ≡ None → placement_of planning.base planning.ranked planning.moment planning.done stands.job ≡ None
+stands-nowhere laws old planning before stands order low past was =
+    laws.nowhere planning.base.rooms (holds_before planning.base planning.ranked planning.moment planning.done) stands.job planning.moment old.base.horizon planning.base.horizon past low (stands-none laws old planning before stands order was)
+
+-- the marks behind a job that was found again, or wasn't
+pub marks-behind : PlannerLaws → (old : PlannedView) (planning : PlanningView) (same : List Bool) (counts : List ℕ) (met new_same : List Bool) (new_counts : List ℕ) (new_met : List Bool) (found : Option ℕ) (job : PlanJob) → AreMarks old planning.base planning.ranked planning.moment planning.done same counts met → planning.done < length planning.ranked → ((d : PlanJob) → get_or planning.ranked planning.done d ≡ job) → All (λ node. node < length planning.base.rooms) job.nodes → IsFound old planning same counts met found
+    → Counts counts job new_counts → IfSome found (λ before. (new_same ≡ same) × (new_met ≡ set met before true)) → IfNone found ((new_met ≡ met) × Without same job new_same)
+    → AreMarks old planning.base planning.ranked planning.moment (planning.done + 1) new_same new_counts new_met
+marks-behind laws old planning same counts met new_same new_counts new_met (Some before) job marks below is nodes found more some none =
+    let again : IsAgain old planning same counts met before job = rw (is job) at (found job) in
+    rw (some.0, some.1) (kept-marks laws old planning.base planning.ranked planning.moment planning.done same counts met new_counts job before marks below is again.fits (levels old planning.base planning.ranked planning.moment planning.done same counts met job before marks nodes again.fits) again.placed more)
+marks-behind laws old planning same counts met new_same new_counts new_met None job marks below is nodes found more some none =
+    rw none.0 (other-marks laws old planning.base planning.ranked planning.moment planning.done same counts met new_same new_counts job marks below is found none.1 more)
+
+-- where the next job fits nowhere in the old list it isn't steady
+pub not-steady : (old : PlannedView) (planning : PlanningView) (same : List Bool) (counts : List ℕ) (met : List Bool) (job : PlanJob) → AreMarks old planning.base planning.ranked planning.moment planning.done same counts met → planning.done < length planning.ranked → ((d : PlanJob) → get_or planning.ranked planning.done d ≡ job) → All (λ node. node < length planning.base.rooms) job.nodes → All (IsOnRooms old.base.rooms) old.ranked
+    → ((before : ℕ) → AllPairs (λ (one other : PlanJob). one.id ≢ other.id) old.ranked → Fits old.ranked same counts met job before → ⊥)
+    → (steady : ℕ → Bool) → AreSteady old planning.base planning.ranked planning.moment steady → steady planning.done ≡ false
+not-steady old planning same counts met job marks below is nodes old_nodes nowhere steady are = elim (cases_Bool (steady planning.done)) [
+  | inr other ↦ other
+  | inl settled ↦
+      let own = are.each planning.done below settled in
+      let job_is : own.job ≡ job = sym (own.is own.job) ∙ is own.job in
+      let here : All (λ node. node < length planning.base.rooms) own.job.nodes = rw job_is nodes in
+      let there : All (λ node. node < length old.base.rooms) own.job.nodes = rw (own.was own.job) at (old_nodes own.before own.job own.there) in
+      let fits = steady-fits old planning.base planning.ranked planning.moment planning.done same counts met steady marks are below own settled here there in
+      absurd (nowhere own.before are.old_ids (rw job_is at fits))
+]

@@ -1,0 +1,13 @@
+use Rattle.std.proofs.Common.{ℕ, ◌-◌, ◌≤◌}
+use Rattle.plan_keeper.specs.Nodes.{IsAsFree}
+use Rattle.plan_keeper.proofs.same_nodes.is_as_free.Given as goal
+
+-- as much is free at each second so far
+abbrev pub invariant-loop-second : goal.invariant-loop-second
+invariant-loop-second l = record {
+  later : l.now ≤ l.second;
+  free : IsAsFree l.old l.new l.now l.node l.second;
+}
+
+abbrev pub decreases-loop-second : goal.decreases-loop-second
+decreases-loop-second l = 1000000000000 - l.second

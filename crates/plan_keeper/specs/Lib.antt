@@ -1,0 +1,5 @@
+pub mod Steady
+pub mod Marks
+pub mod Planner
+pub mod Nodes
+pub mod Turns

@@ -1,0 +1,104 @@
+-- What replanning keeps in mind of the nodes and of the old list. Of the proof alone: no public call speaks of it.
+use Rattle.std.specs.Prelude.{◌≡◌, ℕ, ◌+◌, ◌≤◌, ◌<◌, Bool, true, false, ◌&&◌, not, nat_eq, List, length, take, count_by, sum_by, slice_index_or, All, Option, Some, None}
+use Rattle.backfill_planner.specs.declared.job.PlanJob.{PlanJob}
+use Rattle.backfill_planner.specs.Bases.{BaseView}
+use Rattle.backfill_planner.specs.Plans.{PlannedView, holds_before}
+use Rattle.backfill_planner.specs.Staying.{StaysFrom}
+use Rattle.plan_keeper.specs.Steady.{may_have_node, AreSteady}
+
+-- how often the node is among the job's, and among those of some jobs
+abbrev pub on : ℕ → PlanJob → ℕ
+on node job = count_by (nat_eq node) job.nodes
+
+abbrev pub times : ℕ → List PlanJob → ℕ
+times node jobs = sum_by (on node) jobs
+
+-- how often a job's nodes are among those of the jobs before a place of the list
+abbrev pub depth : List PlanJob → ℕ → PlanJob → ℕ
+depth jobs place job = sum_by (λ node. times node (take place jobs)) job.nodes
+
+-- the number is the place of one of the first jobs that has this id; or none of them has it
+abbrev pub FindsId : List PlanJob → ℕ → ℕ → Option ℕ → Type 0
+FindsId jobs first id None = (place : ℕ) (d : PlanJob) → place < first → ¬ ((slice_index_or jobs place d).id ≡ id)
+FindsId jobs first id (Some place) = (place < first) × ((d : PlanJob) → (slice_index_or jobs place d).id ≡ id)
+
+-- each job of the list is found by its id, with how often its nodes are among those of the jobs before it
+pub record IsListed (jobs : List PlanJob) (places : ℕ → Option ℕ) (depths : List ℕ) : Type 0 where
+  pub finds : (id : ℕ) → FindsId jobs (length jobs) id (places id)
+  pub long : length depths ≡ length jobs
+  pub deep : (place d : ℕ) (job : PlanJob) → place < length jobs → slice_index_or jobs place job ≡ job
+      → slice_index_or depths place d ≡ depth jobs place job
+
+-- Of a node: the jobs so far that may have it are the first in the old list that may, and so as much of it is free now
+-- as was then.
+pub record IsMatched (old : PlannedView) (base : BaseView) (ranked : List PlanJob) (now place : ℕ) (met : List Bool)
+    (node : ℕ) : Type 0 where
+  pub passed : (before : ℕ) (d : PlanJob) → before < length old.ranked
+      → 1 ≤ on node (slice_index_or old.ranked before d)
+      → times node (take before old.ranked) < times node (take place ranked)
+      → slice_index_or met before false ≡ true
+  pub stays : (before : ℕ) → before ≤ length old.ranked
+      → times node (take before old.ranked) ≡ times node (take place ranked)
+      → StaysFrom old.base.rooms (holds_before old.base old.ranked old.moment before)
+      base.rooms (holds_before base ranked now place) now node
+
+-- the job at a place of the old list was met before this place of the new one
+pub record IsMet (old ranked : List PlanJob) (place before : ℕ) : Type 0 where
+  pub at : ℕ
+  pub above : at < place
+  pub same : (d : PlanJob) → slice_index_or ranked at d ≡ slice_index_or old before d
+
+-- one of the jobs before this place may have the node and isn't steady
+pub record IsUnsettled (ranked : List PlanJob) (steady : ℕ → Bool) (place node : ℕ) : Type 0 where
+  pub at : ℕ
+  pub above : at < place
+  pub has : (d : PlanJob) → may_have_node node (slice_index_or ranked at d) ≡ true
+  pub other : steady at ≡ false
+
+-- what is marked of nodes and of the old list once the jobs before a place of the new one are planned
+pub record AreMarks (old : PlannedView) (base : BaseView) (ranked : List PlanJob) (now place : ℕ) (same : List Bool)
+    (counts : List ℕ) (met : List Bool) : Type 0 where
+  pub same_long : length same ≡ length base.rooms
+  pub counts_long : length counts ≡ length base.rooms
+  pub met_long : length met ≡ length old.ranked
+  pub counted : (node d : ℕ) → node < length base.rooms
+      → slice_index_or counts node d ≡ times node (take place ranked)
+  pub known : (before : ℕ) → before < length old.ranked → slice_index_or met before false ≡ true
+      → IsMet old.ranked ranked place before
+  pub matched : (node : ℕ) → node < length base.rooms → slice_index_or same node false ≡ true
+      → IsMatched old base ranked now place met node
+  pub changed : (steady : ℕ → Bool) → AreSteady old base ranked now steady → (node : ℕ) → node < length base.rooms
+      → slice_index_or same node false ≡ false → node < length old.base.rooms
+      → StaysFrom old.base.rooms old.base.holds base.rooms base.holds now node
+      → IsUnsettled ranked steady place node
+
+-- The job is the one at a place of the old list, wasn't met before, and on none of its nodes has anything changed by now;
+-- as many jobs that may have them stand above it as did.
+pub record Fits (old : List PlanJob) (same : List Bool) (counts : List ℕ) (met : List Bool) (job : PlanJob)
+    (before : ℕ) : Type 0 where
+  pub there : before < length old
+  pub is : (d : PlanJob) → slice_index_or old before d ≡ job
+  pub fresh : slice_index_or met before false ≡ false
+  pub unchanged : All (λ node. slice_index_or same node false ≡ true) job.nodes
+  pub level : sum_by (λ node. slice_index_or counts node 0) job.nodes ≡ depth old before job
+
+-- the counts with a job's nodes added
+pub record Counts (counts : List ℕ) (job : PlanJob) (new : List ℕ) : Type 0 where
+  pub long : length new ≡ length counts
+  pub each : (node d : ℕ) → node < length counts
+      → slice_index_or new node d ≡ slice_index_or counts node d + on node job
+
+-- which nodes are marked as the same, with those of a job taken out
+pub record Without (same : List Bool) (job : PlanJob) (new : List Bool) : Type 0 where
+  pub long : length new ≡ length same
+  pub each : (node : ℕ) → node < length same
+      → slice_index_or new node false ≡ (slice_index_or same node false && not (may_have_node node job))
+
+-- before the first job those nodes are marked that were there and of which nothing has changed
+pub record AreFirst (old : PlannedView) (base : BaseView) (now : ℕ) (same : List Bool) : Type 0 where
+  pub long : length same ≡ length base.rooms
+  pub stays : (node : ℕ) → node < length base.rooms → slice_index_or same node false ≡ true
+      → StaysFrom old.base.rooms old.base.holds base.rooms base.holds now node
+  pub changed : (node : ℕ) → node < length base.rooms → slice_index_or same node false ≡ false
+      → node < length old.base.rooms
+      → ¬ StaysFrom old.base.rooms old.base.holds base.rooms base.holds now node

@@ -1,0 +1,33 @@
+-- What the planner promises, as the proofs here take it. Of the proof alone.
+use Rattle.std.specs.Prelude.{◌≡◌, ℕ, ◌+◌, ◌≤◌, ◌<◌, ◌++◌, List, length, slice_index_or, false, All, Contains, Some, None}
+use Rattle.resource_profile.specs.declared.NodeRoom.{NodeRoom}
+use Rattle.resource_profile.specs.declared.Hold.{Hold}
+use Rattle.backfill_planner.specs.declared.Share.{Share}
+use Rattle.backfill_planner.specs.declared.Placed.{Placed}
+use Rattle.backfill_planner.specs.declared.job.PlanJob.{PlanJob}
+use Rattle.backfill_planner.specs.Bases.{BaseView}
+use Rattle.backfill_planner.specs.Lesser.{NoneBefore}
+use Rattle.backfill_planner.specs.Plans.{holds_of, holds_before, placed_of, placement_of}
+use Rattle.backfill_planner.specs.Staying.{EndsInTime, StaysFrom}
+
+pub record PlannerLaws : Type 0 where
+  pub own : (rooms : List NodeRoom) (holds : List Hold) (job : PlanJob) (lo hi : ℕ) (placed : Placed)
+      → placed_of rooms holds job lo hi ≡ Some placed
+      → All (λ (share : Share). Contains job.nodes share.node) placed.parts
+  pub some : (rooms : List NodeRoom) (holds : List Hold) (new_rooms : List NodeRoom) (new_holds : List Hold)
+      (job : PlanJob) (before now last hi : ℕ) (placed : Placed)
+      → EndsInTime job → before ≤ now → hi ≤ 250002592000
+      → All (StaysFrom rooms holds new_rooms new_holds now) job.nodes
+      → placed_of rooms holds job before last ≡ Some placed → now ≤ placed.start → placed.start ≤ hi
+      → placed_of new_rooms new_holds job now hi ≡ Some placed
+  pub none : (rooms : List NodeRoom) (holds : List Hold) (new_rooms : List NodeRoom) (new_holds : List Hold)
+      (job : PlanJob) (before now last : ℕ)
+      → EndsInTime job → before ≤ now → All (StaysFrom rooms holds new_rooms new_holds now) job.nodes
+      → placed_of rooms holds job before last ≡ None → NoneBefore new_rooms new_holds job now (last + 1)
+  pub nowhere : (rooms : List NodeRoom) (holds : List Hold) (job : PlanJob) (now last hi : ℕ)
+      → hi ≤ last → hi ≤ 250002592000 → NoneBefore rooms holds job now (last + 1)
+      → placed_of rooms holds job now hi ≡ None
+  pub goes_on : (base : BaseView) (ranked : List PlanJob) (now place : ℕ) (job : PlanJob)
+      → place < length ranked → slice_index_or ranked place job ≡ job
+      → holds_before base ranked now (place + 1)
+      ≡ holds_before base ranked now place ++ holds_of job (placement_of base ranked now place job)

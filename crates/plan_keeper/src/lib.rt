@@ -1,0 +1,11 @@
+//! Plans that are kept up: a plan is made over an older one, and equals planning from scratch.
+#![tactic(auto)]
+
+pub mod laws;
+mod marks;
+mod old_list;
+mod replanning;
+mod same_job;
+mod same_nodes;
+
+pub use replanning::replan;
