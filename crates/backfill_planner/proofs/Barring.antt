@@ -12,6 +12,7 @@ use Rattle.cpu_ids.specs.Rows.{has_id}
 use Rattle.backfill_planner.specs.declared.job.Barred.{Barred}
 use Rattle.backfill_planner.specs.declared.job.PlanJob.{PlanJob}
 use Rattle.backfill_planner.specs.Giving.{window_end, bars, is_barred}
+use Rattle.slurm_text.specs.declared.plain.seconds.TheConstants.{FOREVER}
 
 pub record Crosses (node from until : ℕ) (time : Barred) : Type 0 where
   pub node_is : has_id time.nodes node ≡ true
@@ -40,7 +41,7 @@ barred-also barred node from until other_from other_until also is =
 pub window-order : (job : PlanJob) (second later : ℕ) → second ≤ later → window_end job second ≤ window_end job later
 window-order job second later order = by job.seconds
   where
-    by : (seconds : Option ℕ) → unwrap_or (option_map (λ s. second + s) seconds) 1000000000000 ≤ unwrap_or (option_map (λ s. later + s) seconds) 1000000000000
+    by : (seconds : Option ℕ) → unwrap_or (option_map (λ s. second + s) seconds) FOREVER ≤ unwrap_or (option_map (λ s. later + s) seconds) FOREVER
     by None = omega arith
     by (Some seconds) = omega (arith, order)
 

@@ -28,6 +28,7 @@ use Rattle.backfill_planner.specs.Lesser.{IsNoMoreMem, IsLesser, NoneBefore}
 use Rattle.backfill_planner.proofs.Rises.{chosen-none_fits, tasks-more, map-more, none-chosen, fits-more}
 use Rattle.backfill_planner.proofs.Seconds.{placed-none}
 use Rattle.backfill_planner.proofs.LeastSecond.{placed-is, placed-nowhere}
+use Rattle.slurm_text.specs.declared.plain.seconds.TheConstants.{FOREVER, LAST_START}
 
 -- a smaller part is in it more often
 quotient-part : (n small big : ℕ) → 1 ≤ small → small ≤ big → n / big ≤ n / small
@@ -83,7 +84,7 @@ unfolding least_after
 least_after-within free room from zero within = within from
 least_after-within free room from (suc count) within = omega (arith, within from)
 
-give-lesser : (rooms : List NodeRoom) (holds : List Hold) (lesser job : PlanJob) (second node : ℕ) → IsLesser lesser job → second ≤ 250002592000 → give rooms holds job second node ≤ give rooms holds lesser second node
+give-lesser : (rooms : List NodeRoom) (holds : List Hold) (lesser job : PlanJob) (second node : ℕ) → IsLesser lesser job → second ≤ LAST_START → give rooms holds job second node ≤ give rooms holds lesser second node
 give-lesser rooms holds lesser job second node is last =
     let window = is.window second last in
     let order = is.no_longer second last in
@@ -102,7 +103,7 @@ give-lesser rooms holds lesser job second node is last =
     unless-less (is_barred job.barred node second (window_end job second)) (is_barred lesser.barred node second (window_end lesser second)) _ _ barred
     (omega (arith, wider, tasks-lesser lesser job (room_at rooms node) cpus mem is))
 
-capacity-lesser : (rooms : List NodeRoom) (holds : List Hold) (lesser job : PlanJob) (second place : ℕ) → IsLesser lesser job → second ≤ 250002592000 → capacity (capacities rooms holds job second) place ≤ capacity (capacities rooms holds lesser second) place
+capacity-lesser : (rooms : List NodeRoom) (holds : List Hold) (lesser job : PlanJob) (second place : ℕ) → IsLesser lesser job → second ≤ LAST_START → capacity (capacities rooms holds job second) place ≤ capacity (capacities rooms holds lesser second) place
 unfolding capacities
 capacity-lesser rooms holds lesser job second place is last =
     rw is.nodes (map-more (λ node. give rooms holds job second node) (λ node. give rooms holds lesser second node) job.nodes place (λ node. give-lesser rooms holds lesser job second node is last))
@@ -171,7 +172,7 @@ is_none : (placed : Option Placed) → placed ≡ None → is_some placed ≡ fa
 is_none None nothing = refl
 is_none (Some one) nothing = absurd cc
 
-skipped : (rooms : List NodeRoom) (holds : List Hold) (job : PlanJob) (now lo hi : ℕ) → now ≤ lo → hi ≤ 250002592000 → lo ≤ hi → NoneBefore rooms holds job now lo → placed_of rooms holds job lo hi ≡ placed_of rooms holds job now hi
+skipped : (rooms : List NodeRoom) (holds : List Hold) (job : PlanJob) (now lo hi : ℕ) → now ≤ lo → hi ≤ LAST_START → lo ≤ hi → NoneBefore rooms holds job now lo → placed_of rooms holds job lo hi ≡ placed_of rooms holds job now hi
 unfolding placed_of first_second
 skipped rooms holds job now lo hi order last before none =
     let count : hi + 1 - now ≡ (lo - now) + (hi + 1 - lo) = omega (arith, order, before) in
@@ -180,7 +181,7 @@ skipped rooms holds job now lo hi order last before none =
     (λ n low high. is_none (placement_at rooms holds job n) (none n low (omega (arith, high, order)) (omega (arith, high, order, before, last)))) in
     ap (λ found. option_and_then (λ s. placement_at rooms holds job s) found) (sym (rw count (rw begin at same)))
 
-pub placed-later : (rooms : List NodeRoom) (holds : List Hold) (job : PlanJob) (now lo hi : ℕ) → now ≤ lo → hi ≤ 250002592000 → NoneBefore rooms holds job now lo → placed_of rooms holds job lo hi ≡ placed_of rooms holds job now hi
+pub placed-later : (rooms : List NodeRoom) (holds : List Hold) (job : PlanJob) (now lo hi : ℕ) → now ≤ lo → hi ≤ LAST_START → NoneBefore rooms holds job now lo → placed_of rooms holds job lo hi ≡ placed_of rooms holds job now hi
 placed-later rooms holds job now lo hi order last none = elim (cases_lt hi lo) [
   | inl past ↦
       sym (placed-none rooms holds job lo hi (hi + 1) (omega arith) (λ n low high below. absurd (omega (arith, low, high, past))))
@@ -204,14 +205,14 @@ some-placed laws rooms holds job now hi placed is second low high last =
     none-there laws rooms holds job second (λ set. there.first second set low high)
 
 -- no longer than the other
-pub no-longer : (less more : Option ℕ) (second : ℕ) → IfSome less (λ s. (1 ≤ s) × (s ≤ 3153600000)) → IfSome more (λ s. (1 ≤ s) × (s ≤ 3153600000)) → unwrap_or less 1000000000000 ≤ unwrap_or more 1000000000000 → second ≤ 250002592000
-    → unwrap_or (option_map (λ s. second + s) less) 1000000000000 ≤ unwrap_or (option_map (λ s. second + s) more) 1000000000000
+pub no-longer : (less more : Option ℕ) (second : ℕ) → IfSome less (λ s. (1 ≤ s) × (s ≤ 3153600000)) → IfSome more (λ s. (1 ≤ s) × (s ≤ 3153600000)) → unwrap_or less FOREVER ≤ unwrap_or more FOREVER → second ≤ LAST_START
+    → unwrap_or (option_map (λ s. second + s) less) FOREVER ≤ unwrap_or (option_map (λ s. second + s) more) FOREVER
 no-longer None None second less_is more_is order last = omega arith
 no-longer None (Some more) second less_is more_is order last = absurd (omega (arith, order, more_is.1))
 no-longer (Some less) None second less_is more_is order last = omega (arith, less_is.1, last)
 no-longer (Some less) (Some more) second less_is more_is order last = omega (arith, order)
 
-pub has-window : (less : Option ℕ) (second : ℕ) → IfSome less (λ s. (1 ≤ s) × (s ≤ 3153600000)) → second ≤ 250002592000 → second < unwrap_or (option_map (λ s. second + s) less) 1000000000000
+pub has-window : (less : Option ℕ) (second : ℕ) → IfSome less (λ s. (1 ≤ s) × (s ≤ 3153600000)) → second ≤ LAST_START → second < unwrap_or (option_map (λ s. second + s) less) FOREVER
 has-window None second is last = omega (arith, last)
 has-window (Some less) second is last = omega (arith, is.0)
 

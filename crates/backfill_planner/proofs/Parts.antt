@@ -23,6 +23,7 @@ use Rattle.backfill_planner.proofs.Takes.{takes_some, gives_usable}
 use Rattle.backfill_planner.proofs.Dealing.{IsGiven, dealt-given, dealt-some, length-capacities}
 use Rattle.backfill_planner.proofs.Holding.{HoldsFree, capacity-give, placement-holds}
 use Rattle.backfill_planner.proofs.LeastSecond.{placed-is}
+use Rattle.slurm_text.specs.declared.plain.seconds.TheConstants.{FOREVER, LAST_START}
 
 pub pairs-head : {X : Type 0} (R : X → X → Type 0) (x : X) (xs : List X) → AllPairs R (x ∷ xs) → All (R x) xs
 pairs-head R x xs pairs k d below = pairs 0 (suc k) d (omega arith) (omega (arith, below))
@@ -41,15 +42,15 @@ if_placed P None each = tt
 if_placed P (Some one) each = each one refl
 
 -- the window ends after it begins
-pub window-later : (job : PlanJob) (start : ℕ) → IsPlannable job → start ≤ 250002592000 → start < window_end job start
+pub window-later : (job : PlanJob) (start : ℕ) → IsPlannable job → start ≤ LAST_START → start < window_end job start
 window-later job start is low = by job.seconds is.seconds
   where
-    by : (seconds : Option ℕ) → IfSome seconds (λ s. 1 ≤ s) → start < unwrap_or (option_map (λ s. start + s) seconds) 1000000000000
+    by : (seconds : Option ℕ) → IfSome seconds (λ s. 1 ≤ s) → start < unwrap_or (option_map (λ s. start + s) seconds) FOREVER
     by None some = omega (arith, low)
     by (Some s) some = omega (arith, some)
 
 -- what a placed job holds is free, on nodes that differ
-pub placed-holds : (rooms : List NodeRoom) (holds : List Hold) (job : PlanJob) (lo hi : ℕ) (placed : Placed) → IsOnRooms rooms job → IsPlannable job → hi ≤ 250002592000 → IsPlacement rooms holds job lo hi placed
+pub placed-holds : (rooms : List NodeRoom) (holds : List Hold) (job : PlanJob) (lo hi : ℕ) (placed : Placed) → IsOnRooms rooms job → IsPlannable job → hi ≤ LAST_START → IsPlacement rooms holds job lo hi placed
     → HoldsFree rooms holds (holds_of job (Some placed))
 placed-holds rooms holds job lo hi placed nodes is low placement =
     let caps = capacities rooms holds job placed.start in
@@ -117,7 +118,7 @@ placed-each rooms holds job lo hi placed nodes is placement =
           cpus = takes_some job (room_at rooms node) cpus mem part.tasks is.cpus some (rw clear at gives);
         }
 
-placed-parts : (rooms : List NodeRoom) (holds : List Hold) (job : PlanJob) (lo hi : ℕ) (placed : Placed) → IsOnRooms rooms job → IsPlannable job → hi ≤ 250002592000 → IsPlacement rooms holds job lo hi placed
+placed-parts : (rooms : List NodeRoom) (holds : List Hold) (job : PlanJob) (lo hi : ℕ) (placed : Placed) → IsOnRooms rooms job → IsPlannable job → hi ≤ LAST_START → IsPlacement rooms holds job lo hi placed
     → AreParts rooms placed.parts
 placed-parts rooms holds job lo hi placed nodes is low placement =
     let apart = (placed-holds rooms holds job lo hi placed nodes is low placement).apart in
@@ -212,7 +213,7 @@ plan-some laws base ranked now tasks =
     (λ beside job placed some is. placed-some base.rooms beside job now base.horizon placed some is) tasks
 
 -- each has its parts on nodes that differ
-pub plan-parts : LowerLaws → (base : BaseView) (ranked : List PlanJob) (now : ℕ) → base.horizon ≤ 250002592000 → All (IsOnRooms base.rooms) ranked → All IsPlannable ranked
+pub plan-parts : LowerLaws → (base : BaseView) (ranked : List PlanJob) (now : ℕ) → base.horizon ≤ LAST_START → All (IsOnRooms base.rooms) ranked → All IsPlannable ranked
     → All (λ (placed : Placed). AreParts base.rooms placed.parts) (plan_of base ranked now)
 plan-parts laws base ranked now low nodes jobs =
     plan-all laws (λ (placed : Placed). AreParts base.rooms placed.parts) (λ job. IsOnRooms base.rooms job × IsPlannable job) base ranked now

@@ -24,6 +24,7 @@ use Rattle.backfill_planner.specs.declared.job.PlanJob.{PlanJob}
 use Rattle.backfill_planner.specs.Sweeps.{NoneEnds}
 use Rattle.backfill_planner.specs.Giving.{window_end, is_barred, tasks_by_mem, may_have, tasks_given, give, capacities}
 use Rattle.backfill_planner.specs.Plans.{shares_of, placement_at}
+use Rattle.slurm_text.specs.declared.plain.seconds.TheConstants.{FOREVER}
 
 pub quotient-more : (less more part : ℕ) → less ≤ more → less / part ≤ more / part
 quotient-more less more part grows = elim (cases_lt 0 part) [
@@ -97,10 +98,10 @@ least-more free moment end later_end window later next no_rise =
     ]
 
 -- the windows of a job
-pub window-any : (job : PlanJob) (start moment : ℕ) → start < window_end job start → moment < 1000000000000 → moment < window_end job moment
+pub window-any : (job : PlanJob) (start moment : ℕ) → start < window_end job start → moment < FOREVER → moment < window_end job moment
 window-any job start moment window early = by job.seconds window
   where
-    by : (seconds : Option ℕ) → start < unwrap_or (option_map (λ s. start + s) seconds) 1000000000000 → moment < unwrap_or (option_map (λ s. moment + s) seconds) 1000000000000
+    by : (seconds : Option ℕ) → start < unwrap_or (option_map (λ s. start + s) seconds) FOREVER → moment < unwrap_or (option_map (λ s. moment + s) seconds) FOREVER
     by None window = early
     by (Some seconds) window = omega (arith, window)
 
@@ -171,7 +172,7 @@ next-none laws rooms holds job moment quiet window next nothing =
     (fits-more (capacities rooms holds job (moment + 1)) (capacities rooms holds job moment) job.need set (λ place. capacity-more rooms holds job moment place quiet window next) fits)) in
     rw still refl
 
-gap-none : LowerLaws → (rooms : List NodeRoom) (holds : List Hold) (job : PlanJob) (start end count : ℕ) → NoneEnds holds job.barred start end → start < window_end job start → start + count < end → start + count < 1000000000000 → placement_at rooms holds job start ≡ None → placement_at rooms holds job (start + count) ≡ None
+gap-none : LowerLaws → (rooms : List NodeRoom) (holds : List Hold) (job : PlanJob) (start end count : ℕ) → NoneEnds holds job.barred start end → start < window_end job start → start + count < end → start + count < FOREVER → placement_at rooms holds job start ≡ None → placement_at rooms holds job (start + count) ≡ None
 gap-none laws rooms holds job start end zero quiet window below early nothing =
     let same : start + 0 ≡ start = omega arith in rw same nothing
 gap-none laws rooms holds job start end (suc count) quiet window below early nothing =
@@ -180,7 +181,7 @@ gap-none laws rooms holds job start end (suc count) quiet window below early not
     rw next (next-none laws rooms holds job (start + count) (quiet.holds_last (start + count + 1) (omega arith) (omega (arith, below)), quiet.times_last (start + count + 1) (omega arith) (omega (arith, below)))
     (window-any job start (start + count) window (omega (arith, early))) (window-any job start (start + count + 1) window (omega (arith, early))) before)
 
-pub none-until : LowerLaws → (rooms : List NodeRoom) (holds : List Hold) (job : PlanJob) (start end moment : ℕ) → NoneEnds holds job.barred start end → start < window_end job start → start ≤ moment → moment < end → moment < 1000000000000 → placement_at rooms holds job start ≡ None → placement_at rooms holds job moment ≡ None
+pub none-until : LowerLaws → (rooms : List NodeRoom) (holds : List Hold) (job : PlanJob) (start end moment : ℕ) → NoneEnds holds job.barred start end → start < window_end job start → start ≤ moment → moment < end → moment < FOREVER → placement_at rooms holds job start ≡ None → placement_at rooms holds job moment ≡ None
 none-until laws rooms holds job start end moment quiet window from below early nothing =
     let same : moment ≡ start + (moment - start) = omega (arith, from) in
     rw same (gap-none laws rooms holds job start end (moment - start) quiet window (omega (arith, from, below)) (omega (arith, from, early)) nothing)

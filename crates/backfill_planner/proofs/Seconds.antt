@@ -12,6 +12,7 @@ use Rattle.node_pick.specs.Choosing.{numbers_from}
 use Rattle.backfill_planner.specs.declared.Placed.{Placed}
 use Rattle.backfill_planner.specs.declared.job.PlanJob.{PlanJob}
 use Rattle.backfill_planner.specs.Plans.{placement_at, first_second, placed_of}
+use Rattle.slurm_text.specs.declared.plain.seconds.TheConstants.{LAST_START}
 
 -- at no second from `lo` to `hi` and before `end` some set fits
 abbrev pub NonePlaced : List NodeRoom → List Hold → PlanJob → ℕ → ℕ → ℕ → Type 0
@@ -58,7 +59,7 @@ nothing_there None nothing = refl
 nothing_there (Some one) nothing = cc
 
 -- none fits at a second, so none fits before the next end of a hold, or of a time at which the job may not have nodes
-pub NonePlaced-more : LowerLaws → (rooms : List NodeRoom) (holds : List Hold) (job : PlanJob) (lo hi start end : ℕ) (placed : Option Placed) → NonePlaced rooms holds job lo hi start → placed ≡ placement_at rooms holds job start → is_some placed ≡ false → start < window_end job start → hi ≤ 250002592000 → NoneEnds holds job.barred start end → NonePlaced rooms holds job lo hi end
+pub NonePlaced-more : LowerLaws → (rooms : List NodeRoom) (holds : List Hold) (job : PlanJob) (lo hi start end : ℕ) (placed : Option Placed) → NonePlaced rooms holds job lo hi start → placed ≡ placement_at rooms holds job start → is_some placed ≡ false → start < window_end job start → hi ≤ LAST_START → NoneEnds holds job.barred start end → NonePlaced rooms holds job lo hi end
 NonePlaced-more laws rooms holds job lo hi start end placed none is nothing window last quiet n low within high = elim (cases_lt n start) [
   | inl before ↦ none n low within before
   | inr at ↦ none-until laws rooms holds job start end n quiet window at high (omega (arith, within, last)) (sym is ∙ nothing_there placed nothing)

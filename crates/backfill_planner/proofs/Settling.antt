@@ -28,13 +28,14 @@ use Rattle.backfill_planner.proofs.Beside.{placed-permuted, placement-permuted}
 use Rattle.backfill_planner.proofs.Beginnings.{plan_of-take}
 use Rattle.backfill_planner.proofs.Lessening.{bound-shown, seen-held}
 use Rattle.backfill_planner.proofs.Stepping.{plan-next, holds-next}
+use Rattle.slurm_text.specs.declared.plain.seconds.TheConstants.{LAST_START}
 
 -- it is free, and begins in time
 pub record SettlesFree (rooms : List NodeRoom) (holds : List Hold) (job : PlanJob) (placed : Placed) : Type 0 where
   pub free : HoldsFree rooms holds (holds_of job (Some placed))
-  pub start : placed.start ≤ 250002592000
+  pub start : placed.start ≤ LAST_START
 
-pub settled-free : LowerLaws → (rooms : List NodeRoom) (holds : List Hold) (job : PlanJob) (lo hi : ℕ) (placed : Placed) → IsOnRooms rooms job → IsPlannable job → hi ≤ 250002592000 → Some placed ≡ placed_of rooms holds job lo hi → SettlesFree rooms holds job placed
+pub settled-free : LowerLaws → (rooms : List NodeRoom) (holds : List Hold) (job : PlanJob) (lo hi : ℕ) (placed : Placed) → IsOnRooms rooms job → IsPlannable job → hi ≤ LAST_START → Some placed ≡ placed_of rooms holds job lo hi → SettlesFree rooms holds job placed
 settled-free laws rooms holds job lo hi placed nodes is low there =
     let placement = placed-is laws rooms holds job lo hi placed (sym there) in
     record {
@@ -65,7 +66,7 @@ counted-more base ranked now done counts more counted is = record {
 }
 
 -- what the next job holds that gets its placement is free in the profile
-pub next-free : LowerLaws → (base : BaseView) (ranked : List PlanJob) (now done : ℕ) (made : List Placed) (counts : List ℕ) (profile : ProfileView) (searches : List Seen) (job : PlanJob) (placed : Placed) → IsPlanning base ranked now done made counts profile searches → base.horizon ≤ 250002592000 → done < length ranked → job ≡ get_or ranked done job → IsPlannable job → Some placed ≡ placement_of base ranked now done job → SettlesFree profile.rooms profile.holds job placed
+pub next-free : LowerLaws → (base : BaseView) (ranked : List PlanJob) (now done : ℕ) (made : List Placed) (counts : List ℕ) (profile : ProfileView) (searches : List Seen) (job : PlanJob) (placed : Placed) → IsPlanning base ranked now done made counts profile searches → base.horizon ≤ LAST_START → done < length ranked → job ≡ get_or ranked done job → IsPlannable job → Some placed ≡ placement_of base ranked now done job → SettlesFree profile.rooms profile.holds job placed
 next-free laws base ranked now done made counts profile searches job placed is low below job_is plannable there =
     let nodes : IsOnRooms base.rooms job = rw (← job_is) at (is.nodes done job below) in
     rw is.rooms (settled-free laws base.rooms profile.holds job now base.horizon placed nodes plannable low (there ∙ placed-permuted base.rooms (holds_before base ranked now done) profile.holds job now base.horizon is.held))
@@ -100,7 +101,7 @@ next-planned laws base ranked now done made counts profile searches job placed n
     }
 
 -- before the first job
-pub none-planned : (base : BaseView) (ranked : List PlanJob) (now : ℕ) (made : List Placed) (counts : List ℕ) (profile : ProfileView) (searches : List Seen) → AreWithin base.rooms base.holds → base.horizon ≤ 250002592000 → All (IsOnRooms base.rooms) ranked → made ≡ [] → counts ≡ 0 ∷ [] → profile.rooms ≡ base.rooms → profile.holds ≡ base.holds → searches ≡ [] → IsPlanning base ranked now 0 made counts profile searches
+pub none-planned : (base : BaseView) (ranked : List PlanJob) (now : ℕ) (made : List Placed) (counts : List ℕ) (profile : ProfileView) (searches : List Seen) → AreWithin base.rooms base.holds → base.horizon ≤ LAST_START → All (IsOnRooms base.rooms) ranked → made ≡ [] → counts ≡ 0 ∷ [] → profile.rooms ≡ base.rooms → profile.holds ≡ base.holds → searches ≡ [] → IsPlanning base ranked now 0 made counts profile searches
 unfolding plan_of plan_beside plan_holds_of plan_holds_beside
 none-planned base ranked now made counts profile searches within low nodes made_is counts_are rooms_are holds_are searches_are = record {
   within = within;

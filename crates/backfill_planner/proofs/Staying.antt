@@ -18,6 +18,7 @@ use Rattle.backfill_planner.specs.Staying.{StaysFrom, EndsInTime}
 use Rattle.backfill_planner.proofs.Dealing.{IsGiven, dealt-given, length-capacities}
 use Rattle.backfill_planner.proofs.Lessening.{some-placed, none-placed}
 use Rattle.backfill_planner.proofs.Seconds.{placed-some, placed-none}
+use Rattle.slurm_text.specs.declared.plain.seconds.TheConstants.{FOREVER, LAST_START}
 
 least_after-same : (one other : ℕ → ℕ) (from more : ℕ) → ((moment : ℕ) → from ≤ moment → moment ≤ from + more → one moment ≡ other moment) → least_after one from more ≡ least_after other from more
 unfolding least_after
@@ -26,14 +27,14 @@ least_after-same one other from (suc more) same =
     ap (λ first. min first (least_after one (from + 1) more)) (same from (omega arith) (omega arith))
     ∙ ap (λ rest. min (other from) rest) (least_after-same one other (from + 1) more (λ moment low high. same moment (omega (arith, low)) (omega (arith, high))))
 
-least_over-same : (one other : ℕ → ℕ) (now from until : ℕ) → now ≤ from → from < 1000000000000 → until ≤ 1000000000000 → ((second : ℕ) → now ≤ second → second < 1000000000000 → one second ≡ other second) → least_over one from until ≡ least_over other from until
+least_over-same : (one other : ℕ → ℕ) (now from until : ℕ) → now ≤ from → from < FOREVER → until ≤ FOREVER → ((second : ℕ) → now ≤ second → second < FOREVER → one second ≡ other second) → least_over one from until ≡ least_over other from until
 least_over-same one other now from until later before within same =
     least_after-same one other from (until - from - 1) (λ moment low high. same moment (omega (arith, later, low)) (omega (arith, high, before, within)))
 
-give-stays : (rooms : List NodeRoom) (holds : List Hold) (new_rooms : List NodeRoom) (new_holds : List Hold) (job : PlanJob) (now start node : ℕ) → EndsInTime job → now ≤ start → start ≤ 250002592000 → StaysFrom rooms holds new_rooms new_holds now node → give new_rooms new_holds job start node ≡ give rooms holds job start node
+give-stays : (rooms : List NodeRoom) (holds : List Hold) (new_rooms : List NodeRoom) (new_holds : List Hold) (job : PlanJob) (now start node : ℕ) → EndsInTime job → now ≤ start → start ≤ LAST_START → StaysFrom rooms holds new_rooms new_holds now node → give new_rooms new_holds job start node ≡ give rooms holds job start node
 give-stays rooms holds new_rooms new_holds job now start node short later low stays =
     let end = window_end job start in
-    let within : end ≤ 1000000000000 = short start low in
+    let within : end ≤ FOREVER = short start low in
     let given : NodeRoom → ℕ → ℕ → ℕ = λ room cpus mem. cond (is_barred job.barred node start end) 0 (tasks_given job room cpus mem) in
     let cpus = least_over-same (λ second. free_cpus new_rooms new_holds node second) (λ second. free_cpus rooms holds node second) now start end later (omega (arith, low)) within stays.cpus in
     let mem = least_over-same (λ second. free_mem new_rooms new_holds node second) (λ second. free_mem rooms holds node second) now start end later (omega (arith, low)) within stays.mem in
@@ -47,7 +48,7 @@ map-all f g (x ∷ xs) same =
     ap (λ y. y ∷ map f xs) (All-head (λ x. f x ≡ g x) x xs same)
     ∙ ap (λ ys. g x ∷ ys) (map-all f g xs (All-tail (λ x. f x ≡ g x) x xs same))
 
-capacities-stay : (rooms : List NodeRoom) (holds : List Hold) (new_rooms : List NodeRoom) (new_holds : List Hold) (job : PlanJob) (now start : ℕ) → EndsInTime job → now ≤ start → start ≤ 250002592000 → All (StaysFrom rooms holds new_rooms new_holds now) job.nodes → capacities new_rooms new_holds job start ≡ capacities rooms holds job start
+capacities-stay : (rooms : List NodeRoom) (holds : List Hold) (new_rooms : List NodeRoom) (new_holds : List Hold) (job : PlanJob) (now start : ℕ) → EndsInTime job → now ≤ start → start ≤ LAST_START → All (StaysFrom rooms holds new_rooms new_holds now) job.nodes → capacities new_rooms new_holds job start ≡ capacities rooms holds job start
 unfolding capacities
 capacities-stay rooms holds new_rooms new_holds job now start short later low stay =
     map-all (λ node. give new_rooms new_holds job start node) (λ node. give rooms holds job start node) job.nodes
@@ -67,7 +68,7 @@ shares-stay laws rooms holds new_rooms new_holds job now start set stay same is 
     (All-weaker (IsGiven caps) (λ part. share_of new_rooms job part ≡ share_of rooms job part)
     (λ part one. share-stays rooms new_rooms job part (stay part.place 0 (omega (arith, one.place, length-capacities rooms holds job start))).room) parts given)
 
-placement-stays : LowerLaws → (rooms : List NodeRoom) (holds : List Hold) (new_rooms : List NodeRoom) (new_holds : List Hold) (job : PlanJob) (now start : ℕ) → EndsInTime job → now ≤ start → start ≤ 250002592000 → All (StaysFrom rooms holds new_rooms new_holds now) job.nodes → placement_at new_rooms new_holds job start ≡ placement_at rooms holds job start
+placement-stays : LowerLaws → (rooms : List NodeRoom) (holds : List Hold) (new_rooms : List NodeRoom) (new_holds : List Hold) (job : PlanJob) (now start : ℕ) → EndsInTime job → now ≤ start → start ≤ LAST_START → All (StaysFrom rooms holds new_rooms new_holds now) job.nodes → placement_at new_rooms new_holds job start ≡ placement_at rooms holds job start
 unfolding placement_at
 placement-stays laws rooms holds new_rooms new_holds job now start short later low stay =
     ap (λ caps. option_map (λ set. placed_on new_rooms new_holds set) (chosen caps job.need)) same
@@ -105,7 +106,7 @@ at-start rooms holds job lo hi placed is = by (first_second rooms holds job lo h
     by None is = absurd cc
     by (Some start) is = ap (λ second. placement_at rooms holds job second) (start-is rooms holds job start placed is) ∙ is
 
-pub placed-stays : LowerLaws → (rooms : List NodeRoom) (holds : List Hold) (new_rooms : List NodeRoom) (new_holds : List Hold) (job : PlanJob) (before now last hi : ℕ) (placed : Placed) → EndsInTime job → before ≤ now → hi ≤ 250002592000 → All (StaysFrom rooms holds new_rooms new_holds now) job.nodes → placed_of rooms holds job before last ≡ Some placed → now ≤ placed.start → placed.start ≤ hi → placed_of new_rooms new_holds job now hi ≡ Some placed
+pub placed-stays : LowerLaws → (rooms : List NodeRoom) (holds : List Hold) (new_rooms : List NodeRoom) (new_holds : List Hold) (job : PlanJob) (before now last hi : ℕ) (placed : Placed) → EndsInTime job → before ≤ now → hi ≤ LAST_START → All (StaysFrom rooms holds new_rooms new_holds now) job.nodes → placed_of rooms holds job before last ≡ Some placed → now ≤ placed.start → placed.start ≤ hi → placed_of new_rooms new_holds job now hi ≡ Some placed
 placed-stays laws rooms holds new_rooms new_holds job before now last hi placed short order low stay is from within =
     let none = none-stays laws rooms holds new_rooms new_holds job before now placed.start short order stay (some-placed laws rooms holds job before last placed (sym is)) in
     let here : placement_at rooms holds job placed.start ≡ Some placed = at-start rooms holds job before last placed is in
@@ -116,6 +117,6 @@ pub unplaced-stays : LowerLaws → (rooms : List NodeRoom) (holds : List Hold) (
 unplaced-stays laws rooms holds new_rooms new_holds job before now last short order stay is =
     none-stays laws rooms holds new_rooms new_holds job before now (last + 1) short order stay (none-placed laws rooms holds job before last (sym is))
 
-pub unplaced-again : (rooms : List NodeRoom) (holds : List Hold) (job : PlanJob) (now last hi : ℕ) → hi ≤ last → hi ≤ 250002592000 → NoneBefore rooms holds job now (last + 1) → placed_of rooms holds job now hi ≡ None
+pub unplaced-again : (rooms : List NodeRoom) (holds : List Hold) (job : PlanJob) (now last hi : ℕ) → hi ≤ last → hi ≤ LAST_START → NoneBefore rooms holds job now (last + 1) → placed_of rooms holds job now hi ≡ None
 unplaced-again rooms holds job now last hi within low none =
     sym (placed-none rooms holds job now hi (last + 1) (omega (arith, within)) (λ second from to below. none second from below (omega (arith, to, low))))

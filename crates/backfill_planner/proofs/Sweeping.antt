@@ -21,6 +21,7 @@ use Rattle.backfill_planner.specs.Giving.{window_end, bars, is_barred, tasks_giv
 use Rattle.backfill_planner.specs.Sweeps.{GivesUntil}
 use Rattle.backfill_planner.proofs.Holding.{capacity-give}
 use Rattle.backfill_planner.proofs.Dealing.{length-capacities}
+use Rattle.slurm_text.specs.declared.plain.seconds.TheConstants.{FOREVER, LAST_START}
 
 -- the window of the job that begins at a later second ends where the same is free
 pub record IsInReach (job : PlanJob) (from until begins_before ends_up_to : ℕ) : Type 0 where
@@ -28,7 +29,7 @@ pub record IsInReach (job : PlanJob) (from until begins_before ends_up_to : ℕ)
   pub begins : until ≤ begins_before
   pub no_earlier : (second : ℕ) → from ≤ second → window_end job from ≤ window_end job second
   pub no_later : (second : ℕ) → second < until → window_end job second ≤ ends_up_to
-  pub window : (second : ℕ) → second ≤ 250002592000 → second < window_end job second
+  pub window : (second : ℕ) → second ≤ LAST_START → second < window_end job second
 
 -- what is given where the job may have the node, as long as its window ends no later than the next time begins
 pub gives-until : (rooms : List NodeRoom) (holds : List Hold) (job : PlanJob) (from node tasks until last : ℕ) (window : Window) → tasks ≡ tasks_given job (room_at rooms node) window.free.cpus window.free.mem → IsSteady (λ moment. free_of rooms holds node moment) from (window_end job from) window → IsInReach job from until window.begins_before last → last ≤ window.ends_up_to
@@ -62,9 +63,9 @@ in-reach-some job from seconds begins_before ends_up_to is some begins ends =
       window = λ second last. omega (arith, end_of second, some);
     }
 
-pub in-reach-none : (job : PlanJob) (from begins_before ends_up_to : ℕ) → job.seconds ≡ None → from < begins_before → 1000000000000 ≤ ends_up_to → IsInReach job from begins_before begins_before ends_up_to
+pub in-reach-none : (job : PlanJob) (from begins_before ends_up_to : ℕ) → job.seconds ≡ None → from < begins_before → FOREVER ≤ ends_up_to → IsInReach job from begins_before begins_before ends_up_to
 in-reach-none job from begins_before ends_up_to is begins ends =
-    let end_of : (second : ℕ) → window_end job second ≡ 1000000000000 = λ second. rw is refl in
+    let end_of : (second : ℕ) → window_end job second ≡ FOREVER = λ second. rw is refl in
     record {
       later = begins;
       begins = omega arith;
@@ -80,7 +81,7 @@ gives-later rooms holds job from later node tasks until order before gives = rec
 }
 
 -- what is kept is what each node can give
-pub swept-capacities : (rooms : List NodeRoom) (holds : List Hold) (job : PlanJob) (second : ℕ) (caps untils : List ℕ) → length caps ≡ length job.nodes → ((i : ℕ) → i < length job.nodes → GivesUntil rooms holds job second (get_or job.nodes i 0) (get_or caps i 0) (get_or untils i 0)) → second ≤ 250002592000 → caps ≡ capacities rooms holds job second
+pub swept-capacities : (rooms : List NodeRoom) (holds : List Hold) (job : PlanJob) (second : ℕ) (caps untils : List ℕ) → length caps ≡ length job.nodes → ((i : ℕ) → i < length job.nodes → GivesUntil rooms holds job second (get_or job.nodes i 0) (get_or caps i 0) (get_or untils i 0)) → second ≤ LAST_START → caps ≡ capacities rooms holds job second
 swept-capacities rooms holds job second caps untils long each last =
     same_number_lists caps (capacities rooms holds job second) (long ∙ sym (length-capacities rooms holds job second)) (λ k inside.
     let here : k < length job.nodes = omega (arith, inside, long) in
@@ -133,7 +134,7 @@ gives-push rooms holds job second count tasks until node nodes caps untils long 
 pub end-some : (job : PlanJob) (second seconds : ℕ) → job.seconds ≡ Some seconds → window_end job second ≡ second + seconds
 end-some job second seconds is = rw is refl
 
-pub end-none : (job : PlanJob) (second : ℕ) → job.seconds ≡ None → window_end job second ≡ 1000000000000
+pub end-none : (job : PlanJob) (second : ℕ) → job.seconds ≡ None → window_end job second ≡ FOREVER
 end-none job second is = rw is refl
 
 -- what few numbers of a word's half give together leaves room for one more

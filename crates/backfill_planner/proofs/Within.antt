@@ -18,6 +18,7 @@ use Rattle.backfill_planner.proofs.Beside.{free-beside}
 use Rattle.backfill_planner.proofs.Holding.{HoldsFree}
 use Rattle.backfill_planner.proofs.LeastSecond.{placed-is}
 use Rattle.backfill_planner.proofs.Parts.{if_placed, pairs-head, pairs-tail, placed-holds}
+use Rattle.slurm_text.specs.declared.plain.seconds.TheConstants.{LAST_START}
 
 -- what is free on nodes that differ can be held
 holds-within : LowerLaws → (rooms : List NodeRoom) (holds held : List Hold) → AreWithin rooms holds → All (HasFree rooms holds) held → AllPairs (λ (one other : Hold). one.node ≢ other.node) held → AreWithin rooms (holds ++ held)
@@ -37,7 +38,7 @@ placed-within : LowerLaws → (rooms : List NodeRoom) (holds : List Hold) (job :
 placed-within laws rooms holds job None within is = rw (append-nil holds) within
 placed-within laws rooms holds job (Some placed) within is = holds-within laws rooms holds (holds_of job (Some placed)) within is.free is.apart
 
-plan_beside-within : LowerLaws → (base : BaseView) (now : ℕ) (holds : List Hold) (ranked : List PlanJob) → AreWithin base.rooms holds → base.horizon ≤ 250002592000 → All (IsOnRooms base.rooms) ranked → All IsPlannable ranked
+plan_beside-within : LowerLaws → (base : BaseView) (now : ℕ) (holds : List Hold) (ranked : List PlanJob) → AreWithin base.rooms holds → base.horizon ≤ LAST_START → All (IsOnRooms base.rooms) ranked → All IsPlannable ranked
     → AreWithin base.rooms (holds ++ plan_holds_beside base now holds ranked)
 unfolding plan_holds_beside
 plan_beside-within laws base now holds [] within low nodes jobs = rw (append-nil holds) within
@@ -49,7 +50,7 @@ plan_beside-within laws base now holds (job ∷ later) within low nodes jobs =
     rw (← append_assoc holds held (plan_holds_beside base now (holds ++ held) later))
     (plan_beside-within laws base now (holds ++ held) later (placed-within laws base.rooms holds job placed within free) low (All-tail (IsOnRooms base.rooms) job later nodes) (All-tail IsPlannable job later jobs))
 
-pub plan-within : LowerLaws → (base : BaseView) (ranked : List PlanJob) (now : ℕ) → AreWithin base.rooms base.holds → base.horizon ≤ 250002592000 → All (IsOnRooms base.rooms) ranked → All IsPlannable ranked
+pub plan-within : LowerLaws → (base : BaseView) (ranked : List PlanJob) (now : ℕ) → AreWithin base.rooms base.holds → base.horizon ≤ LAST_START → All (IsOnRooms base.rooms) ranked → All IsPlannable ranked
     → AreWithin base.rooms (base.holds ++ plan_holds_of base ranked now)
 unfolding plan_holds_of
 plan-within laws base ranked now within low nodes jobs = plan_beside-within laws base now base.holds ranked within low nodes jobs

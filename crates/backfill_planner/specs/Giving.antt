@@ -9,10 +9,11 @@ use Rattle.slurm_text.specs.declared.plain.mem_ask.MemAsk.{MemAsk}
 use Rattle.slurm_text.specs.declared.plain.mem_ask.MemAsk.TheVariants.{All, PerNode, PerCpu}
 use Rattle.backfill_planner.specs.declared.job.Barred.{Barred}
 use Rattle.backfill_planner.specs.declared.job.PlanJob.{PlanJob}
+use Rattle.slurm_text.specs.declared.plain.seconds.TheConstants.{FOREVER}
 
 -- where the job's window ends that begins at `start`; without a limit it ends after all moments
 abbrev pub window_end : PlanJob → ℕ → ℕ
-window_end job start = unwrap_or (option_map (λ seconds. start + seconds) job.seconds) 1000000000000
+window_end job start = unwrap_or (option_map (λ seconds. start + seconds) job.seconds) FOREVER
 
 -- how many tasks, at most `most`, the free megabytes of a node can take
 abbrev pub tasks_by_mem : MemAsk → ℕ → NodeRoom → ℕ → ℕ → ℕ

@@ -8,6 +8,7 @@ use Rattle.slurm_text.specs.declared.plain.mem_ask.MemAsk.TheVariants.{All, PerN
 use Rattle.backfill_planner.specs.declared.job.PlanJob.{PlanJob}
 use Rattle.backfill_planner.specs.Giving.{window_end}
 use Rattle.backfill_planner.specs.Plans.{placement_at}
+use Rattle.slurm_text.specs.declared.plain.seconds.TheConstants.{LAST_START}
 
 -- the memory that one asks for is of the other's kind, and no more
 abbrev pub IsNoMoreMem : MemAsk → MemAsk → Type 0
@@ -26,11 +27,11 @@ pub record IsLesser (lesser job : PlanJob) : Type 0 where
   pub per_node : job.per_node ≤ lesser.per_node
   pub exclusive : lesser.exclusive ≡ job.exclusive
   pub mem : IsNoMoreMem lesser.mem_ask job.mem_ask
-  pub window : (second : ℕ) → second ≤ 250002592000 → second < window_end lesser second
-  pub no_longer : (second : ℕ) → second ≤ 250002592000 → window_end lesser second ≤ window_end job second
+  pub window : (second : ℕ) → second ≤ LAST_START → second < window_end lesser second
+  pub no_longer : (second : ℕ) → second ≤ LAST_START → window_end lesser second ≤ window_end job second
 
 -- at no second from `now` on and before `bound` some set fits
 abbrev pub NoneBefore : List NodeRoom → List Hold → PlanJob → ℕ → ℕ → Type 0
 NoneBefore rooms holds job now bound =
-    (second : ℕ) → now ≤ second → second < bound → second ≤ 250002592000
+    (second : ℕ) → now ≤ second → second < bound → second ≤ LAST_START
     → placement_at rooms holds job second ≡ None

@@ -9,6 +9,7 @@ use Rattle.backfill_planner.specs.Bases.{BaseView}
 use Rattle.backfill_planner.specs.Placements.{IsOnRooms, IsPlannable}
 use Rattle.backfill_planner.specs.Plans.{holds_before, plan_of}
 use Rattle.backfill_planner.specs.Searches.{IsSeen}
+use Rattle.slurm_text.specs.declared.plain.seconds.TheConstants.{LAST_START}
 
 -- how many placements the first jobs have, for each number of these from 0 to `done`
 pub record AreCounted (base : BaseView) (ranked : List PlanJob) (now done : ℕ) (counts : List ℕ) : Type 0 where
@@ -20,7 +21,7 @@ pub record AreCounted (base : BaseView) (ranked : List PlanJob) (now done : ℕ)
 pub record IsPlanning (base : BaseView) (ranked : List PlanJob) (now done : ℕ) (made : List Placed)
     (counts : List ℕ) (profile : ProfileView) (searches : List Seen) : Type 0 where
   pub within : AreWithin base.rooms base.holds
-  pub low : base.horizon ≤ 250002592000
+  pub low : base.horizon ≤ LAST_START
   pub nodes : All (IsOnRooms base.rooms) ranked
   pub jobs : All IsPlannable (take done ranked)
   pub few : done ≤ length ranked

@@ -5,16 +5,17 @@ use Rattle.resource_profile.specs.declared.Hold.{Hold}
 use Rattle.resource_profile.specs.Free.{room_at, free_cpus, free_mem}
 use Rattle.backfill_planner.specs.declared.job.PlanJob.{PlanJob}
 use Rattle.backfill_planner.specs.Giving.{window_end}
+use Rattle.slurm_text.specs.declared.plain.seconds.TheConstants.{FOREVER, LAST_START}
 
 -- The node's room is the same, and as much of it is free at each second from `now` on, up to where all windows end.
 pub record StaysFrom (rooms : List NodeRoom) (holds : List Hold) (new_rooms : List NodeRoom) (new_holds : List Hold)
     (now node : ℕ) : Type 0 where
   pub room : room_at new_rooms node ≡ room_at rooms node
-  pub cpus : (second : ℕ) → now ≤ second → second < 1000000000000
+  pub cpus : (second : ℕ) → now ≤ second → second < FOREVER
       → free_cpus new_rooms new_holds node second ≡ free_cpus rooms holds node second
-  pub mem : (second : ℕ) → now ≤ second → second < 1000000000000
+  pub mem : (second : ℕ) → now ≤ second → second < FOREVER
       → free_mem new_rooms new_holds node second ≡ free_mem rooms holds node second
 
 -- its windows end there
 abbrev pub EndsInTime : PlanJob → Type 0
-EndsInTime job = (start : ℕ) → start ≤ 250002592000 → window_end job start ≤ 1000000000000
+EndsInTime job = (start : ℕ) → start ≤ LAST_START → window_end job start ≤ FOREVER

@@ -7,6 +7,7 @@ use Rattle.backfill_planner.specs.declared.job.Barred.{Barred}
 use Rattle.backfill_planner.specs.declared.job.PlanJob.{PlanJob}
 use Rattle.backfill_planner.specs.declared.sweep.Sweep.{Sweep}
 use Rattle.backfill_planner.specs.Giving.{give}
+use Rattle.slurm_text.specs.declared.plain.seconds.TheConstants.{LAST_START}
 
 -- no hold ends after `start` and before `end`, and none of the times at which the job may not have nodes
 pub record NoneEnds (holds : List Hold) (barred : List Barred) (start end : ℕ) : Type 0 where
@@ -17,7 +18,7 @@ pub record NoneEnds (holds : List Hold) (barred : List Barred) (start end : ℕ)
 pub record GivesUntil (rooms : List NodeRoom) (holds : List Hold) (job : PlanJob) (from node tasks until : ℕ)
     : Type 0 where
   pub later : from < until
-  pub same : (second : ℕ) → from ≤ second → second < until → second ≤ 250002592000
+  pub same : (second : ℕ) → from ≤ second → second < until → second ≤ LAST_START
       → give rooms holds job second node ≡ tasks
 
 -- what each of the job's nodes gives from the sweep's second on, until when, and what they give together at it

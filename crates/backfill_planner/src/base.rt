@@ -1,5 +1,6 @@
 use resource_profile::{Hold, NodeRoom};
 use slurm_text::items::Items;
+use slurm_text::plain::seconds::LAST_START;
 use std::marker::Model;
 
 /// What a plan begins with: the nodes' rooms, what the running jobs hold of them, and the last second at which a start
@@ -21,5 +22,5 @@ impl Model for Base {
 
     ghost view = { λ base. record { rooms = base.rooms; holds = base.holds; horizon = base.horizon } };
 
-    ghost invariant = { λ base. AreWithin base.rooms base.holds × (base.horizon ≤ 250002592000) };
+    ghost invariant = { λ base. AreWithin base.rooms base.holds × (base.horizon ≤ LAST_START) };
 }

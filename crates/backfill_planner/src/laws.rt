@@ -16,6 +16,7 @@ ghost use Rattle.backfill_planner.specs.LowerLaws.{LowerLaws};
 
 use node_pick::laws::{chosen_is_first, lesser_needs_fit};
 use resource_profile::laws::free_amounts_fit;
+use slurm_text::plain::seconds::LAST_START;
 
 // What the crates below promise.
 pub(crate) fn lower_laws()
@@ -67,7 +68,7 @@ pub fn parts_are_apart()
         → All (λ (job : PlanJob). 1 ≤ job.need.tasks) ranked
         → All (λ (placed : Placed). 1 ≤ length placed.parts) (plan_of base ranked now) }
     ensures parts { (base : BaseView) (ranked : List PlanJob) (now : ℕ)
-        → base.horizon ≤ 250002592000 → All (IsOnRooms base.rooms) ranked → All IsPlannable ranked
+        → base.horizon ≤ LAST_START → All (IsOnRooms base.rooms) ranked → All IsPlannable ranked
         → All (λ (placed : Placed). AreParts base.rooms placed.parts) (plan_of base ranked now) }
 {
     lower_laws();
@@ -76,7 +77,7 @@ pub fn parts_are_apart()
 /// At no second do what the base holds and what the placed jobs hold pass the room of a node.
 pub fn plans_stay_within()
     ensures { (base : BaseView) (ranked : List PlanJob) (now : ℕ)
-        → AreWithin base.rooms base.holds → base.horizon ≤ 250002592000
+        → AreWithin base.rooms base.holds → base.horizon ≤ LAST_START
         → All (IsOnRooms base.rooms) ranked → All IsPlannable ranked
         → AreWithin base.rooms (base.holds ++ plan_holds_of base ranked now) }
 {
@@ -87,7 +88,7 @@ pub fn plans_stay_within()
 /// the room.
 pub fn starts_fit()
     ensures { (base : BaseView) (ranked : List PlanJob) (now : ℕ)
-        → AreWithin base.rooms base.holds → base.horizon ≤ 250002592000
+        → AreWithin base.rooms base.holds → base.horizon ≤ LAST_START
         → All (IsOnRooms base.rooms) ranked → All IsPlannable ranked
         → StartsFit base (plan_of base ranked now) now }
 {
@@ -118,7 +119,7 @@ pub fn parts_are_on_own_nodes()
 pub fn placements_stay()
     ensures some { (rooms : List NodeRoom) (holds : List Hold) (new_rooms : List NodeRoom) (new_holds : List Hold)
         (job : PlanJob) (before now last hi : ℕ) (placed : Placed)
-        → EndsInTime job → before ≤ now → hi ≤ 250002592000
+        → EndsInTime job → before ≤ now → hi ≤ LAST_START
         → All (StaysFrom rooms holds new_rooms new_holds now) job.nodes
         → placed_of rooms holds job before last ≡ Some placed → now ≤ placed.start → placed.start ≤ hi
         → placed_of new_rooms new_holds job now hi ≡ Some placed }
@@ -127,7 +128,7 @@ pub fn placements_stay()
         → EndsInTime job → before ≤ now → All (StaysFrom rooms holds new_rooms new_holds now) job.nodes
         → placed_of rooms holds job before last ≡ None → NoneBefore new_rooms new_holds job now (last + 1) }
     ensures nowhere { (rooms : List NodeRoom) (holds : List Hold) (job : PlanJob) (now last hi : ℕ)
-        → hi ≤ last → hi ≤ 250002592000 → NoneBefore rooms holds job now (last + 1)
+        → hi ≤ last → hi ≤ LAST_START → NoneBefore rooms holds job now (last + 1)
         → placed_of rooms holds job now hi ≡ None }
 {
     lower_laws();

@@ -6,6 +6,7 @@ ghost use Rattle.backfill_planner.specs.Lesser.{IsNoMoreMem, IsLesser};
 use crate::job::{Barred, PlanJob};
 use node_pick::Need;
 use slurm_text::plain::mem_ask::MemAsk;
+use slurm_text::plain::seconds::FOREVER;
 
 // Whether one need asks no more than the other.
 fn asks_no_more(lesser: &Need, need: &Need) -> bool
@@ -38,12 +39,12 @@ fn is_no_more_mem(lesser: &MemAsk, asked: &MemAsk) -> bool
 
 // How long the job's window is; without a limit it ends after all moments.
 fn window_length(job: &PlanJob) -> u64
-    ensures length { result ≡ unwrap_or job.now.seconds 1000000000000 }
+    ensures length { result ≡ unwrap_or job.now.seconds FOREVER }
     ensures range { IfSome job.now.seconds (λ seconds. (1 ≤ seconds) × (seconds ≤ 3153600000)) }
 {
     match job.seconds {
         Some(seconds) => seconds.get(),
-        None => 1000000000000,
+        None => FOREVER,
     }
 }
 

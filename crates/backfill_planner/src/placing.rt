@@ -19,14 +19,12 @@ use resource_profile::{NodeRoom, Profile, Steps};
 use slurm_text::items::Items;
 use slurm_text::memory_error::Memory;
 use slurm_text::plain::mem_ask::MemAsk;
+use slurm_text::plain::seconds::{FOREVER, LAST_START};
 use std::alloc::Global;
-
-// Where a window without a limit ends, after all moments.
-const FOREVER: u64 = 1000000000000;
 
 // Where the job's window ends that begins at `start`.
 pub(crate) fn window_end(job: &PlanJob, start: u64) -> u64
-    requires { start ≤ 250002592000 }
+    requires { start ≤ LAST_START }
     ensures end { result ≡ Giving.window_end job.now start }
     ensures later { start < result }
 {
@@ -119,7 +117,7 @@ fn placement_at(
 ) -> Result<Option<Placed>, Memory>
     requires rooms { profile.now.rooms ≡ rooms.now }
     requires nodes { All (λ node. node < length rooms.now) job.now.nodes }
-    requires start { start ≤ 250002592000 }
+    requires start { start ≤ LAST_START }
     requires swept { IsSwept rooms.now profile.now.holds job.now sweep.old }
     requires order { sweep.old.second ≤ start }
     ensures swept { IsSwept rooms.now profile.now.holds job.now sweep.new }
@@ -176,7 +174,7 @@ pub fn place<L>(
 ) -> Result<Option<Placed>, Memory>
     requires rooms { profile.now.rooms ≡ base.now.rooms }
     requires nodes { All (λ node. node < length base.now.rooms) job.now.nodes }
-    requires last { hi ≤ 250002592000 }
+    requires last { hi ≤ LAST_START }
     ensures start { IfOk result (λ placed. IfSome placed (λ placed. (lo ≤ placed.start) × (placed.start ≤ hi))) }
     ensures free { IfOk result (λ placed.
         All (HasFree base.now.rooms profile.now.holds) (Plans.holds_of job.now placed)) }

@@ -19,6 +19,7 @@ use crate::planned::Planned;
 use crate::seen::{Searches, Seen};
 use resource_profile::{Hold, Profile, Steps};
 use slurm_text::memory_error::Memory;
+use slurm_text::plain::seconds::LAST_START;
 use std::alloc::Global;
 use std::marker::Model;
 
@@ -56,7 +57,7 @@ impl Model for Planning {
 
 // Adds to the profile what the placed job holds.
 fn hold(profile: &mut Profile, job: &PlanJob, placed: &Placed) -> Result<(), Memory>
-    requires start { placed.now.start ≤ 250002592000 }
+    requires start { placed.now.start ≤ LAST_START }
     requires free { All (HasFree profile.old.rooms profile.old.holds) (holds_of job.now (Some placed.now)) }
     requires apart { AllPairs (λ (one other : Hold). one.node ≢ other.node) (holds_of job.now (Some placed.now)) }
     ensures rooms { profile.new.rooms ≡ profile.old.rooms }

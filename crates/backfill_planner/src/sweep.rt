@@ -7,6 +7,7 @@ use crate::job::PlanJob;
 use crate::placing::{tasks_given, window_end};
 use resource_profile::{NodeRoom, Profile};
 use slurm_text::memory_error::Memory;
+use slurm_text::plain::seconds::LAST_START;
 use std::alloc::Global;
 
 // What a node can give, and the second before which that holds.
@@ -37,7 +38,7 @@ fn given_from_free(
 ) -> Given
     requires rooms { profile.now.rooms ≡ rooms.now }
     requires node { node < length rooms.now }
-    requires second { second ≤ 250002592000 }
+    requires second { second ≤ LAST_START }
     requires clear { Giving.is_barred job.now.barred node second (Giving.window_end job.now second) ≡ false }
     ensures gives { GivesUntil rooms.now profile.now.holds job.now second node result.tasks result.until }
     ensures small { result.tasks * job.now.cpus_per_task < 2 ^ 32 }
@@ -63,7 +64,7 @@ fn given_from_free(
 fn given_from(profile: &Profile, rooms: &[NodeRoom], job: &PlanJob, node: u32, second: u64) -> Given
     requires rooms { profile.now.rooms ≡ rooms.now }
     requires node { node < length rooms.now }
-    requires second { second ≤ 250002592000 }
+    requires second { second ≤ LAST_START }
     ensures gives { GivesUntil rooms.now profile.now.holds job.now second node result.tasks result.until }
     ensures small { result.tasks * job.now.cpus_per_task < 2 ^ 32 }
     ensures word { result.tasks < 2 ^ 32 }
@@ -86,7 +87,7 @@ impl Sweep {
     ) -> Result<Self, Memory>
         requires rooms { profile.now.rooms ≡ rooms.now }
         requires nodes { All (λ node. node < length rooms.now) job.now.nodes }
-        requires second { second ≤ 250002592000 }
+        requires second { second ≤ LAST_START }
         ensures swept { IfOk result (λ sweep. IsSwept rooms.now profile.now.holds job.now sweep) }
         ensures second { IfOk result (λ sweep. sweep.second ≡ second) }
     {
@@ -136,7 +137,7 @@ impl Sweep {
     )
         requires rooms { profile.now.rooms ≡ rooms.now }
         requires nodes { All (λ node. node < length rooms.now) job.now.nodes }
-        requires second { second ≤ 250002592000 }
+        requires second { second ≤ LAST_START }
         requires swept { IsSwept rooms.now profile.now.holds job.now self.old }
         requires order { self.old.second ≤ second }
         ensures swept { IsSwept rooms.now profile.now.holds job.now self.new }

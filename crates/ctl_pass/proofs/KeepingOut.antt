@@ -36,6 +36,7 @@ use Rattle.ctl_pass.specs.Readiness.{base_of, planned, ready}
 use Rattle.ctl_pass.specs.Reserved.{IsOfJob, KeepsTo, PlansKeepToReservations, is_in_time}
 use Rattle.ctl_pass.proofs.Lists.{All-joined}
 use Rattle.ctl_pass.proofs.Ranks.{ranked-all, waiting}
+use Rattle.slurm_text.specs.declared.plain.seconds.TheConstants.{FOREVER}
 
 -- the laws that this rests on
 pub record KeepingLaws : Type 0 where
@@ -99,14 +100,14 @@ ranked-needs moves s now reservations same =
 
 -- the window of such a need is that of the job
 window-limit : (limit : Limit) (start : ℕ)
-    → unwrap_or (option_map (λ seconds. start + seconds) (seconds_of limit)) 1000000000000 ≡ limit_end limit start
+    → unwrap_or (option_map (λ seconds. start + seconds) (seconds_of limit)) FOREVER ≡ limit_end limit start
 window-limit (Minutes minutes) start = refl
 window-limit Unlimited start = refl
 
 window-is : (need : PlanJob) (limit : Limit) (start : ℕ) → need.seconds ≡ seconds_of limit
     → window_end need start ≡ limit_end limit start
 window-is need limit start same =
-    ap (λ (some : Option ℕ). unwrap_or (option_map (λ seconds. start + seconds) some) 1000000000000) same
+    ap (λ (some : Option ℕ). unwrap_or (option_map (λ seconds. start + seconds) some) FOREVER) same
     ∙ window-limit limit start
 
 clear-also : (one other : List Barred) (node from until last : ℕ) → one ≡ other → until ≡ last
@@ -146,7 +147,7 @@ beyond start end from until second clear low high = grind (arith, nat_tests)
 -- a second of a window that is clear of what a reservation bars
 second-keeps : (name : Option (List ℕ)) (reservation : Reservation) (node from until second : ℕ)
     → All (IsClear node from until) (barred_by name reservation) → has_id reservation.nodes node ≡ true
-    → from ≤ second → second < until → second < 1000000000000
+    → from ≤ second → second < until → second < FOREVER
     → is_in_time second reservation ≡ is_theirs name reservation
 second-keeps name reservation node from until second clear here low high counts =
     by (is_theirs name reservation) clear
@@ -155,10 +156,10 @@ second-keeps name reservation node from until second clear here low high counts 
         → All (IsClear node from until) (cond theirs (outside reservation) (throughout reservation ∷ []))
         → is_in_time second reservation ≡ theirs
     by true clear =
-        inside 0 1000000000000 reservation.start reservation.end from until second
+        inside 0 FOREVER reservation.start reservation.end from until second
         (rest-false (has_id reservation.nodes node) (ltb from reservation.start && ltb 0 until) here
         (clear 0 (throughout reservation) (omega arith)))
-        (rest-false (has_id reservation.nodes node) (ltb from 1000000000000 && ltb reservation.end until) here
+        (rest-false (has_id reservation.nodes node) (ltb from FOREVER && ltb reservation.end until) here
         (clear 1 (throughout reservation) (omega arith)))
         (omega arith) counts low high
     by false clear =

@@ -61,6 +61,7 @@ use Rattle.ctl_pass.proofs.Lists.{sum_by-larger, sum_by-map, joined-larger, leng
 use Rattle.ctl_pass.proofs.Ranks.{IsOfCandidate, waiting, candidates-wait, ordered-agree, ranked-all, ranked-candidates, ranked-waits, ranked-apart}
 use Rattle.ctl_pass.proofs.Readied.{ReadyLaws, by_limit, goes-not_running, going, pending-left, readied, running-not_ended, sound-readied, timed_out-runs_on}
 use Rattle.ctl_pass.proofs.Tasks.{holding-left, waits-with, with-left}
+use Rattle.slurm_text.specs.declared.plain.seconds.TheConstants.{LAST_START}
 
 -- the laws of plans that a pass rests on
 abbrev pub PlanIds : Type 0
@@ -84,10 +85,10 @@ pub record PlanLaws : Type 0 where
       → All (λ (job : PlanJob). 1 ≤ job.need.tasks) ranked
       → All (λ (placed : Placed). 1 ≤ length placed.parts) (plan_of base ranked now)
   pub parts : (base : BaseView) (ranked : List PlanJob) (now : ℕ)
-      → base.horizon ≤ 250002592000 → All (IsOnRooms base.rooms) ranked → All IsPlannable ranked
+      → base.horizon ≤ LAST_START → All (IsOnRooms base.rooms) ranked → All IsPlannable ranked
       → All (λ (placed : Placed). AreParts base.rooms placed.parts) (plan_of base ranked now)
   pub fit : (base : BaseView) (ranked : List PlanJob) (now : ℕ)
-      → AreWithin base.rooms base.holds → base.horizon ≤ 250002592000 → All (IsOnRooms base.rooms) ranked
+      → AreWithin base.rooms base.holds → base.horizon ≤ LAST_START → All (IsOnRooms base.rooms) ranked
       → All IsPlannable ranked → StartsFit base (plan_of base ranked now) now
 
 -- Of what is counted, processors or megabytes, so much a part has of the node, and a hold holds at a moment.
@@ -215,7 +216,7 @@ can-start laws s sound =
     let now = s.moment in
     let base = base_of s now in
     let jobs = ranked s now in
-    let horizon : base.horizon ≤ 250002592000 = omega (arith, sound.moment, sound.settings.window.1) in
+    let horizon : base.horizon ≤ LAST_START = omega (arith, sound.moment, sound.settings.window.1) in
     let can = ranked-planned laws.moves laws.nodes s now sound in
     let rooms : All (IsOnRooms (map room_of s.nodes)) jobs = λ k d below. (can k d below).nodes in
     let plannable : All IsPlannable jobs = λ k d below. (can k d below).plannable in

@@ -29,13 +29,14 @@ use Rattle.ctl_state.specs.Soundness.{IsSound, IsKept, PlansPending, pending_ids
 use Rattle.ctl_state.specs.State.{State, last_moment}
 use Rattle.ctl_pass.specs.Limits.{deadline, is_over, timed_out, holds_of_job}
 use Rattle.ctl_pass.specs.Readiness.{goes, jobs_left, ready}
+use Rattle.slurm_text.specs.declared.plain.seconds.TheConstants.{LAST_START}
 
 -- no plan names nobody
 pub no-plan : (jobs : List JobRecord) → PlansPending jobs []
 no-plan jobs = record {
   pending = All-nil (λ (placed : Placed). Contains (pending_ids jobs) placed.id);
   once = λ i j d before below. absurd (omega (arith, below));
-  last = All-nil (λ (placed : Placed). placed.start ≤ 250002592000);
+  last = All-nil (λ (placed : Placed). placed.start ≤ LAST_START);
 }
 
 -- the laws of letting go that a pass rests on

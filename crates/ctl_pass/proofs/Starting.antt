@@ -31,6 +31,7 @@ use Rattle.ctl_pass.specs.Taking.{CanStart, IsReady}
 use Rattle.ctl_pass.proofs.Held.{cpus_in, held-counted, held-grown, free-counted, free-are}
 use Rattle.ctl_pass.proofs.Lists.{sum_by-map, pairs-take, pairs-head, pairs-tail, pairs-map, Any-kept}
 use Rattle.ctl_pass.proofs.Readied.{no-plan}
+use Rattle.slurm_text.specs.declared.plain.seconds.TheConstants.{LAST_START}
 
 -- only the nodes and the accounts matter of the state beside which placements start
 pub started-same : (s : State) (now moment : ℕ) (table jobs : List JobRecord) (usage : List ℕ)
@@ -258,7 +259,7 @@ module _ (laws : StartLaws) where
                   sound.plan.pending;
               once = AllPairs-cons (λ (one other : Placed). one.id ≢ other.id) placed rest.stays
                   (all-stay (λ (one : Placed). placed.id ≢ one.id) s s.moment jobs later apart) sound.plan.once;
-              last = All-cons (λ (one : Placed). one.start ≤ 250002592000) placed rest.stays first.last sound.plan.last;
+              last = All-cons (λ (one : Placed). one.start ≤ LAST_START) placed rest.stays first.last sound.plan.last;
             } in
             rw stays (laws.planned (record s { jobs = rest.jobs; plan = rest.stays }) (placed ∷ rest.stays) sound
             planned)

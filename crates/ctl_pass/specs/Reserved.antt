@@ -10,6 +10,7 @@ use Rattle.ctl_state.specs.Planning.{is_theirs}
 use Rattle.ctl_state.specs.State.{State}
 use Rattle.ctl_pass.specs.Limits.{limit_end}
 use Rattle.ctl_pass.specs.Readiness.{placements, ready}
+use Rattle.slurm_text.specs.declared.plain.seconds.TheConstants.{FOREVER}
 
 -- the second is one of the reservation's time
 abbrev pub is_in_time : ℕ → Reservation → Bool
@@ -19,7 +20,7 @@ is_in_time second reservation = nat_le reservation.start second && nat_lt second
 pub record IsOfJob (job : JobRecord) (placed : Placed) (second : ℕ) : Type 0 where
   pub from : placed.start ≤ second
   pub before : second < limit_end job.limit placed.start
-  pub last : second < 1000000000000
+  pub last : second < FOREVER
 
 -- where the placed job has a node of the reservation, each of its seconds is one of the reservation's time if the job
 -- names the reservation, and none is if it doesn't

@@ -16,6 +16,7 @@ use Rattle.ctl_state.specs.State.{State}
 use Rattle.ctl_pass.specs.declared.starts.DueStart.{DueStart}
 use Rattle.ctl_pass.specs.Awaiting.{IsPrepared, placements_of}
 use Rattle.ctl_pass.specs.Starting.{JobStart}
+use Rattle.slurm_text.specs.declared.plain.seconds.TheConstants.{LAST_START}
 
 -- the processors of the node at a place that the index doesn't show as held, the lowest first
 abbrev pub free_by : List NodeRecord → List Held → ℕ → List ℕ
@@ -44,7 +45,7 @@ unplanned now s = record s { plan = []; moment = now }
 -- a placement that can start once it is due
 pub record IsReady (s : State) (placed : Placed) : Type 0 where
   pub waits : Contains (pending_ids s.jobs) placed.id
-  pub last : placed.start ≤ 250002592000
+  pub last : placed.start ≤ LAST_START
   pub some : 1 ≤ length placed.parts
   pub parts : AreParts (map room_of s.nodes) placed.parts
 

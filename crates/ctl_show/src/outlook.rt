@@ -15,6 +15,7 @@ use ctl_state::counting::count_holding;
 use ctl_waiting::highest;
 use run_limits::tally::Tally;
 use slurm_text::memory_error::Memory;
+use slurm_text::plain::seconds::LAST_START;
 use slurm_text::ranged::Ranged;
 use std::alloc::Global;
 use std::collections::HashMap;
@@ -38,7 +39,7 @@ pub(crate) struct Outlook {
 // The seconds that the plan gives, by the numbers of the jobs. Linear in the plan.
 fn starts_of(alloc: Global, plan: &[Placed]) -> Result<HashMap<u32, Second>, Memory>
     requires once { AllPairs (λ (one other : Placed). one.id ≢ other.id) plan.now }
-    requires last { All (λ (placed : Placed). placed.start ≤ 250002592000) plan.now }
+    requires last { All (λ (placed : Placed). placed.start ≤ LAST_START) plan.now }
     ensures { IfOk result (λ starts. (id : ℕ) → get nat_eq starts id ≡ Showing.planned_start plan.now id) }
 {
     let mut starts = HashMap::with_capacity(alloc, plan.len())?;

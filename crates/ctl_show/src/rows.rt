@@ -24,13 +24,14 @@ use slurm_text::name::Name;
 use slurm_text::plain::Plain;
 use slurm_text::plain::limit::Limit;
 use slurm_text::plain::query::JobQuery;
+use slurm_text::plain::seconds::FOREVER;
 use slurm_text::plain::state::{JobState, Reason};
 use slurm_text::plain::view::{EndAt, JobRow, Row};
 use slurm_text::ranged::Ranged;
 use std::alloc::Global;
 
 // How long a job runs or ran, in seconds.
-type Elapsed = Ranged<0, 1000000000000>;
+type Elapsed = Ranged<0, FOREVER>;
 
 // The name, or this text as one, which is a name. A text that is none comes out as want of memory.
 fn name_or(alloc: Global, name: &Option<Name>, other: &[u8]) -> Result<Name, Memory>

@@ -24,6 +24,7 @@ use Rattle.ctl_state.specs.Soundness.{AreOfPartitions, IsOfAccounts, AreUp, IsKe
 use Rattle.ctl_state.proofs.Held.{cpu_in}
 use Rattle.ctl_state.proofs.Kept.{kept-let_go}
 use Rattle.ctl_state.proofs.Lists.{All-flat_map, All-from_flat_map, filter-all, found-passes, pairs-kept, rising-kept}
+use Rattle.slurm_text.specs.declared.plain.seconds.TheConstants.{LAST_START}
 
 -- what stays of a job, and of all jobs, is no more than there was
 part-less : (amount : Part → ℕ) (now : ℕ) (job after : JobRecord) → LetsGo now job after → sum_by amount after.parts ≤ sum_by amount job.parts
@@ -151,5 +152,5 @@ plan-left jobs before plan planned =
     record {
       pending = pending;
       once = AllPairs-filter (λ (one other : Placed). one.id ≢ other.id) stays plan planned.once;
-      last = All-filter stays (λ (placed : Placed). placed.start ≤ 250002592000) plan planned.last;
+      last = All-filter stays (λ (placed : Placed). placed.start ≤ LAST_START) plan planned.last;
     }

@@ -6,11 +6,12 @@ use Rattle.resource_profile.specs.declared.Hold.{Hold}
 use Rattle.job_table.specs.declared.record.Part.{Part}
 use Rattle.job_table.specs.declared.record.JobRecord.{JobRecord}
 use Rattle.job_table.specs.JobStates.{is_running}
+use Rattle.slurm_text.specs.declared.plain.seconds.TheConstants.{FOREVER}
 
 -- when a start at this second reaches the limit; without a limit after all moments
 abbrev pub limit_end : Limit → ℕ → ℕ
 limit_end (Minutes minutes) start = start + minutes * 60
-limit_end Unlimited start = 1000000000000
+limit_end Unlimited start = FOREVER
 
 -- when the job reaches its limit
 abbrev pub deadline : JobRecord → ℕ

@@ -18,6 +18,7 @@ use Rattle.partitions.specs.declared.record.PartRecord.{PartRecord}
 use Rattle.job_table.specs.declared.record.JobRecord.{JobRecord}
 use Rattle.job_table.specs.declared.record.Part.{Part}
 use Rattle.ctl_state.specs.Ordered.{ordered_by}
+use Rattle.slurm_text.specs.declared.plain.seconds.TheConstants.{FOREVER}
 
 -- what a node has in all, which a plan may use where the node is available
 abbrev pub room_of : NodeRecord → NodeRoom
@@ -104,7 +105,7 @@ throughout reservation =
 abbrev pub outside : Reservation → List Barred
 outside reservation =
     record { nodes = reservation.nodes; from = 0; until = reservation.start }
-    ∷ record { nodes = reservation.nodes; from = reservation.end; until = 1000000000000 }
+    ∷ record { nodes = reservation.nodes; from = reservation.end; until = FOREVER }
     ∷ []
 
 -- a job that names this reservation, or none, names this one

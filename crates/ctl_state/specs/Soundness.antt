@@ -23,6 +23,7 @@ use Rattle.job_table.specs.Targets.{AreTogether}
 use Rattle.job_table.specs.JobStates.{is_pending, is_completing, is_ended, is_holding}
 use Rattle.ctl_state.specs.Holding.{IsHeldOnce, OnNodesApart, has_members, parts_of}
 use Rattle.ctl_state.specs.Planning.{is_at, room_of}
+use Rattle.slurm_text.specs.declared.plain.seconds.TheConstants.{LAST_START}
 
 -- a limit is a minute at least, and at most a hundred years; or none
 abbrev pub IsLimit : Limit → Type 0
@@ -79,7 +80,7 @@ pending_ids jobs = map (λ (job : JobRecord). job.id) (filter (λ (job : JobReco
 pub record PlansPending (jobs : List JobRecord) (plan : List Placed) : Type 0 where
   pub pending : All (λ (placed : Placed). Contains (pending_ids jobs) placed.id) plan
   pub once : AllPairs (λ (one other : Placed). one.id ≢ other.id) plan
-  pub last : All (λ (placed : Placed). placed.start ≤ 250002592000) plan
+  pub last : All (λ (placed : Placed). placed.start ≤ LAST_START) plan
 
 -- there are at most 1,024 nodes, each in its ranges and named once
 pub record AreNodes (nodes : List NodeRecord) : Type 0 where

@@ -6,10 +6,8 @@ ghost use Rattle.ctl_state.specs.State.{last_moment};
 
 use job_table::record::JobRecord;
 use slurm_text::plain::limit::Limit;
+use slurm_text::plain::seconds::FOREVER;
 use slurm_text::plain::state::JobState;
-
-// After all moments.
-const FOREVER: u64 = 1_000_000_000_000;
 
 // How many seconds a job keeps its parts once it is to end.
 const KILL_WAIT: u64 = 30;

@@ -11,10 +11,8 @@ use reservations::record::Reservation;
 use reservations::reservations::Reservations;
 use slurm_text::memory_error::Memory;
 use slurm_text::name::Name;
+use slurm_text::plain::seconds::FOREVER;
 use std::alloc::Global;
-
-// After all moments.
-const FOREVER: u64 = 1_000_000_000_000;
 
 // The first reservation that has this name and isn't over at the moment.
 fn first_lasting<'a>(

@@ -25,10 +25,8 @@ use run_limits::tally::Tally;
 use slurm_text::name::Name;
 use slurm_text::plain::conf::PartState;
 use slurm_text::plain::limit::Limit;
+use slurm_text::plain::seconds::FOREVER;
 use slurm_text::plain::state::{HeldBy, Reason};
-
-// After all moments.
-const FOREVER: u64 = 1_000_000_000_000;
 
 // Who holds the job back.
 fn held_reason(held_by: HeldBy) -> Option<Reason>

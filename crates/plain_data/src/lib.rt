@@ -17,6 +17,7 @@ pub mod limit;
 pub mod mem_ask;
 pub mod nice;
 pub mod ranged;
+pub mod seconds;
 
 /// A value of which an equal one can be made, where there is memory.
 pub trait Plain: Drop {

@@ -15,8 +15,9 @@ use Rattle.plan_keeper.specs.Marks.{AreMarks, Fits, Counts, Without}
 use Rattle.plan_keeper.specs.Turns.{IsFound, IsAgain, StandsAgain}
 use Rattle.plan_keeper.proofs.Marking.{kept-marks, other-marks, levels}
 use Rattle.plan_keeper.proofs.Settled.{steady-fits}
+use Rattle.slurm_text.specs.declared.plain.seconds.TheConstants.{LAST_START}
 
-pub stands-some : PlannerLaws → (old : PlannedView) (planning : PlanningView) (before : ℕ) (placed : Placed) → (stands : StandsAgain old planning before) → old.moment ≤ planning.moment → planning.base.horizon ≤ 250002592000 → placement_of old.base old.ranked old.moment before stands.job ≡ Some placed → planning.moment ≤ placed.start → placed.start ≤ planning.base.horizon → placement_of planning.base planning.ranked planning.moment planning.done stands.job ≡ Some placed
+pub stands-some : PlannerLaws → (old : PlannedView) (planning : PlanningView) (before : ℕ) (placed : Placed) → (stands : StandsAgain old planning before) → old.moment ≤ planning.moment → planning.base.horizon ≤ LAST_START → placement_of old.base old.ranked old.moment before stands.job ≡ Some placed → planning.moment ≤ placed.start → placed.start ≤ planning.base.horizon → placement_of planning.base planning.ranked planning.moment planning.done stands.job ≡ Some placed
 stands-some laws old planning before placed stands order low was from within =
     laws.some old.base.rooms (holds_before old.base old.ranked old.moment before) planning.base.rooms (holds_before planning.base planning.ranked planning.moment planning.done) stands.job old.moment planning.moment old.base.horizon planning.base.horizon placed stands.in_time order low stands.nodes was from within
 
@@ -24,7 +25,7 @@ pub stands-none : PlannerLaws → (old : PlannedView) (planning : PlanningView) 
 stands-none laws old planning before stands order was =
     laws.none old.base.rooms (holds_before old.base old.ranked old.moment before) planning.base.rooms (holds_before planning.base planning.ranked planning.moment planning.done) stands.job old.moment planning.moment old.base.horizon stands.in_time order stands.nodes was
 
-pub stands-nowhere : PlannerLaws → (old : PlannedView) (planning : PlanningView) (before : ℕ) → (stands : StandsAgain old planning before) → old.moment ≤ planning.moment → planning.base.horizon ≤ 250002592000 → planning.base.horizon ≤ old.base.horizon → placement_of old.base old.ranked old.moment before stands.job ≡ None → placement_of planning.base planning.ranked planning.moment planning.done stands.job ≡ None
+pub stands-nowhere : PlannerLaws → (old : PlannedView) (planning : PlanningView) (before : ℕ) → (stands : StandsAgain old planning before) → old.moment ≤ planning.moment → planning.base.horizon ≤ LAST_START → planning.base.horizon ≤ old.base.horizon → placement_of old.base old.ranked old.moment before stands.job ≡ None → placement_of planning.base planning.ranked planning.moment planning.done stands.job ≡ None
 stands-nowhere laws old planning before stands order low past was =
     laws.nowhere planning.base.rooms (holds_before planning.base planning.ranked planning.moment planning.done) stands.job planning.moment old.base.horizon planning.base.horizon past low (stands-none laws old planning before stands order was)
 

@@ -9,6 +9,7 @@ use Rattle.backfill_planner.specs.Bases.{BaseView}
 use Rattle.backfill_planner.specs.Lesser.{NoneBefore}
 use Rattle.backfill_planner.specs.Plans.{holds_of, holds_before, placed_of, placement_of}
 use Rattle.backfill_planner.specs.Staying.{EndsInTime, StaysFrom}
+use Rattle.slurm_text.specs.declared.plain.seconds.TheConstants.{LAST_START}
 
 pub record PlannerLaws : Type 0 where
   pub own : (rooms : List NodeRoom) (holds : List Hold) (job : PlanJob) (lo hi : ℕ) (placed : Placed)
@@ -16,7 +17,7 @@ pub record PlannerLaws : Type 0 where
       → All (λ (share : Share). Contains job.nodes share.node) placed.parts
   pub some : (rooms : List NodeRoom) (holds : List Hold) (new_rooms : List NodeRoom) (new_holds : List Hold)
       (job : PlanJob) (before now last hi : ℕ) (placed : Placed)
-      → EndsInTime job → before ≤ now → hi ≤ 250002592000
+      → EndsInTime job → before ≤ now → hi ≤ LAST_START
       → All (StaysFrom rooms holds new_rooms new_holds now) job.nodes
       → placed_of rooms holds job before last ≡ Some placed → now ≤ placed.start → placed.start ≤ hi
       → placed_of new_rooms new_holds job now hi ≡ Some placed
@@ -25,7 +26,7 @@ pub record PlannerLaws : Type 0 where
       → EndsInTime job → before ≤ now → All (StaysFrom rooms holds new_rooms new_holds now) job.nodes
       → placed_of rooms holds job before last ≡ None → NoneBefore new_rooms new_holds job now (last + 1)
   pub nowhere : (rooms : List NodeRoom) (holds : List Hold) (job : PlanJob) (now last hi : ℕ)
-      → hi ≤ last → hi ≤ 250002592000 → NoneBefore rooms holds job now (last + 1)
+      → hi ≤ last → hi ≤ LAST_START → NoneBefore rooms holds job now (last + 1)
       → placed_of rooms holds job now hi ≡ None
   pub goes_on : (base : BaseView) (ranked : List PlanJob) (now place : ℕ) (job : PlanJob)
       → place < length ranked → slice_index_or ranked place job ≡ job

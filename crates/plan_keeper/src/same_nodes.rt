@@ -6,19 +6,17 @@ ghost use Rattle.plan_keeper.specs.Nodes.{IsAsFree};
 
 use resource_profile::{NodeRoom, Profile};
 use slurm_text::memory_error::Memory;
+use slurm_text::plain::seconds::FOREVER;
 use std::alloc::Global;
-
-// Where the planner's windows end at the latest.
-const LAST_END: u64 = 1000000000000;
 
 // Whether as much of the node is free in both profiles at each second from `now` on. Linear in the steps of both.
 fn is_as_free(old: &Profile, new: &Profile, node: u32, now: u64) -> bool
     requires old { node < length old.now.rooms }
     requires new { node < length new.now.rooms }
-    ensures { (result ≡ true) ↔ IsAsFree old.now new.now now node 1000000000000 }
+    ensures { (result ≡ true) ↔ IsAsFree old.now new.now now node FOREVER }
 {
     let mut second = now;
-    while second < LAST_END {
+    while second < FOREVER {
         let before = old.free_over(node, second, second + 1);
         let after = new.free_over(node, second, second + 1);
         if before.free != after.free {

@@ -7,6 +7,7 @@ use crate::profiles::{held, rooms};
 use backfill_planner::{Base, Placed, PlanJob, Planned, Share, plan as plan_jobs};
 use resource_profile::{NodeRoom, Profile, start};
 use slurm_text::items::Items;
+use slurm_text::plain::seconds::LAST_START;
 use std::alloc::Global;
 use table_lines::answer::{Unanswered, push};
 use table_lines::fields::number;
@@ -42,7 +43,7 @@ pub fn base(
     requires { profile.now.rooms ≡ rooms.items }
     ensures { IfOk result (λ base. base.rooms ≡ rooms.items) }
 {
-    if horizon > 250_002_592_000 {
+    if horizon > LAST_START {
         return Err(Unanswered::Arguments);
     }
     let holds = Vec::from_slice(alloc, profile.holds())?;

@@ -11,6 +11,7 @@ use crate::sums::sum_of;
 use backfill_planner::{BarredList, Base, MemAsk, NodeList, Placed, PlanJob, Planned};
 use node_pick::Need;
 use resource_profile::{Hold, NodeRoom, Profile};
+use slurm_text::plain::seconds::LAST_START;
 use slurm_text::ranged::Ranged;
 use std::alloc::Global;
 use table_lines::answer::{Unanswered, taken};
@@ -113,7 +114,7 @@ fn scene_base(alloc: Global, size: &Size, chance: &mut Chance) -> Result<Base, U
         alloc,
         rooms,
         &profile,
-        (60 * u64::from(size.window)).min(250_002_592_000),
+        (60 * u64::from(size.window)).min(LAST_START),
     )
 }
 

@@ -11,6 +11,7 @@ use plain_data::items::Items;
 use plain_data::limit::Limit;
 use plain_data::nice::Nice;
 use plain_data::ranged::Ranged;
+use plain_data::seconds::FOREVER;
 use request_data::report::Heard;
 use request_data::state::{JobState, Reason};
 use small_texts::memory_error::Memory;
@@ -61,7 +62,7 @@ pub struct JobRow {
     pub qos: Name,
     pub state: JobState,
     /// The seconds since its start, or those between its start and its end.
-    pub elapsed: Ranged<0, 1000000000000>,
+    pub elapsed: Ranged<0, FOREVER>,
     /// How many nodes it has, or needs at least.
     pub nodes: u64,
     pub node_names: Items<Name>,

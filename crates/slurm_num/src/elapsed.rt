@@ -7,12 +7,13 @@ ghost use Rattle.slurm_num.specs.Elapsed.{elapsed_text};
 
 use itoa::Buffer;
 use slurm_text::digits::to_two_digits;
+use slurm_text::plain::seconds::FOREVER;
 
 /// Writes the length of time, in seconds, to the front of `out`, as `m:ss`, `h:mm:ss` or `d-hh:mm:ss`, and answers how
 /// many bytes that took. The others stay.
 #[tactic(auto, unfolding(crate::specs::Elapsed::elapsed_text))]
 pub fn print_elapsed(seconds: u64, out: &mut [u8; 32]) -> usize
-    requires { seconds ≤ 1_000_000_000_000 }
+    requires { seconds ≤ FOREVER }
     ensures text { take result out.new ≡ elapsed_text seconds }
     ensures len { result ≤ 32 }
     ensures rest { drop result out.new ≡ drop result out.old }

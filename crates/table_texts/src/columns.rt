@@ -12,6 +12,7 @@ use slurm_text::moment::print_moment;
 use slurm_text::pieces::{push_labelled, push_number, push_text};
 use slurm_text::plain::limit::Limit;
 use slurm_text::plain::query::JobColumn;
+use slurm_text::plain::seconds::FOREVER;
 use slurm_text::plain::state::{Final, JobState, Reason};
 use slurm_text::plain::view::JobRow;
 use slurm_text::ranged::Ranged;
@@ -90,7 +91,7 @@ pub fn push_id(
 
 /// Writes a length of time.
 pub fn push_elapsed(out: &mut Vec<u8>, seconds: u64) -> Result<(), Memory>
-    requires { seconds ≤ 1_000_000_000_000 }
+    requires { seconds ≤ FOREVER }
     ensures { OnOk result (out.new.items ≡ out.old.items ++ elapsed_text seconds) }
 {
     let mut text = [0; 32];

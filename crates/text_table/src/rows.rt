@@ -7,6 +7,7 @@ use slurm_text::items::Items;
 use slurm_text::name::{JobName, Name};
 use slurm_text::plain::limit::Limit;
 use slurm_text::plain::nice::Nice;
+use slurm_text::plain::seconds::FOREVER;
 use slurm_text::plain::state::{Final, JobState, Reason};
 use slurm_text::plain::view::{EndAt, JobRow};
 use slurm_text::ranged::Ranged;
@@ -115,7 +116,7 @@ struct Standing {
     id: u32,
     state: JobState,
     reason: Option<Reason>,
-    elapsed: Ranged<0, 1000000000000>,
+    elapsed: Ranged<0, FOREVER>,
     nodes: u64,
     start: Option<Ranged<0, 253402300799>>,
 }

@@ -3,6 +3,7 @@ ghost use Rattle.std.specs.Prelude.{◌<◌, ◌^◌, IfOk};
 
 use slurm_num::plain::Limit;
 use slurm_num::{Ratio, parse_limit, print_elapsed};
+use slurm_text::plain::seconds::FOREVER;
 use std::alloc::Global;
 use std::cmp::Ordering;
 use table_lines::answer::{Unanswered, refused, taken};
@@ -26,7 +27,7 @@ pub fn elapsed(alloc: Global, arguments: &[&[u8]]) -> Result<Vec<u8>, Unanswered
         return Err(Unanswered::Arguments);
     };
     let seconds = number(seconds)?;
-    if seconds > 1_000_000_000_000 {
+    if seconds > FOREVER {
         return Err(Unanswered::Arguments);
     }
     let mut out = [0; 32];

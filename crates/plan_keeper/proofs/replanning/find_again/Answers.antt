@@ -7,6 +7,7 @@ use Rattle.plan_keeper.specs.Steady.{CanStand}
 use Rattle.plan_keeper.proofs.Turning.{stands-some, stands-none, stands-nowhere}
 use Rattle.plan_keeper.proofs.replanning.find_again.Goals as goal
 use Rattle.plan_keeper.proofs.replanning.find_again.Goals.{else-now-placed-via-then-now-placed+else-placed-horizon, else-now-placed-via-else-now-placed}
+use Rattle.slurm_text.specs.declared.plain.seconds.TheConstants.{LAST_START}
 
 pub placement_of-requires : goal.placement_of-requires
 placement_of-requires g c = c.requires.stands.there
@@ -19,7 +20,7 @@ returns-then-placed-horizon-clause-placed g c = λ d.
     let stands = c.requires.stands in
     let horizon_is : c.behind-planning.inside.horizon ≡ planning.base.horizon = ap (λ (b : BaseView). b.horizon) (c.behind-planning.view_is ∙ c.base.ensures) in
     let last_is : c.behind-old.inside.horizon ≡ old.base.horizon = ap (λ (b : BaseView). b.horizon) (c.behind-old.view_is ∙ c.base-2.ensures) in
-    let low : planning.base.horizon ≤ 250002592000 = rw horizon_is at c.behind-planning.invariant.1 in
+    let low : planning.base.horizon ≤ LAST_START = rw horizon_is at c.behind-planning.invariant.1 in
     let moment : c.args.now ≡ planning.moment = c.requires.now in
     let order : old.moment ≤ planning.moment = rw moment at c.requires.later in
     let was : placement_of old.base old.ranked old.moment before stands.job ≡ Some c.in-Some.placed.now = ap (λ job. placement_of old.base old.ranked old.moment before job) (sym (stands.was stands.job)) ∙ sym (c.in-Some.ensures stands.job) in
@@ -34,7 +35,7 @@ returns-then-placed-horizon-clause-before g c =
     let stands = c.requires.stands in
     let horizon_is : c.behind-planning.inside.horizon ≡ planning.base.horizon = ap (λ (b : BaseView). b.horizon) (c.behind-planning.view_is ∙ c.base.ensures) in
     let last_is : c.behind-old.inside.horizon ≡ old.base.horizon = ap (λ (b : BaseView). b.horizon) (c.behind-old.view_is ∙ c.base-2.ensures) in
-    let low : planning.base.horizon ≤ 250002592000 = rw horizon_is at c.behind-planning.invariant.1 in
+    let low : planning.base.horizon ≤ LAST_START = rw horizon_is at c.behind-planning.invariant.1 in
     let moment : c.args.now ≡ planning.moment = c.requires.now in
     let order : old.moment ≤ planning.moment = rw moment at c.requires.later in
     let was : placement_of old.base old.ranked old.moment before stands.job ≡ Some c.in-Some.placed.now = ap (λ job. placement_of old.base old.ranked old.moment before job) (sym (stands.was stands.job)) ∙ sym (c.in-Some.ensures stands.job) in
@@ -49,7 +50,7 @@ returns-then-horizon-last-clause-placed g c = λ d.
     let stands = c.requires.stands in
     let horizon_is : c.behind-planning.inside.horizon ≡ planning.base.horizon = ap (λ (b : BaseView). b.horizon) (c.behind-planning.view_is ∙ c.base.ensures) in
     let last_is : c.behind-old.inside.horizon ≡ old.base.horizon = ap (λ (b : BaseView). b.horizon) (c.behind-old.view_is ∙ c.base-2.ensures) in
-    let low : planning.base.horizon ≤ 250002592000 = rw horizon_is at c.behind-planning.invariant.1 in
+    let low : planning.base.horizon ≤ LAST_START = rw horizon_is at c.behind-planning.invariant.1 in
     let moment : c.args.now ≡ planning.moment = c.requires.now in
     let order : old.moment ≤ planning.moment = rw moment at c.requires.later in
     let was : placement_of old.base old.ranked old.moment before stands.job ≡ None = ap (λ job. placement_of old.base old.ranked old.moment before job) (sym (stands.was stands.job)) ∙ sym (c.in-None.ensures stands.job) in
@@ -63,7 +64,7 @@ search_next-requires-clause-none g c = λ d.
     let stands = c.requires.stands in
     let horizon_is : c.behind-planning.inside.horizon ≡ planning.base.horizon = ap (λ (b : BaseView). b.horizon) (c.behind-planning.view_is ∙ c.base.ensures) in
     let last_is : c.behind-old.inside.horizon ≡ old.base.horizon = ap (λ (b : BaseView). b.horizon) (c.behind-old.view_is ∙ c.base-2.ensures) in
-    let low : planning.base.horizon ≤ 250002592000 = rw horizon_is at c.behind-planning.invariant.1 in
+    let low : planning.base.horizon ≤ LAST_START = rw horizon_is at c.behind-planning.invariant.1 in
     let moment : c.args.now ≡ planning.moment = c.requires.now in
     let order : old.moment ≤ planning.moment = rw moment at c.requires.later in
     let was : placement_of old.base old.ranked old.moment before stands.job ≡ None = ap (λ job. placement_of old.base old.ranked old.moment before job) (sym (stands.was stands.job)) ∙ sym (c.in-None.ensures stands.job) in
@@ -77,7 +78,7 @@ returns-else-now-placed-clause-steps g c =
     let stands = c.requires.stands in
     let horizon_is : c.behind-planning.inside.horizon ≡ planning.base.horizon = ap (λ (b : BaseView). b.horizon) (c.behind-planning.view_is ∙ c.base.ensures) in
     let last_is : c.behind-old.inside.horizon ≡ old.base.horizon = ap (λ (b : BaseView). b.horizon) (c.behind-old.view_is ∙ c.base-2.ensures) in
-    let low : planning.base.horizon ≤ 250002592000 = rw horizon_is at c.behind-planning.invariant.1 in
+    let low : planning.base.horizon ≤ LAST_START = rw horizon_is at c.behind-planning.invariant.1 in
     let moment : c.args.now ≡ planning.moment = c.requires.now in
     let order : old.moment ≤ planning.moment = rw moment at c.requires.later in
     let was : placement_of old.base old.ranked old.moment before stands.job ≡ Some c.in-Some.placed.now = ap (λ job. placement_of old.base old.ranked old.moment before job) (sym (stands.was stands.job)) ∙ sym (c.in-Some.ensures stands.job) in
@@ -99,7 +100,7 @@ returns-after-is_none-clause-steps g c =
     let stands = c.requires.stands in
     let horizon_is : c.behind-planning.inside.horizon ≡ planning.base.horizon = ap (λ (b : BaseView). b.horizon) (c.behind-planning.view_is ∙ c.base.ensures) in
     let last_is : c.behind-old.inside.horizon ≡ old.base.horizon = ap (λ (b : BaseView). b.horizon) (c.behind-old.view_is ∙ c.base-2.ensures) in
-    let low : planning.base.horizon ≤ 250002592000 = rw horizon_is at c.behind-planning.invariant.1 in
+    let low : planning.base.horizon ≤ LAST_START = rw horizon_is at c.behind-planning.invariant.1 in
     let moment : c.args.now ≡ planning.moment = c.requires.now in
     let order : old.moment ≤ planning.moment = rw moment at c.requires.later in
     let was : placement_of old.base old.ranked old.moment before stands.job ≡ None = ap (λ job. placement_of old.base old.ranked old.moment before job) (sym (stands.was stands.job)) ∙ sym (c.in-None.ensures stands.job) in

@@ -2,6 +2,7 @@ use Rattle.std.proofs.Common.{rules, ◌≡◌, ◌≢◌, ◌≤◌, ◌<◌, �
 use Rattle.plan_keeper.specs.Nodes.{IsAsFree}
 use Rattle.plan_keeper.proofs.Freeing.{free-more, free-told}
 use Rattle.plan_keeper.proofs.same_nodes.is_as_free.Goals as goal
+use Rattle.slurm_text.specs.declared.plain.seconds.TheConstants.{FOREVER}
 
 pub returns-then-ne : goal.returns-then-ne
 returns-then-ne c =
@@ -9,7 +10,7 @@ returns-then-ne c =
     let after = c.free_over-after.result in (
       λ wrong. absurd cc,
       λ same.
-          let told : before.free ≡ after.free = free-told c.args.old.now c.args.new.now c.args.now c.args.node c.loop-second.second 1000000000000 before after c.free_over-before.ensures c.free_over-after.ensures same c.loop-second.invariant.later c.loop-second-test.true in
+          let told : before.free ≡ after.free = free-told c.args.old.now c.args.new.now c.args.now c.args.node c.loop-second.second FOREVER before after c.free_over-before.ensures c.free_over-after.ensures same c.loop-second.invariant.later c.loop-second-test.true in
           absurd (search (rules, told)),
     )
 

@@ -1,6 +1,7 @@
 use Rattle.std.proofs.Common.{ℕ, ◌-◌, ◌≤◌}
 use Rattle.plan_keeper.specs.Nodes.{IsAsFree}
 use Rattle.plan_keeper.proofs.same_nodes.is_as_free.Given as goal
+use Rattle.slurm_text.specs.declared.plain.seconds.TheConstants.{FOREVER}
 
 -- as much is free at each second so far
 abbrev pub invariant-loop-second : goal.invariant-loop-second
@@ -10,4 +11,4 @@ invariant-loop-second l = record {
 }
 
 abbrev pub decreases-loop-second : goal.decreases-loop-second
-decreases-loop-second l = 1000000000000 - l.second
+decreases-loop-second l = FOREVER - l.second
