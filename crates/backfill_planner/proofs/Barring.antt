@@ -12,7 +12,7 @@ use Rattle.cpu_ids.specs.Rows.{has_id}
 use Rattle.backfill_planner.specs.declared.job.Barred.{Barred}
 use Rattle.backfill_planner.specs.declared.job.PlanJob.{PlanJob}
 use Rattle.backfill_planner.specs.Giving.{window_end, bars, is_barred}
-use Rattle.slurm_text.specs.declared.plain.seconds.TheConstants.{FOREVER}
+use Rattle.plain_data.specs.declared.seconds.TheConstants.{FOREVER}
 
 pub record Crosses (node from until : ℕ) (time : Barred) : Type 0 where
   pub node_is : has_id time.nodes node ≡ true

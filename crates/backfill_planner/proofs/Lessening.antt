@@ -28,7 +28,7 @@ use Rattle.backfill_planner.specs.Lesser.{IsNoMoreMem, IsLesser, NoneBefore}
 use Rattle.backfill_planner.proofs.Rises.{chosen-none_fits, tasks-more, map-more, none-chosen, fits-more}
 use Rattle.backfill_planner.proofs.Seconds.{placed-none}
 use Rattle.backfill_planner.proofs.LeastSecond.{placed-is, placed-nowhere}
-use Rattle.slurm_text.specs.declared.plain.seconds.TheConstants.{FOREVER, LAST_START}
+use Rattle.plain_data.specs.declared.seconds.TheConstants.{FOREVER, LAST_START}
 
 -- a smaller part is in it more often
 quotient-part : (n small big : ℕ) → 1 ≤ small → small ≤ big → n / big ≤ n / small

@@ -23,7 +23,7 @@ use Rattle.backfill_planner.proofs.Takes.{takes_some, gives_usable}
 use Rattle.backfill_planner.proofs.Dealing.{IsGiven, dealt-given, dealt-some, length-capacities}
 use Rattle.backfill_planner.proofs.Holding.{HoldsFree, capacity-give, placement-holds}
 use Rattle.backfill_planner.proofs.LeastSecond.{placed-is}
-use Rattle.slurm_text.specs.declared.plain.seconds.TheConstants.{FOREVER, LAST_START}
+use Rattle.plain_data.specs.declared.seconds.TheConstants.{FOREVER, LAST_START}
 
 pub pairs-head : {X : Type 0} (R : X → X → Type 0) (x : X) (xs : List X) → AllPairs R (x ∷ xs) → All (R x) xs
 pairs-head R x xs pairs k d below = pairs 0 (suc k) d (omega arith) (omega (arith, below))

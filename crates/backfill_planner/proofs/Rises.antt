@@ -24,7 +24,7 @@ use Rattle.backfill_planner.specs.declared.job.PlanJob.{PlanJob}
 use Rattle.backfill_planner.specs.Sweeps.{NoneEnds}
 use Rattle.backfill_planner.specs.Giving.{window_end, is_barred, tasks_by_mem, may_have, tasks_given, give, capacities}
 use Rattle.backfill_planner.specs.Plans.{shares_of, placement_at}
-use Rattle.slurm_text.specs.declared.plain.seconds.TheConstants.{FOREVER}
+use Rattle.plain_data.specs.declared.seconds.TheConstants.{FOREVER}
 
 pub quotient-more : (less more part : ℕ) → less ≤ more → less / part ≤ more / part
 quotient-more less more part grows = elim (cases_lt 0 part) [

@@ -12,7 +12,7 @@ use Rattle.node_pick.specs.Choosing.{numbers_from}
 use Rattle.backfill_planner.specs.declared.Placed.{Placed}
 use Rattle.backfill_planner.specs.declared.job.PlanJob.{PlanJob}
 use Rattle.backfill_planner.specs.Plans.{placement_at, first_second, placed_of}
-use Rattle.slurm_text.specs.declared.plain.seconds.TheConstants.{LAST_START}
+use Rattle.plain_data.specs.declared.seconds.TheConstants.{LAST_START}
 
 -- at no second from `lo` to `hi` and before `end` some set fits
 abbrev pub NonePlaced : List NodeRoom → List Hold → PlanJob → ℕ → ℕ → ℕ → Type 0

@@ -28,7 +28,7 @@ use Rattle.backfill_planner.proofs.Beside.{placed-permuted, placement-permuted}
 use Rattle.backfill_planner.proofs.Beginnings.{plan_of-take}
 use Rattle.backfill_planner.proofs.Lessening.{bound-shown, seen-held}
 use Rattle.backfill_planner.proofs.Stepping.{plan-next, holds-next}
-use Rattle.slurm_text.specs.declared.plain.seconds.TheConstants.{LAST_START}
+use Rattle.plain_data.specs.declared.seconds.TheConstants.{LAST_START}
 
 -- it is free, and begins in time
 pub record SettlesFree (rooms : List NodeRoom) (holds : List Hold) (job : PlanJob) (placed : Placed) : Type 0 where

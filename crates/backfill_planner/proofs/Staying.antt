@@ -18,7 +18,7 @@ use Rattle.backfill_planner.specs.Staying.{StaysFrom, EndsInTime}
 use Rattle.backfill_planner.proofs.Dealing.{IsGiven, dealt-given, length-capacities}
 use Rattle.backfill_planner.proofs.Lessening.{some-placed, none-placed}
 use Rattle.backfill_planner.proofs.Seconds.{placed-some, placed-none}
-use Rattle.slurm_text.specs.declared.plain.seconds.TheConstants.{FOREVER, LAST_START}
+use Rattle.plain_data.specs.declared.seconds.TheConstants.{FOREVER, LAST_START}
 
 least_after-same : (one other : ℕ → ℕ) (from more : ℕ) → ((moment : ℕ) → from ≤ moment → moment ≤ from + more → one moment ≡ other moment) → least_after one from more ≡ least_after other from more
 unfolding least_after

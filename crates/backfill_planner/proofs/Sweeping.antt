@@ -21,7 +21,7 @@ use Rattle.backfill_planner.specs.Giving.{window_end, bars, is_barred, tasks_giv
 use Rattle.backfill_planner.specs.Sweeps.{GivesUntil}
 use Rattle.backfill_planner.proofs.Holding.{capacity-give}
 use Rattle.backfill_planner.proofs.Dealing.{length-capacities}
-use Rattle.slurm_text.specs.declared.plain.seconds.TheConstants.{FOREVER, LAST_START}
+use Rattle.plain_data.specs.declared.seconds.TheConstants.{FOREVER, LAST_START}
 
 -- the window of the job that begins at a later second ends where the same is free
 pub record IsInReach (job : PlanJob) (from until begins_before ends_up_to : ℕ) : Type 0 where

@@ -18,7 +18,7 @@ use Rattle.backfill_planner.proofs.Beside.{free-beside}
 use Rattle.backfill_planner.proofs.Holding.{HoldsFree}
 use Rattle.backfill_planner.proofs.LeastSecond.{placed-is}
 use Rattle.backfill_planner.proofs.Parts.{if_placed, pairs-head, pairs-tail, placed-holds}
-use Rattle.slurm_text.specs.declared.plain.seconds.TheConstants.{LAST_START}
+use Rattle.plain_data.specs.declared.seconds.TheConstants.{LAST_START}
 
 -- what is free on nodes that differ can be held
 holds-within : LowerLaws → (rooms : List NodeRoom) (holds held : List Hold) → AreWithin rooms holds → All (HasFree rooms holds) held → AllPairs (λ (one other : Hold). one.node ≢ other.node) held → AreWithin rooms (holds ++ held)

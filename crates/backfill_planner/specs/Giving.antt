@@ -9,7 +9,7 @@ use Rattle.slurm_text.specs.declared.plain.mem_ask.MemAsk.{MemAsk}
 use Rattle.slurm_text.specs.declared.plain.mem_ask.MemAsk.TheVariants.{All, PerNode, PerCpu}
 use Rattle.backfill_planner.specs.declared.job.Barred.{Barred}
 use Rattle.backfill_planner.specs.declared.job.PlanJob.{PlanJob}
-use Rattle.slurm_text.specs.declared.plain.seconds.TheConstants.{FOREVER}
+use Rattle.plain_data.specs.declared.seconds.TheConstants.{FOREVER}
 
 -- where the job's window ends that begins at `start`; without a limit it ends after all moments
 abbrev pub window_end : PlanJob → ℕ → ℕ

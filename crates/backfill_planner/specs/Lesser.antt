@@ -8,7 +8,7 @@ use Rattle.slurm_text.specs.declared.plain.mem_ask.MemAsk.TheVariants.{All, PerN
 use Rattle.backfill_planner.specs.declared.job.PlanJob.{PlanJob}
 use Rattle.backfill_planner.specs.Giving.{window_end}
 use Rattle.backfill_planner.specs.Plans.{placement_at}
-use Rattle.slurm_text.specs.declared.plain.seconds.TheConstants.{LAST_START}
+use Rattle.plain_data.specs.declared.seconds.TheConstants.{LAST_START}
 
 -- the memory that one asks for is of the other's kind, and no more
 abbrev pub IsNoMoreMem : MemAsk → MemAsk → Type 0

@@ -9,7 +9,7 @@ use Rattle.backfill_planner.specs.Bases.{BaseView}
 use Rattle.backfill_planner.specs.Placements.{IsOnRooms, IsPlannable}
 use Rattle.backfill_planner.specs.Plans.{holds_before, plan_of}
 use Rattle.backfill_planner.specs.Searches.{IsSeen}
-use Rattle.slurm_text.specs.declared.plain.seconds.TheConstants.{LAST_START}
+use Rattle.plain_data.specs.declared.seconds.TheConstants.{LAST_START}
 
 -- how many placements the first jobs have, for each number of these from 0 to `done`
 pub record AreCounted (base : BaseView) (ranked : List PlanJob) (now done : ℕ) (counts : List ℕ) : Type 0 where

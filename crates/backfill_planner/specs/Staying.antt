@@ -5,7 +5,7 @@ use Rattle.resource_profile.specs.declared.Hold.{Hold}
 use Rattle.resource_profile.specs.Free.{room_at, free_cpus, free_mem}
 use Rattle.backfill_planner.specs.declared.job.PlanJob.{PlanJob}
 use Rattle.backfill_planner.specs.Giving.{window_end}
-use Rattle.slurm_text.specs.declared.plain.seconds.TheConstants.{FOREVER, LAST_START}
+use Rattle.plain_data.specs.declared.seconds.TheConstants.{FOREVER, LAST_START}
 
 -- The node's room is the same, and as much of it is free at each second from `now` on, up to where all windows end.
 pub record StaysFrom (rooms : List NodeRoom) (holds : List Hold) (new_rooms : List NodeRoom) (new_holds : List Hold)

@@ -7,7 +7,7 @@ use Rattle.backfill_planner.specs.declared.job.Barred.{Barred}
 use Rattle.backfill_planner.specs.declared.job.PlanJob.{PlanJob}
 use Rattle.backfill_planner.specs.declared.sweep.Sweep.{Sweep}
 use Rattle.backfill_planner.specs.Giving.{give}
-use Rattle.slurm_text.specs.declared.plain.seconds.TheConstants.{LAST_START}
+use Rattle.plain_data.specs.declared.seconds.TheConstants.{LAST_START}
 
 -- no hold ends after `start` and before `end`, and none of the times at which the job may not have nodes
 pub record NoneEnds (holds : List Hold) (barred : List Barred) (start end : ℕ) : Type 0 where

@@ -1,6 +1,5 @@
 use resource_profile::{Hold, NodeRoom};
 use slurm_text::items::Items;
-use slurm_text::plain::seconds::LAST_START;
 use std::marker::Model;
 
 /// What a plan begins with: the nodes' rooms, what the running jobs hold of them, and the last second at which a start
@@ -15,6 +14,7 @@ pub struct Base {
 
 impl Model for Base {
     ghost use Rattle.std.specs.Prelude.{◌≤◌};
+    ghost use Rattle.plain_data.specs.declared.seconds.TheConstants.{LAST_START};
     ghost use Rattle.resource_profile.specs.Profiles.{AreWithin};
     ghost use Rattle.backfill_planner.specs.Bases.{BaseView};
 

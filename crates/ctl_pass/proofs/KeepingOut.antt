@@ -36,7 +36,7 @@ use Rattle.ctl_pass.specs.Readiness.{base_of, planned, ready}
 use Rattle.ctl_pass.specs.Reserved.{IsOfJob, KeepsTo, PlansKeepToReservations, is_in_time}
 use Rattle.ctl_pass.proofs.Lists.{All-joined}
 use Rattle.ctl_pass.proofs.Ranks.{ranked-all, waiting}
-use Rattle.slurm_text.specs.declared.plain.seconds.TheConstants.{FOREVER}
+use Rattle.plain_data.specs.declared.seconds.TheConstants.{FOREVER}
 
 -- the laws that this rests on
 pub record KeepingLaws : Type 0 where

@@ -61,7 +61,7 @@ use Rattle.ctl_pass.proofs.Lists.{sum_by-larger, sum_by-map, joined-larger, leng
 use Rattle.ctl_pass.proofs.Ranks.{IsOfCandidate, waiting, candidates-wait, ordered-agree, ranked-all, ranked-candidates, ranked-waits, ranked-apart}
 use Rattle.ctl_pass.proofs.Readied.{ReadyLaws, by_limit, goes-not_running, going, pending-left, readied, running-not_ended, sound-readied, timed_out-runs_on}
 use Rattle.ctl_pass.proofs.Tasks.{holding-left, waits-with, with-left}
-use Rattle.slurm_text.specs.declared.plain.seconds.TheConstants.{LAST_START}
+use Rattle.plain_data.specs.declared.seconds.TheConstants.{LAST_START}
 
 -- the laws of plans that a pass rests on
 abbrev pub PlanIds : Type 0

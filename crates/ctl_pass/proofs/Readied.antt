@@ -29,7 +29,7 @@ use Rattle.ctl_state.specs.Soundness.{IsSound, IsKept, PlansPending, pending_ids
 use Rattle.ctl_state.specs.State.{State, last_moment}
 use Rattle.ctl_pass.specs.Limits.{deadline, is_over, timed_out, holds_of_job}
 use Rattle.ctl_pass.specs.Readiness.{goes, jobs_left, ready}
-use Rattle.slurm_text.specs.declared.plain.seconds.TheConstants.{LAST_START}
+use Rattle.plain_data.specs.declared.seconds.TheConstants.{LAST_START}
 
 -- no plan names nobody
 pub no-plan : (jobs : List JobRecord) → PlansPending jobs []

@@ -31,7 +31,7 @@ use Rattle.ctl_pass.specs.Taking.{CanStart, IsReady}
 use Rattle.ctl_pass.proofs.Held.{cpus_in, held-counted, held-grown, free-counted, free-are}
 use Rattle.ctl_pass.proofs.Lists.{sum_by-map, pairs-take, pairs-head, pairs-tail, pairs-map, Any-kept}
 use Rattle.ctl_pass.proofs.Readied.{no-plan}
-use Rattle.slurm_text.specs.declared.plain.seconds.TheConstants.{LAST_START}
+use Rattle.plain_data.specs.declared.seconds.TheConstants.{LAST_START}
 
 -- only the nodes and the accounts matter of the state beside which placements start
 pub started-same : (s : State) (now moment : ℕ) (table jobs : List JobRecord) (usage : List ℕ)

@@ -10,7 +10,7 @@ use Rattle.ctl_state.specs.Planning.{is_theirs}
 use Rattle.ctl_state.specs.State.{State}
 use Rattle.ctl_pass.specs.Limits.{limit_end}
 use Rattle.ctl_pass.specs.Readiness.{placements, ready}
-use Rattle.slurm_text.specs.declared.plain.seconds.TheConstants.{FOREVER}
+use Rattle.plain_data.specs.declared.seconds.TheConstants.{FOREVER}
 
 -- the second is one of the reservation's time
 abbrev pub is_in_time : ℕ → Reservation → Bool

@@ -16,7 +16,7 @@ use Rattle.ctl_state.specs.State.{State}
 use Rattle.ctl_pass.specs.declared.starts.DueStart.{DueStart}
 use Rattle.ctl_pass.specs.Awaiting.{IsPrepared, placements_of}
 use Rattle.ctl_pass.specs.Starting.{JobStart}
-use Rattle.slurm_text.specs.declared.plain.seconds.TheConstants.{LAST_START}
+use Rattle.plain_data.specs.declared.seconds.TheConstants.{LAST_START}
 
 -- the processors of the node at a place that the index doesn't show as held, the lowest first
 abbrev pub free_by : List NodeRecord → List Held → ℕ → List ℕ

@@ -6,7 +6,7 @@ use Rattle.resource_profile.specs.declared.Hold.{Hold}
 use Rattle.job_table.specs.declared.record.Part.{Part}
 use Rattle.job_table.specs.declared.record.JobRecord.{JobRecord}
 use Rattle.job_table.specs.JobStates.{is_running}
-use Rattle.slurm_text.specs.declared.plain.seconds.TheConstants.{FOREVER}
+use Rattle.plain_data.specs.declared.seconds.TheConstants.{FOREVER}
 
 -- when a start at this second reaches the limit; without a limit after all moments
 abbrev pub limit_end : Limit → ℕ → ℕ

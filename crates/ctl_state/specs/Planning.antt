@@ -18,7 +18,7 @@ use Rattle.partitions.specs.declared.record.PartRecord.{PartRecord}
 use Rattle.job_table.specs.declared.record.JobRecord.{JobRecord}
 use Rattle.job_table.specs.declared.record.Part.{Part}
 use Rattle.ctl_state.specs.Ordered.{ordered_by}
-use Rattle.slurm_text.specs.declared.plain.seconds.TheConstants.{FOREVER}
+use Rattle.plain_data.specs.declared.seconds.TheConstants.{FOREVER}
 
 -- what a node has in all, which a plan may use where the node is available
 abbrev pub room_of : NodeRecord → NodeRoom

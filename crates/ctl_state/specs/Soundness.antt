@@ -23,7 +23,7 @@ use Rattle.job_table.specs.Targets.{AreTogether}
 use Rattle.job_table.specs.JobStates.{is_pending, is_completing, is_ended, is_holding}
 use Rattle.ctl_state.specs.Holding.{IsHeldOnce, OnNodesApart, has_members, parts_of}
 use Rattle.ctl_state.specs.Planning.{is_at, room_of}
-use Rattle.slurm_text.specs.declared.plain.seconds.TheConstants.{LAST_START}
+use Rattle.plain_data.specs.declared.seconds.TheConstants.{LAST_START}
 
 -- a limit is a minute at least, and at most a hundred years; or none
 abbrev pub IsLimit : Limit → Type 0

@@ -15,7 +15,7 @@ use Rattle.plan_keeper.specs.Marks.{AreMarks, Fits, Counts, Without}
 use Rattle.plan_keeper.specs.Turns.{IsFound, IsAgain, StandsAgain}
 use Rattle.plan_keeper.proofs.Marking.{kept-marks, other-marks, levels}
 use Rattle.plan_keeper.proofs.Settled.{steady-fits}
-use Rattle.slurm_text.specs.declared.plain.seconds.TheConstants.{LAST_START}
+use Rattle.plain_data.specs.declared.seconds.TheConstants.{LAST_START}
 
 pub stands-some : PlannerLaws → (old : PlannedView) (planning : PlanningView) (before : ℕ) (placed : Placed) → (stands : StandsAgain old planning before) → old.moment ≤ planning.moment → planning.base.horizon ≤ LAST_START → placement_of old.base old.ranked old.moment before stands.job ≡ Some placed → planning.moment ≤ placed.start → placed.start ≤ planning.base.horizon → placement_of planning.base planning.ranked planning.moment planning.done stands.job ≡ Some placed
 stands-some laws old planning before placed stands order low was from within =

@@ -9,7 +9,7 @@ use Rattle.backfill_planner.specs.Bases.{BaseView}
 use Rattle.backfill_planner.specs.Lesser.{NoneBefore}
 use Rattle.backfill_planner.specs.Plans.{holds_of, holds_before, placed_of, placement_of}
 use Rattle.backfill_planner.specs.Staying.{EndsInTime, StaysFrom}
-use Rattle.slurm_text.specs.declared.plain.seconds.TheConstants.{LAST_START}
+use Rattle.plain_data.specs.declared.seconds.TheConstants.{LAST_START}
 
 pub record PlannerLaws : Type 0 where
   pub own : (rooms : List NodeRoom) (holds : List Hold) (job : PlanJob) (lo hi : ℕ) (placed : Placed)

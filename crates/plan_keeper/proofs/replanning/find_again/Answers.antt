@@ -7,7 +7,7 @@ use Rattle.plan_keeper.specs.Steady.{CanStand}
 use Rattle.plan_keeper.proofs.Turning.{stands-some, stands-none, stands-nowhere}
 use Rattle.plan_keeper.proofs.replanning.find_again.Goals as goal
 use Rattle.plan_keeper.proofs.replanning.find_again.Goals.{else-now-placed-via-then-now-placed+else-placed-horizon, else-now-placed-via-else-now-placed}
-use Rattle.slurm_text.specs.declared.plain.seconds.TheConstants.{LAST_START}
+use Rattle.plain_data.specs.declared.seconds.TheConstants.{LAST_START}
 
 pub placement_of-requires : goal.placement_of-requires
 placement_of-requires g c = c.requires.stands.there

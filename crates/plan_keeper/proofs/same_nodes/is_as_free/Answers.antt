@@ -2,7 +2,7 @@ use Rattle.std.proofs.Common.{rules, ◌≡◌, ◌≢◌, ◌≤◌, ◌<◌, �
 use Rattle.plan_keeper.specs.Nodes.{IsAsFree}
 use Rattle.plan_keeper.proofs.Freeing.{free-more, free-told}
 use Rattle.plan_keeper.proofs.same_nodes.is_as_free.Goals as goal
-use Rattle.slurm_text.specs.declared.plain.seconds.TheConstants.{FOREVER}
+use Rattle.plain_data.specs.declared.seconds.TheConstants.{FOREVER}
 
 pub returns-then-ne : goal.returns-then-ne
 returns-then-ne c =

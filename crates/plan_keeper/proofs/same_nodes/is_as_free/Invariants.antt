@@ -1,7 +1,7 @@
 use Rattle.std.proofs.Common.{ℕ, ◌-◌, ◌≤◌}
 use Rattle.plan_keeper.specs.Nodes.{IsAsFree}
 use Rattle.plan_keeper.proofs.same_nodes.is_as_free.Given as goal
-use Rattle.slurm_text.specs.declared.plain.seconds.TheConstants.{FOREVER}
+use Rattle.plain_data.specs.declared.seconds.TheConstants.{FOREVER}
 
 -- as much is free at each second so far
 abbrev pub invariant-loop-second : goal.invariant-loop-second

@@ -3,7 +3,7 @@ use Rattle.resource_profile.specs.Profiles.{AreWithin}
 use Rattle.backfill_planner.specs.Bases.{BaseView}
 use Rattle.backfill_planner.proofs.Settling.{none-planned}
 use Rattle.backfill_planner.proofs.planning.Planning.new.Goals as goal
-use Rattle.slurm_text.specs.declared.plain.seconds.TheConstants.{LAST_START}
+use Rattle.plain_data.specs.declared.seconds.TheConstants.{LAST_START}
 
 pub invariant_of-result : goal.invariant_of-result
 invariant_of-result c =
