@@ -1,6 +1,8 @@
 pub mod FirstLines
 pub mod Readings
 pub mod Plain
+pub mod Lengths
+pub mod Frames
 pub mod Owing
 pub mod Cutting
 pub mod Seeing

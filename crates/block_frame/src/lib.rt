@@ -4,6 +4,7 @@
 mod block;
 mod blocks;
 mod form;
+mod framed;
 mod laws;
 mod lines;
 mod looking;
