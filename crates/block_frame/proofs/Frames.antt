@@ -8,6 +8,7 @@ use Rattle.std.proofs.lemmas.List.{append-nil, length-append, length-drop, lengt
 use Rattle.std.proofs.lemmas.Slice.Eq.{starts_is}
 use Rattle.block_frame.specs.declared.block.Block.{Block}
 use Rattle.block_frame.specs.declared.form.Form.TheVariants.{Framed}
+use Rattle.block_frame.specs.declared.framed.TheConstants.{MAX_CONTENT}
 use Rattle.block_frame.specs.Frames.{IsFramedBlock, behind_header, content_of, length_bytes, announced, frame_of, behind_line, block_of_content, has_frame, framed_block}
 use Rattle.block_frame.specs.Grammar.{IsBlock, IsPartial, IsBad, spelled, first_block, longest_block}
 use Rattle.block_frame.specs.Looking.{IsFirst}
@@ -71,12 +72,12 @@ pub block_of_content-content : (block : Block) → IsFramedBlock block → block
 block_of_content-content block b = block_of_parts block.header block.attachment b.one_line
 
 -- a content of a length that a frame may have makes a block
-pub content_is_block : (content : List ℕ) → 0 < length content → length content ≤ 131072 → IsFramedBlock (block_of_content content)
+pub content_is_block : (content : List ℕ) → 0 < length content → length content ≤ MAX_CONTENT → IsFramedBlock (block_of_content content)
 content_is_block content some fits =
     let same = content_of-block content in record {
       one_line = first_line content;
       not_empty = subst (λ bytes. 0 < length bytes) (sym same) some;
-      fits = subst (λ bytes. length bytes ≤ 131072) (sym same) fits;
+      fits = subst (λ bytes. length bytes ≤ MAX_CONTENT) (sym same) fits;
     }
 
 pub length-frame : (content : List ℕ) → length (frame_of content) ≡ 4 + length content
@@ -91,7 +92,7 @@ short_frame block b =
 
 -- a length and so many bytes behind it
 
-pub whole_frame : (text : List ℕ) (len : ℕ) → text ≡ length_bytes len ++ drop 4 text → 0 < len → len ≤ 131072 → 4 + len ≤ length text → IsFirst Framed text (framed_block text len) (4 + len)
+pub whole_frame : (text : List ℕ) (len : ℕ) → text ≡ length_bytes len ++ drop 4 text → 0 < len → len ≤ MAX_CONTENT → 4 + len ≤ length text → IsFirst Framed text (framed_block text len) (4 + len)
 whole_frame text len begins some fits whole =
     let content = take len (drop 4 text) in
     let content_len : length content ≡ len = length-take-le len (drop 4 text) (omega (arith, length-drop 4 text)) in
@@ -132,11 +133,11 @@ smaller : (a b : ℕ) → ltb a b ≡ true → a < b
 smaller a b e = grind (arith, nat_tests)
 
 -- a text that begins with a length and has so many bytes behind it begins with their block
-framed_at-whole : (len : ℕ) (text more : List ℕ) → text ≡ length_bytes len ++ more → 0 < len → len ≤ 131072 → 4 + len ≤ length text → framed_at len text ≡ Some (framed_block text len)
+framed_at-whole : (len : ℕ) (text more : List ℕ) → text ≡ length_bytes len ++ more → 0 < len → len ≤ MAX_CONTENT → 4 + len ≤ length text → framed_at len text ≡ Some (framed_block text len)
 unfolding framed_at
 framed_at-whole len text more begins some fits whole =
     let starts : starts_with nat_eq text (length_bytes len) ≡ true = (starts_is Decides-eqb text (length_bytes len) (starts_with nat_eq text (length_bytes len)) refl).1 more begins in
-    rw (starts, below 0 len some, up_to len 131072 fits, up_to (4 + len) (length text) whole) refl
+    rw (starts, below 0 len some, up_to len MAX_CONTENT fits, up_to (4 + len) (length text) whole) refl
 
 pub first_block-frame : (block : Block) (more : List ℕ) → IsBlock Framed block → first_block Framed (spelled Framed block ++ more) ≡ Some block
 first_block-frame block more b =
@@ -144,7 +145,8 @@ first_block-frame block more b =
     let len = length content in
     let text = spelled Framed block ++ more in
     let begins : text ≡ length_bytes len ++ (content ++ more) = append_assoc (length_bytes len) content more in
-    let says : announced text ≡ len = ap announced begins ∙ announced-length_bytes len (content ++ more) b.fits in
+    let fits = b.fits in
+    let says : announced text ≡ len = ap announced begins ∙ announced-length_bytes len (content ++ more) (omega arith) in
     let rest : drop 4 text ≡ content ++ more = ap (drop 4) begins ∙ drop_at (length_bytes len) (content ++ more) 4 (length-length_bytes len) in
     let found : take len (drop 4 text) ≡ content = ap (take len) rest ∙ take_at content more len refl in
     let whole : 4 + len ≤ length text = omega (arith, length-append (spelled Framed block) more, length-frame content) in
@@ -167,11 +169,11 @@ unfolding framed_at
 begins_with_frame text block e =
     let len = announced text in
     let (test, made) = chosen (has_frame len text) (Some (framed_block text len)) block (sym (first_block-framed_at text len refl) ∙ e) in
-    let (starts, some, fits, whole) = all_of (starts_with nat_eq text (length_bytes len)) (ltb 0 len) (leb len 131072) (leb (4 + len) (length text)) test in
+    let (starts, some, fits, whole) = all_of (starts_with nat_eq text (length_bytes len)) (ltb 0 len) (leb len MAX_CONTENT) (leb (4 + len) (length text)) test in
     let begins : text ≡ length_bytes len ++ drop 4 text =
     (starts_is Decides-eqb text (length_bytes len) (starts_with nat_eq text (length_bytes len)) refl).0 starts
     ∙ ap (λ n. length_bytes len ++ drop n text) (length-length_bytes len) in
-    let first = whole_frame text len begins (smaller 0 len some) (fitting len 131072 fits) (fitting (4 + len) (length text) whole) in
+    let first = whole_frame text len begins (smaller 0 len some) (fitting len MAX_CONTENT fits) (fitting (4 + len) (length text) whole) in
     let same : framed_block text len ≡ block = some_same (framed_block text len) block made in
     let whole_cut : text ≡ spelled Framed (framed_block text len) ++ drop (length (spelled Framed (framed_block text len))) text =
     first.cut ∙ ap (λ n. spelled Framed (framed_block text len) ++ drop n text) (sym first.count_is) in
@@ -180,14 +182,14 @@ begins_with_frame text block e =
 -- what can go on to a frame
 
 -- fewer than four bytes, of which some length is the beginning
-pub open_length : (text : List ℕ) → length text < 4 → HasBytes text → announced text ≤ 131072 → IsPartial Framed text
+pub open_length : (text : List ℕ) → length text < 4 → HasBytes text → announced text ≤ MAX_CONTENT → IsPartial Framed text
 open_length text short small fits =
     elim (cases_lt 0 (announced text)) [
       | inl some ↦ open_length_of text 0 short small (lit< tt) (omega arith) (omega arith)
       | inr none ↦ open_length_of text 1 short small (lit< tt) (omega arith) (omega arith)
     ]
   where
-    open_length_of : (text : List ℕ) (last : ℕ) → length text < 4 → HasBytes text → last < 256 → 0 < announced text + last → announced text + last ≤ 131072 → IsPartial Framed text
+    open_length_of : (text : List ℕ) (last : ℕ) → length text < 4 → HasBytes text → last < 256 → 0 < announced text + last → announced text + last ≤ MAX_CONTENT → IsPartial Framed text
     open_length_of text last short small is_byte some fits =
         let len = announced text + last in
         let goes = short_goes_on text last short small is_byte in
@@ -202,7 +204,7 @@ open_length text short small fits =
         }
 
 -- a length, and fewer bytes behind it
-pub open_frame : (text : List ℕ) → 4 ≤ length text → HasBytes text → 0 < announced text → announced text ≤ 131072 → length text < 4 + announced text → IsPartial Framed text
+pub open_frame : (text : List ℕ) → 4 ≤ length text → HasBytes text → 0 < announced text → announced text ≤ MAX_CONTENT → length text < 4 + announced text → IsPartial Framed text
 open_frame text whole small some fits less =
     let len = announced text in
     let got = drop 4 text in
@@ -230,9 +232,10 @@ bad_from text apart = record {
 announced_of : (block : Block) (behind text more : List ℕ) → IsBlock Framed block → spelled Framed block ++ behind ≡ text ++ more → announced (text ++ more) ≡ length (content_of block)
 announced_of block behind text more b e =
     let content = content_of block in
-    ap announced (sym e ∙ append_assoc (length_bytes (length content)) content behind) ∙ announced-length_bytes (length content) (content ++ behind) b.fits
+    let fits = b.fits in
+    ap announced (sym e ∙ append_assoc (length_bytes (length content)) content behind) ∙ announced-length_bytes (length content) (content ++ behind) (omega arith)
 
-pub long_frame : (text : List ℕ) → 131072 < announced text → IsBad Framed text
+pub long_frame : (text : List ℕ) → MAX_CONTENT < announced text → IsBad Framed text
 long_frame text long = bad_from text (λ block behind more b e.
     let says = announced_of block behind text more b e in
     let grows = announced_grows text more in
@@ -257,7 +260,7 @@ no_length text none = bad_from text (λ block behind more b e.
 
 -- a text with no first block can go on to a frame, or is bad
 
-length_or_bad : (text : List ℕ) → HasBytes text → announced text ≤ 131072 → 4 ≤ length text → first_block Framed text ≡ None → IsPartial Framed text ⊎ IsBad Framed text
+length_or_bad : (text : List ℕ) → HasBytes text → announced text ≤ MAX_CONTENT → 4 ≤ length text → first_block Framed text ≡ None → IsPartial Framed text ⊎ IsBad Framed text
 length_or_bad text small fits whole none =
     elim (cases_lt 0 (announced text)) [
       | inl some ↦ elim (cases_lt (length text) (4 + announced text)) [
@@ -272,7 +275,7 @@ length_or_bad text small fits whole none =
 pub frame_partial_or_bad : (text : List ℕ) → first_block Framed text ≡ None → IsPartial Framed text ⊎ IsBad Framed text
 frame_partial_or_bad text none =
     elim (bytes_or_none text) [
-      | inl small ↦ elim (cases_lt 131072 (announced text)) [
+      | inl small ↦ elim (cases_lt MAX_CONTENT (announced text)) [
         | inl long ↦ inr (long_frame text long)
         | inr fits ↦ elim (cases_lt (length text) 4) [
           | inl short ↦ inl (open_length text short small fits)

@@ -1,5 +1,5 @@
 -- The four bytes of a frame's length, and what fewer of them can go on to.
-use Rattle.std.proofs.Common.{◌≡◌, ℕ, zero, suc, ◌+◌, ◌<◌, ◌≤◌, List, [], ◌∷◌, ◌++◌, length, drop, get_or, ◌⊎◌, inl, inr, arith, ap, sym, ◌∙◌, refl, lit<, Fits, w8}
+use Rattle.std.proofs.Common.{◌≡◌, ℕ, zero, suc, ◌+◌, ◌^◌, ◌<◌, ◌≤◌, List, [], ◌∷◌, ◌++◌, length, drop, get_or, ◌⊎◌, inl, inr, arith, ap, sym, ◌∙◌, refl, lit<, Fits, w8}
 use Rattle.std.proofs.lemmas.Bool.{cases_lt}
 use Rattle.std.proofs.lemmas.Nat.{be_bytes_4, from_be_bytes-to_be_bytes_4}
 use Rattle.block_frame.specs.Frames.{length_bytes, announced}
@@ -9,9 +9,9 @@ unfolding length_bytes
 length-length_bytes len = refl
 
 -- the bytes of a length say it, whatever follows
-pub announced-length_bytes : (len : ℕ) (more : List ℕ) → len ≤ 131072 → announced (length_bytes len ++ more) ≡ len
+pub announced-length_bytes : (len : ℕ) (more : List ℕ) → len < 2 ^ 32 → announced (length_bytes len ++ more) ≡ len
 unfolding length_bytes announced
-announced-length_bytes len more fits = from_be_bytes-to_be_bytes_4 len (omega arith)
+announced-length_bytes len more fits = from_be_bytes-to_be_bytes_4 len fits
 
 -- the first four of a text are bytes, as far as they are there
 pub record HasBytes (text : List ℕ) : Type 0 where

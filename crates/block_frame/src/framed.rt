@@ -23,15 +23,16 @@ pub enum FrameSight {
     Whole(usize),
 }
 
-fn byte_at(text: &[u8], place: usize) -> u8
+/// The byte at a place, and 0 where none is.
+pub fn byte_at(text: &[u8], place: usize) -> u8
     ensures { result ≡ slice_index text.now place }
 {
     text.get(place).copied().unwrap_or(0)
 }
 
-// The length that a text begins with. Bytes that aren't there count as 0: it is the least that the text can go on to.
+/// The length that a text begins with. Bytes that aren't there count as 0: it is the least that the text can go on to.
 #[tactic(auto, unfolding(crate::specs::Frames::announced))]
-fn announced(text: &[u8]) -> usize
+pub fn announced(text: &[u8]) -> usize
     ensures { result ≡ announced text.now }
 {
     let bytes = [
