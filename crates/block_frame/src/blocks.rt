@@ -113,7 +113,7 @@ impl Blocks {
         }
     }
 
-    // Looks at the bytes that came since the last look.
+    // Looks at the bytes that came since the last look, in the plain form.
     fn look_on(&mut self) -> Sight
         ensures sight { IsSight self.old.pending result }
         ensures stays { self.new ≡ self.old }
