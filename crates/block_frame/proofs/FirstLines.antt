@@ -7,7 +7,7 @@ use Rattle.std.proofs.lemmas.Bool.Decides.{eqb_tells}
 use Rattle.std.proofs.lemmas.List.{take-append-drop, take-append-le, get_or-take, get_or_append_left, get_or_at, length-append, length-take, length-drop, get_or-drop, drop_at}
 use Rattle.std.proofs.lemmas.List.Folds.{prefix_len-append}
 use Rattle.std.proofs.lemmas.List.Sums.{position_or_len_is, fails_before_first, passes_at_first, split_at_first, prefix_len-le-length}
-use Rattle.block_frame.specs.Grammar.{is_line_feed}
+use Rattle.block_frame.specs.LineFeeds.{is_line_feed}
 
 -- no LF is among the bytes
 abbrev pub IsOneLine : List ℕ → Type 0

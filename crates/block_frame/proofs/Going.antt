@@ -1,9 +1,10 @@
 -- How looking goes on: line by line, and where more bytes come.
-use Rattle.std.proofs.Common.{◌≡◌, ℕ, ◌+◌, ◌-◌, ◌<◌, ◌≤◌, List, [], ◌∷◌, ◌++◌, length, take, drop, Some, true, false, leb, arith, sym, ap, ◌∙◌, subst, refl, append_assoc, codes}
+use Rattle.std.proofs.Common.{◌≡◌, ℕ, ◌+◌, ◌-◌, ◌<◌, ◌≤◌, List, [], ◌∷◌, ◌++◌, length, take, drop, Some, true, false, leb, arith, sym, ap, ◌∙◌, subst, refl, append_assoc, codes, Result, Ok, Err, OnErr}
 use Rattle.std.specs.List.{slice_range}
 use Rattle.std.proofs.lemmas.Bool.Decides.{nat_tests}
 use Rattle.std.proofs.lemmas.List.{append-nil, length-append, length-take-le, take_at, drop_at, take-append-drop, take-append-le}
 use Rattle.block_frame.specs.declared.block.Block.{Block}
+use Rattle.block_frame.specs.declared.form.Form.{Form}
 use Rattle.block_frame.specs.declared.form.Form.TheVariants.{Plain}
 use Rattle.block_frame.specs.declared.lines.Seen.TheVariants as seen
 use Rattle.block_frame.specs.declared.looking.Lines.{Lines}
@@ -146,7 +147,7 @@ scanned_grows text more (scan.Attachment lines) way = record {
 
 -- a header line that isn't marked
 pub line_sight : (text : List ℕ) → 0 < line_len text → line_len text ≤ 8192 → line_len text < length text → is_marked (take (line_len text) text) ≡ false
-    → IsFirst text (line_block text (line_len text)) (line_len text + 1)
+    → IsFirst Plain text (line_block text (line_len text)) (line_len text + 1)
 line_sight text some fits ended marked =
     let line = take (line_len text) text in
     let same = append-nil line in
@@ -158,7 +159,7 @@ line_sight text some fits ended marked =
 
 -- the block of a text under way whose next line is a dot alone
 whole_block : (text : List ℕ) (lines : Lines) (way : IsUnderWay text lines) → way.rest ≡ 46 ∷ 10 ∷ drop 2 way.rest
-    → IsFirst text (record { header = take (length way.line - 2) way.line; attachment = Some way.bytes }) (lines.at + 2)
+    → IsFirst Plain text (record { header = take (length way.line - 2) way.line; attachment = Some way.bytes }) (lines.at + 2)
 whole_block text lines way last =
     let same = sym (marked_is way.line way.marked) in
     let (is_front, dots) = unended_is_spelled way.front way.bytes LineStart way.read in
@@ -201,7 +202,7 @@ lines_are text lines way =
     ap (take (lines.at - (lines.header + 1))) behind_line ∙ take_at way.front way.rest (lines.at - (lines.header + 1)) (omega arith)
 
 pub last_sight : (text : List ℕ) (lines : Lines) → IsUnderWay text lines → IsSeen (65536 - lines.size) (drop lines.at text) seen.Last
-    → IsFirst text (attached_block text lines.header lines.at) (lines.at + 2) × (2 ≤ lines.header) × (lines.header + 1 ≤ lines.at) × (lines.at + 2 ≤ length text)
+    → IsFirst Plain text (attached_block text lines.header lines.at) (lines.at + 2) × (2 ≤ lines.header) × (lines.header + 1 ≤ lines.at) × (lines.at + 2 ≤ length text)
 last_sight text lines way line =
     let last = rw (rest_is text lines way) at line in
     let (found, dots) = undotted_lines way.front way.bytes way.read in
@@ -213,7 +214,12 @@ last_sight text lines way line =
     let marks = ap length (marked_is way.line way.marked) ∙ length-append (take (length way.line - 2) way.line) (codes "<<") in
     let total = ap length whole.cut ∙ length-append (spelled Plain (record { header = take (length way.line - 2) way.line; attachment = Some way.bytes })) (drop (lines.at + 2) text) in
     let count = whole.count_is in
-    (subst (λ b. IsFirst text b (lines.at + 2)) (sym same) whole, omega arith, omega arith, omega arith)
+    (subst (λ b. IsFirst Plain text b (lines.at + 2)) (sym same) whole, omega arith, omega arith, omega arith)
 
-pub first_begins : (text : List ℕ) (block : Block) (count : ℕ) → IsFirst text block count → BeginsWithBlock Plain text
-first_begins text block count first = record { block = block; more = drop count text; is_block = first.is_block; cut = first.cut }
+pub first_begins : (form : Form) (text : List ℕ) (block : Block) (count : ℕ) → IsFirst form text block count → BeginsWithBlock form text
+first_begins form text block count first = record { block = block; more = drop count text; is_block = first.is_block; cut = first.cut }
+
+-- what is so anyhow is so at an error
+pub on_err : {T E P : Type 0} (r : Result T E) → P → OnErr r P
+on_err (Ok x) p = tt
+on_err (Err e) p = p

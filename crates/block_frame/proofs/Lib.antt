@@ -1,6 +1,9 @@
 pub mod FirstLines
 pub mod Readings
 pub mod Plain
+pub mod Lengths
+pub mod Frames
+pub mod ReplyFrames
 pub mod Owing
 pub mod Cutting
 pub mod Seeing

@@ -2,9 +2,10 @@
 use Rattle.std.proofs.Common.{◌≡◌, ℕ, ◌<◌, ◌≤◌, List, [], ◌++◌, length, drop, Some, None, ◌⊎◌, arith}
 use Rattle.block_frame.specs.declared.block.Block.{Block}
 use Rattle.block_frame.specs.declared.form.Form.{Form}
-use Rattle.block_frame.specs.declared.form.Form.TheVariants.{Plain}
+use Rattle.block_frame.specs.declared.form.Form.TheVariants.{Plain, Framed}
 use Rattle.block_frame.specs.Grammar.{IsBlock, IsPartial, IsBad, spelled, first_block, longest_block}
 use Rattle.block_frame.proofs.Plain.{first_block-spelled, begins_with_first, partial_or_bad, line_is_partial, short_block}
+use Rattle.block_frame.proofs.Frames.{first_block-frame, begins_with_frame, frame_partial_or_bad, short_frame, nothing_is_partial_frame}
 
 pub record Owes (form : Form) : Type 0 where
   -- a block at the front of a text is found, whatever follows; so no block is a proper prefix of another
@@ -27,4 +28,12 @@ owes Plain = record {
   some = λ block b. (short_block block b).0;
   short = λ block b. (short_block block b).1;
   empty = line_is_partial [] (λ k d l. absurd (omega arith)) (omega arith);
+}
+owes Framed = record {
+  first = first_block-frame;
+  begins = begins_with_frame;
+  other = frame_partial_or_bad;
+  some = λ block b. (short_frame block b).0;
+  short = λ block b. (short_frame block b).1;
+  empty = nothing_is_partial_frame;
 }

@@ -1,12 +1,15 @@
 -- How requests lie in a text: as blocks, one after the other. A form says how a block is spelled.
-use Rattle.std.specs.Prelude.{◌≡◌, ◌≢◌, ◌==◌, ◌&&◌, ℕ, zero, suc, ◌+◌, ◌-◌, ◌<◌, ◌≤◌, Bool, true, false, nat_eq, nat_lt, nat_le, if◌then◌else◌, List, [], ◌∷◌, ◌++◌, length, take, drop, All, Option, Some, None, is_some, IfSome, codes}
+use Rattle.std.specs.Prelude.{◌≡◌, ◌≢◌, ◌&&◌, ℕ, zero, suc, ◌+◌, ◌-◌, ◌<◌, ◌≤◌, Bool, true, false, nat_eq, nat_lt, nat_le, if◌then◌else◌, List, [], ◌∷◌, ◌++◌, length, take, drop, All, Option, Some, None, is_some, IfSome, codes}
 use Rattle.std.specs.List.{position_or_len, before_first, after_first, ends_with}
 use Rattle.std.specs.Option.{option_map_or}
 use Rattle.std.specs.Str.{byte}
 use Rattle.block_frame.specs.declared.block.Block.{Block}
 use Rattle.block_frame.specs.declared.form.Form.{Form}
-use Rattle.block_frame.specs.declared.form.Form.TheVariants.{Plain}
+use Rattle.block_frame.specs.declared.form.Form.TheVariants.{Plain, Framed}
+use Rattle.block_frame.specs.declared.framed.TheConstants.{LENGTH_SIZE, MAX_CONTENT}
 use Rattle.block_frame.specs.Attachments.{IsAttachment, attachment_lines, LineStart, Reading, Ended, Unended, Off, reading_at}
+use Rattle.block_frame.specs.Frames.{IsFramedBlock, content_of, frame_of, announced, has_frame, framed_block}
+use Rattle.block_frame.specs.LineFeeds.{is_line_feed}
 
 -- A header line has 1 to 8,192 bytes, and no LF is among them.
 pub record IsHeaderLine (line : List ℕ) : Type 0 where
@@ -31,15 +34,17 @@ pub record IsPlainBlock (block : Block) : Type 0 where
 -- what each form asks of a block
 abbrev pub IsBlock : Form → Block → Type 0
 IsBlock Plain block = IsPlainBlock block
+IsBlock Framed block = IsFramedBlock block
 
--- the bytes of a block: the plain form ends the header line by LF
+-- the bytes of a block: the plain form ends the header line by LF, and a frame begins with its length
 abbrev pub spelled : Form → Block → List ℕ
 spelled Plain block = header_line block ++ byte "\n" ∷ attachment_lines block.attachment
+spelled Framed block = frame_of (content_of block)
 
--- no block of any form has more bytes: a header line, an attachment of lines that are a dot each, and the line that
--- ends it
+-- No block of any form has more bytes: a frame has so many. A plain block has up to 106,499: a header line, an
+-- attachment of lines that are a dot each, and the line that ends it.
 abbrev pub longest_block : ℕ
-longest_block = 8193 + 98304 + 2
+longest_block = LENGTH_SIZE + MAX_CONTENT
 
 -- the bytes of blocks that follow one another
 abbrev pub spelled_all : Form → List Block → List ℕ
@@ -66,9 +71,6 @@ pub record IsBad (form : Form) (text : List ℕ) : Type 0 where
   pub not_partial : ¬ IsPartial form text
   pub no_block : ¬ BeginsWithBlock form text
 
-abbrev pub is_line_feed : ℕ → Bool
-is_line_feed b = b == byte "\n"
-
 -- a line of this length is a header line, and stands before the end of a text of that length
 abbrev pub is_header_len : ℕ → ℕ → Bool
 is_header_len line text = nat_lt 0 line && nat_le line 8192 && nat_lt line text
@@ -92,6 +94,8 @@ first_block Plain text =
     then block_of (is_marked (before_first is_line_feed text)) (before_first is_line_feed text)
     (after_first is_line_feed text)
     else None
+first_block Framed text =
+    if has_frame (announced text) text then Some (framed_block text (announced text)) else None
 
 -- the blocks that a text begins with, n of them at the most
 unfoldable pub blocks_within : Form → ℕ → List ℕ → List Block

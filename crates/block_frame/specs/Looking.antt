@@ -3,7 +3,11 @@ use Rattle.std.specs.Prelude.{◌≡◌, ◌==◌, ◌&&◌, ℕ, ◌+◌, ◌-�
 use Rattle.std.specs.List.{position_or_len, slice_range}
 use Rattle.std.specs.Str.{byte}
 use Rattle.block_frame.specs.declared.block.Block.{Block}
-use Rattle.block_frame.specs.declared.form.Form.TheVariants.{Plain}
+use Rattle.block_frame.specs.declared.form.Form.{Form}
+use Rattle.block_frame.specs.declared.form.Form.TheVariants.{Plain, Framed}
+use Rattle.block_frame.specs.declared.framed.FrameSight.{FrameSight}
+use Rattle.block_frame.specs.declared.framed.FrameSight.TheVariants as frame
+use Rattle.block_frame.specs.declared.framed.TheConstants.{LENGTH_SIZE}
 use Rattle.block_frame.specs.declared.lines.Kind.{Kind}
 use Rattle.block_frame.specs.declared.lines.Kind.TheVariants as kind
 use Rattle.block_frame.specs.declared.lines.Seen.{Seen}
@@ -14,7 +18,9 @@ use Rattle.block_frame.specs.declared.looking.Scan.TheVariants as scan
 use Rattle.block_frame.specs.declared.looking.Sight.{Sight}
 use Rattle.block_frame.specs.declared.looking.Sight.TheVariants as sight
 use Rattle.block_frame.specs.Attachments.{Place, LineStart, FirstDot, InLine, Reading, Ended, Unended, Off, reading_at}
-use Rattle.block_frame.specs.Grammar.{IsHeaderLine, IsBlock, IsPartial, IsBad, is_line_feed, is_marked, spelled}
+use Rattle.block_frame.specs.Grammar.{IsHeaderLine, IsBlock, IsPartial, IsBad, is_marked, spelled}
+use Rattle.block_frame.specs.Frames.{framed_block}
+use Rattle.block_frame.specs.LineFeeds.{is_line_feed}
 
 -- how many bytes an attachment has still to gain before it can end
 abbrev pub owed : Place → ℕ
@@ -90,16 +96,23 @@ attached_block text line end =
     record { header = take (line - 2) text; attachment = Some (undotted true (slice_range text (line + 1) end)) }
 
 -- the first so many bytes of a text are a block
-pub record IsFirst (text : List ℕ) (block : Block) (count : ℕ) : Type 0 where
-  pub is_block : IsBlock Plain block
-  pub cut : text ≡ spelled Plain block ++ drop count text
-  pub count_is : length (spelled Plain block) ≡ count
+pub record IsFirst (form : Form) (text : List ℕ) (block : Block) (count : ℕ) : Type 0 where
+  pub is_block : IsBlock form block
+  pub cut : text ≡ spelled form block ++ drop count text
+  pub count_is : length (spelled form block) ≡ count
 
--- what a text begins with
+-- what a text begins with in the plain form
 abbrev pub IsSight : List ℕ → Sight → Type 0
 IsSight text sight.NotYet = IsPartial Plain text
 IsSight text sight.Bad = IsBad Plain text
-IsSight text (sight.Line line) = IsFirst text (line_block text line) (line + 1) × (line < length text)
+IsSight text (sight.Line line) = IsFirst Plain text (line_block text line) (line + 1) × (line < length text)
 IsSight text (sight.Attached line end) =
-    IsFirst text (attached_block text line end) (end + 2)
+    IsFirst Plain text (attached_block text line end) (end + 2)
     × (2 ≤ line) × (line + 1 ≤ end) × (end + 2 ≤ length text)
+
+-- what a text begins with in the framed form
+abbrev pub IsFrameSight : List ℕ → FrameSight → Type 0
+IsFrameSight text frame.NotYet = IsPartial Framed text
+IsFrameSight text frame.Bad = IsBad Framed text
+IsFrameSight text (frame.Whole len) =
+    IsFirst Framed text (framed_block text len) (LENGTH_SIZE + len) × (LENGTH_SIZE + len ≤ length text)

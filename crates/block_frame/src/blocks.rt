@@ -1,10 +1,11 @@
 // The reader of blocks: bytes are fed to it in pieces, and it hands out the blocks that they make.
 ghost use Rattle.std.specs.Prelude.{◌≡◌, ◌==◌, ◌++◌, ◌≤◌, [], length, drop, IfOk, OnOk, OnErr};
 ghost use Rattle.block_frame.specs.Grammar.{BeginsWithBlock};
-ghost use Rattle.block_frame.specs.Looking.{IsScanned, IsSight};
+ghost use Rattle.block_frame.specs.Looking.{IsScanned, IsSight, IsFrameSight};
 ghost use Rattle.block_frame.specs.State.{BlocksState, IsNext, place_after};
-ghost use Rattle.block_frame.specs.declared.form.Form.TheVariants.{Plain};
+ghost use Rattle.block_frame.specs.declared.form.Form.TheVariants.{Plain, Framed};
 
+use crate::framed::{FrameSight, LENGTH_SIZE, framed_block, look_at_frame};
 use crate::looking::{Scan, Sight, look};
 use crate::parts::{attached_block, line_block};
 use crate::{Block, Form, Next};
@@ -68,6 +69,7 @@ impl Blocks {
     {
         match self.form {
             Form::Plain => self.next_plain(),
+            Form::Framed => self.next_framed(),
         }
     }
 
@@ -94,7 +96,24 @@ impl Blocks {
         }
     }
 
-    // Looks at the bytes that came since the last look.
+    // What the pending bytes begin with in the framed form.
+    fn next_framed(&mut self) -> Result<Next, Memory>
+        requires { self.old.form ≡ Framed }
+        ensures ok { IfOk result (λ next. IsNext self.old next self.new) }
+        ensures err { OnErr result ((self.new ≡ self.old) × BeginsWithBlock self.old.form self.old.pending) }
+    {
+        match look_at_frame(self.pending.as_slice()) {
+            FrameSight::NotYet => Ok(Next::NotYet),
+            FrameSight::Bad => Ok(Next::Bad { place: self.place }),
+            FrameSight::Whole(len) => {
+                let block = framed_block(self.alloc, self.pending.as_slice(), len)?;
+                self.skip(LENGTH_SIZE + len);
+                Ok(Next::Whole(block))
+            }
+        }
+    }
+
+    // Looks at the bytes that came since the last look, in the plain form.
     fn look_on(&mut self) -> Sight
         ensures sight { IsSight self.old.pending result }
         ensures stays { self.new ≡ self.old }

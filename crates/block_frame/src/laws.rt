@@ -1,11 +1,14 @@
 // What holds of every text and its blocks, in each form. Each law is the contract of a function that does nothing.
-ghost use Rattle.std.specs.Prelude.{◌≡◌, ◌⊎◌, ◌<◌, ◌≤◌, ℕ, List, [], ◌++◌, length, All};
+ghost use Rattle.std.specs.Prelude.{◌≡◌, ◌⊎◌, ◌<◌, ◌≤◌, ℕ, List, [], ◌++◌, ◌^◌, length, All};
 ghost use Rattle.block_frame.specs.declared.block.Block.{Block};
 ghost use Rattle.block_frame.specs.declared.block.Next.{Next};
 ghost use Rattle.block_frame.specs.declared.block.Next.TheVariants.{Bad};
 ghost use Rattle.block_frame.specs.declared.form.Form.{Form};
 ghost use Rattle.block_frame.specs.Grammar.{IsBlock, IsPartial, IsBad, BeginsWithBlock, spelled, spelled_all, blocks_of, rest_of, longest_block};
+ghost use Rattle.block_frame.specs.Replies.{IsReply, reply_frame, too_long};
 ghost use Rattle.block_frame.specs.State.{BlocksState, IsNext};
+
+use crate::replies::MAX_REPLY_TEXT;
 
 /// Every text is its blocks and a rest, which is a proper prefix of a block or bad.
 pub fn texts_are_cut()
@@ -55,6 +58,16 @@ pub fn blocks_are_short()
     ensures whole { (form : Form) (block : Block)
         → IsBlock form block → length (spelled form block) ≤ longest_block }
     ensures partial { (form : Form) (text : List ℕ) → IsPartial form text → length text < longest_block }
+{}
+
+/// The frame of a reply is one, with what it was made of, or with the message in place of a text that is too long.
+pub fn replies_are_framed()
+    ensures fits { (status place : ℕ) (text : List ℕ)
+        → status ≤ 1 → place < 2 ^ 64 → length text ≤ MAX_REPLY_TEXT
+        → IsReply (reply_frame status place text) status place text }
+    ensures over { (status place : ℕ) (text : List ℕ)
+        → place < 2 ^ 64 → MAX_REPLY_TEXT < length text
+        → IsReply (reply_frame status place text) 1 place too_long }
 {}
 
 /// The bytes of blocks are joined as the blocks are.

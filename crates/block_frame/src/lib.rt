@@ -4,10 +4,12 @@
 mod block;
 mod blocks;
 mod form;
+mod framed;
 mod laws;
 mod lines;
 mod looking;
 mod parts;
+mod replies;
 mod text;
 
 pub use block::{Block, Next};
@@ -15,6 +17,7 @@ pub use blocks::Blocks;
 pub use form::Form;
 pub use laws::{
     bad_readers_stay, bad_texts_stay, blocks_are_cut_once, blocks_are_short, blocks_go_first,
-    kinds_are_apart, nothing_is_partial, spellings_join, texts_are_cut,
+    kinds_are_apart, nothing_is_partial, replies_are_framed, spellings_join, texts_are_cut,
 };
+pub use replies::{Reply, read_reply, write_block};
 pub use text::Text;

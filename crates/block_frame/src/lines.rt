@@ -1,7 +1,7 @@
 // Lines, and what a line of an attachment is.
 ghost use Rattle.std.specs.Prelude.{◌≡◌, ◌≤◌, ◌<◌, length};
 ghost use Rattle.std.specs.List.{position_or_len};
-ghost use Rattle.block_frame.specs.Grammar.{is_line_feed};
+ghost use Rattle.block_frame.specs.LineFeeds.{is_line_feed};
 ghost use Rattle.block_frame.specs.Looking.{IsSeen, kind_of, sized};
 
 use memchr::memchr;

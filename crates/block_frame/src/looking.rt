@@ -1,7 +1,8 @@
 // How far the bytes at hand were looked at, and what they begin with.
 ghost use Rattle.std.specs.Prelude.{◌≡◌, ◌≤◌, ◌<◌, length, nat_eq};
 ghost use Rattle.std.specs.List.{position_or_len};
-ghost use Rattle.block_frame.specs.Grammar.{is_line_feed, is_marked};
+ghost use Rattle.block_frame.specs.Grammar.{is_marked};
+ghost use Rattle.block_frame.specs.LineFeeds.{is_line_feed};
 ghost use Rattle.block_frame.specs.Looking.{IsScanned, IsSight, IsUnderWay};
 
 use crate::lines::{Seen, line_len, see_line};
@@ -31,7 +32,7 @@ pub enum Scan {
     Attachment(Lines),
 }
 
-/// What a text begins with.
+/// What a text begins with in the plain form.
 #[derive(Clone, Copy)]
 pub enum Sight {
     NotYet,

@@ -6,6 +6,7 @@ mod hosts;
 mod lines;
 mod numbers;
 mod priorities;
+mod replies;
 mod rows;
 mod scripts;
 mod texts;
@@ -36,7 +37,7 @@ fn answer(alloc: Global, function: &str, arguments: &[&[u8]]) -> Result<Vec<u8>,
     }
 }
 
-// The functions of times and of whole lines and blocks.
+// The functions of times, of whole lines, blocks and replies.
 fn answer_of_others(
     alloc: Global,
     function: &str,
@@ -48,6 +49,9 @@ fn answer_of_others(
         "compare" => times::compare(alloc, arguments),
         "scaled" => times::scaled(alloc, arguments),
         "cut" => blocks::cut(alloc, arguments),
+        "frames" => blocks::frames(alloc, arguments),
+        "reply" => replies::written(alloc, arguments),
+        "said" => replies::said(alloc, arguments),
         "row" => lines::row(alloc, arguments),
         "line" => lines::line(alloc, arguments),
         "titles" => lines::titles(alloc, arguments),

@@ -1,4 +1,5 @@
 use Rattle.std.proofs.Common.{◌≡◌, ◌+◌, ◌<◌, length, take, true, false, ap, sym, ◌∙◌, subst, arith}
+use Rattle.block_frame.specs.declared.form.Form.TheVariants.{Plain}
 use Rattle.block_frame.specs.Grammar.{is_marked}
 use Rattle.block_frame.specs.Looking.{IsUnderWay, IsFirst, line_block}
 use Rattle.block_frame.proofs.FirstLines.{line_len}
@@ -29,7 +30,7 @@ returns-then-not-is_marked-clause-sight c =
     let within = c.line_len-end.ensures.within in
     let ended : line_len text < length text = omega arith in
     let unmarked : is_marked (take c.line_len-end.result text) ≡ false = ap is_marked (sym c.split_at.ensures.front) ∙ sym c.is_marked.ensures ∙ c.if-not-is_marked.true in
-    (subst (λ n. IsFirst text (line_block text n) (n + 1)) (sym end) (line_sight text (omega arith) (omega arith) ended (subst (λ n. is_marked (take n text) ≡ false) end unmarked)), omega arith)
+    (subst (λ n. IsFirst Plain text (line_block text n) (n + 1)) (sym end) (line_sight text (omega arith) (omega arith) ended (subst (λ n. is_marked (take n text) ≡ false) end unmarked)), omega arith)
 
 pub look_at_lines-requires : goal.look_at_lines-requires
 look_at_lines-requires c =
