@@ -1,6 +1,6 @@
 //! A value whose entries are the numbers of the passes that made them, and threads that make such entries.
 
-ghost use Rattle.std.specs.Prelude.{◌≡◌, ◌<◌, ◌≤◌, ◌+◌, ◌^◌, ◌++◌, ◌∷◌, ◌==◌, [], length, filter, IfSome};
+ghost use Rattle.std.specs.Prelude.{◌≡◌, ◌≢◌, ◌<◌, ◌≤◌, ◌+◌, ◌^◌, ◌++◌, ◌∷◌, ◌==◌, [], length, filter, IfSome};
 ghost use Rattle.std.specs.Bool.{OnTrue, OnFalse};
 ghost use Rattle.turn_lock.specs.Passes.{SeesMore};
 
@@ -86,7 +86,8 @@ pub fn mark_often<R: Wait>(rt: &R, lock: &MarkLock, pass: MarkPass, count: u32) 
     Some(pass)
 }
 
-/// Two threads make so many marks each. Of the marks that the lock has then, each thread's number stands so often.
+/// Two threads make so many marks each. Of the marks that the lock has then, the number of each stands so often. It answers
+/// how many marks were seen when the two passes met, the second pass's number, and the marks.
 pub fn mark_by_two<R: Threads + Wait + Sync>(
     rt: &R,
     alloc: Global,
@@ -94,7 +95,7 @@ pub fn mark_by_two<R: Threads + Wait + Sync>(
 ) -> Option<(u64, u32, Marks)>
     ensures first { IfSome result (λ made. length (filter (λ number. number == 0) made.2.numbers.items) ≡ count) }
     ensures second { IfSome result (λ made. length (filter (λ number. number == made.1) made.2.numbers.items) ≡ count) }
-    ensures len { IfSome result (λ made. made.0 ≡ length made.2.numbers.items) }
+    ensures apart { IfSome result (λ made. made.1 ≢ 0) }
 {
     let (lock, mut first) = mark_lock(alloc)?;
     let second = lock.split(&mut first).ok()?;
