@@ -51,4 +51,14 @@ pub trait Desk {
     fn seen_len(&self) -> u64
         ensures len { result ≡ length (seen (sight self.now)) }
         ensures history { IsHistory (history_of (sight self.now)) };
+
+    /// Whether a shutdown was accepted, as far as the desk has seen. It takes no memory.
+    fn shut(&self) -> bool
+        ensures { result ≡ (present (history_of (sight self.now))).is_shut };
+
+    /// Looks at the history anew, and tells whether a shutdown was accepted.
+    fn refresh(&mut self) -> bool
+        ensures goes_on { GoesOn (sight self.old) (sight self.new) }
+        ensures mine { (sight self.new).mine ≡ (sight self.old).mine }
+        ensures shut { result ≡ (present (history_of (sight self.new))).is_shut };
 }

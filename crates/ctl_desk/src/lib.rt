@@ -4,5 +4,6 @@
 pub mod book;
 pub mod desk;
 pub mod entry;
+mod kept;
 pub mod laws;
 pub mod own_desk;

@@ -77,4 +77,12 @@ impl Desk for OwnDesk {
     fn seen_len(&self) -> u64 {
         self.book.len()
     }
+
+    fn shut(&self) -> bool {
+        self.book.ctl().is_shut()
+    }
+
+    fn refresh(&mut self) -> bool {
+        self.shut()
+    }
 }
