@@ -1,0 +1,4 @@
+pub mod Accepted
+pub mod Course
+pub mod MemClock
+pub mod Session
