@@ -3,11 +3,16 @@
 #![tactic(auto)]
 
 mod clock;
+mod coming;
 mod door;
 mod gate;
 mod mem_clock;
+mod mem_door;
+mod mem_session;
 
 pub use clock::Clock;
 pub use door::{Accepted, Cut, Door};
 pub use gate::{Gate, NoGate, Point};
 pub use mem_clock::MemClock;
+pub use mem_door::MemDoor;
+pub use mem_session::MemSession;
