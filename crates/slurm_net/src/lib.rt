@@ -6,13 +6,17 @@ mod clock;
 mod coming;
 mod door;
 mod gate;
+mod host;
 mod mem_clock;
 mod mem_door;
+mod mem_host;
 mod mem_session;
 
 pub use clock::Clock;
 pub use door::{Accepted, Cut, Door};
 pub use gate::{Gate, NoGate, Point};
+pub use host::{Host, ListenRefusal};
 pub use mem_clock::MemClock;
 pub use mem_door::MemDoor;
+pub use mem_host::MemHost;
 pub use mem_session::MemSession;
