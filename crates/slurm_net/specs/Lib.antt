@@ -5,4 +5,5 @@ pub mod MemClock
 pub mod MemDoor
 pub mod MemHost
 pub mod Session
+pub mod Untold
 pub mod Unused

@@ -40,8 +40,11 @@ count_if failed count = if failed then next_count count else count
 abbrev pub after_listen : MemHostState → ℕ → MemHostState
 after_listen host workers = record host { doors = drop workers host.doors; calls = next_count host.calls }
 
+abbrev pub after_failed_call : MemHostState → MemHostState
+after_failed_call host = record host { calls = next_count host.calls; faults = next_count host.faults }
+
 abbrev pub after_refusal : MemHostState → ListenRefusal → MemHostState
-after_refusal host Failed = record host { calls = next_count host.calls; faults = next_count host.faults }
+after_refusal host Failed = after_failed_call host
 after_refusal host Memory = record host { calls = next_count host.calls }
 
 abbrev pub after_dial : MemHostState → MemHostState

@@ -8,7 +8,7 @@ ghost use Rattle.slurm_net.specs.Session.{LinkSession, AddsSession};
 use slurm_io::{Failed, Link};
 
 /// What came to a door (own).
-#[derive(Clone, Copy, Debug, PartialEq, Eq)]
+#[derive(Debug, PartialEq, Eq, Drop)]
 pub enum Accepted<L> {
     /// A connection.
     Came(L),

@@ -30,6 +30,17 @@ impl From<AllocError> for ListenRefusal {
     }
 }
 
+impl From<Failed> for ListenRefusal {
+    ghost use Rattle.std.specs.Prelude.{◌≡◌};
+    ghost use Rattle.slurm_net.specs.declared.host.ListenRefusal.TheVariants.{Failed};
+
+    ghost from_gives = { λ _ e. e ≡ Failed };
+
+    fn from(_failed: Failed) -> ListenRefusal {
+        ListenRefusal::Failed
+    }
+}
+
 /// What opens doors at a port and dials one, and takes both back (own).
 pub trait Host {
     type Door: Door;

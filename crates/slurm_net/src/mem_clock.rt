@@ -50,8 +50,7 @@ impl Clock for MemClock {
         ensures moments { moments_of self.new ≡ moments_of self.old }
         ensures course { Some (course_of self.new) ≡ Some (course_of self.old) }
         ensures kept { self.new ≡ self.old }
-    {
-    }
+    {}
 
     fn twin(&self) -> MemClock
         ensures moments { IfSome (moments_of result) (λ given. given ≡ []) }

@@ -5,7 +5,7 @@ ghost use Rattle.slurm_io.specs.Faults.{CountsFault, next_count};
 ghost use Rattle.slurm_net.specs.Accepted.{IsNewLink};
 ghost use Rattle.slurm_net.specs.Host.{CountsIf, CountsListening, KeepsSessions};
 ghost use Rattle.slurm_net.specs.Unused.{IsUnused, mem_wire};
-ghost use Rattle.slurm_net.specs.MemHost.{MemHostState, IsUnusedDoor, first_link, any_failed, count_if, after_listen, after_refusal, after_dial, after_close, after_hang_up};
+ghost use Rattle.slurm_net.specs.MemHost.{MemHostState, IsUnusedDoor, first_link, any_failed, count_if, after_listen, after_failed_call, after_refusal, after_dial, after_close, after_hang_up};
 
 use crate::{Host, ListenRefusal, MemDoor};
 use slurm_io::{Failed, MemLink};
@@ -180,7 +180,7 @@ impl Host for MemHost {
         ensures fails { IsErr result
             ↔ (Contains self.old.failing (next_count self.old.calls) ⊎ (self.old.links ≡ [])) }
         ensures ok { OnOk result (self.new ≡ after_dial self.old) }
-        ensures err { OnErr result (self.new ≡ after_refusal self.old ListenRefusal.Failed) }
+        ensures err { OnErr result (self.new ≡ after_failed_call self.old) }
     {
         self.calls = self.calls.saturating_add(1);
         if !self.failing.contains(&self.calls) {
