@@ -1,6 +1,6 @@
 -- A clock in memory goes on telling its moments.
 use Rattle.std.proofs.Common.{◌≡◌, ℕ, ◌+◌, ◌-◌, ◌^◌, ◌<◌, Some, None, true, false, nat_lt, length, if◌then◌else◌, arith, refl}
-use Rattle.std.specs.Prelude.{Option, List, IfSome, IsSome}
+use Rattle.std.specs.Prelude.{IfSome, IsSome}
 use Rattle.slurm_io.specs.Faults.{next_count}
 use Rattle.slurm_net.specs.Course.{first_moments, Course}
 use Rattle.slurm_net.specs.MemClock.{length-first_moments}

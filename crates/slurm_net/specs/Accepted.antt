@@ -1,5 +1,5 @@
 -- What is said of what came to a door.
-use Rattle.std.specs.Prelude.{◌≡◌, ℕ, List, [], Option, Some, None, IfSome, Result, Ok, Err}
+use Rattle.std.specs.Prelude.{◌≡◌, [], Option, Some, None, IfSome, Result, Ok, Err}
 use Rattle.slurm_io.specs.Wire.{Wire}
 use Rattle.slurm_net.specs.declared.door.Accepted.{Accepted}
 use Rattle.slurm_net.specs.declared.door.Accepted.TheVariants.{Came, Nobody}

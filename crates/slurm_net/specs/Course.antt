@@ -1,5 +1,5 @@
 -- The moments of a clock whose course is known, and what is said of a clock's moments.
-use Rattle.std.specs.Prelude.{◌≡◌, ℕ, ◌+◌, ◌-◌, ◌*◌, ◌^◌, ◌<◌, min, zero, suc, List, [], ◌∷◌, ◌++◌, length, Option, Some, IfSome, IsSome, IsSomeAnd}
+use Rattle.std.specs.Prelude.{◌≡◌, ℕ, ◌+◌, ◌-◌, ◌*◌, ◌^◌, ◌<◌, min, zero, suc, List, [], ◌∷◌, ◌++◌, length, Option, IfSome, IsSome, IsSomeAnd}
 
 -- a clock's first moment, and by how much each reading is later than the one before
 pub record Course : Type 0 where

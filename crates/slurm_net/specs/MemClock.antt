@@ -1,6 +1,6 @@
 -- A clock in memory, as contracts see it.
-use Rattle.std.specs.Prelude.{◌≡◌, ℕ, ◌-◌, ◌+◌, ◌^◌, zero, suc, nat_lt, Option, Some, None, if◌then◌else◌, Bool, true, false, IfSome, refl, length, List, [], ◌∷◌}
-use Rattle.std.proofs.Common.{ap, ◌∙◌, sym, arith, length-append}
+use Rattle.std.specs.Prelude.{◌≡◌, ℕ, ◌-◌, ◌^◌, zero, suc, nat_lt, Option, Some, None, if◌then◌else◌, true, false, refl, length, List, [], ◌∷◌}
+use Rattle.std.proofs.Common.{ap, sym, arith, length-append}
 use Rattle.slurm_net.specs.Course.{Course, first_moments, FollowsCourse, moment_at}
 use Rattle.slurm_net.specs.declared.mem_clock.MemClock.{MemClock}
 

@@ -1,5 +1,5 @@
 -- A door in memory, as contracts see it, and what its calls make of it.
-use Rattle.std.specs.Prelude.{◌≡◌, ℕ, List, [], ◌∷◌, ◌++◌, drop, Option, Some, None, option_map, IfSome, All}
+use Rattle.std.specs.Prelude.{ℕ, List, [], ◌∷◌, ◌++◌, drop, Option, Some, None, option_map, IfSome}
 use Rattle.slurm_io.specs.Faults.{next_count}
 use Rattle.slurm_io.specs.MemLink.{MemLinkState}
 use Rattle.slurm_net.specs.Session.{LinkSession, session_of}

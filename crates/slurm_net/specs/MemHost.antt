@@ -1,5 +1,5 @@
 -- A host in memory, as contracts see it, and what its calls make of it.
-use Rattle.std.specs.Prelude.{◌≡◌, ℕ, List, [], ◌∷◌, take, drop, Option, Some, None, option_map, option_and_then, nat_lt, map, if◌then◌else◌, Bool}
+use Rattle.std.specs.Prelude.{ℕ, List, [], ◌∷◌, drop, Option, Some, None, option_map, nat_lt, if◌then◌else◌, Bool}
 use Rattle.std.specs.List.{list_any}
 use Rattle.slurm_io.specs.Faults.{next_count}
 use Rattle.slurm_io.specs.MemLink.{MemLinkState}

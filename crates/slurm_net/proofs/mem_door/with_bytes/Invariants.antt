@@ -1,4 +1,4 @@
-use Rattle.std.proofs.Common.{◌≡◌, ◌+◌, length, map, All}
+use Rattle.std.proofs.Common.{◌≡◌, length, map, All}
 use Rattle.std.specs.Vec.Iter.{into_iter_items}
 use Rattle.std.specs.VecDeque.{deque_len}
 use Rattle.slurm_net.specs.MemDoor.{told_coming, ComesUnused}
