@@ -1,7 +1,7 @@
 -- What is said of a host.
-use Rattle.std.specs.Prelude.{◌≡◌, ℕ, Bool, List, [], map, Option, Some, None, IfSome, MatchBool, Result, MatchResult}
+use Rattle.std.specs.Prelude.{◌≡◌, ℕ, Bool, List, [], map, Option, Some, None, IfSome, MatchBool, if◌then◌else◌, Result, MatchResult}
 use Rattle.slurm_io.specs.Wire.{Wire}
-use Rattle.slurm_io.specs.Faults.{CountsOne}
+use Rattle.slurm_io.specs.Faults.{CountsOne, next_count}
 use Rattle.slurm_net.specs.Session.{LinkSession}
 use Rattle.slurm_net.specs.declared.host.ListenRefusal.{ListenRefusal}
 use Rattle.slurm_net.specs.declared.host.ListenRefusal.TheVariants.{Failed, Memory}
@@ -9,6 +9,10 @@ use Rattle.slurm_net.specs.declared.host.ListenRefusal.TheVariants.{Failed, Memo
 -- one fault was counted where this is so, and else the count stayed
 abbrev pub CountsIf : Bool → ℕ → ℕ → Type 0
 CountsIf failed before after = MatchBool failed (CountsOne before after) (after ≡ before)
+
+-- a count after something that failed, or didn't
+abbrev pub count_if : Bool → ℕ → ℕ
+count_if failed count = if failed then next_count count else count
 
 -- a call that couldn't open its doors was counted once, and want of memory left the count as it was
 abbrev pub CountsRefusal : ℕ → ℕ → ListenRefusal → Type 0

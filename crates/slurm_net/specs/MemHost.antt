@@ -1,9 +1,9 @@
 -- A host in memory, as contracts see it, and what its calls make of it.
-use Rattle.std.specs.Prelude.{ℕ, List, [], ◌∷◌, drop, Option, Some, None, option_map, nat_lt, if◌then◌else◌, Bool}
+use Rattle.std.specs.Prelude.{ℕ, List, [], ◌∷◌, drop, Option, Some, None, option_map, nat_lt, Bool}
 use Rattle.std.specs.List.{list_any}
 use Rattle.slurm_io.specs.Faults.{next_count}
 use Rattle.slurm_io.specs.MemLink.{MemLinkState}
-use Rattle.slurm_net.specs.Host.{IsNewDoor}
+use Rattle.slurm_net.specs.Host.{IsNewDoor, count_if}
 use Rattle.slurm_net.specs.MemDoor.{MemDoorState}
 use Rattle.slurm_net.specs.Unused.{unused_wire}
 use Rattle.slurm_net.specs.declared.host.ListenRefusal.{ListenRefusal}
@@ -32,10 +32,6 @@ first_link (link ∷ later) = Some link
 
 abbrev pub any_failed : List MemDoorState → Bool
 any_failed doors = list_any (λ (door : MemDoorState). nat_lt 0 door.faults) doors
-
--- a count after something that failed, or didn't
-abbrev pub count_if : Bool → ℕ → ℕ
-count_if failed count = if failed then next_count count else count
 
 abbrev pub after_listen : MemHostState → ℕ → MemHostState
 after_listen host workers = record host { doors = drop workers host.doors; calls = next_count host.calls }

@@ -4,6 +4,7 @@
 
 mod clock;
 mod coming;
+mod counting;
 mod door;
 mod gate;
 mod host;

@@ -5,8 +5,9 @@ ghost use Rattle.slurm_io.specs.Faults.{CountsFault, next_count};
 ghost use Rattle.slurm_net.specs.Accepted.{IsNewLink};
 ghost use Rattle.slurm_net.specs.Host.{CountsIf, CountsListening, KeepsSessions};
 ghost use Rattle.slurm_net.specs.Unused.{IsUnused, mem_wire};
-ghost use Rattle.slurm_net.specs.MemHost.{MemHostState, IsUnusedDoor, first_link, any_failed, count_if, after_listen, after_failed_call, after_refusal, after_dial, after_close, after_hang_up};
+ghost use Rattle.slurm_net.specs.MemHost.{MemHostState, IsUnusedDoor, first_link, any_failed, after_listen, after_failed_call, after_refusal, after_dial, after_close, after_hang_up};
 
+use crate::counting::count_if;
 use crate::{Host, ListenRefusal, MemDoor};
 use slurm_io::{Failed, MemLink};
 use std::alloc::Global;
@@ -46,18 +47,6 @@ impl Model for MemHost {
     } };
 
     ghost invariant = { λ host. All IsUnusedDoor host.doors.items × All IsUnused host.links.items };
-}
-
-// A count after something that failed, or didn't.
-pub(crate) fn count_if(failed: bool, count: u64) -> u64
-    ensures counted { CountsIf failed count result }
-    ensures value { result ≡ count_if failed count }
-{
-    if failed {
-        count.saturating_add(1)
-    } else {
-        count
-    }
 }
 
 // Whether a call of one of them failed.

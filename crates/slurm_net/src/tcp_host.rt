@@ -4,7 +4,7 @@ ghost use Rattle.std.specs.List.{list_any};
 ghost use Rattle.slurm_net.specs.Host.{CountsIf, IsNewDoor};
 ghost use Rattle.slurm_net.specs.Untold.{untold_out};
 
-use crate::mem_host::count_if;
+use crate::counting::count_if;
 use crate::system::{MOST_TRIES, is_interrupted};
 use crate::{Host, ListenRefusal, TcpDoor, TcpLink};
 use slurm_io::Failed;
