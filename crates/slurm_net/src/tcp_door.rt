@@ -5,23 +5,23 @@ ghost use Rattle.slurm_net.specs.Untold.{untold_out};
 use crate::system::MOST_TRIES;
 use crate::{Accepted, Cut, Door, TcpLink};
 use slurm_io::Failed;
-use std::io::ErrorKind;
-use std::net::{Net, OpenListener};
+use std::io::{ErrorKind, Read, Write};
+use std::net::OpenListener;
 
 /// A door of this machine. `accept` doesn't wait if its listener doesn't (`set_nonblocking`), as is so of the doors of a
 /// `TcpHost`: nobody is there where it would have to (`ErrorKind::WouldBlock`). A call that a signal interrupts is tried
 /// again, up to 1,024 times in all; each other error, and the last interruption, is a fault.
 #[derive(Drop)]
-pub struct TcpDoor<R: Net> {
-    pub listener: R::Listener,
+pub struct TcpDoor<L> {
+    pub listener: L,
     /// How many calls of `accept` failed, up to the greatest `u64`.
     pub faults: u64,
     /// Whether a link came that wasn't handed back.
     pub is_out: bool,
 }
 
-impl<R: Net> TcpDoor<R> {
-    pub fn new(listener: R::Listener) -> Self
+impl<L> TcpDoor<L> {
+    pub fn new(listener: L) -> Self
         ensures listener { result.listener ≡ listener }
         ensures faults { result.faults ≡ 0 }
         ensures is_out { result.is_out ≡ false }
@@ -34,8 +34,11 @@ impl<R: Net> TcpDoor<R> {
     }
 }
 
-impl<R: Net> Door for TcpDoor<R> {
-    type Link = TcpLink<R::Stream>;
+impl<L: OpenListener> Door for TcpDoor<L>
+where
+    L::Stream: Read + Write,
+{
+    type Link = TcpLink<L::Stream>;
 
     ghost door_faults = { λ door. door.faults };
 
@@ -43,7 +46,7 @@ impl<R: Net> Door for TcpDoor<R> {
 
     ghost out = { λ door. untold_out door.is_out };
 
-    fn accept(&mut self) -> Result<Accepted<TcpLink<R::Stream>>, Failed> {
+    fn accept(&mut self) -> Result<Accepted<TcpLink<L::Stream>>, Failed> {
         match accept_through(&self.listener) {
             Ok(Accepted::Came(stream)) => {
                 self.is_out = true;
@@ -57,7 +60,7 @@ impl<R: Net> Door for TcpDoor<R> {
         }
     }
 
-    fn done(&mut self, _link: TcpLink<R::Stream>, _cut: Cut) {
+    fn done(&mut self, _link: TcpLink<L::Stream>, _cut: Cut) {
         self.is_out = false;
     }
 }

@@ -64,7 +64,7 @@ fn open_doors<R: Net>(
     net: &R,
     port: u16,
     workers: u32,
-) -> Result<Vec<TcpDoor<R>>, ListenRefusal>
+) -> Result<Vec<TcpDoor<R::Listener>>, ListenRefusal>
     ensures doors { IfOk result (λ doors. vec_len doors ≡ workers) }
     ensures new { IfOk result (λ doors. All (λ door. IsNewDoor door.faults (untold_out door.is_out) None) doors.items) }
 {
@@ -92,14 +92,14 @@ fn dial_through<R: Net>(net: &R, port: u16) -> Result<R::Stream, Failed> {
 }
 
 // Whether a call of one of them failed.
-fn any_failed<R: Net>(doors: &[TcpDoor<R>]) -> bool
+fn any_failed<L>(doors: &[TcpDoor<L>]) -> bool
     ensures { result ≡ list_any (λ door. nat_lt 0 door.faults) doors.now }
 {
     doors.iter().any(|door| door.faults > 0)
 }
 
 impl<R: Net> Host for TcpHost<R> {
-    type Door = TcpDoor<R>;
+    type Door = TcpDoor<R::Listener>;
 
     ghost host_faults = { λ host. host.faults };
 
@@ -113,7 +113,11 @@ impl<R: Net> Host for TcpHost<R> {
 
     ghost closed = { λ host. None };
 
-    fn listen(&mut self, port: u16, workers: u32) -> Result<Vec<TcpDoor<R>>, ListenRefusal> {
+    fn listen(
+        &mut self,
+        port: u16,
+        workers: u32,
+    ) -> Result<Vec<TcpDoor<R::Listener>>, ListenRefusal> {
         match open_doors(self.alloc, &self.net, port, workers) {
             Ok(doors) => Ok(doors),
             Err(ListenRefusal::Memory) => Err(ListenRefusal::Memory),
@@ -124,7 +128,7 @@ impl<R: Net> Host for TcpHost<R> {
         }
     }
 
-    fn close_doors(&mut self, doors: Vec<TcpDoor<R>>)
+    fn close_doors(&mut self, doors: Vec<TcpDoor<R::Listener>>)
         ensures faults { CountsIf (list_any (λ door. nat_lt 0 door.faults) doors.items)
             self.old.faults self.new.faults }
         ensures link_reads { self.new.link_reads ≡ self.old.link_reads }

@@ -3,11 +3,11 @@ use crate::serving::{Turn, serve, serve_soon};
 use slurm_io::{Source, write_all};
 use slurm_net::{Clock, Host, SystemClock, TcpDoor, TcpHost};
 use std::io;
-use std::net::{Net, OpenListener};
+use std::net::OpenListener;
 use std::test::Fail;
 
 // The port that the system chose.
-fn port_of<R: Net>(door: &TcpDoor<R>) -> io::Result<u16> {
+fn port_of<L: OpenListener>(door: &TcpDoor<L>) -> io::Result<u16> {
     Ok(door.listener.local_addr()?.port())
 }
 
@@ -43,5 +43,5 @@ fn a_clock_tells_the_time(rt: HostRuntime) {
     let mut clock = SystemClock::new(&rt);
     let now = clock.now();
     let later = clock.twin().now();
-    assert!(rt; now > 1_700_000_000 && later >= now && later < now + 60);
+    assert!(rt; now > 1_700_000_000 && later >= now && later - now < 60);
 }
