@@ -1,0 +1,9 @@
+pub mod Accepted
+pub mod Course
+pub mod Host
+pub mod MemClock
+pub mod MemDoor
+pub mod MemHost
+pub mod Session
+pub mod Untold
+pub mod Unused

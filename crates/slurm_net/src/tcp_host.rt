@@ -1,0 +1,154 @@
+// The system's TCP on this machine as a host: the edge that is trusted.
+ghost use Rattle.std.specs.Prelude.{◌≡◌, vec_len, nat_lt, All, IfOk, None};
+ghost use Rattle.std.specs.List.{list_any};
+ghost use Rattle.slurm_net.specs.Host.{CountsIf, IsNewDoor};
+ghost use Rattle.slurm_net.specs.Untold.{untold_out};
+
+use crate::counting::count_if;
+use crate::system::{MOST_TRIES, is_interrupted};
+use crate::{Host, ListenRefusal, TcpDoor, TcpLink};
+use slurm_io::Failed;
+use std::alloc::Global;
+use std::net::{Ipv4Addr, Net, OpenListener, SocketAddr};
+
+/// This machine's loopback network: doors at 127.0.0.1, and links to there. The doors of one `listen` share one
+/// listener, which doesn't wait. A dial that a signal interrupts (`ErrorKind::Interrupted`) is tried again, up to 1,024
+/// times in all; each other error, and the last interruption, is a fault.
+#[derive(Drop)]
+pub struct TcpHost<R> {
+    pub net: R,
+    alloc: Global,
+    /// How many calls failed, and how often doors were closed of which one had failed, up to the greatest `u64`.
+    pub faults: u64,
+    /// How many links were hung up of which a read had failed, up to the greatest `u64`.
+    pub link_reads: u64,
+    /// How many links were hung up of which a write had failed, up to the greatest `u64`.
+    pub link_writes: u64,
+}
+
+impl<R> TcpHost<R> {
+    pub fn new(alloc: Global, net: R) -> Self
+        ensures net { result.net ≡ net }
+        ensures faults { result.faults ≡ 0 }
+        ensures link_reads { result.link_reads ≡ 0 }
+        ensures link_writes { result.link_writes ≡ 0 }
+    {
+        TcpHost {
+            net,
+            alloc,
+            faults: 0,
+            link_reads: 0,
+            link_writes: 0,
+        }
+    }
+}
+
+fn loopback(port: u16) -> SocketAddr {
+    SocketAddr::from((Ipv4Addr::LOCALHOST, port))
+}
+
+// A listener that doesn't wait.
+fn open_listener<R: Net>(net: &R, port: u16) -> Result<R::Listener, Failed> {
+    let Ok(listener) = net.bind(loopback(port)) else {
+        return Err(Failed);
+    };
+    match listener.set_nonblocking(true) {
+        Ok(()) => Ok(listener),
+        Err(_) => Err(Failed),
+    }
+}
+
+// So many doors, all over one listener.
+fn open_doors<R: Net>(
+    alloc: Global,
+    net: &R,
+    port: u16,
+    workers: u32,
+) -> Result<Vec<TcpDoor<R::Listener>>, ListenRefusal>
+    ensures doors { IfOk result (λ doors. vec_len doors ≡ workers) }
+    ensures new { IfOk result (λ doors. All (λ door. IsNewDoor door.faults (untold_out door.is_out) None) doors.items) }
+{
+    let mut doors = Vec::with_capacity(alloc, workers as usize)?;
+    let listener = open_listener(net, port)?;
+    for _ in 0..workers {
+        let Ok(shared) = listener.try_clone() else {
+            return Err(ListenRefusal::Failed);
+        };
+        doors.push(TcpDoor::new(shared)).unwrap();
+    }
+    Ok(doors)
+}
+
+// Dials, again where a signal interrupts.
+fn dial_through<R: Net>(net: &R, port: u16) -> Result<R::Stream, Failed> {
+    for _ in 0..MOST_TRIES {
+        match net.connect(loopback(port)) {
+            Ok(stream) => return Ok(stream),
+            Err(error) if is_interrupted(&error) => {}
+            Err(_) => return Err(Failed),
+        }
+    }
+    Err(Failed)
+}
+
+// Whether a call of one of them failed.
+fn any_failed<L>(doors: &[TcpDoor<L>]) -> bool
+    ensures { result ≡ list_any (λ door. nat_lt 0 door.faults) doors.now }
+{
+    doors.iter().any(|door| door.faults > 0)
+}
+
+impl<R: Net> Host for TcpHost<R> {
+    type Door = TcpDoor<R::Listener>;
+
+    ghost host_faults = { λ host. host.faults };
+
+    ghost link_reads = { λ host. host.link_reads };
+
+    ghost link_writes = { λ host. host.link_writes };
+
+    ghost next_left = { λ host. None };
+
+    ghost last_taken = { λ host. None };
+
+    ghost closed = { λ host. None };
+
+    fn listen(
+        &mut self,
+        port: u16,
+        workers: u32,
+    ) -> Result<Vec<TcpDoor<R::Listener>>, ListenRefusal> {
+        match open_doors(self.alloc, &self.net, port, workers) {
+            Ok(doors) => Ok(doors),
+            Err(ListenRefusal::Memory) => Err(ListenRefusal::Memory),
+            Err(ListenRefusal::Failed) => {
+                self.faults = self.faults.saturating_add(1);
+                Err(ListenRefusal::Failed)
+            }
+        }
+    }
+
+    fn close_doors(&mut self, doors: Vec<TcpDoor<R::Listener>>)
+        ensures faults { CountsIf (list_any (λ door. nat_lt 0 door.faults) doors.items)
+            self.old.faults self.new.faults }
+        ensures link_reads { self.new.link_reads ≡ self.old.link_reads }
+        ensures link_writes { self.new.link_writes ≡ self.old.link_writes }
+    {
+        self.faults = count_if(any_failed(&doors), self.faults);
+    }
+
+    fn dial(&mut self, port: u16) -> Result<TcpLink<R::Stream>, Failed> {
+        match dial_through(&self.net, port) {
+            Ok(stream) => Ok(TcpLink::new(stream)),
+            Err(Failed) => {
+                self.faults = self.faults.saturating_add(1);
+                Err(Failed)
+            }
+        }
+    }
+
+    fn hang_up(&mut self, link: TcpLink<R::Stream>) {
+        self.link_reads = count_if(link.read_faults > 0, self.link_reads);
+        self.link_writes = count_if(link.write_faults > 0, self.link_writes);
+    }
+}
