@@ -72,11 +72,12 @@ within : (old mid new : Wire) (read : List ℕ) → ReadsStay old mid → ReadsW
 within old mid new read stay reads = record {
   consumed = consumed old mid new read stay reads.consumed;
   within = reads.within;
+  at_once = reads.at_once;
 }
 
 received : (old mid new : Wire) (frame : Vec ℕ Global) (status place : ℕ) (text : List ℕ) → ReadsStay old mid
     → IsFrameRead mid new (Ok frame) → IsReply frame.items status place text → Received old new status
-received old mid new frame status place text stay (taken, whole, reads) is_reply = record {
+received old mid new frame status place text stay (taken, whole, high, reads) is_reply = record {
   read = frame.items;
   place = place;
   text = text;
@@ -95,13 +96,13 @@ shown_call block old mid new at at' frame (called.Replied status) ends stays is_
 shown_call block old mid new at at' frame called.ReadFault ends stays is_sent stay read shown = absurd shown
 shown_call block old mid new at at' frame called.WriteFault ends stays is_sent stay read (place, text, is_reply, part) =
     inr (is_sent, (received old mid new frame 0 place text stay read is_reply, part))
-shown_call block old mid new at at' frame called.BadReply ends stays is_sent stay (taken, whole, reads) (none, same) = (
+shown_call block old mid new at at' frame called.BadReply ends stays is_sent stay (taken, whole, high, reads) (none, same) = (
   is_sent,
   reads ∙ stay.1,
   same,
   (
     frame.items,
-    record { consumed = consumed old mid new frame.items stay taken; within = omega arith },
+    record { consumed = consumed old mid new frame.items stay taken; within = omega arith; at_once = λ low. absurd (omega arith) },
     inl (off_status frame.items ends stays whole none),
   ),
 )

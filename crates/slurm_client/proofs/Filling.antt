@@ -70,40 +70,41 @@ says_same mid new bytes bytes' stays gains whole = ap announced gains.gained ∙
 
 -- a length was read, and as many bytes as it says, or fewer
 pub frame_filled : (old mid new : Wire) (bytes : List ℕ) (frame : Vec ℕ Global) → LengthStays
-    → Consumes old.left mid.left bytes → length bytes ≡ 4 → mid.reads ≡ old.reads
+    → Consumes old.left mid.left bytes → length bytes ≡ 4 → 9 ≤ announced bytes → mid.reads ≡ old.reads
     → IsFilled mid new bytes frame.items (4 + announced bytes) (Ok tt) → IsFrameRead old new (Ok frame)
-frame_filled old mid new bytes frame stays first four reads (gains, full, stay) =
+frame_filled old mid new bytes frame stays first four high reads (gains, full, stay) =
     let says = says_same mid new bytes frame.items stays gains (omega arith) in
-    (all_read old mid new bytes frame.items first gains, omega arith, stay ∙ reads)
+    (all_read old mid new bytes frame.items first gains, omega arith, omega arith, stay ∙ reads)
 
 pub frame_short : (old mid new : Wire) (bytes bytes' : List ℕ) (e : Unread) → LengthStays
-    → Consumes old.left mid.left bytes → length bytes ≡ 4 → mid.reads ≡ old.reads
+    → Consumes old.left mid.left bytes → length bytes ≡ 4 → 9 ≤ announced bytes → mid.reads ≡ old.reads
     → IsFilled mid new bytes bytes' (4 + announced bytes) (Err e) → IsFrameRead old new (Err e)
-frame_short old mid new bytes bytes' Bad stays first four reads (gains, less, stay, end) =
+frame_short old mid new bytes bytes' Bad stays first four high reads (gains, less, stay, end) =
     let says = says_same mid new bytes bytes' stays gains (omega arith) in (
       (
         bytes',
-        record { consumed = all_read old mid new bytes bytes' first gains; within = omega arith },
+        record { consumed = all_read old mid new bytes bytes' first gains; within = omega arith; at_once = λ low. absurd (omega arith) },
         inr (omega arith, end),
       ),
       stay ∙ reads,
     )
-frame_short old mid new bytes bytes' ReadFault stays first four reads (gains, less, counted) =
+frame_short old mid new bytes bytes' ReadFault stays first four high reads (gains, less, counted) =
     let says = says_same mid new bytes bytes' stays gains (omega arith) in (
       (
         bytes',
-        record { consumed = all_read old mid new bytes bytes' first gains; within = omega arith },
+        record { consumed = all_read old mid new bytes bytes' first gains; within = omega arith; at_once = λ low. absurd (omega arith) },
         omega arith,
       ),
       subst (λ n. CountsOne n new.reads) reads counted,
     )
-frame_short old mid new bytes bytes' Memory stays first four reads (last, stay) =
+frame_short old mid new bytes bytes' Memory stays first four high reads (last, stay) =
     let says = stays bytes last.0 (omega arith) in (
       (
         bytes ++ last.0,
         record {
           consumed = Consumes-trans _ _ _ bytes last.0 first last.1;
           within = omega (arith, last.2, length-append bytes last.0);
+          at_once = λ low. absurd (omega arith);
         },
       ),
       stay ∙ reads,

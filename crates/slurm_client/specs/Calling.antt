@@ -87,35 +87,35 @@ IsOff read left = ((more : List ℕ) → HasNoReply (read ++ more)) ⊎ (HasNoRe
 
 -- What became of the call that sends a block.
 abbrev pub IsCalled : Block → Wire → Wire → Sinks → Sinks → Called → Type 0
-IsCalled block old new at at' (Replied status) =
-    IsSent block old new × ((reply : Received old new status) × IsWritten status reply.text at at')
-IsCalled block old new at at' ReadFault =
-    IsSent block old new × CountsOne old.reads new.reads × (at' ≡ at)
+IsCalled block old new told told' (Replied status) =
+    IsSent block old new × ((reply : Received old new status) × IsWritten status reply.text told told')
+IsCalled block old new told told' ReadFault =
+    IsSent block old new × CountsOne old.reads new.reads × (told' ≡ told)
     × ((read : List ℕ) × ReadsWithin old new read × HasNoReply read)
-IsCalled block old new at at' WriteFault =
-    (IsCutShort block old new × (at' ≡ at))
-    ⊎ (IsSent block old new × ((reply : Received old new 0) × IsWrittenInPart reply.text at at'))
-IsCalled block old new at at' BadReply =
-    IsSent block old new × (new.reads ≡ old.reads) × (at' ≡ at)
+IsCalled block old new told told' WriteFault =
+    (IsCutShort block old new × (told' ≡ told))
+    ⊎ (IsSent block old new × ((reply : Received old new 0) × IsWrittenInPart reply.text told told'))
+IsCalled block old new told told' BadReply =
+    IsSent block old new × (new.reads ≡ old.reads) × (told' ≡ told)
     × ((read : List ℕ) × ReadsWithin old new read × IsOff read new.left)
-IsCalled block old new at at' Memory =
-    (at' ≡ at)
+IsCalled block old new told told' Memory =
+    (told' ≡ told)
     × ((new ≡ old) ⊎ (IsSent block old new × (new.reads ≡ old.reads) × ((read : List ℕ) × ReadsWithin old new read)))
 
 -- no count of the link or of the output rose
-pub record IsFaultless (old new : Wire) (at at' : Sinks) : Type 0 where
+pub record IsFaultless (old new : Wire) (told told' : Sinks) : Type 0 where
   pub reads : CountsNone old.reads new.reads
   pub writes : CountsNone old.writes new.writes
-  pub output : CountsNone at.output_faults at'.output_faults
+  pub output : CountsNone told.output_faults told'.output_faults
 
 -- a call was answered by a reply of this status and text, or memory was wanting
 abbrev pub IsAnswered : ℕ → List ℕ → Sinks → Sinks → Called → Type 0
-IsAnswered status text at at' called =
-    ((called ≡ Replied status) × IsWritten status text at at') ⊎ (called ≡ Memory)
+IsAnswered status text told told' called =
+    ((called ≡ Replied status) × IsWritten status text told told') ⊎ (called ≡ Memory)
 
 -- Where the link tells its bytes and they begin with a reply frame, that reply is the answer, unless a count rises or
 -- memory is wanting.
 abbrev pub Completes : Wire → Wire → Sinks → Sinks → Called → Type 0
-Completes old new at at' called =
+Completes old new told told' called =
     (left text : List ℕ) (status place : ℕ) → old.left ≡ Some left → BeginsWithReply left status place text
-    → IsFaultless old new at at' → IsAnswered status text at at' called
+    → IsFaultless old new told told' → IsAnswered status text told told' called

@@ -24,7 +24,8 @@ pub record Gains (old new : Wire) (bytes bytes' : List ℕ) : Type 0 where
 -- for what it brought.
 abbrev pub Brings : Wire → Wire → List ℕ → List ℕ → ℕ → Result (Unit {0}) Unread → Type 0
 Brings old new bytes bytes' most (Ok done) =
-    (gains : Gains old new bytes bytes') × (0 < length gains.read) × (length gains.read ≤ most) × (new.reads ≡ old.reads)
+    (gains : Gains old new bytes bytes') × (0 < length gains.read) × (length gains.read ≤ most)
+    × (new.reads ≡ old.reads)
 Brings old new bytes bytes' most (Err Bad) =
     Keeps old.left new.left × IsAtEnd new.left × (bytes' ≡ bytes) × (new.reads ≡ old.reads)
 Brings old new bytes bytes' most (Err ReadFault) =
@@ -43,10 +44,11 @@ IsFilled old new bytes bytes' want (Err ReadFault) =
 IsFilled old new bytes bytes' want (Err Memory) =
     ((read : List ℕ) × Consumes old.left new.left read × (length bytes + length read ≤ want)) × (new.reads ≡ old.reads)
 
--- bytes were read, and none behind the end that their length says
+-- bytes were read, and none behind the end that their length says, nor behind a length below that of any reply
 pub record ReadsWithin (old new : Wire) (read : List ℕ) : Type 0 where
   pub consumed : Consumes old.left new.left read
   pub within : length read ≤ LENGTH_SIZE + announced read
+  pub at_once : announced read < REPLY_HEAD → length read ≤ LENGTH_SIZE
 
 -- the end that their length says isn't there yet; of less than four bytes that is true
 abbrev pub IsUnended : List ℕ → Type 0
@@ -60,7 +62,7 @@ IsTooShort read = (length read ≡ LENGTH_SIZE) × (announced read < REPLY_HEAD)
 abbrev pub IsFrameRead : Wire → Wire → Result (Vec ℕ Global) Unread → Type 0
 IsFrameRead old new (Ok frame) =
     Consumes old.left new.left frame.items × (length frame.items ≡ LENGTH_SIZE + announced frame.items)
-    × (new.reads ≡ old.reads)
+    × (REPLY_HEAD ≤ announced frame.items) × (new.reads ≡ old.reads)
 IsFrameRead old new (Err Bad) =
     ((read : List ℕ) × ReadsWithin old new read × (IsTooShort read ⊎ (IsUnended read × IsAtEnd new.left)))
     × (new.reads ≡ old.reads)

@@ -34,7 +34,8 @@ fn read_some<L: Link>(link: &mut L, into: &mut [u8]) -> Result<usize, Failed>
 // Reads once, and puts what came behind the bytes that are there.
 fn read_more<L: Link>(link: &mut L, bytes: &mut Vec<u8>, piece: &mut [u8]) -> Result<(), Unread>
     requires { 0 < length piece.old }
-    ensures brings { Brings (L.wire link.old) (L.wire link.new) bytes.old.items bytes.new.items (length piece.old) result }
+    ensures brings { Brings (L.wire link.old) (L.wire link.new)
+        bytes.old.items bytes.new.items (length piece.old) result }
     ensures writes { WritesStay (L.wire link.old) (L.wire link.new) }
 {
     match read_some(link, piece) {

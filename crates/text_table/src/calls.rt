@@ -32,8 +32,8 @@ struct Outside {
 }
 
 impl Outside {
-    // The link gives these bytes. Each moves so many bytes at once, and of its calls those fail that are named: `r` a read
-    // of the link, `w` a write, `o` one of the output and `e` one of the errors.
+    // The link gives these bytes. Each moves so many bytes at once, and of its calls those fail that are named: `r` a
+    // read of the link, `w` a write, `o` one of the output and `e` one of the errors.
     fn new(alloc: Global, most: &[u8], failing: &[u8], bytes: &[u8]) -> Result<Self, Unanswered> {
         let most = narrow_number(most)?.max(1);
         let bytes = Vec::from_slice(alloc, bytes)?;
