@@ -1,13 +1,13 @@
 -- What a reply frame says, read off its bytes.
-use Rattle.std.proofs.Common.{◌≡◌, ℕ, zero, suc, ◌+◌, ◌^◌, ◌<◌, ◌≤◌, List, [], ◌∷◌, ◌++◌, length, drop, get_or, arith, ap, sym, ◌∙◌, refl, append_assoc, subst, false, leb, lit<, lit≤, Fits, w8}
+use Rattle.std.proofs.Common.{◌≡◌, ℕ, zero, suc, ◌+◌, ◌^◌, ◌<◌, ◌≤◌, List, [], ◌∷◌, ◌++◌, length, take, drop, get_or, arith, ap, sym, ◌∙◌, refl, append_assoc, subst, false, leb, lit<, lit≤, Fits, w8}
 use Rattle.std.proofs.lemmas.Bool.Decides.{nat_tests}
-use Rattle.std.proofs.lemmas.List.{length-append, length-drop, drop_at, get_or_at, get_or-drop, drop-drop}
+use Rattle.std.proofs.lemmas.List.{length-append, length-drop, take_at, drop_at, get_or_at, get_or-drop, drop-drop}
 use Rattle.std.proofs.Math.Seq.{drop-cons}
 use Rattle.std.proofs.lemmas.Nat.{be_bytes_8, from_be_bytes-to_be_bytes_8}
 use Rattle.block_frame.specs.declared.replies.TheConstants.{MAX_REPLY_TEXT}
 use Rattle.block_frame.specs.Frames.{length_bytes, announced}
-use Rattle.block_frame.specs.Replies.{IsReply, place_bytes, place_said, framed_reply, reply_frame, too_long}
-use Rattle.block_frame.proofs.Lengths.{HasBytes, bytes_of, length-length_bytes, announced-length_bytes, begins_with_length}
+use Rattle.block_frame.specs.Replies.{IsReply, BeginsWithReply, place_bytes, place_said, framed_reply, reply_frame, too_long}
+use Rattle.block_frame.proofs.Lengths.{HasBytes, bytes_of, length-length_bytes, announced-length_bytes, announced_stays, begins_with_length}
 
 length-place_bytes : (place : ℕ) → length (place_bytes place) ≡ 8
 unfolding place_bytes
@@ -161,3 +161,25 @@ reply_from_parts bytes status place text fit said is_status =
     (subst (λ p. IsReply bytes (get_or bytes 4 0) p text) said.place_is
     (subst (λ t. IsReply bytes (get_or bytes 4 0) (place_said (drop 5 bytes)) t) said.text_is
     (is_reply bytes fit said.whole said.says is_status)))
+
+-- a text that begins with a reply frame says the frame's end
+pub reply_end : (bytes text : List ℕ) (status place : ℕ) → BeginsWithReply bytes status place text
+    → (9 ≤ announced bytes) × (4 + announced bytes ≤ length bytes) × IsReply (take (4 + announced bytes) bytes) status place text
+reply_end bytes text status place begins =
+    let said = reply_said begins.frame status place text begins.is_reply in
+    let whole = said.whole in
+    let says = said.says in
+    let same : announced bytes ≡ announced begins.frame =
+    ap announced begins.cut ∙ announced_stays begins.frame begins.more (omega arith) in
+    let len : length bytes ≡ length begins.frame + length begins.more = ap length begins.cut ∙ length-append begins.frame begins.more in
+    let front : take (4 + announced bytes) bytes ≡ begins.frame =
+    ap (take (4 + announced bytes)) begins.cut ∙ take_at begins.frame begins.more (4 + announced bytes) (omega arith) in
+    (omega arith, omega arith, subst (λ f. IsReply f status place text) (sym front) begins.is_reply)
+
+-- a frame says one reply
+pub reply_is_one : (bytes text text' : List ℕ) (status place status' place' : ℕ) → IsReply bytes status place text → IsReply bytes status' place' text'
+    → (status ≡ status') × (place ≡ place') × (text ≡ text')
+reply_is_one bytes text text' status place status' place' one other =
+    let said = reply_said bytes status place text one in
+    let said' = reply_said bytes status' place' text' other in
+    (sym said.status_is ∙ said'.status_is, sym said.place_is ∙ said'.place_is, sym said.text_is ∙ said'.text_is)

@@ -16,6 +16,10 @@ behind_header (Some bytes) = byte "\n" ∷ bytes
 abbrev pub content_of : Block → List ℕ
 content_of block = block.header ++ behind_header block.attachment
 
+-- the block of a request with this header and attachment
+abbrev pub request_of : List ℕ → Option (List ℕ) → Block
+request_of header attachment = record { header = header; attachment = attachment }
+
 -- What the framed form asks of a block: no LF is in its header, and its content has 1 to 131,072 bytes.
 pub record IsFramedBlock (block : Block) : Type 0 where
   pub one_line : All (λ b. b ≢ byte "\n") block.header

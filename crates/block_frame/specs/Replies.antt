@@ -31,3 +31,10 @@ pub record IsReply (bytes : List ℕ) (status place : ℕ) (text : List ℕ) : T
   pub is_status : status ≤ 1
   pub is_place : place < 2 ^ 64
   pub fits : length text ≤ MAX_REPLY_TEXT
+
+-- a reply frame, and what follows it
+pub record BeginsWithReply (bytes : List ℕ) (status place : ℕ) (text : List ℕ) : Type 0 where
+  pub frame : List ℕ
+  pub more : List ℕ
+  pub is_reply : IsReply frame status place text
+  pub cut : bytes ≡ frame ++ more

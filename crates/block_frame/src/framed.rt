@@ -1,5 +1,5 @@
 // How a frame is looked at: its length first, and its content once all of it is there.
-ghost use Rattle.std.specs.Prelude.{◌≡◌, ◌≤◌, ◌+◌, length, slice_index, IfOk};
+ghost use Rattle.std.specs.Prelude.{◌≡◌, ◌<◌, ◌≤◌, ◌+◌, ◌^◌, length, slice_index, IfOk};
 ghost use Rattle.block_frame.specs.Frames.{announced, behind_line, framed_block};
 ghost use Rattle.block_frame.specs.Looking.{IsFrameSight};
 
@@ -33,7 +33,8 @@ pub fn byte_at(text: &[u8], place: usize) -> u8
 /// The length that a text begins with. Bytes that aren't there count as 0: it is the least that the text can go on to.
 #[tactic(auto, unfolding(crate::specs::Frames::announced))]
 pub fn announced(text: &[u8]) -> usize
-    ensures { result ≡ announced text.now }
+    ensures value { result ≡ announced text.now }
+    ensures bound { result < 2 ^ 32 }
 {
     let bytes = [
         byte_at(text, 0),

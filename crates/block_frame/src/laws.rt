@@ -1,14 +1,16 @@
 // What holds of every text and its blocks, in each form. Each law is the contract of a function that does nothing.
-ghost use Rattle.std.specs.Prelude.{◌≡◌, ◌⊎◌, ◌<◌, ◌≤◌, ℕ, List, [], ◌++◌, ◌^◌, length, All};
+ghost use Rattle.std.specs.Prelude.{◌≡◌, ◌⊎◌, ◌<◌, ◌≤◌, ℕ, List, [], ◌+◌, ◌++◌, ◌^◌, length, take, All};
 ghost use Rattle.block_frame.specs.declared.block.Block.{Block};
 ghost use Rattle.block_frame.specs.declared.block.Next.{Next};
 ghost use Rattle.block_frame.specs.declared.block.Next.TheVariants.{Bad};
 ghost use Rattle.block_frame.specs.declared.form.Form.{Form};
 ghost use Rattle.block_frame.specs.Grammar.{IsBlock, IsPartial, IsBad, BeginsWithBlock, spelled, spelled_all, blocks_of, rest_of, longest_block};
-ghost use Rattle.block_frame.specs.Replies.{IsReply, reply_frame, too_long};
+ghost use Rattle.block_frame.specs.Frames.{announced};
+ghost use Rattle.block_frame.specs.Replies.{IsReply, BeginsWithReply, reply_frame, too_long};
 ghost use Rattle.block_frame.specs.State.{BlocksState, IsNext};
 
-use crate::replies::MAX_REPLY_TEXT;
+use crate::framed::LENGTH_SIZE;
+use crate::replies::{MAX_REPLY_TEXT, REPLY_HEAD};
 
 /// Every text is its blocks and a rest, which is a proper prefix of a block or bad.
 pub fn texts_are_cut()
@@ -68,6 +70,22 @@ pub fn replies_are_framed()
     ensures over { (status place : ℕ) (text : List ℕ)
         → place < 2 ^ 64 → MAX_REPLY_TEXT < length text
         → IsReply (reply_frame status place text) 1 place too_long }
+{}
+
+/// A reply frame ends where its length says, whatever follows it, and has nine bytes behind its length at the least.
+pub fn replies_say_their_end()
+    ensures end { (bytes text : List ℕ) (status place : ℕ) → BeginsWithReply bytes status place text
+        → (REPLY_HEAD ≤ announced bytes) × (LENGTH_SIZE + announced bytes ≤ length bytes)
+        × IsReply (take (LENGTH_SIZE + announced bytes) bytes) status place text }
+    ensures said { (text more : List ℕ)
+        → LENGTH_SIZE ≤ length text → announced (text ++ more) ≡ announced text }
+{}
+
+/// The bytes of a frame say one reply at the most.
+pub fn replies_are_one()
+    ensures { (bytes text text' : List ℕ) (status place status' place' : ℕ)
+        → IsReply bytes status place text → IsReply bytes status' place' text'
+        → (status ≡ status') × (place ≡ place') × (text ≡ text') }
 {}
 
 /// The bytes of blocks are joined as the blocks are.

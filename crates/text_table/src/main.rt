@@ -2,6 +2,7 @@
 #![tactic(auto)]
 
 mod blocks;
+mod calls;
 mod hosts;
 mod lines;
 mod numbers;
@@ -37,7 +38,7 @@ fn answer(alloc: Global, function: &str, arguments: &[&[u8]]) -> Result<Vec<u8>,
     }
 }
 
-// The functions of times, of whole lines, blocks and replies.
+// The functions of times, of whole lines, blocks, replies and calls.
 fn answer_of_others(
     alloc: Global,
     function: &str,
@@ -52,6 +53,9 @@ fn answer_of_others(
         "frames" => blocks::frames(alloc, arguments),
         "reply" => replies::written(alloc, arguments),
         "said" => replies::said(alloc, arguments),
+        "call" => calls::call(alloc, arguments),
+        "call_with_script" => calls::call_with_script(alloc, arguments),
+        "address" => calls::address(alloc, arguments),
         "row" => lines::row(alloc, arguments),
         "line" => lines::line(alloc, arguments),
         "titles" => lines::titles(alloc, arguments),

@@ -37,8 +37,8 @@ pub fn split(alloc: Global, arguments: &[&[u8]]) -> Result<Vec<u8>, Unanswered> 
     }
 }
 
-// The texts, each of which ends with `;`.
-fn list_of(alloc: Global, list: &[u8]) -> Result<Vec<String>, Unanswered> {
+/// The texts, each of which ends with `;`.
+pub fn list_of(alloc: Global, list: &[u8]) -> Result<Vec<String>, Unanswered> {
     let mut texts = Vec::new(alloc);
     let list = parts(alloc, list, b';')?;
     let Some((_, ended)) = list.split_last() else {

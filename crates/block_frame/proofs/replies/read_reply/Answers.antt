@@ -14,7 +14,7 @@ returns-then-bytes c = λ status place text. (
       let says = said.says in
       elim c.then-bytes.branch [
         | then-bytes-via-then-bytes w ↦ absurd (omega arith)
-        | then-bytes-via-else-bytes+then-announced-bytes w ↦ absurd (omega (arith, w.announced.ensures, w.if-announced-bytes.true))
+        | then-bytes-via-else-bytes+then-announced-bytes w ↦ absurd (omega (arith, w.announced.ensures.value, w.if-announced-bytes.true))
       ],
 )
 
@@ -33,7 +33,7 @@ returns c =
     let bytes = c.args.bytes.now in
     let place_is : c.place_said.result ≡ place_said (drop 5 bytes) = c.place_said.ensures ∙ ap place_said c.split_at.ensures.back in
     let text_is : c.split_at-2.result.1.now ≡ drop 13 bytes = c.split_at-2.ensures.back in
-    let says : announced bytes + 4 ≡ length bytes = omega (arith, c.announced.ensures) in
+    let says : announced bytes + 4 ≡ length bytes = omega (arith, c.announced.ensures.value) in
     λ status place text. (
       λ parts.
           let said : SaidAt bytes status place text = record {

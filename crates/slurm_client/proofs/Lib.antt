@@ -1,0 +1,5 @@
+pub mod OneLines
+pub mod Telling
+pub mod Filling
+pub mod Calls
+pub mod Addresses
