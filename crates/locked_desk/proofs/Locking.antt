@@ -109,13 +109,16 @@ module _ {lock : TableId} {opening : State} {before len : ℕ} {is_shut : Bool} 
   after_number = ap (λ (p : BookView). p.number) t.left ∙ number_is
 
   pub goes_on : GoesOn (sight_by opening before pass) (sight_by opening before after)
-  goes_on = (more, λ i. record {
-    opening = opening;
-    number = after_number i;
-    before = (ap (take before) went_on ∙ take-append-le before pass.seen more t.desk.since) i;
-    since = (ap (drop before) went_on ∙ drop-append-le before pass.seen more t.desk.since) i;
-    mine = own_grown i;
-  })
+  goes_on = (
+    more,
+    λ i. record {
+      opening = opening;
+      number = after_number i;
+      before = (ap (take before) went_on ∙ take-append-le before pass.seen more t.desk.since) i;
+      since = (ap (drop before) went_on ∙ drop-append-le before pass.seen more t.desk.since) i;
+      mine = own_grown i;
+    },
+  )
 
   seen_before : seen (sight_by opening before pass) ≡ pass.seen
   seen_before = take-append-drop before pass.seen
@@ -172,8 +175,7 @@ module _ {lock : TableId} {opening : State} {before len : ℕ} {is_shut : Bool} 
             let entry' : Entry = entry_of (state_at opening (seen (sight_by opening before after)) answer.place) pass.number now user request in
             let same : entry ≡ entry' = λ i. entry_of (sym state i) (number_is i) now user request in
             let whole : seen (sight_by opening before after) ≡ old.entries ++ entry ∷ [] = seen_after ∙ (after_is ∙ (t.grown ∙ ap (λ es. old.entries ++ es) (accepts is_in))) in
-            let front : take answer.place (seen (sight_by opening before after)) ≡ old.entries = ap (take answer.place) seen_after ∙ front_is answer.place place in
-            (
+            let front : take answer.place (seen (sight_by opening before after)) ≡ old.entries = ap (take answer.place) seen_after ∙ front_is answer.place place in (
               whole ∙ (λ i. sym front i ++ same i ∷ []),
               ap (λ (p : BookView). p.mine) t.left ∙ (ap (bearing bearer turn.number) (t.grown ∙ ap (λ es. old.entries ++ es) (accepts is_in))
                   ∙ (ap (λ n. bearing bearer n (old.entries ++ entry ∷ [])) number_is
