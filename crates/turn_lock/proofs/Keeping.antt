@@ -1,5 +1,5 @@
 -- Each step keeps the rule of the lock.
-use Rattle.std.proofs.Common.{◌≡◌, ◌≢◌, ◌⊎◌, ℕ, zero, suc, ◌+◌, ◌-◌, ◌*◌, ◌%◌, ◌^◌, ◌<◌, ◌≤◌, eqb, Bool, true, false, cond, List, [], ◌∷◌, ◌++◌, map, length, filter, get_or, set, ltb, Option, Some, None, IfSome, unwrap_or, slice_get, sym, refl, ap, ◌∙◌, subst, inl, inr, ⊎_elim, arith, append-nil, length-set, length-append, get_or-set_other, get_or-set_same, eq-eqb, ne_eqb}
+use Rattle.std.proofs.Common.{◌≡◌, ◌≢◌, ℕ, zero, suc, ◌+◌, ◌*◌, ◌%◌, ◌^◌, ◌<◌, ◌≤◌, eqb, true, false, cond, List, [], ◌∷◌, ◌++◌, length, get_or, set, ltb, Option, Some, None, IfSome, unwrap_or, slice_get, sym, refl, ap, ◌∙◌, subst, ⊎_elim, arith, length-set, get_or-set_other, get_or-set_same, eq-eqb, ne_eqb}
 use Rattle.std.specs.Prelude.{All}
 use Rattle.std.proofs.lemmas.List.Elements.{All-nil, All-cons, All-append}
 use mathlib.Core.Logic.{dite}
@@ -8,15 +8,15 @@ use native.Mathlib.Decide.{ℕ_discrete}
 use lib.ListN.{get_elem?}
 use lib.Seq.{set-get_or}
 use prog.Atomic.{either}
-use Rattle.atomic_table.specs.Table.{State, Me, step, Act, keeps, takes, gives, stepped, Allows, Splits, Joins, opening, rest}
+use Rattle.atomic_table.specs.Table.{State, Me, step, keeps, takes, gives, stepped, Allows, Splits, Joins, opening}
 use Rattle.atomic_table.proofs.Lists.{at_set, set_here, set_else, set_again, at_snoc}
 use Rattle.turn_lock.specs.declared.view.View.{View}
 use Rattle.turn_lock.specs.declared.view.Claim.{Claim}
 use Rattle.turn_lock.specs.declared.view.Kind.TheVariants.{Look, TakeWon, TakeLost, NumberLook, NumberWon, NumberLost}
-use Rattle.turn_lock.specs.Views.{StartsWith, IsSettled, bearing, found_word}
+use Rattle.turn_lock.specs.Views.{StartsWith, bearing, found_word}
 use Rattle.turn_lock.specs.Rule.{Knows, Ruled, first_view}
-use Rattle.turn_lock.specs.Steps.{Looked, TookTurn, Takes, GaveBack, CountedPasses, TakesNumber, claims_left, view_left, entries_out, unnumbered, longer, joined, blank}
-use Rattle.turn_lock.proofs.Histories.{starts_self, starts_more, starts_either, all_from, place_in, seat_in, is_given, nothing_there, false-true, bears_before, bears_none_yet, settled_whole, at_append}
+use Rattle.turn_lock.specs.Steps.{Looked, Takes, GaveBack, CountedPasses, TakesNumber, claims_left, view_left, unnumbered, longer, joined, blank}
+use Rattle.turn_lock.proofs.Histories.{starts_self, starts_more, starts_either, place_in, seat_in, is_given, nothing_there, false-true, bears_before, bears_none_yet, settled_whole, at_append}
 
 module _ {B E : Type 0} (entries_of : B → List E) (bearer : E → ℕ) (begins_as : B → B → Type 0) (first : B) where
   abbrev V : Type 0

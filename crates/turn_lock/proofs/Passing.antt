@@ -1,12 +1,12 @@
 -- What a step tells of a seat's view, as its pass.
-use Rattle.std.proofs.Common.{◌≡◌, ◌≢◌, ℕ, ◌+◌, ◌*◌, ◌^◌, ◌<◌, ◌≤◌, Bool, true, false, List, [], ◌∷◌, ◌++◌, length, ltb, Option, Some, None, IfSome, sym, refl, ap, ◌∙◌, subst, arith, append-nil, append_assoc, le-ltb}
+use Rattle.std.proofs.Common.{◌≡◌, ℕ, ◌^◌, ◌<◌, Bool, true, false, List, [], ◌∷◌, ◌++◌, length, Option, IfSome, sym, refl, ap, ◌∙◌, subst, arith, append-nil, append_assoc, le-ltb}
 use Rattle.std.specs.Prelude.{All}
 use Rattle.std.proofs.lemmas.List.Elements.{All-cons, All-head, All-tail}
 use Rattle.atomic_table.specs.Seated.{TableId}
 use Rattle.turn_lock.specs.declared.view.View.{View}
 use Rattle.turn_lock.specs.declared.view.Claim.{Claim}
 use Rattle.turn_lock.specs.declared.view.Found.{Found}
-use Rattle.turn_lock.specs.declared.view.Kind.TheVariants.{Look, TakeWon, TakeLost}
+use Rattle.turn_lock.specs.declared.view.Kind.TheVariants.{Look, TakeWon}
 use Rattle.turn_lock.specs.Views.{StartsWith, Differ, IsSettled, bearing, found_word}
 use Rattle.turn_lock.specs.Steps.{Seated, Looked, TookTurn, joined, unnumbered, longer}
 use Rattle.turn_lock.specs.Passes.{PassView, SeesMore, HasTurn, Meets, IsKnown, IsSeated, pass_of, own_entries, other_claims, finds}

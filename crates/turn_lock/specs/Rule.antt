@@ -1,5 +1,5 @@
 -- The rule of a lock, which holds between any two steps of any threads.
-use Rattle.std.specs.Prelude.{◌≡◌, ℕ, ◌+◌, ◌*◌, ◌^◌, ◌<◌, ◌≤◌, true, false, List, [], ◌∷◌, ◌++◌, length, slice_index, slice_get, All, Option, Some, None, IfSome}
+use Rattle.std.specs.Prelude.{◌≡◌, ℕ, ◌+◌, ◌*◌, ◌^◌, ◌<◌, ◌≤◌, true, false, List, [], ◌∷◌, length, slice_index, slice_get, All, Option, Some, None, IfSome}
 use mathlib.Core.Option.{some}
 use lib.ListN.{get_elem?}
 use Rattle.atomic_table.specs.Table.{State}

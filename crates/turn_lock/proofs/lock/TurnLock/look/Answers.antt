@@ -1,4 +1,4 @@
-use Rattle.std.proofs.Common.{rules, subst, sym}
+use Rattle.std.proofs.Common.{rules, subst}
 use Rattle.turn_lock.specs.Passes.{SeesMore, pass_of}
 use Rattle.turn_lock.proofs.Keeping.{looks}
 use Rattle.turn_lock.proofs.Passing.{sees_looked}

@@ -1,4 +1,4 @@
-use Rattle.std.proofs.Common.{rules, sym, ap, ◌∙◌, subst}
+use Rattle.std.proofs.Common.{rules, subst}
 use Rattle.turn_lock.specs.Passes.{Meets, PassView, pass_of}
 use Rattle.turn_lock.proofs.Keeping.{looks, joins}
 use Rattle.turn_lock.proofs.Passing.{meets}

@@ -1,6 +1,4 @@
-use Rattle.std.proofs.Common.{rules, ◌≡◌, [], ◌∷◌, List, Option, Some, sym, ap, ◌∙◌, subst}
-use Rattle.atomic_table.specs.Table.{opening}
-use Rattle.turn_lock.specs.Rule.{Ruled, first_view}
+use Rattle.std.proofs.Common.{rules, ◌≡◌, [], ◌∷◌, Some}
 use Rattle.turn_lock.proofs.Keeping.{starts_so}
 use Rattle.turn_lock.proofs.lock.TurnLock.new.Goals as goal
 

@@ -1,9 +1,9 @@
-use Rattle.std.proofs.Common.{rules, ◌≡◌, ◌∷◌, ◌++◌, [], refl, sym, ap, ◌∙◌, subst}
+use Rattle.std.proofs.Common.{rules, ◌++◌, refl, ap, ◌∙◌}
 use Rattle.turn_lock.specs.Views.{found_word}
 use Rattle.turn_lock.specs.declared.view.Kind.TheVariants.{NumberLook, NumberLost}
-use Rattle.turn_lock.specs.Steps.{unnumbered, joined}
+use Rattle.turn_lock.specs.Steps.{joined}
 use Rattle.turn_lock.proofs.Keeping.{splits, counts, takes_number, joins}
-use Rattle.turn_lock.proofs.Passing.{rejoined, seated_rejoined, found_rejoined}
+use Rattle.turn_lock.proofs.Passing.{rejoined, seated_rejoined}
 use Rattle.turn_lock.proofs.lock.TurnLock.split.Goals as goal
 
 pub split_seat-seat-requires : goal.split_seat-seat-requires

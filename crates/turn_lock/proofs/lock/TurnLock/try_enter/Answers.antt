@@ -1,8 +1,6 @@
-use Rattle.std.proofs.Common.{rules, ◌≡◌, ◌∷◌, ◌++◌, [], Some, refl, sym, ap, ◌∙◌, subst}
+use Rattle.std.proofs.Common.{rules, ◌≡◌, ◌∷◌, Some, refl, sym, ap, ◌∙◌, subst}
 use Rattle.atomic_table.specs.Table.{rest}
-use Rattle.turn_lock.specs.Views.{found_word}
-use Rattle.turn_lock.specs.declared.view.Kind.TheVariants.{TakeLost}
-use Rattle.turn_lock.specs.Passes.{SeesMore, HasTurn, PassView, pass_of}
+use Rattle.turn_lock.specs.Passes.{SeesMore, HasTurn, pass_of}
 use Rattle.turn_lock.proofs.Keeping.{looks, takes_turn}
 use Rattle.turn_lock.proofs.Passing.{sees_looked, sees_found, sees_again, seated_looked, seated_found, has_turn}
 use Rattle.turn_lock.proofs.lock.TurnLock.try_enter.Goals as goal
