@@ -86,15 +86,16 @@ pub fn mark_often<R: Wait>(rt: &R, lock: &MarkLock, pass: MarkPass, count: u32) 
     Some(pass)
 }
 
-/// Two threads make so many marks each. Of the marks that the lock has then, the number of each stands so often. It answers
-/// how many marks were seen when the two passes met, the second pass's number, and the marks.
+/// Two threads make so many marks each. Of the marks that the lock has then, the number of each stands so often. It
+/// answers how many marks were seen when the two passes met, the second pass's number, and the marks.
 pub fn mark_by_two<R: Threads + Wait + Sync>(
     rt: &R,
     alloc: Global,
     count: u32,
 ) -> Option<(u64, u32, Marks)>
     ensures first { IfSome result (λ made. length (filter (λ number. number == 0) made.2.numbers.items) ≡ count) }
-    ensures second { IfSome result (λ made. length (filter (λ number. number == made.1) made.2.numbers.items) ≡ count) }
+    ensures second { IfSome result (λ made.
+        length (filter (λ number. number == made.1) made.2.numbers.items) ≡ count) }
     ensures apart { IfSome result (λ made. made.1 ≢ 0) }
 {
     let (lock, mut first) = mark_lock(alloc)?;
@@ -105,12 +106,15 @@ pub fn mark_by_two<R: Threads + Wait + Sync>(
         || -> Option<MarkPass>
             requires { (first.lock ≡ lock) × (first.number ≡ 0) × (first.mine ≡ []) × (first.taken ≡ []) }
             ensures lock { IfSome result (λ after. after.lock ≡ lock) }
-            ensures made { IfSome result (λ after. (after.number ≡ 0) × (after.taken ≡ []) × (length after.mine ≡ count)) }
+            ensures made { IfSome result (λ after.
+                (after.number ≡ 0) × (after.taken ≡ []) × (length after.mine ≡ count)) }
         { mark_often(rt, &lock, first, count) },
         || -> Option<MarkPass>
-            requires { (second.lock ≡ lock) × (second.number ≡ number) × (second.mine ≡ []) × (second.taken ≡ []) }
+            requires { (second.lock ≡ lock) × (second.number ≡ number) × (second.mine ≡ [])
+                × (second.taken ≡ []) }
             ensures lock { IfSome result (λ after. after.lock ≡ lock) }
-            ensures made { IfSome result (λ after. (after.number ≡ number) × (after.taken ≡ []) × (length after.mine ≡ count)) }
+            ensures made { IfSome result (λ after.
+                (after.number ≡ number) × (after.taken ≡ []) × (length after.mine ≡ count)) }
         {
             let _ = &number;
             mark_often(rt, &lock, second, count)

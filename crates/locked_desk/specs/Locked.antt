@@ -39,7 +39,8 @@ abbrev pub sight_there : LockedSeat → Sight
 sight_there seat = sight_at seat.opening seat.before seat.pass
 
 -- What a desk keeps of its pass, with the number of entries seen and whether a shutdown is among them.
-pub record IsAtDesk (lock : TableId) (opening : State) (before len : ℕ) (is_shut : Bool) (pass : BookView) : Type 0 where
+pub record IsAtDesk (lock : TableId) (opening : State) (before len : ℕ) (is_shut : Bool) (pass : BookView)
+    : Type 0 where
   pub own : pass.lock ≡ lock
   pub first : IfSome pass.first (λ first. opening ≡ first.opening)
   pub known : IsKnown (λ entry. entry.session) pass
@@ -54,7 +55,8 @@ HasPass lock opening before len is_shut (Some pass) = IsAtDesk lock opening befo
 HasPass lock opening before len is_shut None = ⊥
 
 -- A book worked a request for the session of this number, or memory was wanting, and it is as it was.
-pub record IsWorked {E : Type 0} (number : ℕ) (old new : History) (now : ℕ) (user : List ℕ) (request : Request) (result : Result Answer E) : Type 0 where
+pub record IsWorked {E : Type 0} (number : ℕ) (old new : History) (now : ℕ) (user : List ℕ) (request : Request)
+    (result : Result Answer E) : Type 0 where
   pub opening : new.opening ≡ old.opening
   pub reply : IfOk result (λ answer. answer.reply ≡ reply_of (present old) now user request)
   pub place : IfOk result (λ answer. answer.place ≡ length old.entries)

@@ -26,8 +26,8 @@ pub type BookLock = TurnLock<Book, Entry>;
 /// A pass of such a lock.
 pub type BookPass = Pass<Book, Entry>;
 
-/// A desk at the book that a lock keeps. Its entries bear the number of its pass. Each call but `shut` and `seen_len` waits
-/// for the turn. Contracts see it as what its pass has seen (`LockedSeat`).
+/// A desk at the book that a lock keeps. Its entries bear the number of its pass. Each call but `shut` and `seen_len`
+/// waits for the turn. Contracts see it as what its pass has seen (`LockedSeat`).
 #[derive(Drop)]
 pub struct LockedDesk<'a, R: Wait> {
     rt: &'a R,

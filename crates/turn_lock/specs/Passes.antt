@@ -46,15 +46,17 @@ module _ {B E : Type 0} where
   }
 
   -- what a seat is that has the turn or not, and nothing else out than this
-  pub record IsSeated (bearer : E → ℕ) (number : ℕ) (has_turn : Bool) (out : List (ℕ × Option B)) (seated : Seated B E) : Type 0 where
+  pub record IsSeated (bearer : E → ℕ) (number : ℕ) (has_turn : Bool) (out : List (ℕ × Option B))
+      (seated : Seated B E) : Type 0 where
     pub slots : seated.1 ≡ out
     pub first : (value : B) × (seated.0.first ≡ Some value)
     pub turn : seated.0.turn ≡ has_turn
-    pub claims : (entries : List E) × (others : List (Claim E)) × (seated.0.claims ≡ record { number = number; entries = entries } ∷ others)
+    pub claims : (entries : List E) × (others : List (Claim E))
+        × (seated.0.claims ≡ record { number = number; entries = entries } ∷ others)
     pub settled : IsSettled bearer seated.0
 
-  -- What every pass knows of itself: the value with which its lock was made; its own entries are those seen that bear its number, and so it is with the passes
-  -- that it has taken in; all these numbers differ.
+  -- What every pass knows of itself: the value with which its lock was made; its own entries are those seen that bear
+  -- its number, and so it is with the passes that it has taken in; all these numbers differ.
   pub record IsKnown (bearer : E → ℕ) (pass : PassView B E) : Type 0 where
     pub first : (value : B) × (pass.first ≡ Some value)
     pub mine : pass.mine ≡ bearing bearer pass.number pass.seen
@@ -68,14 +70,15 @@ module _ {B E : Type 0} where
     pub same : new ≡ record old { seen = new.seen; found = new.found }
 
   -- The turn was taken: the value has the whole history, which the pass has seen now.
-  pub record HasTurn (entries_of : B → List E) (begins_as : B → B → Type 0) (pass turn : PassView B E) (value : B) : Type 0 where
+  pub record HasTurn (entries_of : B → List E) (begins_as : B → B → Type 0) (pass turn : PassView B E) (value : B)
+      : Type 0 where
     pub sees : SeesMore pass turn
     pub entries : entries_of value ≡ turn.seen
     pub short : length turn.seen < 2 ^ 62
     pub begins : IfSome turn.first (λ first. begins_as first value)
 
-  -- Somebody else has the turn, by the word that was looked at, which is odd; or this word was even, and was another one
-  -- when the turn was to be taken.
+  -- Somebody else has the turn, by the word that was looked at, which is odd; or this word was even, and was another
+  -- one when the turn was to be taken.
   abbrev pub IsBusyBy : PassView B E → PassView B E → ℕ → ℕ → Type 0
   IsBusyBy old new looked word =
       ((looked % 2 ≡ 1) × (word ≡ looked) × (new.found ≡ old.found ++ found_word Look looked))

@@ -7,10 +7,12 @@ use Rattle.turn_lock.specs.declared.view.View.{View}
 use Rattle.turn_lock.specs.declared.view.Claim.{Claim}
 use Rattle.turn_lock.specs.Views.{StartsWith, bearing}
 
--- What is true of a view, where the lock was made with this value, the history is this, the turn is out or not, and each number is a seat's claim, at a
--- place among its claims: what it has seen and was told of are beginnings of the history; a view with the turn is the
--- holder's, and has seen all; its claims have just the entries that bear their numbers.
-pub record Knows {B E : Type 0} (bearer : E → ℕ) (value : B) (history : List E) (out holder : ℕ) (owner : ℕ → Option (ℕ × ℕ)) (seat : ℕ) (view : View B E) : Type 0 where
+-- What is true of a view, where the lock was made with this value, the history is this, the turn is out or not, and
+-- each number is a seat's claim, at a place among its claims: what it has seen and was told of are beginnings of the
+-- history; a view with the turn is the holder's, and has seen all; its claims have just the entries that bear their
+-- numbers.
+pub record Knows {B E : Type 0} (bearer : E → ℕ) (value : B) (history : List E) (out holder : ℕ)
+    (owner : ℕ → Option (ℕ × ℕ)) (seat : ℕ) (view : View B E) : Type 0 where
   pub first : IfSome view.first (λ first. first ≡ value)
   pub seen : StartsWith history view.seen
   pub told : All (λ told. StartsWith history told) view.told
@@ -21,7 +23,8 @@ pub record Knows {B E : Type 0} (bearer : E → ℕ) (value : B) (history : List
 -- There is one history. The first word is twice its length, and one more while the turn is out; else the value is at
 -- home, and its entries are the history. The second word is how many numbers were given: of the others nobody has one,
 -- and no entry bears one.
-pub record Ruled {B E : Type 0} (entries : B → List E) (bearer : E → ℕ) (begins_as : B → B → Type 0) (first : B) (s : State (Option B) (View B E)) : Type 0 where
+pub record Ruled {B E : Type 0} (entries : B → List E) (bearer : E → ℕ) (begins_as : B → B → Type 0) (first : B)
+    (s : State (Option B) (View B E)) : Type 0 where
   pub history : List E
   pub out : ℕ
   pub holder : ℕ
@@ -32,7 +35,8 @@ pub record Ruled {B E : Type 0} (entries : B → List E) (bearer : E → ℕ) (b
   pub word : slice_index s.words 0 ≡ 2 * length history + out
   pub short : length history < 2 ^ 62
   pub home : out ≡ 0
-      → (value : B) × (get_elem? s.homes 0 ≡ some (some (Some value))) × (entries value ≡ history) × begins_as first value
+      → (value : B) × (get_elem? s.homes 0 ≡ some (some (Some value))) × (entries value ≡ history)
+      × begins_as first value
   pub given : slice_index s.words 1 ≤ 2 ^ 32
   pub not_given : (number : ℕ) → slice_index s.words 1 ≤ number
       → (owner number ≡ None) × (bearing bearer number history ≡ [])

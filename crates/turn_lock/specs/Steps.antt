@@ -41,7 +41,8 @@ module _ {B E : Type 0} where
     pub slots : after.1 ≡ before.1
 
   -- the turn was taken, with the value
-  pub record TookTurn (entries_of : B → List E) (bearer : E → ℕ) (begins_as : B → B → Type 0) (before : Seated B E) (word : ℕ) (after : Seated B E) : Type 0 where
+  pub record TookTurn (entries_of : B → List E) (bearer : E → ℕ) (begins_as : B → B → Type 0) (before : Seated B E)
+      (word : ℕ) (after : Seated B E) : Type 0 where
     pub value : B
     pub more : StartsWith after.0.seen before.0.seen
     pub entries : entries_of value ≡ after.0.seen
@@ -49,14 +50,20 @@ module _ {B E : Type 0} where
     pub count : word ≡ 2 * length after.0.seen
     pub short : length after.0.seen < 2 ^ 62
     pub settled : IsSettled bearer after.0
-    pub view : after.0 ≡ record before.0 { seen = after.0.seen; turn = true; found = before.0.found ++ found_word TakeWon word }
+    pub view : after.0 ≡ record before.0 {
+      seen = after.0.seen;
+      turn = true;
+      found = before.0.found ++ found_word TakeWon word;
+    }
     pub slots : after.1 ≡ (0, Some value) ∷ before.1
 
   -- the first word was to become odd where it was as expected
-  abbrev pub Takes : (B → List E) → (E → ℕ) → (B → B → Type 0) → Step (Option B) → Seated B E → ℕ → Seated B E → Type 0
+  abbrev pub Takes : (B → List E) → (E → ℕ) → (B → B → Type 0) → Step (Option B) → Seated B E → ℕ → Seated B E
+      → Type 0
   Takes entries bearer begins_as step before word after =
       (word ≡ step.first → TookTurn entries bearer begins_as before word after)
-      × (word ≢ step.first → after ≡ (record before.0 { found = before.0.found ++ found_word TakeLost word }, before.1))
+      × (word ≢ step.first
+      → after ≡ (record before.0 { found = before.0.found ++ found_word TakeLost word }, before.1))
 
   -- the view that is left when the turn is given back with these entries
   abbrev pub view_left : (E → ℕ) → List E → View B E → View B E
@@ -71,7 +78,8 @@ module _ {B E : Type 0} where
   -- the second word was read, which is no more than there are numbers
   abbrev pub CountedPasses : Seated B E → ℕ → Seated B E → Type 0
   CountedPasses before word after =
-      (after ≡ (record before.0 { found = before.0.found ++ found_word NumberLook word }, before.1)) × (word ≤ 2 ^ 32)
+      (after ≡ (record before.0 { found = before.0.found ++ found_word NumberLook word }, before.1))
+      × (word ≤ 2 ^ 32)
 
   -- a number was taken, by a pass without one, where the second word was as expected
   abbrev pub TakesNumber : (E → ℕ) → Step (Option B) → Seated B E → ℕ → Seated B E → Type 0
@@ -83,7 +91,8 @@ module _ {B E : Type 0} where
         },
         before.1,
       )) × (before.0.told ≡ [] → IsSettled bearer after.0))
-      × (word ≢ step.first → after ≡ (record before.0 { found = before.0.found ++ found_word NumberLost word }, before.1))
+      × (word ≢ step.first
+      → after ≡ (record before.0 { found = before.0.found ++ found_word NumberLost word }, before.1))
 
   -- a view without a number, which has seen as much
   abbrev pub unnumbered : View B E → View B E

@@ -40,7 +40,8 @@ impl<B: Kept<E>, E> Model for TurnLock<B, E> {
 #[derive(Drop)]
 pub struct Busy<B: Kept<E>, E> {
     pub pass: Pass<B, E>,
-    /// The word of the turn, as it was looked at: twice the number of entries, and one more while somebody has the turn.
+    /// The word of the turn, as it was looked at: twice the number of entries, and one more while somebody has the
+    /// turn.
     pub looked: u64,
     /// The same word, as it was found when the turn was to be taken.
     pub word: u64,
@@ -70,7 +71,8 @@ impl<B: Kept<E>, E> TurnLock<B, E> {
         requires own { pass.old.lock ≡ self.now }
         ensures sees { SeesMore pass.old pass.new }
         ensures count { result ≡ length pass.new.seen }
-        ensures found { (word : ℕ) × (result ≡ word / 2) × (pass.new.found ≡ pass.old.found ++ found_word Look word) }
+        ensures found { (word : ℕ) × (result ≡ word / 2)
+            × (pass.new.found ≡ pass.old.found ++ found_word Look word) }
     {
         self.table.shared.load::<LookStep<B, E>>(&mut pass.seat, 0) / 2
     }
