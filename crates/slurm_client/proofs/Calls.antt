@@ -4,7 +4,7 @@ use Rattle.std.specs.declared.alloc.Global.{Global}
 use Rattle.std.specs.Prelude.{Vec}
 use Rattle.std.specs.Io.KnownBytes.{Appends, Consumes}
 use Rattle.std.proofs.lemmas.List.{append-nil, take_at}
-use Rattle.slurm_io.specs.Faults.{CountsOne}
+use Rattle.slurm_io.specs.Faults.{CountsNone, CountsOne}
 use Rattle.slurm_io.specs.Wire.{Wire}
 use Rattle.block_frame.specs.declared.block.Block.{Block}
 use Rattle.block_frame.specs.declared.form.Form.TheVariants.{Framed}
@@ -14,7 +14,7 @@ use Rattle.block_frame.specs.Replies.{IsReply, BeginsWithReply}
 use Rattle.slurm_client.specs.declared.called.Called.{Called}
 use Rattle.slurm_client.specs.declared.called.Called.TheVariants as called
 use Rattle.slurm_client.specs.declared.reading.Unread.TheVariants as unread
-use Rattle.slurm_client.specs.Calling.{Completes, CountsNone, HasNoReply, IsCalled, IsOff, IsShown, IsWritten, Received, Sinks}
+use Rattle.slurm_client.specs.Calling.{Completes, HasNoReply, IsCalled, IsOff, IsShown, IsWritten, Received, Sinks}
 use Rattle.slurm_client.specs.Reading.{IsFrameRead, IsTooShort, IsUnended, ReadsWithin, WritesStay}
 use Rattle.slurm_client.specs.Requests.{IsSent, ReadsStay}
 use Rattle.slurm_client.proofs.Filling.{LengthStays}

@@ -1,5 +1,4 @@
 pub mod OneLines
-pub mod Telling
 pub mod Filling
 pub mod Calls
 pub mod Addresses

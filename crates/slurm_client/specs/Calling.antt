@@ -1,7 +1,7 @@
 -- What becomes of a call of a server: what was sent, what was read, and what was written of the reply.
-use Rattle.std.specs.Prelude.{◌≡◌, ◌⊎◌, ℕ, ◌-◌, ◌^◌, ◌<◌, List, ◌++◌, take, Option, Some}
+use Rattle.std.specs.Prelude.{◌≡◌, ◌⊎◌, ℕ, List, ◌++◌, Option, Some}
 use Rattle.std.specs.Io.KnownBytes.{Appends, Consumes, IsAtEnd}
-use Rattle.slurm_io.specs.Bytes.{AppendsFront}
+use Rattle.slurm_io.specs.Bytes.{AppendsFront, Tells}
 use Rattle.slurm_io.specs.Faults.{CountsOne}
 use Rattle.slurm_io.specs.Wire.{Wire}
 use Rattle.block_frame.specs.declared.block.Block.{Block}
@@ -29,15 +29,6 @@ pub record Sinks : Type 0 where
 abbrev pub sinks : Option (List ℕ) → ℕ → Option (List ℕ) → ℕ → Sinks
 sinks output output_faults errors errors_faults =
     record { output = output; output_faults = output_faults; errors = errors; errors_faults = errors_faults }
-
--- a count of faults didn't rise, and doesn't stand at its last value
-abbrev pub CountsNone : ℕ → ℕ → Type 0
-CountsNone before after = (after ≡ before) × (before < 2 ^ 64 - 1)
-
--- a sink took a beginning of a text, whatever fails, and all of it where no write fails
-pub record Tells (taken taken' : Option (List ℕ)) (faults faults' : ℕ) (text : List ℕ) : Type 0 where
-  pub begun : (n : ℕ) × Appends taken taken' (take n text)
-  pub whole : CountsNone faults faults' → Appends taken taken' text
 
 -- the output, or the errors, stayed as they were
 abbrev pub OutputStays : Sinks → Sinks → Type 0

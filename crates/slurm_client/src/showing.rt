@@ -1,19 +1,11 @@
 //! A reply's text, as it is written.
 
 ghost use Rattle.std.specs.Prelude.{◌≡◌};
-ghost use Rattle.slurm_client.specs.Calling.{IsShown, Tells, sinks};
+ghost use Rattle.slurm_client.specs.Calling.{IsShown, sinks};
 
 use crate::Called;
 use block_frame::read_reply;
-use slurm_io::{Failed, Sink, write_all};
-
-// Writes a text to the errors, and passes over a fault.
-fn tell<E: Sink>(errors: &mut E, text: &[u8])
-    ensures { Tells (E.taken errors.old) (E.taken errors.new) (E.write_faults errors.old) (E.write_faults errors.new)
-        text.now }
-{
-    let _ = write_all(errors, text);
-}
+use slurm_io::{Failed, Sink, tell, write_all};
 
 /// Writes the text of a reply frame: to the output where its status is 0, and to the errors where it is 1. A write to
 /// the errors that fails changes nothing else.

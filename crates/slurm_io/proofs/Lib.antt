@@ -1,3 +1,4 @@
 pub mod Fronts
 pub mod Finds
 pub mod Reading
+pub mod Telling

@@ -20,6 +20,6 @@ pub use mem_shelf::MemShelf;
 pub use mem_sure::MemSure;
 pub use pair::Pair;
 pub use shelf::{Shelf, ShelfRefusal, read_file};
-pub use sink::{Sink, write_all};
+pub use sink::{Sink, tell, write_all};
 pub use source::{Failed, Source};
 pub use system::{ReaderSource, WriterSink};

@@ -1,7 +1,7 @@
 // Where bytes go.
 ghost use Rattle.std.specs.Prelude.{◌≡◌, ℕ, ◌<◌, ◌≤◌, List, length, Option, IfOk, OnOk, OnErr};
 ghost use Rattle.std.specs.Io.KnownBytes.{Appends, WriteAppends};
-ghost use Rattle.slurm_io.specs.Bytes.{AppendsFront};
+ghost use Rattle.slurm_io.specs.Bytes.{AppendsFront, Tells};
 ghost use Rattle.slurm_io.specs.Faults.{CountsFault};
 ghost use Rattle.slurm_io.specs.Kept.{Kept, nothing_beside};
 
@@ -53,4 +53,12 @@ pub fn write_all<K: Sink>(sink: &mut K, piece: &[u8]) -> Result<(), Failed>
         done += sink.write(piece.split_at(done).1)?;
     }
     Ok(())
+}
+
+/// Writes a text as far as it goes, and passes over a fault, which only the count of faults tells. It is for what is
+/// told beside an answer, such as a line to the errors.
+pub fn tell<K: Sink>(sink: &mut K, text: &[u8])
+    ensures { Tells (K.taken sink.old) (K.taken sink.new) (K.write_faults sink.old) (K.write_faults sink.new) text.now }
+{
+    let _ = write_all(sink, text);
 }

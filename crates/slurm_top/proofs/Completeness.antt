@@ -11,7 +11,7 @@ use Rattle.ctl_session.specs.declared.session.How.{How}
 use Rattle.ctl_session.specs.declared.session.How.TheVariants as how
 use Rattle.slurm_io.specs.Wire.{Wire}
 use Rattle.ctl_session.specs.Session.{most_blocks}
-use Rattle.slurm_top.specs.Lines.{CountsNone}
+use Rattle.slurm_io.specs.Faults.{CountsNone}
 use Rattle.slurm_top.specs.Script.{IsScript}
 
 -- the laws of blocks that completeness rests on

@@ -17,7 +17,8 @@ use Rattle.slurm_top.specs.declared.cluster.ClusterRefusal.{ClusterRefusal}
 use Rattle.slurm_top.specs.declared.cluster.ClusterRefusal.TheVariants as cluster
 use Rattle.slurm_top.specs.declared.end.End.{End}
 use Rattle.slurm_top.specs.declared.end.End.TheVariants.{Usage, NoFile, BadConf, BadAssocs, Memory, Script, Generated, WriteFault, Spent}
-use Rattle.slurm_top.specs.Lines.{CountsNone, status_of}
+use Rattle.slurm_io.specs.Faults.{CountsNone}
+use Rattle.slurm_top.specs.Lines.{status_of}
 use Rattle.slurm_top.specs.Run.{Outside, Named, Asked, ByNumber, BySimulation, Opens, IsEndOn, IsEndWriting, IsEndSimulating, IsEndAsked, IsEnd, Finds, IsWholeScript, files_named, number_named, simulation_named, asked_by, asked_in, opened_by}
 use Rattle.slurm_top.specs.Script.{IsScript}
 use Rattle.slurm_top.specs.SimulatedCluster.{simulation_of}

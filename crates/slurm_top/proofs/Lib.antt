@@ -2,7 +2,6 @@ pub mod Blocks
 pub mod Completeness
 pub mod Ends
 pub mod FileTexts
-pub mod Lines
 pub mod Scripts
 pub mod Summing
 pub mod Telling

@@ -1,6 +1,5 @@
 -- How a run ends: its status, and the line that is written to errors.
-use Rattle.std.specs.Prelude.{◌≡◌, ℕ, ◌-◌, ◌^◌, ◌<◌, Option, List, [], ◌++◌, take, codes, decimal}
-use Rattle.std.specs.Io.KnownBytes.{Appends}
+use Rattle.std.specs.Prelude.{ℕ, List, [], ◌++◌, codes, decimal}
 use Rattle.assoc_reader.specs.Refusal
 use Rattle.assoc_reader.specs.declared.refusal.AssocKind.{AssocKind}
 use Rattle.conf_values.specs.declared.refusal.ConfKind.{ConfKind}
@@ -67,13 +66,3 @@ line_of (Script how) = script_line how
 line_of Generated = []
 line_of WriteFault = codes "slurm: error: write\n"
 line_of Spent = codes "slurm: error: spent\n"
-
--- a count of faults didn't rise, and doesn't stand at its last value
-abbrev pub CountsNone : ℕ → ℕ → Type 0
-CountsNone before after = (after ≡ before) × (before < 2 ^ 64 - 1)
-
--- What errors took is a beginning of a line, whatever fails, and all of it where no write fails: what was taken, and
--- how many writes failed, before and after.
-pub record Tells (taken taken' : Option (List ℕ)) (faults faults' : ℕ) (line : List ℕ) : Type 0 where
-  pub begun : (n : ℕ) × Appends taken taken' (take n line)
-  pub whole : CountsNone faults faults' → Appends taken taken' line

@@ -1,14 +1,15 @@
 //! How a run ends, and what is told of it.
 
 ghost use Rattle.std.specs.Prelude.{◌≡◌, ◌≤◌, ◌++◌, length, codes};
-ghost use Rattle.slurm_top.specs.Lines.{Tells, status_of, line_of, place_line, conf_line, assocs_line};
+ghost use Rattle.slurm_io.specs.Bytes.{Tells};
+ghost use Rattle.slurm_top.specs.Lines.{status_of, line_of, place_line, conf_line, assocs_line};
 
 use arrayvec::ArrayString;
 use assoc_reader::refusal::AssocKind;
 use conf_reader::refusal::ConfKind;
 use ctl_session::How;
 use itoa::Buffer;
-use slurm_io::{Sink, write_all};
+use slurm_io::Sink;
 
 /// Room for a line of errors.
 const LINE_LEN: usize = 128;
@@ -128,5 +129,5 @@ pub fn tell<E: Sink>(errors: &mut E, end: End)
         (line_of end) }
 {
     let line = line_of(end);
-    let _ = write_all(errors, line.as_str().as_bytes());
+    slurm_io::tell(errors, line.as_str().as_bytes());
 }

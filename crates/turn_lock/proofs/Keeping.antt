@@ -9,7 +9,7 @@ use lib.ListN.{get_elem?}
 use lib.Seq.{set-get_or}
 use prog.Atomic.{either}
 use Rattle.atomic_table.specs.Table.{State, Me, step, keeps, takes, gives, stepped, Allows, Splits, Joins, opening}
-use Rattle.atomic_table.proofs.Lists.{at_set, set_here, set_else, set_again, at_snoc}
+use Rattle.atomic_table.proofs.Lists.{at_set, set_here, set_else, set_again, at_longer, at_snoc}
 use Rattle.turn_lock.specs.declared.view.View.{View}
 use Rattle.turn_lock.specs.declared.view.Claim.{Claim}
 use Rattle.turn_lock.specs.declared.view.Kind.TheVariants.{Look, TakeWon, TakeLost, NumberLook, NumberWon, NumberLost}
@@ -37,15 +37,28 @@ module _ {B E : Type 0} (entries_of : B → List E) (bearer : E → ℕ) (begins
   abbrev count : St → ℕ
   count s = get_or s.words 1 0
 
+  in_range : (vs : List V) (i : ℕ) (v : V) → get_elem? vs i ≡ some v → i < length vs
+  in_range [] i v e = absurd (some-ne-none v (sym e))
+  in_range (x ∷ xs) zero v e = omega arith
+  in_range (x ∷ xs) (suc i) v e = omega (arith, in_range xs i v e)
+
   seats_stay : (K : ℕ → V → Type 0) (vs : List V) (me : ℕ) (w : V) → K me w → ((j : ℕ) (v : V) → j ≢ me → get_elem? vs j ≡ some v → K j v)
       → (j : ℕ) (v : V) → get_elem? (set vs me w) j ≡ some v → K j v
   seats_stay K vs me w mine others j v e = ⊎_elim (λ (t : (j ≡ me) × (w ≡ v)). subst (λ (x : ℕ × V). K x.0 x.1) (λ i. (sym t.0 i, t.1 i)) mine)
       (λ (t : (j ≢ me) × (get_elem? vs j ≡ some v)). others j v t.0 t.1) (at_set vs me j w v e)
 
+  -- the holder's view, where one seat's view is another one with the turn as it was
+  holds_still : (vs : List V) (holder id : ℕ) (v w : V) → get_elem? vs id ≡ some v → w.turn ≡ v.turn → (view : V) × (get_elem? vs holder ≡ some view) × (view.turn ≡ true)
+      → (view : V) × (get_elem? (set vs id w) holder ≡ some view) × (view.turn ≡ true)
+  holds_still vs holder id v w at same h = dite (ℕ_discrete holder id)
+      (λ is. let here : some h.0 ≡ some v = sym h.1 ∙ (ap (λ j. get_elem? vs j) is ∙ at) in
+      (w, subst (λ j. get_elem? (set vs id w) j ≡ some w) (sym is) (set_here vs id w (in_range vs id v at)), same ∙ (sym (ap (λ x. x.turn) (some-injective h.0 v here)) ∙ h.2)))
+      (λ apart. (h.0, set_else vs id holder w apart ∙ h.1, h.2))
+
   -- a step that changes no word and no slot
-  unmoved : (s : St) (r : Rule s) (i id : ℕ) (w : V) → Knows bearer first r.history r.out r.holder r.owner id w
+  unmoved : (s : St) (r : Rule s) (i id : ℕ) (v w : V) → get_elem? s.views id ≡ some v → w.turn ≡ v.turn → Knows bearer first r.history r.out r.holder r.owner id w
       → Rule record { words = set s.words i (get_or s.words i 0); homes = s.homes; views = set s.views id w }
-  unmoved s r i id w known = subst (λ (ws : List ℕ). Rule record { words = ws; homes = s.homes; views = set s.views id w }) (sym (set-get_or s.words i 0)) record {
+  unmoved s r i id v w at same known = subst (λ (ws : List ℕ). Rule record { words = ws; homes = s.homes; views = set s.views id w }) (sym (set-get_or s.words i 0)) record {
     history = r.history;
     out = r.out;
     holder = r.holder;
@@ -56,6 +69,8 @@ module _ {B E : Type 0} (entries_of : B → List E) (bearer : E → ℕ) (begins
     word = r.word;
     short = r.short;
     home = r.home;
+    away = r.away;
+    held = λ e. holds_still s.views r.holder id v w at same (r.held e);
     given = r.given;
     not_given = r.not_given;
     each_seat = seats_stay (Knows bearer first r.history r.out r.holder r.owner) s.views id w known (λ j v _ at. r.each_seat j v at);
@@ -86,7 +101,7 @@ module _ {B E : Type 0} (entries_of : B → List E) (bearer : E → ℕ) (begins
         w,
         keeps,
         tt,
-        unmoved s r 0 id w known,
+        unmoved s r 0 id me.0 w at refl known,
         record {
           out = r.out;
           one_turn = r.one_turn;
@@ -135,6 +150,8 @@ module _ {B E : Type 0} (entries_of : B → List E) (bearer : E → ℕ) (begins
           word = let n = r.word in here ∙ omega arith;
           short = r.short;
           home = λ e. absurd (omega arith);
+          away = λ _. set_here s.homes 0 none (omega (arith, r.deep));
+          held = λ _. (w, set_here s.views id w (in_range s.views id me.0 at), refl);
           given = subst (λ n. n ≤ 2 ^ 32) (sym there) r.given;
           not_given = λ number above. r.not_given number (subst (λ n. n ≤ number) there above);
           each_seat = seats_stay (Knows bearer first r.history 1 id r.owner) s.views id w known (λ j v other here. let o = r.each_seat j v here in record {
@@ -165,7 +182,7 @@ module _ {B E : Type 0} (entries_of : B → List E) (bearer : E → ℕ) (begins
         w,
         keeps,
         tt,
-        subst (λ b. Rule (stepped s 0 (either b new x) id me.1 w keeps)) (sym (ne_eqb x old miss)) (unmoved s r 0 id w (found_more s r id me.0 w k refl refl refl refl refl)),
+        subst (λ b. Rule (stepped s 0 (either b new x) id me.1 w keeps)) (sym (ne_eqb x old miss)) (unmoved s r 0 id me.0 w at refl (found_more s r id me.0 w k refl refl refl refl refl)),
         ((λ hit. absurd (miss hit)), λ _. refl),
       ))
 
@@ -232,6 +249,8 @@ module _ {B E : Type 0} (entries_of : B → List E) (bearer : E → ℕ) (begins
           word = here ∙ omega (arith, half);
           short = short;
           home = λ _. (value, set_here s.homes 0 (some (Some value)) (omega (arith, r.deep)), refl, begins_first f view.first value is_first begins k.first);
+          away = λ e. absurd (omega arith);
+          held = λ e. absurd (omega arith);
           given = subst (λ n. n ≤ 2 ^ 32) (sym there) r.given;
           not_given = λ other above. let o = r.not_given other (subst (λ n. n ≤ other) there above) in
               (o.0, same other (λ is. let e : 1 ≡ 0 = ap is_given (sym mine_is ∙ (ap r.owner is ∙ o.0)) in absurd (omega arith)) ∙ o.1);
@@ -258,7 +277,7 @@ module _ {B E : Type 0} (entries_of : B → List E) (bearer : E → ℕ) (begins
   pub counts : (slots id : ℕ) (me : M) → Allows Rule slots id me 1 (λ x. x) (λ found after. CountedPasses me found after)
   counts slots id me s r _ at _ =
       let w : V = record me.0 { found = me.0.found ++ found_word NumberLook (count s) } in
-      (w, keeps, tt, unmoved s r 1 id w (found_more s r id me.0 w (r.each_seat id me.0 at) refl refl refl refl refl), (refl, r.given))
+      (w, keeps, tt, unmoved s r 1 id me.0 w at refl (found_more s r id me.0 w (r.each_seat id me.0 at) refl refl refl refl refl), (refl, r.given))
 
   -- the owners of numbers, when a seat takes one
   abbrev with_owner : (ℕ → Option (ℕ × ℕ)) → ℕ → ℕ → ℕ → Option (ℕ × ℕ)
@@ -310,6 +329,8 @@ module _ {B E : Type 0} (entries_of : B → List E) (bearer : E → ℕ) (begins
           word = there ∙ r.word;
           short = r.short;
           home = r.home;
+          away = r.away;
+          held = λ e. holds_still s.views r.holder id me.0 w at refl (r.held e);
           given = omega (arith, here);
           not_given = λ number above. let low : x < number = omega (arith, here, above) in let o = r.not_given number (omega arith) in
               (rw (ne_eqb number x (λ e. absurd (omega arith))) o.0, o.1);
@@ -339,7 +360,7 @@ module _ {B E : Type 0} (entries_of : B → List E) (bearer : E → ℕ) (begins
         w,
         keeps,
         tt,
-        subst (λ b. Rule (stepped s 1 (either b new x) id me.1 w keeps)) (sym (ne_eqb x old miss)) (unmoved s r 1 id w (found_more s r id me.0 w k refl refl refl refl refl)),
+        subst (λ b. Rule (stepped s 1 (either b new x) id me.1 w keeps)) (sym (ne_eqb x old miss)) (unmoved s r 1 id me.0 w at refl (found_more s r id me.0 w k refl refl refl refl refl)),
         ((λ hit. absurd (miss hit)), λ _. refl),
       ))
 
@@ -356,6 +377,9 @@ module _ {B E : Type 0} (entries_of : B → List E) (bearer : E → ℕ) (begins
         word = r.word;
         short = r.short;
         home = r.home;
+        away = r.away;
+        held = λ e. let h = holds_still s.views r.holder id view view at refl (r.held e) in
+            (h.0, at_longer (set s.views id view) (unnumbered view ∷ []) r.holder h.0 h.1, h.2);
         given = r.given;
         not_given = r.not_given;
         each_seat = λ j v here. ⊎_elim
@@ -375,8 +399,8 @@ module _ {B E : Type 0} (entries_of : B → List E) (bearer : E → ℕ) (begins
   moved other id before (Some p) = cond (eqb p.0 other) (Some (id, before + p.1)) (Some p)
   moved other id before None = None
 
-  pub joins : (id : ℕ) (view : V) (other : ℕ) (taken : V) → view.turn ≡ false → Joins Rule id view other taken (joined view taken) blank
-  joins id view other taken no_turn s r at apart there =
+  pub joins : (id : ℕ) (view : V) (other : ℕ) (taken : V) → view.turn ≡ false → taken.turn ≡ false → Joins Rule id view other taken (joined view taken) blank
+  joins id view other taken no_turn none_there s r at apart there =
       let k = r.each_seat id view at in
       let o = r.each_seat other taken (sym (set_else s.views id other (joined view taken) apart) ∙ there) in
       let n : ℕ = length view.claims in
@@ -416,6 +440,9 @@ module _ {B E : Type 0} (entries_of : B → List E) (bearer : E → ℕ) (begins
         word = r.word;
         short = r.short;
         home = r.home;
+        away = r.away;
+        held = λ e. holds_still (set s.views id w) r.holder other taken blank there (sym none_there)
+            (holds_still s.views r.holder id view w at refl (r.held e));
         given = r.given;
         not_given = λ number above. let h = r.not_given number above in (ap (moved other id n) h.0, h.1);
         each_seat = seats_stay (Knows bearer first r.history r.out r.holder owner) (set s.views id w) other blank nothing (λ j v away at'.
@@ -454,6 +481,8 @@ module _ {B E : Type 0} (entries_of : B → List E) (bearer : E → ℕ) (begins
         word = refl;
         short = omega arith;
         home = λ _. (first, refl, empty, begins);
+        away = λ e. absurd (omega arith);
+        held = λ e. absurd (omega arith);
         given = omega arith;
         not_given = λ number above. (rw (ne_eqb number 0 (λ e. absurd (omega arith))) refl, refl);
         each_seat = λ j v at. let is = beyond (first_view first) j v at in

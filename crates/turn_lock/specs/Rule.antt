@@ -1,6 +1,6 @@
 -- The rule of a lock, which holds between any two steps of any threads.
 use Rattle.std.specs.Prelude.{◌≡◌, ℕ, ◌+◌, ◌*◌, ◌^◌, ◌<◌, ◌≤◌, true, false, List, [], ◌∷◌, length, slice_index, slice_get, All, Option, Some, None, IfSome}
-use mathlib.Core.Option.{some}
+use mathlib.Core.Option.{some, none}
 use lib.ListN.{get_elem?}
 use Rattle.atomic_table.specs.Table.{State}
 use Rattle.turn_lock.specs.declared.view.View.{View}
@@ -20,9 +20,9 @@ pub record Knows {B E : Type 0} (bearer : E → ℕ) (value : B) (history : List
   pub claims : (place : ℕ) (claim : Claim E) → slice_get view.claims place ≡ Some claim
       → (owner claim.number ≡ Some (seat, place)) × (claim.entries ≡ bearing bearer claim.number history)
 
--- There is one history. The first word is twice its length, and one more while the turn is out; else the value is at
--- home, and its entries are the history. The second word is how many numbers were given: of the others nobody has one,
--- and no entry bears one.
+-- There is one history. The first word is twice its length, and one more while the turn is out: then the slot is empty
+-- and one view, the holder's, has the turn; else the value is at home, its entries are the history, and no view has the
+-- turn. The second word is how many numbers were given: of the others nobody has one, and no entry bears one.
 pub record Ruled {B E : Type 0} (entries : B → List E) (bearer : E → ℕ) (begins_as : B → B → Type 0) (first : B)
     (s : State (Option B) (View B E)) : Type 0 where
   pub history : List E
@@ -37,6 +37,8 @@ pub record Ruled {B E : Type 0} (entries : B → List E) (bearer : E → ℕ) (b
   pub home : out ≡ 0
       → (value : B) × (get_elem? s.homes 0 ≡ some (some (Some value))) × (entries value ≡ history)
       × begins_as first value
+  pub away : out ≡ 1 → get_elem? s.homes 0 ≡ some none
+  pub held : out ≡ 1 → (view : View B E) × (get_elem? s.views holder ≡ some view) × (view.turn ≡ true)
   pub given : slice_index s.words 1 ≤ 2 ^ 32
   pub not_given : (number : ℕ) → slice_index s.words 1 ≤ number
       → (owner number ≡ None) × (bearing bearer number history ≡ [])

@@ -5,7 +5,7 @@ use Rattle.turn_lock.proofs.Passing.{meets}
 use Rattle.turn_lock.proofs.lock.TurnLock.meet.Goals as goal
 
 pub join_seat-requires : goal.join_seat-requires
-join_seat-requires g c = (search rules, search rules, search rules, search rules, joins g.B.Kept.entries g.B.Kept.bearer g.B.Kept.begins_as _ _ _ _ _ c.pass.invariant.turn)
+join_seat-requires g c = (search rules, search rules, search rules, search rules, joins g.B.Kept.entries g.B.Kept.bearer g.B.Kept.begins_as _ _ _ _ _ c.pass.invariant.turn c.other.invariant.turn)
 
 pub load-requires : goal.load-requires
 load-requires g c = (search rules, search rules, looks g.B.Kept.entries g.B.Kept.bearer g.B.Kept.begins_as _ _ _ _)

@@ -18,7 +18,8 @@ join_seat-requires g c = (
   search rules,
   search rules,
   search rules,
-  joins g.B.Kept.entries g.B.Kept.bearer g.B.Kept.begins_as _ _ _ _ _ (ap (λ m. m.0.turn) c.split_seat-seat.ensures.2 ∙ c.pass.invariant.turn),
+  joins g.B.Kept.entries g.B.Kept.bearer g.B.Kept.begins_as _ _ _ _ _ (ap (λ m. m.0.turn) c.split_seat-seat.ensures.2 ∙ c.pass.invariant.turn)
+      (ap (λ m. m.0.turn) (c.load-made.ensures.2.0 ∙ ap (λ m. (record m.0 { found = m.0.found ++ found_word NumberLook c.load-made.result }, m.1)) c.split_seat-seat.ensures.4)),
 )
 
 pub compare_exchange-word-requires : goal.compare_exchange-word-requires
@@ -30,7 +31,8 @@ join_seat-requires-then-word-made g c = (
   search rules,
   search rules,
   search rules,
-  joins g.B.Kept.entries g.B.Kept.bearer g.B.Kept.begins_as _ _ _ _ _ (ap (λ m. m.0.turn) c.split_seat-seat.ensures.2 ∙ c.pass.invariant.turn),
+  joins g.B.Kept.entries g.B.Kept.bearer g.B.Kept.begins_as _ _ _ _ _ (ap (λ m. m.0.turn) c.split_seat-seat.ensures.2 ∙ c.pass.invariant.turn)
+      (ap (λ m. m.0.turn) (c.compare_exchange-word.ensures.2.1 (search rules)) ∙ ap (λ m. m.0.turn) (c.load-made.ensures.2.0 ∙ ap (λ m. (record m.0 { found = m.0.found ++ found_word NumberLook c.load-made.result }, m.1)) c.split_seat-seat.ensures.4)),
 )
 
 pub invariant_of-pass : goal.invariant_of-pass

@@ -1,5 +1,5 @@
-use Rattle.slurm_client.proofs.Telling.{tells_text}
-use Rattle.slurm_client.proofs.showing.tell.Goals as goal
+use Rattle.slurm_io.proofs.Telling.{tells_text}
+use Rattle.slurm_io.proofs.sink.tell.Goals as goal
 
 pub returns : goal.returns
 returns g c =

@@ -1,10 +1,9 @@
--- What errors take of a text.
+-- What a sink takes of a text.
 use Rattle.std.proofs.Common.{ℕ, List, Option, Result, Ok, Err, OnOk, OnErr, length, sym, subst, arith}
 use Rattle.std.proofs.lemmas.List.{take_all}
 use Rattle.std.specs.Io.KnownBytes.{Appends}
-use Rattle.slurm_io.specs.Bytes.{AppendsFront}
+use Rattle.slurm_io.specs.Bytes.{AppendsFront, Tells}
 use Rattle.slurm_io.specs.Faults.{CountsFault}
-use Rattle.slurm_client.specs.Calling.{Tells}
 
 -- one call that writes all of a text
 pub tells_text : {T E : Type 0} (result : Result T E) (taken taken' : Option (List ℕ)) (faults faults' : ℕ)
