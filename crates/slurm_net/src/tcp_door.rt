@@ -7,34 +7,45 @@ use crate::{Accepted, Cut, Door, TcpLink};
 use slurm_io::Failed;
 use std::io::{ErrorKind, Read, Write};
 use std::net::OpenListener;
+use std::time::{Clock, Duration};
 
-/// A door of this machine. `accept` doesn't wait if its listener doesn't (`set_nonblocking`), as is so of the doors of a
-/// `TcpHost`: nobody is there where it would have to (`ErrorKind::WouldBlock`). A call that a signal interrupts is tried
-/// again, up to 1,024 times in all; each other error, and the last interruption, is a fault.
+/// How often one `accept` looks for a connection.
+const MOST_LOOKS: u32 = 200;
+
+/// How many milliseconds lie between two looks.
+const BETWEEN_LOOKS: u64 = 10;
+
+/// A door of this machine. Where its listener doesn't wait (`set_nonblocking`), as is so of the doors of a `TcpHost`,
+/// `accept` looks for a connection a hundred times a second, and nobody is there where none has come for two seconds
+/// (`ErrorKind::WouldBlock`). A call that a signal interrupts is tried again, up to 1,024 times in all; each other error,
+/// and the last interruption, is a fault. The runtime is what it waits by, such as a `&HostRuntime`.
 #[derive(Drop)]
-pub struct TcpDoor<L> {
+pub struct TcpDoor<L, R> {
     pub listener: L,
+    pub runtime: R,
     /// How many calls of `accept` failed, up to the greatest `u64`.
     pub faults: u64,
     /// Whether a link came that wasn't handed back.
     pub is_out: bool,
 }
 
-impl<L> TcpDoor<L> {
-    pub fn new(listener: L) -> Self
+impl<L, R> TcpDoor<L, R> {
+    pub fn new(listener: L, runtime: R) -> Self
         ensures listener { result.listener ≡ listener }
+        ensures runtime { result.runtime ≡ runtime }
         ensures faults { result.faults ≡ 0 }
         ensures is_out { result.is_out ≡ false }
     {
         TcpDoor {
             listener,
+            runtime,
             faults: 0,
             is_out: false,
         }
     }
 }
 
-impl<L: OpenListener> Door for TcpDoor<L>
+impl<L: OpenListener, R: Clock> Door for TcpDoor<L, R>
 where
     L::Stream: Read + Write,
 {
@@ -47,7 +58,7 @@ where
     ghost out = { λ door. untold_out door.is_out };
 
     fn accept(&mut self) -> Result<Accepted<TcpLink<L::Stream>>, Failed> {
-        match accept_through(&self.listener) {
+        match accept_soon(&self.listener, &self.runtime) {
             Ok(Accepted::Came(stream)) => {
                 self.is_out = true;
                 Ok(Accepted::Came(TcpLink::new(stream)))
@@ -63,6 +74,20 @@ where
     fn done(&mut self, _link: TcpLink<L::Stream>, _cut: Cut) {
         self.is_out = false;
     }
+}
+
+// Looks for a connection until one has come, for two seconds at most.
+fn accept_soon<L: OpenListener, R: Clock>(
+    listener: &L,
+    runtime: &R,
+) -> Result<Accepted<L::Stream>, Failed> {
+    for _ in 0..MOST_LOOKS {
+        match accept_through(listener) {
+            Ok(Accepted::Nobody) => runtime.sleep(Duration::from_millis(BETWEEN_LOOKS)),
+            accepted => return accepted,
+        }
+    }
+    Ok(Accepted::Nobody)
 }
 
 // Accepts, again where a signal interrupts.

@@ -10,9 +10,10 @@ use crate::{Host, ListenRefusal, TcpDoor, TcpLink};
 use slurm_io::Failed;
 use std::alloc::Global;
 use std::net::{Ipv4Addr, Net, OpenListener, SocketAddr};
+use std::time::Clock;
 
 /// This machine's loopback network: doors at 127.0.0.1, and links to there. The doors of one `listen` share one
-/// listener, which doesn't wait. A dial that a signal interrupts (`ErrorKind::Interrupted`) is tried again, up to 1,024
+/// listener, which doesn't wait; the doors do, by the runtime's clock. A dial that a signal interrupts (`ErrorKind::Interrupted`) is tried again, up to 1,024
 /// times in all; each other error, and the last interruption, is a fault.
 #[derive(Drop)]
 pub struct TcpHost<R> {
@@ -59,12 +60,12 @@ fn open_listener<R: Net>(net: &R, port: u16) -> Result<R::Listener, Failed> {
 }
 
 // So many doors, all over one listener.
-fn open_doors<R: Net>(
+fn open_doors<R: Net + Clock + Copy>(
     alloc: Global,
     net: &R,
     port: u16,
     workers: u32,
-) -> Result<Vec<TcpDoor<R::Listener>>, ListenRefusal>
+) -> Result<Vec<TcpDoor<R::Listener, R>>, ListenRefusal>
     ensures doors { IfOk result (λ doors. vec_len doors ≡ workers) }
     ensures new { IfOk result (λ doors. All (λ door. IsNewDoor door.faults (untold_out door.is_out) None) doors.items) }
 {
@@ -74,7 +75,7 @@ fn open_doors<R: Net>(
         let Ok(shared) = listener.try_clone() else {
             return Err(ListenRefusal::Failed);
         };
-        doors.push(TcpDoor::new(shared)).unwrap();
+        doors.push(TcpDoor::new(shared, *net)).unwrap();
     }
     Ok(doors)
 }
@@ -92,14 +93,14 @@ fn dial_through<R: Net>(net: &R, port: u16) -> Result<R::Stream, Failed> {
 }
 
 // Whether a call of one of them failed.
-fn any_failed<L>(doors: &[TcpDoor<L>]) -> bool
+fn any_failed<L, R>(doors: &[TcpDoor<L, R>]) -> bool
     ensures { result ≡ list_any (λ door. nat_lt 0 door.faults) doors.now }
 {
     doors.iter().any(|door| door.faults > 0)
 }
 
-impl<R: Net> Host for TcpHost<R> {
-    type Door = TcpDoor<R::Listener>;
+impl<R: Net + Clock + Copy> Host for TcpHost<R> {
+    type Door = TcpDoor<R::Listener, R>;
 
     ghost host_faults = { λ host. host.faults };
 
@@ -117,7 +118,7 @@ impl<R: Net> Host for TcpHost<R> {
         &mut self,
         port: u16,
         workers: u32,
-    ) -> Result<Vec<TcpDoor<R::Listener>>, ListenRefusal> {
+    ) -> Result<Vec<TcpDoor<R::Listener, R>>, ListenRefusal> {
         match open_doors(self.alloc, &self.net, port, workers) {
             Ok(doors) => Ok(doors),
             Err(ListenRefusal::Memory) => Err(ListenRefusal::Memory),
@@ -128,7 +129,7 @@ impl<R: Net> Host for TcpHost<R> {
         }
     }
 
-    fn close_doors(&mut self, doors: Vec<TcpDoor<R::Listener>>)
+    fn close_doors(&mut self, doors: Vec<TcpDoor<R::Listener, R>>)
         ensures faults { CountsIf (list_any (λ door. nat_lt 0 door.faults) doors.items)
             self.old.faults self.new.faults }
         ensures link_reads { self.new.link_reads ≡ self.old.link_reads }
