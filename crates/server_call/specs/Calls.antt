@@ -105,14 +105,13 @@ IsEnd call old new beside beside' DoorFault =
     ((script : Option (List ℕ)) × IsScript (place_of call) old new script) × IsUndialled beside beside'
 
 -- Which counts rose where a call ended so.
-abbrev pub IsCaused : Outside → Outside → Beside → Beside → CallEnd → Type 0
-IsCaused old new beside beside' ReadFault =
-    CountsOne old.faults new.faults ⊎ (CountsOne old.wire.reads new.wire.reads
-    ⊎ CountsOne beside.host.link_reads beside'.host.link_reads)
-IsCaused old new beside beside' WriteFault =
-    CountsOne old.wire.writes new.wire.writes ⊎ CountsOne beside.host.link_writes beside'.host.link_writes
-IsCaused old new beside beside' DoorFault = CountsOne beside.host.faults beside'.host.faults
-IsCaused old new beside beside' end = Unit {0}
+abbrev pub IsCaused : Outside → Outside → Hosting → Hosting → CallEnd → Type 0
+IsCaused old new host host' ReadFault =
+    CountsOne old.faults new.faults ⊎ (CountsOne old.wire.reads new.wire.reads ⊎ CountsOne host.link_reads host'.link_reads)
+IsCaused old new host host' WriteFault =
+    CountsOne old.wire.writes new.wire.writes ⊎ CountsOne host.link_writes host'.link_writes
+IsCaused old new host host' DoorFault = CountsOne host.faults host'.faults
+IsCaused old new host host' end = Unit {0}
 
 -- no count rose
 pub record IsFaultless (old new : Outside) (host host' : Hosting) : Type 0 where
@@ -129,14 +128,13 @@ IsOneOf one other end = (end ≡ one) ⊎ ((end ≡ other) ⊎ (end ≡ Memory))
 
 -- Where the host tells what the link has left: such a call ends by the reply frame that this begins with, or as a bad
 -- reply where it begins with none, unless a count rises, the script is too long or memory is wanting.
-pub record IsDecided (old new : Outside) (beside beside' : Beside) (end : CallEnd) : Type 0 where
-  pub replied : (left text : List ℕ) (status place : ℕ) → beside.host.next_left ≡ Some left
-      → BeginsWithReply left status place text → IsFaultless old new beside.host beside'.host
-      → IsOneOf (Replied status) Spent end
-  pub bad : (left : List ℕ) → beside.host.next_left ≡ Some left → HasNoReply left
-      → IsFaultless old new beside.host beside'.host → IsOneOf BadReply Spent end
-  pub only_bad : (left : List ℕ) → beside.host.next_left ≡ Some left → end ≡ BadReply → HasNoReply left
-  pub only_replied : (left : List ℕ) (status : ℕ) → beside.host.next_left ≡ Some left → end ≡ Replied status
+pub record IsDecided (old new : Outside) (host host' : Hosting) (end : CallEnd) : Type 0 where
+  pub replied : (left text : List ℕ) (status place : ℕ) → host.next_left ≡ Some left
+      → BeginsWithReply left status place text → IsFaultless old new host host' → IsOneOf (Replied status) Spent end
+  pub bad : (left : List ℕ) → host.next_left ≡ Some left → HasNoReply left → IsFaultless old new host host'
+      → IsOneOf BadReply Spent end
+  pub only_bad : (left : List ℕ) → host.next_left ≡ Some left → end ≡ BadReply → HasNoReply left
+  pub only_replied : (left : List ℕ) (status : ℕ) → host.next_left ≡ Some left → end ≡ Replied status
       → (place : ℕ) × (text : List ℕ) × BeginsWithReply left status place text
 
 -- Where the shelf or the input tells that the script is too long, the call ends as spent, unless a count rises or memory

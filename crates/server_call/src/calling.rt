@@ -117,23 +117,19 @@ pub fn call_server<Q: Shelf, L: Link, E: Sink, H: Host>(
     ensures caused { IsCaused
         (outside (Q.files shelf.old) (Q.shelf_faults shelf.old) (L.wire own.old))
         (outside (Q.files shelf.new) (Q.shelf_faults shelf.new) (L.wire own.new))
-        (beside (E.taken errors.old) (E.write_faults errors.old)
         (hosting (H.host_faults host.old) (H.link_reads host.old) (H.link_writes host.old)
-        (H.next_left host.old) (H.last_taken host.old)))
-        (beside (E.taken errors.new) (E.write_faults errors.new)
+        (H.next_left host.old) (H.last_taken host.old))
         (hosting (H.host_faults host.new) (H.link_reads host.new) (H.link_writes host.new)
-        (H.next_left host.new) (H.last_taken host.new))) result }
+        (H.next_left host.new) (H.last_taken host.new)) result }
 
     // Where the host tells what the link has left, that decides the end.
     ensures decided { IsDecided
         (outside (Q.files shelf.old) (Q.shelf_faults shelf.old) (L.wire own.old))
         (outside (Q.files shelf.new) (Q.shelf_faults shelf.new) (L.wire own.new))
-        (beside (E.taken errors.old) (E.write_faults errors.old)
         (hosting (H.host_faults host.old) (H.link_reads host.old) (H.link_writes host.old)
-        (H.next_left host.old) (H.last_taken host.old)))
-        (beside (E.taken errors.new) (E.write_faults errors.new)
+        (H.next_left host.old) (H.last_taken host.old))
         (hosting (H.host_faults host.new) (H.link_reads host.new) (H.link_writes host.new)
-        (H.next_left host.new) (H.last_taken host.new))) result }
+        (H.next_left host.new) (H.last_taken host.new)) result }
 
     // A script that is too long is told as that.
     ensures spent { IsSpent call.now
