@@ -51,11 +51,7 @@ fn joined(alloc: Global, name: &String, words: &[String]) -> Result<Vec<String>,
 }
 
 // The words of a request; None where one has a byte that no word may have, or there are more than a header has.
-fn request_words(
-    alloc: Global,
-    name: &String,
-    words: &[String],
-) -> Result<Option<Words>, Memory>
+fn request_words(alloc: Global, name: &String, words: &[String]) -> Result<Option<Words>, Memory>
     ensures { IfOk result (AreWords (string_bytes name.now ∷ map string_bytes words.now)) }
 {
     if words.len() >= MOST_WORDS {
