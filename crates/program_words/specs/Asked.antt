@@ -130,8 +130,8 @@ call_in name (server ∷ words) = do
 
 abbrev pub call_asked : List ℕ → List (List ℕ) → Option Asked
 call_asked name words = do
-  call ← call_in name words
-  Some (Call call)
+  asked ← call_in name words
+  Some (Call asked)
 
 -- what the words behind the program's name ask; None where they are off
 unfoldable pub asked_in : List (List ℕ) → Option Asked

@@ -54,12 +54,12 @@ fn read_more<L: Link>(
         bytes.old.items bytes.new.items (length piece.old) result }
     ensures writes { WritesStay (L.wire own.old) (L.wire own.new) }
 {
-    let Ok(count) = read_some(own, piece) else {
-        return Err(ScriptRefusal::ReadFault);
-    };
-    match bytes.extend_from_slice(piece.split_at(count).0) {
-        Ok(()) => Ok(count),
-        Err(_) => Err(ScriptRefusal::Memory),
+    match read_some(own, piece) {
+        Err(Failed) => Err(ScriptRefusal::ReadFault),
+        Ok(count) => match bytes.extend_from_slice(piece.split_at(count).0) {
+            Ok(()) => Ok(count),
+            Err(_) => Err(ScriptRefusal::Memory),
+        },
     }
 }
 
@@ -72,9 +72,10 @@ fn read_input<L: Link>(alloc: Global, own: &mut L) -> Result<Vec<u8>, ScriptRefu
     let mut bytes = Vec::new(alloc);
     while bytes.len() <= LONGEST_SCRIPT {
         let room = (LONGEST_SCRIPT + 1 - bytes.len()).min(PIECE_LEN);
-        let count = read_more(own, &mut bytes, &mut piece[..room])?;
-        if count == 0 {
-            return Ok(bytes);
+        match read_more(own, &mut bytes, &mut piece[..room]) {
+            Ok(0) => return Ok(bytes),
+            Ok(_) => {}
+            Err(refusal) => return Err(refusal),
         }
     }
     Err(ScriptRefusal::TooLong)
