@@ -8,7 +8,6 @@ use Rattle.command_words.specs.declared.command.Command.{Command}
 use Rattle.command_words.specs.declared.command.Command.TheVariants.{Report, Pass}
 use Rattle.generator.specs.Generated.{number_of}
 use Rattle.slurm_client.specs.Requests.{header_of}
-use Rattle.slurm_client.specs.declared.sending.TheConstants.{LONGEST_HEADER}
 use Rattle.program_words.specs.declared.call.Call as call
 use Rattle.program_words.specs.Controller.{Said, said_in}
 use Rattle.program_words.specs.Server.{positive, server_in}
@@ -110,10 +109,9 @@ calling (Some Report) = None
 calling (Some Pass) = None
 calling command = command
 
--- the words of a request go through: each byte is a tab or from 0x20 to 0x7E, and the header is short enough
+-- the words of a request go through: each byte is a tab or from 0x20 to 0x7E, and the header has at most 8,192 bytes
 abbrev pub go_through : List ℕ → List (List ℕ) → Bool
-go_through user words =
-    is_none (first_bad_word words) && nat_le (length (header_of user words)) LONGEST_HEADER
+go_through user words = is_none (first_bad_word words) && nat_le (length (header_of user words)) 8192
 
 abbrev pub call_by : Command → List ℕ → ℕ → List (List ℕ) → Option call.Call
 call_by command user port words =

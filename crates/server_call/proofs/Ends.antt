@@ -227,11 +227,13 @@ is_replied one other e = cc
 
 carried_decided : (call : Call) (old new : Outside) (b b' : Beside) (became : Called)
     → IsCarriedOut call old new b b' became
+    → (is_status : (status : ℕ) → end_of became ≡ Replied status → status ≤ 1)
     → (only_bad : (left : List ℕ) → b.host.next_left ≡ Some left → end_of became ≡ BadReply → HasNoReply left)
     → (only_replied : (left : List ℕ) (status : ℕ) → b.host.next_left ≡ Some left → end_of became ≡ Replied status
     → (place : ℕ) × (text : List ℕ) × BeginsWithReply left status place text)
     → IsDecided old new b.host b'.host (end_of became)
-carried_decided call old new b b' became out only_bad only_replied = record {
+carried_decided call old new b b' became out is_status only_bad only_replied = record {
+  is_status = is_status;
   replied = carried_replied call old new b b' became out;
   bad = carried_bad call old new b b' became out;
   only_bad = only_bad;
@@ -248,32 +250,37 @@ bad_is_off call old new b b' out left told =
 pub decided : (call : Call) (old new : Outside) (b b' : Beside) (end : CallEnd) → IsEnd call old new b b' end
     → IsDecided old new b.host b'.host end
 decided call old new b b' (Replied status) out =
-    carried_decided call old new b b' (called.Replied status) out (λ left told e. absurd (cc))
+    carried_decided call old new b b' (called.Replied status) out
+    (λ other e. subst (λ s. s ≤ 1) (is_replied status other e) out.over.called.1.0.is_reply.is_status)
+    (λ left told e. absurd (cc))
     (λ left other told e. subst (λ s. (place : ℕ) × (text : List ℕ) × BeginsWithReply left s place text)
     (is_replied status other e)
     (replied_begins left [] _ _ status (came_left b.host out.over.came left out.over.dialled told) out.over.called.1.0))
 decided call old new b b' ReadFault (inl refused) =
     let fails : IsFaultless old new b.host b'.host → ⊥ =
     λ none. no_read_failed (place_of call) old new refused.0 none.files none.reads in record {
+      is_status = λ status e. absurd (cc);
       replied = λ left text status place told begins none. absurd (fails none);
       bad = λ left told off none. absurd (fails none);
       only_bad = λ left told e. absurd (cc);
       only_replied = λ left status told e. absurd (cc);
     }
 decided call old new b b' ReadFault (inr out) =
-    carried_decided call old new b b' called.ReadFault out (λ left told e. absurd (cc)) (λ left status told e. absurd (cc))
+    carried_decided call old new b b' called.ReadFault out (λ status e. absurd (cc)) (λ left told e. absurd (cc)) (λ left status told e. absurd (cc))
 decided call old new b b' WriteFault out =
-    carried_decided call old new b b' called.WriteFault out (λ left told e. absurd (cc)) (λ left status told e. absurd (cc))
+    carried_decided call old new b b' called.WriteFault out (λ status e. absurd (cc)) (λ left told e. absurd (cc)) (λ left status told e. absurd (cc))
 decided call old new b b' BadReply out =
-    carried_decided call old new b b' called.BadReply out (λ left told e. bad_is_off call old new b b' out left told)
+    carried_decided call old new b b' called.BadReply out (λ status e. absurd (cc)) (λ left told e. bad_is_off call old new b b' out left told)
     (λ left status told e. absurd (cc))
 decided call old new b b' Memory ended = record {
+  is_status = λ status e. absurd (cc);
   replied = λ left text status place told begins none. inr (inr refl);
   bad = λ left told off none. inr (inr refl);
   only_bad = λ left told e. absurd (cc);
   only_replied = λ left status told e. absurd (cc);
 }
 decided call old new b b' Spent ended = record {
+  is_status = λ status e. absurd (cc);
   replied = λ left text status place told begins none. inr (inl refl);
   bad = λ left told off none. inr (inl refl);
   only_bad = λ left told e. absurd (cc);
@@ -281,6 +288,7 @@ decided call old new b b' Spent ended = record {
 }
 decided call old new b b' DoorFault ended =
     let fails : IsFaultless old new b.host b'.host → ⊥ = λ none. none_rose _ _ ended.1.0 none.dials in record {
+      is_status = λ status e. absurd (cc);
       replied = λ left text status place told begins none. absurd (fails none);
       bad = λ left told off none. absurd (fails none);
       only_bad = λ left told e. absurd (cc);

@@ -1,5 +1,5 @@
 -- What a command that calls a server leaves, and how it ends.
-use Rattle.std.specs.Prelude.{◌≡◌, ◌≢◌, ◌⊎◌, ℕ, List, nat_lt, Option, Some, None, IfSome, Result, Ok, Err}
+use Rattle.std.specs.Prelude.{◌≡◌, ◌⊎◌, ℕ, ◌≤◌, List, nat_lt, Option, Some, None, IfSome, Result, Ok, Err}
 use Rattle.slurm_io.specs.Faults.{CountsOne, CountsNone}
 use Rattle.slurm_io.specs.Wire.{Wire}
 use Rattle.slurm_io.specs.declared.source.Failed.{Failed}
@@ -126,9 +126,11 @@ pub record IsFaultless (old new : Outside) (host host' : Hosting) : Type 0 where
 abbrev pub IsOneOf : CallEnd → CallEnd → CallEnd → Type 0
 IsOneOf one other end = (end ≡ one) ⊎ ((end ≡ other) ⊎ (end ≡ Memory))
 
--- Where the host tells what the link has left: such a call ends by the reply frame that this begins with, or as a bad
--- reply where it begins with none, unless a count rises, the script is too long or memory is wanting.
+-- A reply's status is 0 or 1. Where the host tells what the link has left: such a call ends by the reply frame that this
+-- begins with, or as a bad reply where it begins with none, unless a count rises, the script is too long or memory is
+-- wanting; and it ends so only there.
 pub record IsDecided (old new : Outside) (host host' : Hosting) (end : CallEnd) : Type 0 where
+  pub is_status : (status : ℕ) → end ≡ Replied status → status ≤ 1
   pub replied : (left text : List ℕ) (status place : ℕ) → host.next_left ≡ Some left
       → BeginsWithReply left status place text → IsFaultless old new host host' → IsOneOf (Replied status) Spent end
   pub bad : (left : List ℕ) → host.next_left ≡ Some left → HasNoReply left → IsFaultless old new host host'

@@ -22,11 +22,10 @@ use Rattle.slurm_top.specs.Lines.{status_of}
 use Rattle.program_words.specs.Asked.{Named, Asked, asked_in}
 use Rattle.program_words.specs.Asked as asks
 use Rattle.program_words.specs.declared.call.Call.{Call}
-use Rattle.server_call.specs.Outside.{Outside, Beside}
+use Rattle.server_call.specs.Outside.{Outside, Hosting, Beside}
 use Rattle.server_call.specs.Calls as calls
 use Rattle.server_call.specs.declared.end.CallEnd.{CallEnd}
 use Rattle.server_call.specs.declared.end.CallEnd.TheVariants as call_end
-use Rattle.slurm_client.specs.declared.called.Called.TheVariants as called
 use Rattle.slurm_top.specs.Run.{Opens, IsEndOn, IsEndWriting, IsEndSimulating, IsEndCalling, IsEndServing, IsEndAsked, IsEndOff, IsEnd, IsNotDone, IsCallKnown, Finds, IsWholeScript, files_asked, opened_by}
 use Rattle.slurm_top.specs.Script.{IsScript}
 use Rattle.slurm_top.specs.SimulatedCluster.{simulation_of}
@@ -278,22 +277,17 @@ endless words old new beside beside' end number ended is_asked is =
 
 -- ---- words that are off, and calls
 
--- the status of a reply is 0 or 1
-carried_status : (call : Call) (old new : Outside) (beside beside' : Beside) (status : ℕ)
-    → calls.IsCarriedOut call old new beside beside' (called.Replied status) → status ≤ 1
-carried_status call old new beside beside' status out = out.over.called.1.0.is_reply.is_status
-
 -- no call ends as words do that are off
-call_isnt_off : (call : Call) (old new : Outside) (beside beside' : Beside) (end : CallEnd)
-    → calls.IsEnd call old new beside beside' end → calls.status_of end ≡ 2 → ⊥
-call_isnt_off call old new beside beside' (call_end.Replied status) ended e =
-    let least = carried_status call old new beside beside' status ended in omega (arith, least, e)
-call_isnt_off call old new beside beside' call_end.ReadFault ended e = omega arith
-call_isnt_off call old new beside beside' call_end.WriteFault ended e = omega arith
-call_isnt_off call old new beside beside' call_end.BadReply ended e = omega arith
-call_isnt_off call old new beside beside' call_end.Memory ended e = omega arith
-call_isnt_off call old new beside beside' call_end.Spent ended e = omega arith
-call_isnt_off call old new beside beside' call_end.DoorFault ended e = omega arith
+call_isnt_off : (old new : Outside) (host host' : Hosting) (end : CallEnd) → calls.IsDecided old new host host' end
+    → calls.status_of end ≡ 2 → ⊥
+call_isnt_off old new host host' (call_end.Replied status) decided e =
+    let least = decided.is_status status refl in omega (arith, least, e)
+call_isnt_off old new host host' call_end.ReadFault decided e = omega arith
+call_isnt_off old new host host' call_end.WriteFault decided e = omega arith
+call_isnt_off old new host host' call_end.BadReply decided e = omega arith
+call_isnt_off old new host host' call_end.Memory decided e = omega arith
+call_isnt_off old new host host' call_end.Spent decided e = omega arith
+call_isnt_off old new host host' call_end.DoorFault decided e = omega arith
 
 script_isnt_off : (end : How) → status_of (Script end) ≡ 2 → ⊥
 script_isnt_off how.Closed e = omega arith
@@ -345,7 +339,8 @@ simulated_isnt_off number old new (Called call) ended e = ended
 
 calling_isnt_off : (call : Call) (old new : Outside) (beside beside' : Beside) (end : End)
     → IsEndCalling call old new beside beside' end → status_of end ≡ 2 → ⊥
-calling_isnt_off call old new beside beside' (Called end) ended e = call_isnt_off call old new beside beside' end ended.0 e
+calling_isnt_off call old new beside beside' (Called end) ended e =
+    call_isnt_off old new beside.host beside'.host end ended.2 e
 calling_isnt_off call old new beside beside' Memory ended e = omega arith
 calling_isnt_off call old new beside beside' Usage ended e = ended
 calling_isnt_off call old new beside beside' NoFile ended e = ended
@@ -416,6 +411,7 @@ known_by call old new beside beside' Memory ended = record {
   is_status = refl;
   caused = tt;
   decided = record {
+    is_status = λ status e. absurd (cc);
     replied = λ left text status place told begins none. inr (inr refl);
     bad = λ left told off none. inr (inr refl);
     only_bad = λ left told e. absurd (cc);
