@@ -25,11 +25,12 @@ fn exchange<L: Link, K: Sink, E: Sink>(
     output: &mut K,
     errors: &mut E,
 ) -> Called
-    ensures { (block : Block) → IsBlock Framed block → frame.now ≡ spelled Framed block
+    ensures called { (block : Block) → IsBlock Framed block → frame.now ≡ spelled Framed block
         → IsCalled block (L.wire link.old) (L.wire link.new)
         (sinks (K.taken output.old) (K.write_faults output.old) (E.taken errors.old) (E.write_faults errors.old))
         (sinks (K.taken output.new) (K.write_faults output.new) (E.taken errors.new) (E.write_faults errors.new))
         result }
+    ensures kept { K.kept_by_writes output.new ≡ K.kept_by_writes output.old }
 {
     replies_say_their_end();
     let Ok(()) = send(link, frame) else {
@@ -68,6 +69,9 @@ pub fn client_run<L: Link, K: Sink, E: Sink>(
         (sinks (K.taken output.old) (K.write_faults output.old) (E.taken errors.old) (E.write_faults errors.old))
         (sinks (K.taken output.new) (K.write_faults output.new) (E.taken errors.new) (E.write_faults errors.new))
         result }
+
+    // What a write to the output leaves as it was stays: where the output is a link, its input.
+    ensures kept { K.kept_by_writes output.new ≡ K.kept_by_writes output.old }
 {
     replies_say_their_end();
     replies_are_one();

@@ -10,10 +10,13 @@ use slurm_io::{Failed, Sink, tell, write_all};
 /// Writes the text of a reply frame: to the output where its status is 0, and to the errors where it is 1. A write to
 /// the errors that fails changes nothing else.
 pub fn show<K: Sink, E: Sink>(frame: &[u8], output: &mut K, errors: &mut E) -> Called
-    ensures { IsShown frame.now
+    ensures shown { IsShown frame.now
         (sinks (K.taken output.old) (K.write_faults output.old) (E.taken errors.old) (E.write_faults errors.old))
         (sinks (K.taken output.new) (K.write_faults output.new) (E.taken errors.new) (E.write_faults errors.new))
         result }
+
+    // What a write to the output leaves as it was stays.
+    ensures kept { K.kept_by_writes output.new ≡ K.kept_by_writes output.old }
 {
     let Some(reply) = read_reply(frame) else {
         return Called::BadReply;

@@ -8,7 +8,8 @@ use Rattle.conf_reader.specs.Reader.{conf_in}
 use Rattle.ctl_state.specs.State.{State}
 use Rattle.slurm_top.specs.Cluster.{opening_in}
 use Rattle.slurm_top.specs.Files.{IsFrontOf}
-use Rattle.slurm_top.specs.Run.{IsTextOf, Named, Opens}
+use Rattle.program_words.specs.Asked.{Named}
+use Rattle.slurm_top.specs.Run.{IsTextOf, Opens}
 use Rattle.slurm_top.specs.declared.cluster.ClusterRefusal.{ClusterRefusal}
 
 -- files that are too long say the same

@@ -1,12 +1,6 @@
 -- The two files that a run reads.
 use Rattle.std.specs.Prelude.{◌≡◌, ℕ, List, take, Option, IfSome, IsSomeAnd}
 use Rattle.slurm_io.specs.Shelf.{ShelfFile, bytes_named}
-use Rattle.slurm_top.specs.Run.{Named}
-use Rattle.slurm_top.specs.declared.files.FileNames.{FileNames}
-
--- the files that these names name
-abbrev pub named_by : FileNames → Named
-named_by names = record { conf = names.conf.now; assocs = names.assocs.now }
 
 -- where the files are told, there is one of this name, and these are its first bytes, so many at the most
 abbrev pub IsFrontOf : Option (List ShelfFile) → List ℕ → ℕ → List ℕ → Type 0

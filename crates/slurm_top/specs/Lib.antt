@@ -3,5 +3,4 @@ pub mod Files
 pub mod Lines
 pub mod Run
 pub mod Script
-pub mod Words
 pub mod SimulatedCluster

@@ -6,8 +6,11 @@ use Rattle.conf_values.specs.declared.refusal.ConfKind.{ConfKind}
 use Rattle.conf_values.specs.Refusal.{kind_text}
 use Rattle.ctl_session.specs.declared.session.How.{How}
 use Rattle.ctl_session.specs.declared.session.How.TheVariants as how
+use Rattle.server_call.specs.Calls as calls
+use Rattle.server_call.specs.declared.end.CallEnd.{CallEnd}
+use Rattle.server_call.specs.declared.end.CallEnd.TheVariants as call
 use Rattle.slurm_top.specs.declared.end.End.{End}
-use Rattle.slurm_top.specs.declared.end.End.TheVariants.{Usage, NoFile, BadConf, BadAssocs, Memory, Script, Generated, WriteFault, Spent}
+use Rattle.slurm_top.specs.declared.end.End.TheVariants.{Usage, NoFile, BadConf, BadAssocs, Memory, Script, Generated, WriteFault, Spent, Serving, Called}
 
 -- the status of a script's run
 abbrev pub script_status : How → ℕ
@@ -30,6 +33,8 @@ status_of (Script how) = script_status how
 status_of Generated = 0
 status_of WriteFault = 6
 status_of Spent = 9
+status_of Serving = 2
+status_of (Called end) = calls.status_of end
 
 -- the line that tells where no block begins, or where one begins that doesn't end
 abbrev pub place_line : ℕ → List ℕ
@@ -55,6 +60,16 @@ script_line (how.Bad place) = place_line place
 script_line how.Memory = codes "slurm: error: memory\n"
 script_line how.Spent = codes "slurm: error: spent\n"
 
+-- the line of a call; there is none where a reply came
+abbrev pub call_line : CallEnd → List ℕ
+call_line (call.Replied status) = []
+call_line call.ReadFault = codes "slurm: error: read\n"
+call_line call.WriteFault = codes "slurm: error: write\n"
+call_line call.BadReply = place_line 0
+call_line call.Memory = codes "slurm: error: memory\n"
+call_line call.Spent = codes "slurm: error: spent\n"
+call_line call.DoorFault = codes "slurm: error: door\n"
+
 -- the line of a run; there is none where all was written
 abbrev pub line_of : End → List ℕ
 line_of Usage = codes "slurm: error: usage\n"
@@ -66,3 +81,5 @@ line_of (Script how) = script_line how
 line_of Generated = []
 line_of WriteFault = codes "slurm: error: write\n"
 line_of Spent = codes "slurm: error: spent\n"
+line_of Serving = codes "slurm: error: usage\n"
+line_of (Called end) = call_line end

@@ -1,7 +1,6 @@
--- What the program's words ask, and what a run leaves.
-use Rattle.std.specs.Prelude.{◌≡◌, ℕ, ◌≤◌, Bool, ◌&&◌, if◌then◌else◌, Option, Some, None, IfSome, IfNone, IsSomeAnd, List, [], ◌∷◌, length, codes, Result, Ok, Err}
+-- What a run leaves, by what the program's words ask.
+use Rattle.std.specs.Prelude.{◌≡◌, ◌⊎◌, ℕ, ◌≤◌, Option, Some, None, IfSome, IfNone, IsSomeAnd, List, [], length, Result, Ok, Err}
 use Rattle.std.specs.Io.KnownBytes.{Appends}
-use Rattle.std.specs.Str.{bytes_eq}
 use Rattle.slurm_io.specs.Bytes.{AppendsFront}
 use Rattle.slurm_io.specs.Faults.{CountsOne}
 use Rattle.slurm_io.specs.Shelf.{ShelfFile, bytes_named}
@@ -12,75 +11,25 @@ use Rattle.ctl_state.specs.State.{State}
 use Rattle.ctl_session.specs.declared.session.How.{How}
 use Rattle.ctl_session.specs.Reading.{ReadsStay}
 use Rattle.ctl_session.specs.Session.{most_blocks}
-use Rattle.generator.specs.Generated.{number_of, generated}
+use Rattle.generator.specs.Generated.{generated}
+use Rattle.program_words.specs.declared.call.Call.{Call}
+use Rattle.program_words.specs.Asked.{Named, Asked, asked_in}
+use Rattle.program_words.specs.Asked as asks
+use Rattle.server_call.specs.Outside.{Outside, Hosting, Beside}
+use Rattle.server_call.specs.Calls.{IsCaused, IsDecided, IsSpent}
+use Rattle.server_call.specs.Calls as calls
+use Rattle.server_call.specs.declared.end.CallEnd.{CallEnd}
 use Rattle.simulation.specs.Simulation.{Simulated, summary}
 use Rattle.slurm_top.specs.declared.cluster.ClusterRefusal.{ClusterRefusal}
 use Rattle.slurm_top.specs.declared.cluster.ClusterRefusal.TheVariants as cluster
 use Rattle.slurm_top.specs.declared.end.End.{End}
-use Rattle.slurm_top.specs.declared.end.End.TheVariants.{Usage, NoFile, BadConf, BadAssocs, Memory, Script, Generated, WriteFault, Spent}
+use Rattle.slurm_top.specs.declared.end.End.TheVariants.{Usage, NoFile, BadConf, BadAssocs, Memory, Script, Generated, WriteFault, Spent, Serving, Called}
 use Rattle.slurm_top.specs.declared.program.WordsFault.{WordsFault}
 use Rattle.slurm_top.specs.declared.program.WordsFault.TheVariants.{NotText}
 use Rattle.slurm_top.specs.declared.program.WordsFault.TheVariants as words
 use Rattle.slurm_top.specs.Cluster.{opening_in}
 use Rattle.slurm_top.specs.Script.{IsScript}
 use Rattle.slurm_top.specs.SimulatedCluster.{simulation_of}
-
--- the files that the words name
-pub record Named : Type 0 where
-  pub conf : List ℕ
-  pub assocs : List ℕ
-
--- whether these words, which stand before the names of the files, ask for a script to be run by them
-abbrev pub is_script_call : List ℕ → List ℕ → List ℕ → List ℕ → Bool
-is_script_call command mode for_conf for_assocs =
-    bytes_eq command (codes "slurmctld") && bytes_eq mode (codes "--script")
-    && bytes_eq for_conf (codes "-f") && bytes_eq for_assocs (codes "-a")
-
--- the files that the words name: they are `slurmctld --script -f NAME -a NAME`, and nothing else
-abbrev pub files_named : List (List ℕ) → Option Named
-files_named (command ∷ mode ∷ for_conf ∷ conf ∷ for_assocs ∷ assocs ∷ []) =
-    if is_script_call command mode for_conf for_assocs then Some (record { conf = conf; assocs = assocs }) else None
-files_named words = None
-
--- whether these words, which stand before a number, ask for the script that it stands for
-abbrev pub is_generate_call : List ℕ → List ℕ → Bool
-is_generate_call command mode = bytes_eq command (codes "slurmctld") && bytes_eq mode (codes "--generate")
-
--- the number that the words name: they are `slurmctld --generate NUMBER`, and nothing else
-abbrev pub number_named : List (List ℕ) → Option ℕ
-number_named (command ∷ mode ∷ number ∷ []) = if is_generate_call command mode then number_of number else None
-number_named words = None
-
--- the number that the words name whose jobs are to run: they are `slurmctld --generate NUMBER --run`, and nothing else
-abbrev pub simulation_named : List (List ℕ) → Option ℕ
-simulation_named (command ∷ mode ∷ number ∷ run ∷ []) =
-    if is_generate_call command mode && bytes_eq run (codes "--run") then number_of number else None
-simulation_named words = None
-
--- what the words ask: a script on the cluster of two files, the script that a number stands for, or a simulation of its
--- jobs
-pub data Asked : Type 0 where
-  ByFiles : Named → Asked
-  ByNumber : ℕ → Asked
-  BySimulation : ℕ → Asked
-
--- by the files and the numbers that the words name; no words name two of these
-abbrev pub asked_by : Option Named → Option ℕ → Option ℕ → Option Asked
-asked_by (Some named) number simulation = Some (ByFiles named)
-asked_by None (Some number) simulation = Some (ByNumber number)
-asked_by None None (Some number) = Some (BySimulation number)
-asked_by None None None = None
-
--- what the words ask; None where they are off
-abbrev pub asked_in : List (List ℕ) → Option Asked
-asked_in words = asked_by (files_named words) (number_named words) (simulation_named words)
-
--- The outside of a run, but for errors: the files of its shelf, where it tells them, how many reads of these failed,
--- and its link.
-pub record Outside : Type 0 where
-  pub files : Option (List ShelfFile)
-  pub faults : ℕ
-  pub wire : Wire
 
 -- the text is that of the file of this name, where the files are told
 abbrev pub IsTextOf : Option (List ShelfFile) → List ℕ → List ℕ → Type 0
@@ -116,10 +65,12 @@ IsEndOn named old new (BadAssocs line kind) =
 IsEndOn named old new Memory = new ≡ old
 -- the script was run
 IsEndOn named old new (Script how) = Ran old new named how
--- these are ends of words that name a number
+-- these are ends of other words
 IsEndOn named old new Generated = ⊥
 IsEndOn named old new WriteFault = ⊥
 IsEndOn named old new Spent = ⊥
+IsEndOn named old new Serving = ⊥
+IsEndOn named old new (Called end) = ⊥
 
 -- What a run leaves of its link that has this end, where it was to write this script.
 abbrev pub IsEndWriting : List ℕ → Wire → Wire → End → Type 0
@@ -151,19 +102,56 @@ IsEndSimulating number old new (BadAssocs line kind) =
 IsEndSimulating number old new Memory = new ≡ old
 IsEndSimulating number old new end = ⊥
 
--- What a run leaves that has this end, where the words ask this. What is asked by a number needs no file.
-abbrev pub IsEndAsked : Asked → Outside → Outside → End → Type 0
-IsEndAsked (ByFiles named) old new end = IsEndOn named old new end
-IsEndAsked (ByNumber number) old new end =
-    IsEndWriting (generated number) old.wire new.wire end × (new ≡ record old { wire = new.wire })
-IsEndAsked (BySimulation number) old new end =
-    IsEndSimulating number old.wire new.wire end × (new ≡ record old { wire = new.wire })
+-- What a run leaves that has this end, where a server was to be called.
+abbrev pub IsEndCalling : Call → Outside → Outside → Beside → Beside → End → Type 0
+IsEndCalling call old new beside beside' (Called end) =
+    calls.IsEnd call old new beside beside' end × IsCaused old new beside.host beside'.host end
+    × IsDecided old new beside.host beside'.host end × IsSpent call old new end
+-- memory was wanting before anything was read
+IsEndCalling call old new beside beside' Memory = (new ≡ old) × (beside' ≡ beside)
+IsEndCalling call old new beside beside' end = ⊥
 
--- What a run with these words leaves that has this end. Where the words are off, exactly there, the end is that, and
+-- What a run leaves that has this end, where it was to serve: nothing is done.
+abbrev pub IsEndServing : Outside → Outside → End → Type 0
+IsEndServing old new Serving = new ≡ old
+IsEndServing old new Memory = new ≡ old
+IsEndServing old new end = ⊥
+
+-- What a run leaves that has this end, where the words ask this. What is asked by a number needs no file, and but for a
+-- call neither the errors nor the host are touched.
+abbrev pub IsEndAsked : Asked → Outside → Outside → Beside → Beside → End → Type 0
+IsEndAsked (asks.Script named) old new beside beside' end = IsEndOn named old new end × (beside' ≡ beside)
+IsEndAsked (asks.Serve named port workers) old new beside beside' end = IsEndServing old new end × (beside' ≡ beside)
+IsEndAsked (asks.Generate number) old new beside beside' end =
+    IsEndWriting (generated number) old.wire new.wire end × (new ≡ record old { wire = new.wire }) × (beside' ≡ beside)
+IsEndAsked (asks.Simulate number) old new beside beside' end =
+    IsEndSimulating number old.wire new.wire end × (new ≡ record old { wire = new.wire }) × (beside' ≡ beside)
+IsEndAsked (asks.Call call) old new beside beside' end = IsEndCalling call old new beside beside' end
+
+-- the words are off, or memory was wanting for reading them
+abbrev pub IsEndOff : End → Type 0
+IsEndOff end = (end ≡ Usage) ⊎ (end ≡ Memory)
+
+-- What a run with these words leaves that has this end. Where the words are off, the end is that, or want of memory, and
 -- nothing was read or written.
-pub record IsEnd (words : List (List ℕ)) (old new : Outside) (end : End) : Type 0 where
-  pub off : IfNone (asked_in words) ((end ≡ Usage) × (new ≡ old))
-  pub on : IfSome (asked_in words) (λ asked. IsEndAsked asked old new end)
+pub record IsEnd (words : List (List ℕ)) (old new : Outside) (beside beside' : Beside) (end : End) : Type 0 where
+  pub off : IfNone (asked_in words) (IsEndOff end × (new ≡ old) × (beside' ≡ beside))
+  pub on : IfSome (asked_in words) (λ asked. IsEndAsked asked old new beside beside' end)
+
+-- the words are off, or ask for a server to be run, which isn't done yet
+abbrev pub IsNotDone : Option Asked → Type 0
+IsNotDone None = Unit {0}
+IsNotDone (Some (asks.Serve named port workers)) = Unit {0}
+IsNotDone asked = ⊥
+
+-- What is known of a call by the status of its run: it is that of an end, which a count or the reply brought about, or
+-- the length of the script.
+pub record IsCallKnown (call : Call) (old new : Outside) (host host' : Hosting) (status : ℕ) : Type 0 where
+  pub end : CallEnd
+  pub is_status : status ≡ calls.status_of end
+  pub caused : IsCaused old new host host' end
+  pub decided : IsDecided old new host host' end
+  pub spent : IsSpent call old new end
 
 -- how a run ends where its words are not at hand
 abbrev pub end_without_words : WordsFault → End
@@ -175,10 +163,15 @@ abbrev pub opened_by : Option (List ℕ) → Option (List ℕ) → Option (Resul
 opened_by (Some conf) (Some assocs) = Some (opening_in conf assocs)
 opened_by conf assocs = None
 
+-- the files of the script that words ask for
+abbrev pub files_asked : Option Asked → Option Named
+files_asked (Some (asks.Script named)) = Some named
+files_asked asked = None
+
 -- the words name files, the shelf tells its files, and these open a run so: None is that one of them isn't there
 abbrev pub Finds : List (List ℕ) → Option (List ShelfFile) → Option (Result State ClusterRefusal) → Type 0
 Finds words told opened =
-    IsSomeAnd (files_named words) (λ named. IsSomeAnd told (λ files.
+    IsSomeAnd (files_asked (asked_in words)) (λ named. IsSomeAnd told (λ files.
     opened_by (bytes_named files named.conf) (bytes_named files named.assocs) ≡ opened))
 
 -- what is left is told, and is whole blocks, no more than one session answers

@@ -2,13 +2,14 @@
 
 ghost use Rattle.std.specs.Prelude.{◌≡◌, ◌≤◌, ◌++◌, length, codes};
 ghost use Rattle.slurm_io.specs.Bytes.{Tells};
-ghost use Rattle.slurm_top.specs.Lines.{status_of, line_of, place_line, conf_line, assocs_line};
+ghost use Rattle.slurm_top.specs.Lines.{status_of, line_of, place_line, conf_line, assocs_line, call_line};
 
 use arrayvec::ArrayString;
 use assoc_reader::refusal::AssocKind;
 use conf_reader::refusal::ConfKind;
 use ctl_session::How;
 use itoa::Buffer;
+use server_call::CallEnd;
 use slurm_io::Sink;
 
 /// Room for a line of errors.
@@ -35,6 +36,10 @@ pub enum End {
     WriteFault,
     /// A job of a simulation is left behind its last round.
     Spent,
+    /// A server is asked for, which isn't run yet.
+    Serving,
+    /// A server was called, and the call ended so.
+    Called(CallEnd),
 }
 
 impl End {
@@ -44,7 +49,7 @@ impl End {
     {
         match self {
             End::Script(How::Closed) | End::Generated => 0,
-            End::Usage => 2,
+            End::Usage | End::Serving => 2,
             End::BadConf { .. } => 3,
             End::BadAssocs { .. } => 4,
             End::NoFile | End::Script(How::ReadFault) => 5,
@@ -52,6 +57,7 @@ impl End {
             End::Script(How::Truncated { .. } | How::Bad { .. }) => 7,
             End::Memory | End::Script(How::Memory) => 8,
             End::Spent | End::Script(How::Spent) => 9,
+            End::Called(end) => end.status(),
         }
     }
 }
@@ -105,13 +111,28 @@ fn assocs_line(number: u32, kind: AssocKind) -> ArrayString<LINE_LEN>
     line
 }
 
+// The line of a call that ended so.
+fn call_line(end: CallEnd) -> ArrayString<LINE_LEN>
+    ensures { result.bytes ≡ call_line end }
+{
+    match end {
+        CallEnd::Replied { .. } => ArrayString::new(),
+        CallEnd::ReadFault => cause_line("read"),
+        CallEnd::WriteFault => cause_line("write"),
+        CallEnd::BadReply => place_line(0),
+        CallEnd::Memory => cause_line("memory"),
+        CallEnd::Spent => cause_line("spent"),
+        CallEnd::DoorFault => cause_line("door"),
+    }
+}
+
 // The line of a run that ended so. It takes no memory.
 fn line_of(end: End) -> ArrayString<LINE_LEN>
     ensures { result.bytes ≡ line_of end }
 {
     match end {
         End::Script(How::Closed) | End::Generated => ArrayString::new(),
-        End::Usage => cause_line("usage"),
+        End::Usage | End::Serving => cause_line("usage"),
         End::BadConf { line, kind } => conf_line(line, kind),
         End::BadAssocs { line, kind } => assocs_line(line, kind),
         End::NoFile | End::Script(How::ReadFault) => cause_line("read"),
@@ -119,6 +140,7 @@ fn line_of(end: End) -> ArrayString<LINE_LEN>
         End::Script(How::Truncated { place } | How::Bad { place }) => place_line(place),
         End::Memory | End::Script(How::Memory) => cause_line("memory"),
         End::Spent | End::Script(How::Spent) => cause_line("spent"),
+        End::Called(end) => call_line(end),
     }
 }
 

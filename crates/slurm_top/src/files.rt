@@ -4,6 +4,7 @@ ghost use Rattle.std.specs.Prelude.{◌≡◌, IfOk};
 ghost use Rattle.slurm_io.specs.ShelfRefusal.{CountsReading};
 ghost use Rattle.slurm_top.specs.Files.{IsFrontOf};
 
+use program_words::FileNames;
 use slurm_io::{Shelf, ShelfRefusal, read_file};
 use std::alloc::Global;
 
@@ -12,15 +13,6 @@ const LONGEST_CONF: u64 = 1_048_576;
 
 /// The same of an association file, sacctmgr(1).
 const LONGEST_ASSOCS: u64 = 4_194_304;
-
-/// The names of the two files.
-#[derive(Clone, Copy)]
-pub(crate) struct FileNames<'a> {
-    /// That of slurm.conf(5).
-    pub conf: &'a str,
-    /// That of the association file.
-    pub assocs: &'a str,
-}
 
 /// The bytes of the two files, up to one more than the longest has.
 #[derive(Drop)]

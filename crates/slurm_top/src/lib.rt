@@ -8,7 +8,6 @@ mod generate;
 mod program;
 mod script;
 mod simulated;
-mod words;
 
 pub use end::End;
 pub use program::{WordsFault, run, run_without_words};

@@ -1,6 +1,6 @@
 //! The program, over objects of the outside.
 
-ghost use Rattle.std.specs.Prelude.{◌≡◌, ◌⊎◌, ◌↔◌, ◌≤◌, ℕ, List, Some, None, Err, Ok, [], length, map, string_bytes};
+ghost use Rattle.std.specs.Prelude.{◌≡◌, ◌⊎◌, ◌≤◌, ℕ, List, Option, Some, None, Err, Ok, [], length, map, string_bytes};
 ghost use Rattle.std.specs.Io.KnownBytes.{Appends};
 ghost use Rattle.assoc_reader.specs.declared.refusal.AssocKind.{AssocKind};
 ghost use Rattle.block_frame.specs.declared.form.Form.TheVariants.{Plain};
@@ -15,24 +15,31 @@ ghost use Rattle.slurm_io.specs.Bytes.{Tells};
 ghost use Rattle.slurm_io.specs.Faults.{CountsNone};
 ghost use Rattle.slurm_io.specs.Wire.{Wire};
 ghost use Rattle.slurm_top.specs.Lines.{status_of, line_of};
-ghost use Rattle.slurm_top.specs.Run.{ByNumber, BySimulation, asked_in, end_without_words, IsEnd, IsEndOn, Finds, IsWholeScript};
+ghost use Rattle.program_words.specs.Asked.{Generate, Simulate, asked_in};
+ghost use Rattle.program_words.specs.Asked as asks;
+ghost use Rattle.program_words.specs.Words.{Fits, asked_of, named_by};
+ghost use Rattle.program_words.specs.declared.call.Call.{Call};
+ghost use Rattle.server_call.specs.Outside.{beside, hosting, outside};
+ghost use Rattle.slurm_top.specs.Run.{end_without_words, IsEnd, IsEndAsked, IsEndOn, IsNotDone, IsCallKnown, Finds, IsWholeScript};
 ghost use Rattle.slurm_top.specs.Script.{IsScript};
 ghost use Rattle.slurm_top.specs.SimulatedCluster.{simulation_of};
-ghost use Rattle.slurm_top.specs.Files.{named_by};
 ghost use Rattle.slurm_top.specs.declared.cluster.ClusterRefusal.{ClusterRefusal};
 
 use crate::cluster::ClusterRefusal;
 use crate::end::{End, tell};
-use crate::files::{FileNames, read_files};
+use crate::files::read_files;
 use crate::generate::write_generated;
 use crate::script::run_script;
 use crate::simulated::write_summary;
-use crate::words::{Asked, asked_in};
 use block_frame::{
     bad_texts_stay, blocks_are_cut_once, blocks_go_first, kinds_are_apart, nothing_is_partial,
     texts_are_cut,
 };
+use program_words::{Asked, FileNames, asked_in};
+use server_call::call_server;
 use slurm_io::{Link, Shelf, ShelfRefusal, Sink};
+use slurm_net::Host;
+use slurm_text::memory_error::Memory;
 use std::alloc::Global;
 
 /// The script of an input of whole blocks, no more than one session answers, is answered to its end, unless a count of
@@ -59,8 +66,8 @@ fn run_on_files<Q: Shelf, L: Link>(
     link: &mut L,
 ) -> End
     ensures { IsEndOn (named_by names.now)
-        (record { files = Q.files shelf.old; faults = Q.shelf_faults shelf.old; wire = L.wire link.old })
-        (record { files = Q.files shelf.new; faults = Q.shelf_faults shelf.new; wire = L.wire link.new }) result }
+        (outside (Q.files shelf.old) (Q.shelf_faults shelf.old) (L.wire link.old))
+        (outside (Q.files shelf.new) (Q.shelf_faults shelf.new) (L.wire link.new)) result }
 {
     let files = match read_files(alloc, shelf, names) {
         Ok(files) => files,
@@ -75,18 +82,63 @@ fn run_on_files<Q: Shelf, L: Link>(
     }
 }
 
-// How the run of these words ends.
-fn run_words<Q: Shelf, L: Link>(alloc: Global, words: &[String], shelf: &mut Q, link: &mut L) -> End
-    ensures { IsEnd (map string_bytes words.now)
-        (record { files = Q.files shelf.old; faults = Q.shelf_faults shelf.old; wire = L.wire link.old })
-        (record { files = Q.files shelf.new; faults = Q.shelf_faults shelf.new; wire = L.wire link.new }) result }
+// How the run ends of what words ask.
+fn run_asked<Q: Shelf, L: Link, E: Sink, H: Host>(
+    alloc: Global,
+    asked: &Asked<'_>,
+    shelf: &mut Q,
+    link: &mut L,
+    errors: &mut E,
+    host: &mut H,
+) -> End
+    requires { Fits asked.now }
+    ensures { IsEndAsked (asked_of asked.now)
+        (outside (Q.files shelf.old) (Q.shelf_faults shelf.old) (L.wire link.old))
+        (outside (Q.files shelf.new) (Q.shelf_faults shelf.new) (L.wire link.new))
+        (beside (E.taken errors.old) (E.write_faults errors.old)
+        (hosting (H.host_faults host.old) (H.link_reads host.old) (H.link_writes host.old)
+        (H.next_left host.old) (H.last_taken host.old)))
+        (beside (E.taken errors.new) (E.write_faults errors.new)
+        (hosting (H.host_faults host.new) (H.link_reads host.new) (H.link_writes host.new)
+        (H.next_left host.new) (H.last_taken host.new))) result }
 {
-    match asked_in(words) {
-        Some(Asked::ByFiles(names)) => run_on_files(alloc, &names, shelf, link),
-        Some(Asked::ByNumber(number)) => write_generated(alloc, number, link),
-        Some(Asked::BySimulation(number)) => write_summary(alloc, number, link),
-        None => End::Usage,
+    match asked {
+        Asked::Script(names) => run_on_files(alloc, names, shelf, link),
+        Asked::Serve { .. } => End::Serving,
+        Asked::Generate(number) => write_generated(alloc, *number, link),
+        Asked::Simulate(number) => write_summary(alloc, *number, link),
+        Asked::Call(call) => {
+            let end = call_server(alloc, call, shelf, link, errors, host);
+            End::Called(end)
+        }
     }
+}
+
+// How the run of these words ends.
+fn run_words<Q: Shelf, L: Link, E: Sink, H: Host>(
+    alloc: Global,
+    words: &[String],
+    shelf: &mut Q,
+    link: &mut L,
+    errors: &mut E,
+    host: &mut H,
+) -> End
+    ensures { IsEnd (map string_bytes words.now)
+        (outside (Q.files shelf.old) (Q.shelf_faults shelf.old) (L.wire link.old))
+        (outside (Q.files shelf.new) (Q.shelf_faults shelf.new) (L.wire link.new))
+        (beside (E.taken errors.old) (E.write_faults errors.old)
+        (hosting (H.host_faults host.old) (H.link_reads host.old) (H.link_writes host.old)
+        (H.next_left host.old) (H.last_taken host.old)))
+        (beside (E.taken errors.new) (E.write_faults errors.new)
+        (hosting (H.host_faults host.new) (H.link_reads host.new) (H.link_writes host.new)
+        (H.next_left host.new) (H.last_taken host.new))) result }
+{
+    let asked = match asked_in(alloc, words) {
+        Ok(Some(asked)) => asked,
+        Ok(None) => return End::Usage,
+        Err(Memory) => return End::Memory,
+    };
+    run_asked(alloc, &asked, shelf, link, errors, host)
 }
 
 /// Why the words behind the program's name are not at hand.
@@ -115,26 +167,34 @@ pub fn run_without_words<E: Sink>(errors: &mut E, fault: WordsFault) -> u8
 /// What the program does with the words behind its name, and the status that it ends with. With `--script` it reads the
 /// file slurm.conf(5) that `-f` names and the association file, sacctmgr(1), that `-a` names, and answers the blocks of
 /// the link's input on its output by a controller of that cluster. With `--generate` it writes the script that a number
-/// stands for on the link's output, and reads nothing; with `--run` behind that it simulates the jobs of that script, and
-/// writes the line that tells of it.
-pub fn run<Q: Shelf, L: Link, E: Sink>(
+/// stands for on the link's output, and reads nothing; with `--run` beside that it simulates the jobs of that script, and
+/// writes the line that tells of it. Behind the name of another command it calls a server of this machine by the host.
+/// With `--serve` it does nothing yet.
+pub fn run<Q: Shelf, L: Link, E: Sink, H: Host>(
     alloc: Global,
     words: &[String],
     shelf: &mut Q,
     link: &mut L,
     errors: &mut E,
+    host: &mut H,
 ) -> u8
-    // The run has one of the ends; it leaves what that says, the status is that end's, and so is the line of errors,
-    // of which a beginning was taken where its writing fails.
-    ensures ended { (end : End) × (result ≡ status_of end)
-        × Tells (E.taken errors.old) (E.taken errors.new) (E.write_faults errors.old) (E.write_faults errors.new)
-        (line_of end)
+    // The run has one of the ends; it leaves what that says, where the errors took so much. The status is that end's, and
+    // so is the line that the errors took behind that, of which a beginning was taken where its writing fails.
+    ensures ended { (end : End) × (errors_taken : Option (List ℕ)) × (errors_faults : ℕ) × (result ≡ status_of end)
+        × Tells errors_taken (E.taken errors.new) errors_faults (E.write_faults errors.new) (line_of end)
         × IsEnd (map string_bytes words.now)
-        (record { files = Q.files shelf.old; faults = Q.shelf_faults shelf.old; wire = L.wire link.old })
-        (record { files = Q.files shelf.new; faults = Q.shelf_faults shelf.new; wire = L.wire link.new }) end }
+        (outside (Q.files shelf.old) (Q.shelf_faults shelf.old) (L.wire link.old))
+        (outside (Q.files shelf.new) (Q.shelf_faults shelf.new) (L.wire link.new))
+        (beside (E.taken errors.old) (E.write_faults errors.old)
+        (hosting (H.host_faults host.old) (H.link_reads host.old) (H.link_writes host.old)
+        (H.next_left host.old) (H.last_taken host.old)))
+        (beside errors_taken errors_faults
+        (hosting (H.host_faults host.new) (H.link_reads host.new) (H.link_writes host.new)
+        (H.next_left host.new) (H.last_taken host.new))) end }
 
-    // The words are off exactly where the status says so.
-    ensures usage { (result ≡ 2) ↔ (asked_in (map string_bytes words.now) ≡ None) }
+    // The words are off, or ask for a server, exactly where the status says so, but for want of memory.
+    ensures usage { (result ≡ 2) → IsNotDone (asked_in (map string_bytes words.now)) }
+    ensures off { IsNotDone (asked_in (map string_bytes words.now)) → (result ≡ 2) ⊎ (result ≡ 8) }
 
     // Where the shelf tells its files: where one of the two is missing this is told by 5, and a bad slurm.conf by 3 and
     // a bad association file by 4 unless a read fails, but for want of memory.
@@ -159,25 +219,36 @@ pub fn run<Q: Shelf, L: Link, E: Sink>(
     // The script that the words' number stands for is written whole, unless a write fails, or memory is wanting and
     // nothing is written.
     ensures generated { (number : ℕ)
-        → asked_in (map string_bytes words.now) ≡ Some (ByNumber number)
+        → asked_in (map string_bytes words.now) ≡ Some (Generate number)
         → CountsNone (L.wire link.old).writes (L.wire link.new).writes
         → ((result ≡ 0) × Appends (L.wire link.old).taken (L.wire link.new).taken (generated number))
         ⊎ ((result ≡ 8) × (L.wire link.new ≡ L.wire link.old)) }
 
     // Likewise the line that tells of the simulation of the words' number; where none ends, the status says so.
     ensures simulated { (number : ℕ) (sim : Simulated)
-        → asked_in (map string_bytes words.now) ≡ Some (BySimulation number)
+        → asked_in (map string_bytes words.now) ≡ Some (Simulate number)
         → simulation_of number ≡ Ok (Some sim)
         → CountsNone (L.wire link.old).writes (L.wire link.new).writes
         → ((result ≡ 0) × Appends (L.wire link.old).taken (L.wire link.new).taken (summary sim.tally))
         ⊎ ((result ≡ 8) × (L.wire link.new ≡ L.wire link.old)) }
     ensures endless { (number : ℕ)
-        → asked_in (map string_bytes words.now) ≡ Some (BySimulation number)
+        → asked_in (map string_bytes words.now) ≡ Some (Simulate number)
         → simulation_of number ≡ Ok None
         → ((result ≡ 9) ⊎ (result ≡ 8)) × (L.wire link.new ≡ L.wire link.old) }
+
+    // A call of a server ends by the reply that its link has left, where the host tells this, and by a fault only where a
+    // count rose.
+    ensures called { (call : Call) → asked_in (map string_bytes words.now) ≡ Some (asks.Call call)
+        → IsCallKnown call
+        (outside (Q.files shelf.old) (Q.shelf_faults shelf.old) (L.wire link.old))
+        (outside (Q.files shelf.new) (Q.shelf_faults shelf.new) (L.wire link.new))
+        (hosting (H.host_faults host.old) (H.link_reads host.old) (H.link_writes host.old)
+        (H.next_left host.old) (H.last_taken host.old))
+        (hosting (H.host_faults host.new) (H.link_reads host.new) (H.link_writes host.new)
+        (H.next_left host.new) (H.last_taken host.new)) result }
 {
     whole_inputs_are_answered();
-    let end = run_words(alloc, words, shelf, link);
+    let end = run_words(alloc, words, shelf, link, errors, host);
     tell(errors, end);
     end.status()
 }

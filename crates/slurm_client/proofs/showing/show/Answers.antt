@@ -1,8 +1,8 @@
 use Rattle.std.proofs.Common.{◌≡◌, refl, arith}
 use Rattle.slurm_client.proofs.showing.show.Goals as goal
 
-pub returns-then-reply-gt0 : goal.returns-then-reply-gt0
-returns-then-reply-gt0 g c =
+pub returns-then-reply-gt0-clause-shown : goal.returns-then-reply-gt0-clause-shown
+returns-then-reply-gt0-clause-shown g c =
     let reply = c.in-Some.reply in
     let is_reply = (c.in-Some.ensures reply.status reply.place reply.text.now).0 (refl, refl, refl) in (
       reply.place,
@@ -14,8 +14,8 @@ returns-then-reply-gt0 g c =
       },
     )
 
-pub returns-in-Ok : goal.returns-in-Ok
-returns-in-Ok g c =
+pub returns-in-Ok-clause-shown : goal.returns-in-Ok-clause-shown
+returns-in-Ok-clause-shown g c =
     let reply = c.in-Some.reply in
     let none : reply.status ≡ 0 = omega arith in
     let is_reply = (c.in-Some.ensures 0 reply.place reply.text.now).0 (none, refl, refl) in (
@@ -28,8 +28,8 @@ returns-in-Ok g c =
       },
     )
 
-pub returns-in-Err : goal.returns-in-Err
-returns-in-Err g c =
+pub returns-in-Err-clause-shown : goal.returns-in-Err-clause-shown
+returns-in-Err-clause-shown g c =
     let reply = c.in-Some.reply in
     let none : reply.status ≡ 0 = omega arith in
     let is_reply = (c.in-Some.ensures 0 reply.place reply.text.now).0 (none, refl, refl) in (

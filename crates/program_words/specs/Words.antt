@@ -1,0 +1,44 @@
+-- What the types of this crate say in the words of its definitions.
+use Rattle.std.specs.Prelude.{ℕ, List, Option, option_map}
+use Rattle.std.specs.Borrow.{Bor}
+use Rattle.slurm_client.specs.Requests.{FitsRequest}
+use Rattle.std.specs.Prelude.{None}
+use Rattle.program_words.specs.Asked.{Named, Asked, Script, Serve, Generate, Simulate, Call}
+use Rattle.program_words.specs.Controller as spec
+use Rattle.program_words.specs.declared.asked.Asked as told
+use Rattle.program_words.specs.declared.asked.Asked.TheVariants as told_as
+use Rattle.program_words.specs.declared.asked.FileNames.{FileNames}
+use Rattle.program_words.specs.declared.said.Said as read
+
+abbrev pub text_of : Option (Bor (List ℕ)) → Option (List ℕ)
+text_of text = option_map (λ t. t.now) text
+
+-- what was read of the words
+abbrev pub said_of : read.Said → spec.Said
+said_of said = record {
+  script = said.script;
+  serve = said.serve;
+  run = said.run;
+  conf = text_of said.conf;
+  assocs = text_of said.assocs;
+  port = text_of said.port;
+  workers = text_of said.workers;
+  generate = text_of said.generate;
+}
+
+-- the files that names name
+abbrev pub named_by : FileNames → Named
+named_by names = record { conf = names.conf.now; assocs = names.assocs.now }
+
+-- what is asked
+abbrev pub asked_of : told.Asked → Asked
+asked_of (told_as.Script names) = Script (named_by names)
+asked_of (told_as.Serve names port workers) = Serve (named_by names) port workers
+asked_of (told_as.Generate number) = Generate number
+asked_of (told_as.Simulate number) = Simulate number
+asked_of (told_as.Call call) = Call call
+
+-- a call has a request that a server takes, as far as it goes without a script
+abbrev pub Fits : told.Asked → Type 0
+Fits (told_as.Call call) = FitsRequest call.user call.words None
+Fits asked = Unit {0}

@@ -1,0 +1,18 @@
+//! A call of a server, as words ask it.
+
+use command_words::command::Command;
+use slurm_text::name::Name;
+use slurm_text::words::Words;
+
+/// A call of a server (own).
+#[derive(Drop)]
+pub struct Call {
+    /// The command, which is the first word.
+    pub command: Command,
+    /// The user that calls.
+    pub user: Name,
+    /// The port of this machine at which the server is.
+    pub port: u16,
+    /// The words of the request.
+    pub words: Words,
+}

@@ -1,0 +1,13 @@
+//! What the words behind the program's name ask.
+#![tactic(auto)]
+
+mod asked;
+mod asking;
+mod call;
+mod calling;
+mod controller;
+mod said;
+
+pub use asked::{Asked, FileNames};
+pub use asking::asked_in;
+pub use call::Call;

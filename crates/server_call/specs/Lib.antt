@@ -1,0 +1,4 @@
+pub mod Outside
+pub mod Scripts
+pub mod Places
+pub mod Calls

@@ -1,0 +1,3 @@
+pub mod Controller
+pub mod Bare
+pub mod Words

@@ -1,0 +1,5 @@
+//! x
+#![tactic(auto)]
+
+mod controller;
+mod said;
