@@ -1,3 +1,6 @@
+pub mod Answering
+pub mod Asking
+pub mod Clocks
 pub mod Joining
 pub mod Serving
 pub mod Turning

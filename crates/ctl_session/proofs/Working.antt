@@ -1,8 +1,14 @@
 -- What a desk's answer is to a session.
-use Rattle.std.proofs.Common.{◌≡◌, ℕ, ◌+◌, true, false, List, [], ◌∷◌, ◌++◌, length, take, slice_get, Some, None, refl, sym, ap, ◌∙◌, arith, length-append, append_assoc, inl, inr, All, Result, Ok, Err, IfOk, OnErr, subst}
+use Rattle.std.proofs.Common.{◌≡◌, ℕ, ◌+◌, true, false, List, [], ◌∷◌, ◌++◌, length, take, slice_get, Option, Some, None, refl, sym, ap, ◌∙◌, arith, length-append, append_assoc, add-zero, inl, inr, All, Result, Ok, Err, IfOk, OnErr, subst}
 use Rattle.std.proofs.lemmas.Bool.{cases_Bool}
 use Rattle.std.proofs.lemmas.List.{append_cancel_left, append-nil, length-take-le}
 use Rattle.std.proofs.lemmas.List.Elements.{All-cons, All-nil}
+use Rattle.std.specs.Option.{option_to_list}
+use Rattle.std.specs.declared.alloc.Global.{Global}
+use Rattle.std.specs.Prelude.{Vec}
+use Rattle.block_frame.specs.declared.block.Block.{Block}
+use Rattle.block_frame.specs.declared.form.Form.{Form}
+use Rattle.block_frame.specs.declared.form.Form.TheVariants.{Plain, Framed}
 use Rattle.command_words.specs.declared.header.Asked.{Asked}
 use Rattle.command_words.specs.declared.header.Meaning.{Meaning}
 use Rattle.command_words.specs.declared.header.Meaning.TheVariants.{Asks}
@@ -12,9 +18,10 @@ use Rattle.ctl_desk.specs.declared.entry.Answer.{Answer}
 use Rattle.ctl_desk.specs.Desk.{Sight, GoesOn, IsAnswered, seen, state_at}
 use Rattle.ctl_desk.specs.History.{entry_of, of_session}
 use Rattle.slurm_print.specs.Text.{text_of}
+use Rattle.ctl_session.specs.declared.answer.Told.{Told}
 use Rattle.ctl_session.specs.Answers.{Answered, IsAnswerIn, Answers}
-use Rattle.ctl_session.specs.Meaning.{told, entry_made}
-use Rattle.ctl_session.specs.Turn.{AnswersOne}
+use Rattle.ctl_session.specs.Meaning.{Means, answer_in, entry_made, place_told, status_by, status_told, told}
+use Rattle.ctl_session.specs.Turn.{AnswersOne, MakesNone, Tells, Works, bytes_in}
 
 slice_get_seam : {X : Type 0} (xs : List X) (x : X) → slice_get (xs ++ x ∷ []) (length xs) ≡ Some x
 slice_get_seam [] x = refl
@@ -50,15 +57,28 @@ pub on_err : {T E : Type 0} (result : Result T E) (P : Type 0) → P → OnErr r
 on_err (Ok x) P p = tt
 on_err (Err e) P p = p
 
-all_one : (P : Answered → Type 0) (a : Answered) → P a → All P (a ∷ [])
-all_one P a p = All-cons P a [] p (All-nil P)
+-- what a desk's answer is to a session that told its text
+tells_of : (desk desk' : Sight) (asked : Asked) (answer : Answer) (answer_told : Told)
+    (works : Works (Asks asked) desk desk') → works.place ≡ answer.place
+    → IsAnswered desk desk' asked.moment asked.user asked.request answer
+    → answer_told.text.items ≡ text_of asked.request answer.reply → answer_told.status ≡ status_by answer.reply
+    → answer_told.place ≡ answer.place → Tells (Asks asked) desk desk' answer_told
+tells_of desk desk' asked answer answer_told works at answered text status place =
+    let reply : answer.reply ≡ reply_of (state_at desk.opening (seen desk') works.place) asked.moment asked.user
+    asked.request = rw at answered.reply in
+    record {
+      works = works;
+      text = text ∙ ap (text_of asked.request) reply;
+      status = status ∙ ap status_by reply;
+      place = place ∙ sym at;
+    }
 
 -- the answer to a request that was accepted
-entered_one : (desk desk' : Sight) (asked : Asked) (answer : Answer) → GoesOn desk desk'
+entered_works : (desk desk' : Sight) (asked : Asked) (answer : Answer) → GoesOn desk desk'
     → IsAnswered desk desk' asked.moment asked.user asked.request answer
     → is_entered answer.reply ≡ true
-    → (one : AnswersOne (Asks asked) desk desk') × (text_of asked.request answer.reply ≡ one.answer.reply)
-entered_one desk desk' asked answer goes answered accepts =
+    → (works : Works (Asks asked) desk desk') × (works.place ≡ answer.place)
+entered_works desk desk' asked answer goes answered accepts =
     let s = state_at desk.opening (seen desk') answer.place in
     let entry = entry_of s desk.number asked.moment asked.user asked.request in
     let both = answered.accepted accepts in
@@ -66,121 +86,162 @@ entered_one desk desk' asked answer goes answered accepts =
     length-take-le answer.place (seen desk') answered.within in
     let long : length (seen desk') ≡ answer.place + 1 = ap length both.0
     ∙ length-append (take answer.place (seen desk')) (entry ∷ []) ∙ ap (λ n. n + 1) front in
-    let a : Answered = record {
-      meaning = Asks asked;
-      place = answer.place;
-      reply =
-          text_of asked.request answer.reply;
-      entry = Some entry;
-    } in
     let mine : desk'.mine ≡ desk.mine ++ of_session desk.number goes.0 = ap (λ (d : Sight). d.mine) goes.1 in (
       record {
-        answer = a;
-        means = refl;
-        answers = record {
-          since = goes.0;
-          goes_on = goes.1;
-          own = same_growth desk.mine desk'.mine (entry ∷ []) (of_session desk.number goes.0) both.1 mine;
-          each = all_one (IsAnswerIn desk.opening desk.number (seen desk')) a (record {
-            within = answered.within;
-            reply = ap (text_of asked.request) answered.reply;
-            entry = sym (entered_made s desk.number asked (sym (ap is_entered answered.reply) ∙ accepts));
-            stands = λ e is. slice_get_last (seen desk') (take answer.place
-                (seen desk')) entry answer.place both.0 front ∙ is;
-          });
-          rise = (answered.from, omega (arith, long));
-        };
+        place = answer.place;
+        entry = Some entry;
+        since = goes.0;
+        goes_on = goes.1;
+        own = same_growth desk.mine desk'.mine (entry ∷ []) (of_session desk.number goes.0) both.1 mine;
+        from = answered.from;
+        behind = sym long;
+        made = sym (entered_made s desk.number asked (sym (ap is_entered answered.reply) ∙ accepts));
+        stands = λ e is. slice_get_last (seen desk') (take answer.place
+            (seen desk')) entry answer.place both.0 front ∙ is;
       },
       refl,
     )
 
 -- and to any other
-idle_one : (desk desk' : Sight) (asked : Asked) (answer : Answer) → GoesOn desk desk'
+idle_works : (desk desk' : Sight) (asked : Asked) (answer : Answer) → GoesOn desk desk'
     → IsAnswered desk desk' asked.moment asked.user asked.request answer
     → is_entered answer.reply ≡ false
-    → (one : AnswersOne (Asks asked) desk desk') × (text_of asked.request answer.reply ≡ one.answer.reply)
-idle_one desk desk' asked answer goes answered refuses =
+    → (works : Works (Asks asked) desk desk') × (works.place ≡ answer.place)
+idle_works desk desk' asked answer goes answered refuses =
     let s = state_at desk.opening (seen desk') answer.place in
     let both = answered.other refuses in
-    let a : Answered = record {
-      meaning = Asks asked;
-      place = answer.place;
-      reply =
-          text_of asked.request answer.reply;
-      entry = None;
-    } in
     let mine : desk'.mine ≡ desk.mine ++ of_session desk.number goes.0 = ap (λ (d : Sight). d.mine) goes.1 in (
       record {
-        answer = a;
-        means = refl;
-        answers = record {
-          since = goes.0;
-          goes_on = goes.1;
-          own = same_growth desk.mine desk'.mine [] (of_session desk.number goes.0)
-              (both.1 ∙ sym (append-nil desk.mine)) mine;
-          each = all_one (IsAnswerIn desk.opening desk.number (seen desk')) a (record {
-            within = answered.within;
-            reply = ap (text_of asked.request) answered.reply;
-            entry = sym (none_made s desk.number asked (sym (ap is_entered answered.reply) ∙ refuses));
-            stands = λ e is. absurd (none_is_some e is);
-          });
-          rise = (answered.from, omega (arith, answered.within));
-        };
+        place = answer.place;
+        entry = None;
+        since = goes.0;
+        goes_on = goes.1;
+        own = same_growth desk.mine desk'.mine [] (of_session desk.number goes.0)
+            (both.1 ∙ sym (append-nil desk.mine)) mine;
+        from = answered.from;
+        behind = add-zero answer.place ∙ both.0;
+        made = sym (none_made s desk.number asked (sym (ap is_entered answered.reply) ∙ refuses));
+        stands = λ e is. absurd (none_is_some e is);
       },
       refl,
     )
 
 -- what a desk answered what was asked
-pub answered_one : (desk desk' : Sight) (asked : Asked) (answer : Answer) → GoesOn desk desk'
+pub asked_works : (desk desk' : Sight) (asked : Asked) (answer : Answer) → GoesOn desk desk'
     → IsAnswered desk desk' asked.moment asked.user asked.request answer
-    → (one : AnswersOne (Asks asked) desk desk') × (text_of asked.request answer.reply ≡ one.answer.reply)
-answered_one desk desk' asked answer goes answered =
+    → (works : Works (Asks asked) desk desk') × (works.place ≡ answer.place)
+asked_works desk desk' asked answer goes answered =
     elim (cases_Bool (is_entered answer.reply)) [
-      | inl accepts ↦ entered_one desk desk' asked answer goes answered accepts
-      | inr refuses ↦ idle_one desk desk' asked answer goes answered refuses
+      | inl accepts ↦ entered_works desk desk' asked answer goes answered accepts
+      | inr refuses ↦ idle_works desk desk' asked answer goes answered refuses
     ]
 
--- a block that asks nothing of a desk is told the same in every state
-unasked_one : (desk : Sight) (meaning : Meaning) (text : List ℕ) → ((s : State) → text ≡ told s meaning)
-    → ((s : State) (number : ℕ) → entry_made s number meaning ≡ None)
-    → (one : AnswersOne meaning desk desk) × (text ≡ one.answer.reply)
-unasked_one desk meaning text tells makes =
+pub asked_tells : (desk desk' : Sight) (asked : Asked) (answer : Answer) (answer_told : Told) → GoesOn desk desk'
+    → IsAnswered desk desk' asked.moment asked.user asked.request answer
+    → answer_told.text.items ≡ text_of asked.request answer.reply → answer_told.status ≡ status_by answer.reply
+    → answer_told.place ≡ answer.place → Tells (Asks asked) desk desk' answer_told
+asked_tells desk desk' asked answer answer_told goes answered text status place =
+    let works = asked_works desk desk' asked answer goes answered in
+    tells_of desk desk' asked answer answer_told works.0 works.1 answered text status place
+
+-- what asks nothing of a desk makes no entry, and is told the same in every state
+record AsksNone (meaning : Meaning) (text : List ℕ) : Type 0 where
+  tells : (s : State) → text ≡ told s meaning
+  status : (s : State) → 1 ≡ status_told s meaning
+  place : (n : ℕ) → 0 ≡ place_told n meaning
+  makes : (s : State) (number : ℕ) → entry_made s number meaning ≡ None
+
+unasked_works : (desk : Sight) (meaning : Meaning)
+    → ((s : State) (number : ℕ) → entry_made s number meaning ≡ None) → Works meaning desk desk
+unasked_works desk meaning makes = record {
+  place = length (seen desk);
+  entry = None;
+  since = [];
+  goes_on = rw (append-nil desk.since, append-nil desk.mine) refl;
+  own = refl;
+  from = omega arith;
+  behind = add-zero (length (seen desk));
+  made = sym (makes (state_at desk.opening (seen desk) (length (seen desk))) desk.number);
+  stands = λ e is. absurd (none_is_some e is);
+}
+
+-- what a call tells of it
+pub unasked : {E : Type 0} (result : Result Told E) (written : Result (Vec ℕ Global) E) (desk : Sight)
+    (meaning : Meaning) (text : List ℕ) → AsksNone meaning text
+    → IfOk written (λ bytes. bytes.items ≡ text)
+    → IfOk result (λ answer. (written ≡ Ok answer.text) × (answer.status ≡ 1) × (answer.place ≡ 0))
+    → IfOk result (λ answer. Tells meaning desk desk answer)
+unasked (Ok answer) written desk meaning text none is (written_is, status, place) =
     let s = state_at desk.opening (seen desk) (length (seen desk)) in
-    let a : Answered = record { meaning = meaning; place = length (seen desk); reply = text; entry = None } in (
-      record {
-        answer = a;
-        means = refl;
-        answers = record {
-          since = [];
-          goes_on = rw (append-nil desk.since, append-nil desk.mine) refl;
-          own = refl;
-          each = all_one (IsAnswerIn desk.opening desk.number (seen desk)) a (record {
-            within = omega arith;
-            reply = tells s;
-            entry = sym (makes s desk.number);
-            stands = λ e is. absurd (none_is_some e is);
-          });
-          rise = (omega arith, omega arith);
-        };
-      },
-      refl,
-    )
+    let items : answer.text.items ≡ text = subst (λ (w : Result (Vec ℕ Global) _). IfOk w (λ bytes. bytes.items ≡ text)) written_is is in
+    record {
+      works = unasked_works desk meaning none.makes;
+      text = items ∙ none.tells s;
+      status = status ∙ none.status s;
+      place = place ∙ none.place (length (seen desk));
+    }
+unasked (Err e) written desk meaning text none is so = tt
 
--- what a call tells such a block
-pub unasked : {X E : Type 0} (result : Result X E) (items : X → List ℕ) (desk : Sight) (meaning meant : Meaning)
-    (text : List ℕ) → meaning ≡ meant
-    → ((s : State) → text ≡ told s meaning) → ((s : State) (number : ℕ) → entry_made s number meaning ≡ None)
-    → IfOk result (λ x. items x ≡ text) → IfOk result (λ x. (one : AnswersOne meant desk desk) ×
-    (items x ≡ one.answer.reply))
-unasked (Ok x) items desk meaning meant text means tells makes is =
-    let one = unasked_one desk meaning text tells makes in
-    let Told : Meaning → Type 0 = λ m. (one : AnswersOne m desk desk) × (items x ≡ one.answer.reply) in
-    subst Told means (one.0, is ∙ one.1)
-unasked (Err e) items desk meaning meant text means tells makes is = tt
+-- ---- an answer in a form
 
--- a desk that went on and made nothing
-pub nothing_made : (desk desk' : Sight) → GoesOn desk desk' → desk'.mine ≡ desk.mine → Answers desk desk' []
-nothing_made desk desk' goes mine =
+all_one : (P : Answered → Type 0) (a : Answered) → P a → All P (a ∷ [])
+all_one P a p = All-cons P a [] p (All-nil P)
+
+-- the answer of a desk, as a form spells it
+pub answer_of : (form : Form) (block : Block) (meaning : Meaning) (moment : Option ℕ) (desk desk' : Sight)
+    → Works meaning desk desk' → Answered
+answer_of form block meaning moment desk desk' works = record {
+  moment = moment;
+  meaning = meaning;
+  place = works.place;
+  reply = answer_in form (state_at desk.opening (seen desk') works.place) works.place meaning;
+  entry = works.entry;
+}
+
+-- a desk that worked what a block asks answered the block
+pub one_of : (form : Form) (block : Block) (meaning : Meaning) (moment : Option ℕ) (desk desk' : Sight)
+    → Works meaning desk desk' → Means form block meaning moment → AnswersOne form block desk desk'
+one_of form block meaning moment desk desk' works means =
+    let a = answer_of form block meaning moment desk desk' works in
+    record {
+      answer = a;
+      means = means;
+      answers = record {
+        since = works.since;
+        goes_on = works.goes_on;
+        own = append-nil (option_to_list works.entry) ∙ works.own;
+        each = all_one (IsAnswerIn form desk.opening desk.number (seen desk')) a (record {
+          within = omega (arith, works.behind);
+          reply = refl;
+          entry = works.made;
+          stands = works.stands;
+        });
+        rise = (works.from, omega (arith, works.behind));
+      };
+      behind = works.behind;
+    }
+
+-- the bytes of what was told are those of the answer
+bytes_told : (form : Form) (block : Block) (meaning : Meaning) (moment : Option ℕ) (desk desk' : Sight)
+    (answer : Told) (tells : Tells meaning desk desk' answer)
+    → bytes_in form answer ≡ (answer_of form block meaning moment desk desk' tells.works).reply
+bytes_told Plain block meaning moment desk desk' answer tells = tells.text
+bytes_told Framed block meaning moment desk desk' answer tells = rw (tells.text, tells.status, tells.place) refl
+
+-- a block whose answer was told, and is written
+pub told_one : (form : Form) (block : Block) (meaning : Meaning) (moment : Option ℕ) (desk desk' : Sight)
+    (answer : Told) → Means form block meaning moment → Tells meaning desk desk' answer
+    → (one : AnswersOne form block desk desk') × (bytes_in form answer ≡ one.answer.reply)
+    × (one.answer.moment ≡ moment)
+told_one form block meaning moment desk desk' answer means tells = (
+  one_of form block meaning moment desk desk' tells.works means,
+  bytes_told form block meaning moment desk desk' answer tells,
+  refl,
+)
+
+-- a desk that went on and made nothing answered nothing
+pub nothing_made : (form : Form) (desk desk' : Sight) → MakesNone desk desk' → Answers form desk desk' []
+nothing_made form desk desk' (goes, mine) =
     let same : desk'.mine ≡ desk.mine ++ of_session desk.number goes.0 = ap (λ (d : Sight). d.mine) goes.1 in
     let long : seen desk' ≡ seen desk ++ goes.0 = ap seen goes.1 ∙ sym (append_assoc desk.before desk.since goes.0) in
     record {
@@ -188,6 +249,6 @@ nothing_made desk desk' goes mine =
       goes_on = goes.1;
       own = same_growth desk.mine desk'.mine [] (of_session desk.number goes.0)
           (mine ∙ sym (append-nil desk.mine)) same;
-      each = All-nil (IsAnswerIn desk.opening desk.number (seen desk'));
+      each = All-nil (IsAnswerIn form desk.opening desk.number (seen desk'));
       rise = omega (arith, ap length long ∙ length-append (seen desk) goes.0);
     }

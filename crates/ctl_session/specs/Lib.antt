@@ -1,4 +1,5 @@
 pub mod Answers
+pub mod Clock
 pub mod Meaning
 pub mod Reading
 pub mod Session
