@@ -108,10 +108,14 @@ module _ {lock : TableId} {opening : State} {before len : ℕ} {is_shut : Bool} 
   after_number : after.number ≡ pass.number
   after_number = ap (λ (p : BookView). p.number) t.left ∙ number_is
 
+  after_lock : after.lock ≡ pass.lock
+  after_lock = ap (λ (p : BookView). p.lock) t.left ∙ ap (λ (p : BookView). p.lock) t.took.sees.same
+
   pub goes_on : GoesOn (sight_by opening before pass) (sight_by opening before after)
   goes_on = (
     more,
     λ i. record {
+      lock = Some (after_lock i);
       opening = opening;
       number = after_number i;
       before = (ap (take before) went_on ∙ take-append-le before pass.seen more t.desk.since) i;

@@ -1,7 +1,7 @@
 //! A desk of one of several threads.
 
 ghost use Rattle.std.specs.Prelude.{◌≡◌, [], IfSome, Some};
-ghost use Rattle.turn_lock.specs.Passes.{SeesMore};
+ghost use Rattle.turn_lock.specs.Passes.{SeesMore, IsKnown};
 ghost use Rattle.locked_desk.specs.Locked.{sight_there};
 ghost use Rattle.ctl_desk.specs.Desk.{history_of};
 ghost use Rattle.ctl_desk.specs.History.{IsHistory};
@@ -81,10 +81,12 @@ pub fn locked_desk<'a, R: Wait>(rt: &'a R, lock: &'a BookLock, pass: BookPass) -
 impl<'a, R: Wait> LockedDesk<'a, R> {
     /// The pass of the desk. It takes no memory.
     pub fn into_pass(self) -> BookPass
-        ensures { self.entry.pass ≡ Some result }
+        ensures pass { self.entry.pass ≡ Some result }
+        ensures known { IsKnown (λ entry. entry.session) result }
     {
         let LockedDesk { pass, .. } = self;
         let Some(pass) = pass else { unreachable!() };
+        let _ = pass.number();
         pass
     }
 }
