@@ -3,13 +3,14 @@ use Rattle.std.proofs.Common.{◌≡◌, ℕ, suc, zero, ◌+◌, ◌-◌, ◌<�
 use Rattle.std.proofs.lemmas.Bool.{cases_lt}
 use Rattle.std.proofs.lemmas.List.{take_at, drop_at, append_cancel_left}
 use Rattle.std.proofs.lemmas.List.Elements.{All-nil, All-cons, All-weaker, filter-append}
+use Rattle.slurm_net.specs.Session.{LinkSession}
 use Rattle.turn_lock.specs.Views.{StartsWith}
 use Rattle.ctl_state.specs.State.{State}
 use Rattle.ctl_desk.specs.declared.entry.Entry.{Entry}
 use Rattle.ctl_desk.specs.Desk.{Sight, GoesOn, later, seen}
 use Rattle.ctl_desk.specs.History.{of_session}
 use Rattle.ctl_session.specs.Clock.{Timing}
-use Rattle.ctl_worker.specs.Serving.{Serving, IsServing, cut_of, moments_in, moments_of}
+use Rattle.ctl_worker.specs.Serving.{Serving, IsServing, cut_of, moments_in, moments_of, session_in, sessions_in}
 use Rattle.ctl_worker.specs.Run.{IsRefreshed, Follow}
 use Rattle.ctl_worker.specs.Served.{HasSeen, StandsIn, Served, between, entries_within, IsWithin}
 use Rattle.ctl_worker.proofs.Following.{goes_on_twice}
@@ -48,8 +49,10 @@ follow_goes_on desk clock (serving ∷ servings) desk' clock' follow =
 pub starts_before : (history : List Entry) (desk desk' : Sight) → GoesOn desk desk' → StartsWith history (seen desk')
     → StartsWith history (seen desk)
 starts_before history desk desk' goes_on starts =
-    let grown = grows desk desk' goes_on in
-    (grown.more ++ starts.0, starts.1 ∙ ap (λ l. l ++ starts.0) grown.seen_is ∙ append_assoc (seen desk) grown.more starts.0)
+    let grown = grows desk desk' goes_on in (
+      grown.more ++ starts.0,
+      starts.1 ∙ ap (λ l. l ++ starts.0) grown.seen_is ∙ append_assoc (seen desk) grown.more starts.0,
+    )
 
 pub longer : (desk desk' : Sight) → GoesOn desk desk' → length (seen desk) ≤ length (seen desk')
 longer desk desk' goes_on =
@@ -127,7 +130,7 @@ came_between history serving is starts =
 pub makes : (number : ℕ) (history : List Entry) (desk : Sight) (clock : Timing) (servings : List Serving)
     (desk' : Sight) (clock' : Timing) → desk.number ≡ number
     → Follow desk clock servings desk' clock' → StartsWith history (seen desk')
-    → desk'.mine ≡ desk.mine ++ entries_within number history servings
+    → desk'.mine ≡ desk.mine ++ entries_within number history (sessions_in servings)
 makes number history desk clock [] desk' clock' bears follow starts = follow.0.1 ∙ sym (append-nil desk.mine)
 makes number history desk clock (serving ∷ servings) desk' clock' bears follow starts =
     let on = serving_goes_on serving follow.2 in
@@ -140,10 +143,11 @@ makes number history desk clock (serving ∷ servings) desk' clock' bears follow
     ap (λ n. of_session n came.more) number'
     ∙ ap (of_session number) (sym (came_between history serving follow.2 starts')) in
     makes number history serving.desk' serving.clock' servings desk' clock' (came.number_is ∙ number') follow.3 starts
-    ∙ ap (λ l. l ++ entries_within number history servings)
+    ∙ ap (λ l. l ++ entries_within number history (sessions_in servings))
     (came.mine_is ∙ ap (λ l. l ++ of_session serving.desk.number came.more) follow.0.1
     ∙ ap (λ l. desk.mine ++ l) own)
-    ∙ append_assoc desk.mine (of_session number (between (cut_of serving) history)) (entries_within number history servings)
+    ∙ append_assoc desk.mine (of_session number (between (cut_of serving) history))
+    (entries_within number history (sessions_in servings))
 
 -- ---- entries that bear the number
 
@@ -190,16 +194,17 @@ not_looked : (number : ℕ) (history : List Entry) (desk desk' : Sight) (place :
     → place < length (seen desk') → slice_get history place ≡ Some entry → entry.session ≡ number → ⊥
 not_looked number history desk desk' place entry is refreshed starts low high at bears =
     let grown = grows desk desk' refreshed.0 in
-    let here : slice_get (seen desk' ++ starts.0) place ≡ Some entry = subst (λ l. slice_get l place ≡ Some entry) starts.1 at in
+    let here : slice_get (seen desk' ++ starts.0) place ≡ Some entry =
+    subst (λ l. slice_get l place ≡ Some entry) starts.1 at in
     let near : slice_get (seen desk') place ≡ Some entry = among_first (seen desk') starts.0 place entry high here in
     let there = behind_first (seen desk) grown.more place entry low
     (subst (λ l. slice_get l place ≡ Some entry) grown.seen_is near) in
     bears_none number grown.more there.0 entry
     (ap (λ n. of_session n grown.more) (sym is) ∙ looked_none desk desk' refreshed) there.2 bears
 
-any_later : (P : Serving → Type 0) (serving : Serving) (servings : List Serving) → Any P servings
-    → Any P (serving ∷ servings)
-any_later P serving servings any = (suc any.0, any.1, omega (arith, any.2), any.3, any.4)
+any_later : (P : LinkSession → Type 0) (session : LinkSession) (sessions : List LinkSession) → Any P sessions
+    → Any P (session ∷ sessions)
+any_later P session sessions any = (suc any.0, any.1, omega (arith, any.2), any.3, any.4)
 
 -- the entries behind what was seen bear no such number
 pub rest_none : (number : ℕ) (history seen rest : List Entry) → history ≡ seen ++ rest
@@ -222,7 +227,7 @@ pub within : (number : ℕ) (history : List Entry) (desk : Sight) (clock : Timin
     (desk' : Sight) (clock' : Timing) (place : ℕ) (entry : Entry) → desk.number ≡ number
     → Follow desk clock servings desk' clock' → (starts : StartsWith history (seen desk'))
     → of_session number starts.0 ≡ [] → length (seen desk) ≤ place → slice_get history place ≡ Some entry
-    → entry.session ≡ number → Any (IsWithin place) servings
+    → entry.session ≡ number → Any (IsWithin place) (sessions_in servings)
 within number history desk clock [] desk' clock' place entry is follow starts none low at bears = absurd
     (⊎_elim (λ high. not_looked number history desk desk' place entry is follow.0 starts low high at bears)
     (λ past. not_behind number history desk' place entry starts none past at bears)
@@ -234,13 +239,15 @@ within number history desk clock (serving ∷ servings) desk' clock' place entry
     let before = starts_before history serving.desk serving.desk' on starts' in
     let first = grows desk serving.desk follow.0.0 in
     let came = grows serving.desk serving.desk' on in
-    let here : length (seen serving.desk) ≤ place → (place < length (seen serving.desk')) ⊎ (length (seen serving.desk') ≤ place)
-    → Any (IsWithin place) (serving ∷ servings) = λ from. ⊎_elim
-    (λ high. (0, serving, omega arith, refl, (from, high)))
-    (λ past. any_later (IsWithin place) serving servings
+    let here : length (seen serving.desk) ≤ place
+    → (place < length (seen serving.desk')) ⊎ (length (seen serving.desk') ≤ place)
+    → Any (IsWithin place) (sessions_in (serving ∷ servings)) = λ from. ⊎_elim
+    (λ high. (0, session_in serving, omega arith, refl, (from, high)))
+    (λ past. any_later (IsWithin place) (session_in serving) (sessions_in servings)
     (within number history serving.desk' serving.clock' servings desk' clock' place entry
     (came.number_is ∙ first.number_is ∙ is) follow.3 starts none past at bears)) in
-    ⊎_elim (λ high. absurd (not_looked number history desk serving.desk place entry is follow.0 before low high at bears))
+    ⊎_elim
+    (λ high. absurd (not_looked number history desk serving.desk place entry is follow.0 before low high at bears))
     (λ from. here from (cases_lt place (length (seen serving.desk'))))
     (cases_lt place (length (seen serving.desk)))
 
@@ -257,9 +264,10 @@ pub all_within : (history : List Entry) (desk : Sight) (clock : Timing) (serving
     (desk' : Sight) (clock' : Timing) (place : ℕ) (entry : Entry)
     → Follow desk clock servings desk' clock' → (starts : StartsWith history (seen desk'))
     → of_session desk.number starts.0 ≡ [] → of_session desk.number (seen desk) ≡ []
-    → slice_get history place ≡ Some entry → entry.session ≡ desk.number → Any (IsWithin place) servings
+    → slice_get history place ≡ Some entry → entry.session ≡ desk.number → Any (IsWithin place) (sessions_in servings)
 all_within history desk clock servings desk' clock' place entry follow starts none unseen at bears =
     let before = starts_before history desk desk' (follow_goes_on desk clock servings desk' clock' follow) starts in
     ⊎_elim (λ high. absurd (not_seen desk.number history desk place entry before unseen high at bears))
-    (λ low. within desk.number history desk clock servings desk' clock' place entry refl follow starts none low at bears)
+    (λ low.
+    within desk.number history desk clock servings desk' clock' place entry refl follow starts none low at bears)
     (cases_lt place (length (seen desk)))

@@ -29,7 +29,8 @@ unhindered came back e (how.Truncated place) fresh cause apart reads writes = tt
 unhindered came back e (how.Bad place) fresh cause apart reads writes = tt
 unhindered came back e how.Spent fresh cause apart reads writes = tt
 unhindered came back e how.Shut fresh cause apart reads writes = tt
-unhindered came back e how.ReadFault fresh cause apart reads writes = rose came.reads back.reads cause.1 fresh.reads reads
+unhindered came back e how.ReadFault fresh cause apart reads writes =
+    rose came.reads back.reads cause.1 fresh.reads reads
 unhindered came back e how.WriteFault fresh cause apart reads writes =
     rose came.writes back.writes cause.1 fresh.writes writes
 unhindered came back e how.Memory fresh cause apart reads writes = apart refl
@@ -42,7 +43,8 @@ pub all_served : (desk : Sight) (clock : Timing) (servings : List Serving) (desk
     → Follow desk clock servings desk' clock' → All IsServing servings
 all_served desk clock [] desk' clock' follow = All-nil IsServing
 all_served desk clock (serving ∷ servings) desk' clock' follow =
-    All-cons IsServing serving servings follow.2 (all_served serving.desk' serving.clock' servings desk' clock' follow.3)
+    All-cons IsServing serving servings follow.2
+    (all_served serving.desk' serving.clock' servings desk' clock' follow.3)
 
 -- a worker goes on after no session that ended for want of memory, or by a shutdown
 not_by : (end : How) → end_by end ≡ None → (end ≡ how.Memory → ⊥)
@@ -71,13 +73,21 @@ lasts P (x ∷ xs) ys all = lasts P xs ys (All-tail P x (xs ++ ys) all)
 shut_well : (servings : List Serving) → All IsServing servings → LastEnds how.Shut servings → All EndsWell servings
 shut_well servings served last =
     let parts : All IsServing (last.earlier ++ last.last ∷ []) = subst (All IsServing) last.all served in
-    let apart : last.last.ended.how ≡ how.Memory → ⊥ = λ is. let same : how.Shut ≡ how.Memory = sym last.ends ∙ is in cc in
+    let apart : last.last.ended.how ≡ how.Memory → ⊥ =
+    λ is. let same : how.Shut ≡ how.Memory = sym last.ends ∙ is in cc in
     let one = All-cons EndsWell last.last []
     (ends_well last.last (All-head IsServing last.last [] (lasts IsServing last.earlier (last.last ∷ []) parts)) apart)
     (All-nil EndsWell) in
     subst (All EndsWell) (sym last.all)
     (All-append EndsWell last.earlier (last.last ∷ [])
     (all_well last.earlier (firsts IsServing last.earlier (last.last ∷ []) parts) last.go_on) one)
+
+-- all ended well, where the worker didn't end for want of memory
+pub all_end_well : (end : WorkerEnd) (servings : List Serving) → (end ≡ Memory → ⊥) → EndWell end servings
+    → All EndsWell servings
+all_end_well Shut servings apart well = well
+all_end_well DoorFault servings apart well = well
+all_end_well Memory servings apart well = absurd (apart refl)
 
 pub end_well : (old new : Standing) (end : WorkerEnd) (servings : List Serving) → IsWorked old new (Some end) servings
     → EndWell end servings

@@ -94,7 +94,8 @@ tells_on (Some c) (Some c') (Some before) (Some between) new xs ys same grown fi
 pub gives_on : (old mid new : Timing) (xs ys : List ℕ) → Gives old mid xs → Gives mid new ys → Gives old new (xs ++ ys)
 gives_on old mid new xs ys first next = record {
   grown = grown_on old.moments mid.moments new.moments xs ys first.grown next.grown;
-  tells = tells_on old.course mid.course old.moments mid.moments new.moments xs ys first.course first.grown first.tells next.tells;
+  tells = tells_on old.course mid.course old.moments mid.moments new.moments xs ys
+      first.course first.grown first.tells next.tells;
   course = next.course ∙ first.course;
 }
 

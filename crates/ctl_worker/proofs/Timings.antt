@@ -14,7 +14,8 @@ count_is desk clock [] desk' clock' follow = refl
 count_is desk clock (serving ∷ servings) desk' clock' follow =
     let first : (cut_of serving).readings ≡ length (moments_in serving) = follow.2.served.readings in
     let next = count_is serving.desk' serving.clock' servings desk' clock' follow.3 in
-    let sum : readings_of (sessions_in (serving ∷ servings)) ≡ (cut_of serving).readings + readings_of (sessions_in servings) =
+    let sum : readings_of (sessions_in (serving ∷ servings))
+    ≡ (cut_of serving).readings + readings_of (sessions_in servings) =
     sum_by-cons (λ (session : LinkSession). session.cut.readings) (session_in serving) (sessions_in servings) in
     length-append (moments_in serving) (moments_of servings) ∙ ap (λ n. length (moments_in serving) + n) next
     ∙ ap (λ n. n + readings_of (sessions_in servings)) (sym first) ∙ sym sum
@@ -41,4 +42,5 @@ pub on_course : (clock clock' : Timing) (given : List ℕ) → Gives clock clock
     → FollowsCourse clock'.course clock'.moments → length given < 2 ^ 64 - 1
     → IfSome clock.course (λ course. given ≡ first_moments course (length given))
 on_course clock clock' given gives new follows few =
-    first_ones clock.course clock'.course clock.moments clock'.moments given gives.course new gives.grown gives.tells follows few
+    first_ones clock.course clock'.course clock.moments clock'.moments given
+    gives.course new gives.grown gives.tells follows few

@@ -1,5 +1,5 @@
 -- A worker's turns, one by one and one after another.
-use Rattle.std.proofs.Common.{◌≡◌, ◌⊎◌, ℕ, List, [], ◌∷◌, ◌++◌, Option, Some, None, true, false, refl, sym, ap, ◌∙◌, subst, inl, inr, ⊎_elim, append_assoc, append-nil, length, All}
+use Rattle.std.proofs.Common.{◌≡◌, ◌⊎◌, ℕ, List, [], ◌∷◌, ◌++◌, Option, Some, None, true, false, refl, sym, ap, ◌∙◌, subst, subst₂, inl, inr, ⊎_elim, append_assoc, append-nil, length, All}
 use Rattle.std.proofs.lemmas.List.{map-append}
 use Rattle.std.proofs.lemmas.List.Elements.{All-append, All-nil, All-cons}
 use Rattle.slurm_io.specs.Wire.{Wire}
@@ -52,7 +52,8 @@ pub worked_on : (old mid new : Standing) (end : Option WorkerEnd) (xs ys : List 
 worked_on old mid new end xs ys first next = record {
   follow = follow_on old.desk old.clock xs mid.desk mid.clock ys new.desk new.clock first.follow next.follow;
   sessions = rw (map-append session_in xs ys)
-      (sessions_on old.sessions mid.sessions new.sessions (sessions_in xs) (sessions_in ys) first.sessions next.sessions);
+      (sessions_on old.sessions mid.sessions new.sessions (sessions_in xs) (sessions_in ys)
+      first.sessions next.sessions);
   gives = rw (moments_on xs ys) (gives_on old.clock mid.clock new.clock _ _ first.gives next.gives);
   cause = cause_on old mid new end xs ys first.cause next.cause;
 }
@@ -109,7 +110,8 @@ ends old new serving how.Memory same at is minds = (
 
 adds_one : (old new : Option (List LinkSession)) (out : Option Wire) (serving : Serving) → out ≡ Some serving.came
     → AddsSession old new out serving.back (cut_of serving) → AddsSessions old new (sessions_in (serving ∷ []))
-adds_one old new out serving is adds = told old new (subst (λ o. AddsSession old new o serving.back (cut_of serving)) is adds)
+adds_one old new out serving is adds =
+    told old new (subst (λ o. AddsSession old new o serving.back (cut_of serving)) is adds)
   where
     told : (old new : Option (List LinkSession)) → AddsSession old new (Some serving.came) serving.back (cut_of serving)
         → AddsSessions old new (sessions_in (serving ∷ []))
@@ -128,11 +130,15 @@ pub worked_one : (old new : Standing) (out : Option Wire) (serving : Serving) (b
       readings = serving.ended.readings;
     })
     → new.faults ≡ old.faults → IsWorked old new (end_by serving.ended.how) (serving ∷ [])
-worked_one old new out serving before after from by to by' served first last is adds same = record {
-  follow = rw (from, by, to, by') (stays serving.desk, refl, served, (stays serving.desk', refl));
-  sessions = adds_one old.sessions new.sessions out serving is
-      (subst (λ n. AddsSession old.sessions new.sessions out serving.back (record (cut_of serving) { before = n })) first
-      (subst (λ n. AddsSession old.sessions new.sessions out serving.back (record (cut_of serving) { before = before; after = n })) last adds));
-  gives = rw (by, by', append-nil (given serving.ending)) served.served.gives;
-  cause = ends old new serving serving.ended.how same to refl served.served.shut;
-}
+worked_one old new out serving before after from by to by' served first last is adds same =
+    let adds' : AddsSession old.sessions new.sessions out serving.back (cut_of serving) =
+    subst₂ (λ b a. AddsSession old.sessions new.sessions out serving.back (record (cut_of serving) {
+      before = b;
+      after = a;
+    })) first last adds in
+    record {
+      follow = rw (from, by, to, by') (stays serving.desk, refl, served, (stays serving.desk', refl));
+      sessions = adds_one old.sessions new.sessions out serving is adds';
+      gives = rw (by, by', append-nil (given serving.ending)) served.served.gives;
+      cause = ends old new serving serving.ended.how same to refl served.served.shut;
+    }

@@ -1,12 +1,14 @@
 -- The connections of a door, by the history in which they stand.
-use Rattle.std.specs.Prelude.{◌≡◌, ℕ, ◌≤◌, ◌<◌, List, [], ◌∷◌, All, Any, length, take, drop, slice_get, Some}
+use Rattle.std.specs.Prelude.{◌≡◌, ℕ, ◌≤◌, ◌<◌, List, [], ◌∷◌, All, length, take, drop}
 use Rattle.std.specs.List.{flat_map}
 use Rattle.slurm_net.specs.declared.door.Cut.{Cut}
+use Rattle.slurm_net.specs.Session.{LinkSession}
 use Rattle.ctl_state.specs.State.{State}
 use Rattle.ctl_desk.specs.declared.entry.Entry.{Entry}
 use Rattle.ctl_desk.specs.Desk.{Sight, seen}
 use Rattle.ctl_desk.specs.History.{of_session}
-use Rattle.ctl_worker.specs.Serving.{Serving, IsServing, cut_of, moments_in}
+use Rattle.ctl_worker.specs.Serving.{Serving, IsServing, cut_of, moments_in, sessions_in}
+use Rattle.ctl_worker.specs.Cause.{EndsWell}
 
 -- a desk of this number, at a history with this opening, has seen these entries
 pub record HasSeen (number : ℕ) (opening : State) (entries : List Entry) (desk : Sight) : Type 0 where
@@ -25,8 +27,8 @@ pub record StandsIn (number : ℕ) (opening : State) (history : List Entry) (mom
   pub after : HasSeen number opening (take (cut_of serving).after history) serving.desk'
   pub gives : moments_in serving ≡ moments
 
--- Connections were served one after another at a desk of this number, by a clock that gave these moments. Each stands in
--- the history with the moments that are its turn, and each later one's cut begins where this one's ends, or behind that.
+-- Connections were served one after another at a desk of this number, by a clock that gave these moments. Each stands
+-- in the history with the moments that are its turn, and each later one's cut begins where this one's ends, or behind.
 abbrev pub Served : ℕ → State → List Entry → List ℕ → List Serving → Type 0
 Served number opening history moments [] = Unit {0}
 Served number opening history moments (serving ∷ servings) =
@@ -38,11 +40,20 @@ Served number opening history moments (serving ∷ servings) =
 abbrev pub between : Cut → List Entry → List Entry
 between cut history = drop cut.before (take cut.after history)
 
--- those within the cuts of these connections that bear a number
-abbrev pub entries_within : ℕ → List Entry → List Serving → List Entry
-entries_within number history servings =
-    flat_map (λ serving. of_session number (between (cut_of serving) history)) servings
+-- those within the cuts of these sessions that bear a number
+abbrev pub entries_within : ℕ → List Entry → List LinkSession → List Entry
+entries_within number history sessions =
+    flat_map (λ session. of_session number (between session.cut history)) sessions
 
--- a place of the history lies within a connection's cut
-abbrev pub IsWithin : ℕ → Serving → Type 0
-IsWithin place serving = ((cut_of serving).before ≤ place) × (place < (cut_of serving).after)
+-- a place of the history lies within a session's cut
+abbrev pub IsWithin : ℕ → LinkSession → Type 0
+IsWithin place session = (session.cut.before ≤ place) × (place < session.cut.after)
+
+-- The sessions that a door keeps are those of connections that were served so. Where no read and no write of a link
+-- failed, its session ended by its bytes or by a shutdown.
+pub record KeepsServed (number : ℕ) (opening : State) (history : List Entry) (moments : List ℕ)
+    (sessions : List LinkSession) : Type 0 where
+  pub servings : List Serving
+  pub sessions_are : sessions ≡ sessions_in servings
+  pub served : Served number opening history moments servings
+  pub well : All EndsWell servings

@@ -1,7 +1,7 @@
 //! What follows from what a worker did, for histories that may be longer than what its desk has seen. Each law is the
 //! contract of a function that does nothing.
 
-ghost use Rattle.std.specs.Prelude.{◌≡◌, ℕ, ◌-◌, ◌^◌, ◌<◌, ◌≤◌, ◌++◌, List, [], length, slice_get, All, Any, Some, IfSome};
+ghost use Rattle.std.specs.Prelude.{◌≡◌, ◌≢◌, ℕ, ◌-◌, ◌^◌, ◌<◌, ◌≤◌, ◌++◌, List, [], length, slice_get, All, Any, Some, IfSome};
 ghost use Rattle.slurm_net.specs.Course.{FollowsCourse, first_moments};
 ghost use Rattle.turn_lock.specs.Views.{StartsWith};
 ghost use Rattle.ctl_desk.specs.declared.entry.Entry.{Entry};
@@ -14,10 +14,10 @@ ghost use Rattle.ctl_worker.specs.Standing.{Standing};
 ghost use Rattle.ctl_worker.specs.Run.{Follow};
 ghost use Rattle.ctl_worker.specs.Cause.{EndWell};
 ghost use Rattle.ctl_worker.specs.Worked.{IsWorked};
-ghost use Rattle.ctl_worker.specs.Served.{Served, entries_within, IsWithin};
+ghost use Rattle.ctl_worker.specs.Served.{Served, KeepsServed, entries_within, IsWithin};
 
-/// Connections that followed one another stand in each history that begins with what their desk has seen in the end. None
-/// of their cuts begins before the end of what it had seen first.
+/// Connections that followed one another stand in each history that begins with what their desk has seen in the end.
+/// None of their cuts begins before the end of what it had seen first.
 pub fn connections_stand_in_histories()
     ensures served { (desk desk' : Sight) (clock clock' : Timing) (servings : List Serving) (history : List Entry)
         → Follow desk clock servings desk' clock' → StartsWith history (seen desk')
@@ -29,23 +29,24 @@ pub fn connections_stand_in_histories()
         → Follow desk clock servings desk' clock' → GoesOn desk desk' }
 {}
 
-/// Their desk made the entries within their cuts that bear its number, and no other. Where the desk has seen all entries
-/// of the history that bear its number, each of them was seen before the first connection, or stands within a cut.
+/// Their desk made the entries within their cuts that bear its number, and no other. Where the desk has seen all
+/// entries of the history that bear its number, each of them was seen before the first connection, or stands within a
+/// cut.
 pub fn entries_stand_within_cuts()
     ensures own { (desk desk' : Sight) (clock clock' : Timing) (servings : List Serving) (history : List Entry)
         → Follow desk clock servings desk' clock' → StartsWith history (seen desk')
-        → desk'.mine ≡ desk.mine ++ entries_within desk.number history servings }
+        → desk'.mine ≡ desk.mine ++ entries_within desk.number history (sessions_in servings) }
     ensures within { (desk desk' : Sight) (clock clock' : Timing) (servings : List Serving) (history : List Entry)
         → Follow desk clock servings desk' clock' → StartsWith history (seen desk')
         → of_session desk.number history ≡ of_session desk.number (seen desk')
         → (place : ℕ) (entry : Entry) → length (seen desk) ≤ place → slice_get history place ≡ Some entry
-        → entry.session ≡ desk.number → Any (IsWithin place) servings }
+        → entry.session ≡ desk.number → Any (IsWithin place) (sessions_in servings) }
     ensures all_within { (desk desk' : Sight) (clock clock' : Timing) (servings : List Serving) (history : List Entry)
         → Follow desk clock servings desk' clock' → StartsWith history (seen desk')
         → of_session desk.number history ≡ of_session desk.number (seen desk')
         → of_session desk.number (seen desk) ≡ []
         → (place : ℕ) (entry : Entry) → slice_get history place ≡ Some entry
-        → entry.session ≡ desk.number → Any (IsWithin place) servings }
+        → entry.session ≡ desk.number → Any (IsWithin place) (sessions_in servings) }
 {}
 
 /// Where no read and no write of a link failed, its session ended by its bytes or by a shutdown. The last session of a
@@ -53,6 +54,13 @@ pub fn entries_stand_within_cuts()
 pub fn sessions_end_well()
     ensures { (old new : Standing) (end : WorkerEnd) (servings : List Serving)
         → IsWorked old new (Some end) servings → EndWell end servings }
+{}
+
+/// What a worker's door keeps of its connections, where the worker did not end for want of memory.
+pub fn doors_keep_what_was_served()
+    ensures { (old new : Standing) (end : WorkerEnd) (servings : List Serving) (history : List Entry)
+        → IsWorked old new (Some end) servings → end ≢ WorkerEnd.Memory → StartsWith history (seen new.desk)
+        → KeepsServed old.desk.number old.desk.opening history (moments_of servings) (sessions_in servings) }
 {}
 
 /// The clock gave as many moments as the cuts say. Those of a new clock that tells its course are the first ones of it.

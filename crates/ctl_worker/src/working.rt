@@ -25,9 +25,9 @@ pub enum WorkerEnd {
     Memory,
 }
 
-/// Serves the connections that come to a door, one after another, until a shutdown is accepted, the door fails or memory
-/// is wanting. It looks for a shutdown before it looks for a connection, and rests where none has come. It may wait for
-/// ever: it ends by no other cause.
+/// Serves the connections that come to a door, one after another, until a shutdown is accepted, the door fails or
+/// memory is wanting. It looks for a shutdown before it looks for a connection, and rests where none has come. It may
+/// wait for ever: it ends by no other cause.
 pub fn worker<R: Wait, A: Door, D: Desk, C: Clock, G: Gate>(
     rt: &R,
     alloc: Global,
