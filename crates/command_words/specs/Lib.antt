@@ -1,5 +1,6 @@
 pub mod Cancel
 pub mod Command
+pub mod FramedHeader
 pub mod Header
 pub mod Queries
 pub mod Report

@@ -104,7 +104,7 @@ fn command_in(words: &Words) -> Option<Command>
 }
 
 #[tactic(auto, unfolding(crate::specs::Header::asked_by))]
-fn read_asked(
+pub(crate) fn read_asked(
     alloc: Global,
     head: Head,
     words: &Words,

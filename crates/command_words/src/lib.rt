@@ -5,6 +5,7 @@ pub mod alone;
 mod cancel;
 pub mod command;
 pub mod fault;
+pub mod framed;
 pub mod header;
 mod queries;
 mod report;

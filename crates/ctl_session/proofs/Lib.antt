@@ -1,4 +1,1 @@
-pub mod Joining
-pub mod Serving
-pub mod Turning
-pub mod Working
+pub mod Stubs
