@@ -51,3 +51,9 @@ returns-clause-entries g c =
     (c.reserve.ensures.items ∙ ap (λ (h : History). h.entries) c.self.view_is)
     (decided.moment ∙ ap (λ (s : State). raised s now) same) c.in_ok-name.ensures
     (decided.reply ∙ ap (λ (s : State). reply_of s now user Pass) same)
+
+pub returns-in_err-decided-clause-over : goal.returns-in_err-decided-clause-over
+returns-in_err-decided-clause-over g c = rw (sym (c.self.invariant.1 ∙ ap (λ (h : History). present h) c.self.view_is)) c.in_err-decided.ensures.over
+
+pub returns-clause-over : goal.returns-clause-over
+returns-clause-over g c = rw (sym (c.self.invariant.1 ∙ ap (λ (h : History). present h) c.self.view_is)) c.in_ok-decided.ensures.over
