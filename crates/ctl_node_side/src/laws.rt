@@ -22,8 +22,8 @@ ghost use Rattle.ctl_node_side.specs.Silence.{silenced};
 
 use ctl_nodes::laws::{lost_nodes_keep_all_sound, others_stay_where_nodes_are_lost};
 use ctl_pass::laws::{
-    a_pass_keeps_all_sound, a_pass_over_its_own_plan_counts_nothing, a_started_job_was_planned, an_idle_pass_changes_nothing,
-    starts_are_free, starts_get_all_they_planned,
+    a_pass_keeps_all_sound, a_pass_over_its_own_plan_counts_nothing, a_started_job_was_planned,
+    an_idle_pass_changes_nothing, starts_are_free, starts_get_all_they_planned,
 };
 use ctl_report::laws::a_report_keeps_all_sound;
 use ctl_state::laws::nodes_that_stay_keep_all_sound;

@@ -105,7 +105,10 @@ pub(crate) fn plan_over<L>(
         → IsTickedUpTo (others steady (length input.ranked)) steps.old steps.new) }
 {
     let PlanInput {
-        base, ranked, now, ..
+        base,
+        ranked,
+        now,
+        ..
     } = input;
     make_plan(alloc, kept, base, ranked, now, steps)
 }
@@ -161,7 +164,10 @@ fn with_kept(input: PlanInput, kept: Option<Planned>) -> PlanInput
     ensures { result ≡ input }
 {
     let PlanInput {
-        base, ranked, now, ..
+        base,
+        ranked,
+        now,
+        ..
     } = input;
     PlanInput {
         base,
