@@ -1,5 +1,5 @@
 -- Over the plan that a pass makes itself each job stands as it stood.
-use Rattle.std.proofs.Common.{◌≡◌, ◌≢◌, ℕ, zero, suc, ◌≤◌, ◌<◌, Bool, true, List, [], ◌∷◌, length, get_or, AllPairs, Option, Some, None, refl, sym, subst, arith}
+use Rattle.std.proofs.Common.{◌≡◌, ◌≢◌, ℕ, zero, suc, ◌≤◌, ◌<◌, Bool, true, List, [], ◌∷◌, length, get_or, AllPairs, Option, Some, None, IfSome, refl, sym, subst, arith}
 use Rattle.std.proofs.lemmas.List.{get_or_default}
 use Rattle.resource_profile.specs.declared.NodeRoom.{NodeRoom}
 use Rattle.resource_profile.specs.declared.Hold.{Hold}
@@ -8,7 +8,7 @@ use Rattle.backfill_planner.specs.declared.Placed.{Placed}
 use Rattle.backfill_planner.specs.declared.job.PlanJob.{PlanJob}
 use Rattle.backfill_planner.specs.Bases.{BaseView}
 use Rattle.backfill_planner.specs.Placements.{IsPlacement}
-use Rattle.backfill_planner.specs.Plans.{holds_before, placed_of}
+use Rattle.backfill_planner.specs.Plans.{PlannedView, holds_before, placed_of}
 use Rattle.plan_keeper.specs.Steady.{AreSteady, CanStand, IsAsBefore, others}
 use Rattle.job_table.specs.declared.record.JobRecord.{JobRecord}
 use Rattle.ctl_state.specs.Laws.{OrderKeepsApart}
@@ -79,3 +79,20 @@ counts-nothing first keeps stays s now before after sound stepped =
     (ranked-apart keeps s now sound.rising) in
     let up_to = stepped (λ place. true) (are-steady first (base_of (ready s now) now) jobs now apart) in
     not-ticked up_to.times before after (rw (no-others (length jobs)) at up_to.few) up_to.is
+
+-- where nothing was counted
+pub not-over : (kept : Option PlannedView) (s : State) (now count : ℕ)
+    → IfSome kept (λ old. IsSteppedOver old s now count count)
+not-over None s now count = tt
+not-over (Some old) s now count = λ steady are. record { times = 0; few = omega arith; is = refl }
+
+-- what a plan counts over an older one, where it is that of a pass
+pub over-input : (kept : Option PlannedView) (s : State) (now before after : ℕ) (input : PlannedView)
+    → input ≡ input_of s now
+    → IfSome kept (λ old. (steady : ℕ → Bool) → AreSteady old input.base input.ranked input.moment steady
+    → IsTickedUpTo (others steady (length input.ranked)) before after)
+    → IfSome kept (λ old. IsSteppedOver old s now before after)
+over-input kept s now before after input is over =
+    subst (λ (one : PlannedView). IfSome kept (λ old. (steady : ℕ → Bool)
+    → AreSteady old one.base one.ranked one.moment steady
+    → IsTickedUpTo (others steady (length one.ranked)) before after)) is over

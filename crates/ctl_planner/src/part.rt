@@ -12,6 +12,7 @@ use std::alloc::Global;
 use std::sync::Wait;
 
 // The last turn that the planner made.
+#[derive(Clone, Copy)]
 struct LastTurn {
     moment: u64,
     // How many entries the desk had seen after it.

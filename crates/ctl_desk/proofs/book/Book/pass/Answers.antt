@@ -4,6 +4,7 @@ use Rattle.ctl_state.specs.State.{State}
 use Rattle.ctl_core.specs.Step.{raised, reply_of, steps_of}
 use Rattle.ctl_desk.specs.History.{History, present}
 use Rattle.ctl_desk.proofs.Entered.{entered_as}
+use Rattle.ctl_desk.proofs.Owning.{not-hinted}
 use Rattle.ctl_desk.proofs.Entering.{IsHistory-decided}
 use Rattle.resource_profile.specs.Counts.{IsTickedUpTo}
 use Rattle.ctl_desk.proofs.book.Book.pass.Goals as goal
