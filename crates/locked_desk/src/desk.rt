@@ -11,6 +11,7 @@ use backfill_planner::Planned;
 use ctl_desk::book::Book;
 use ctl_desk::desk::Desk;
 use ctl_desk::entry::{Answer, Entry};
+use ctl_pass::PlanInput;
 use resource_profile::{Plain, Steps};
 use slurm_text::memory_error::Memory;
 use slurm_text::name::Name;
@@ -130,6 +131,21 @@ impl<'a, R: Wait> Desk for LockedDesk<'a, R> {
         let _ = pass.number();
         self.pass = Some(pass);
         answer
+    }
+
+    fn input(&mut self, now: u64) -> Result<PlanInput, Memory> {
+        let Some(pass) = self.pass.take() else {
+            unreachable!()
+        };
+        let mut held = self.lock.enter(self.rt, pass);
+        let _ = held.turn.number();
+        let input = held.value.input(now);
+        self.len = held.value.len();
+        self.is_shut = held.value.ctl().is_shut();
+        let pass = self.lock.leave(held);
+        let _ = pass.number();
+        self.pass = Some(pass);
+        input
     }
 
     fn seen_len(&self) -> u64 {
