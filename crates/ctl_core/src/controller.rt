@@ -115,6 +115,20 @@ impl Ctl {
         self.cluster.is_shut
     }
 
+    /// The settings of slurm.conf(5). It takes no memory.
+    pub fn settings(&self) -> &Settings
+        ensures { result.now ≡ self.now.state.settings }
+    {
+        &self.cluster.settings
+    }
+
+    /// The nodes. It takes no memory.
+    pub fn nodes(&self) -> &Nodes
+        ensures { result.now.records ≡ self.now.state.nodes }
+    {
+        &self.cluster.nodes
+    }
+
     /// The table of jobs, with what their associations have used. It takes no memory.
     pub fn jobs(&self) -> &Jobs
         ensures records { result.now.records ≡ self.now.state.jobs }

@@ -1,12 +1,8 @@
 //! The server: a book behind a lock, at which connections, a planner and the daemons of the nodes take turns.
 #![tactic(auto)]
 
-mod daemons;
 mod ending;
-mod line;
-mod parts;
 mod serving;
-mod workers;
 
 pub use ending::ServeEnd;
 pub use serving::serve;
