@@ -5,3 +5,4 @@ pub mod Stamping
 pub mod Stepping
 pub mod Partitions
 pub mod Changed
+pub mod Hinted

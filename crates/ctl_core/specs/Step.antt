@@ -1,11 +1,12 @@
 -- One step of the controller: the reply to a request, and the state after it.
-use Rattle.std.specs.Prelude.{◌≡◌, ℕ, ◌+◌, Bool, true, false, ◌&&◌, not, if◌then◌else◌, nat_lt, max, List, [], ◌∷◌, Option, Some, IfSome}
+use Rattle.std.specs.Prelude.{◌≡◌, ℕ, ◌+◌, Bool, true, false, ◌&&◌, not, if◌then◌else◌, nat_lt, max, min, List, [], ◌∷◌, Option, Some, IfSome}
 use Rattle.slurm_text.specs.declared.plain.request.Request.{Request}
 use Rattle.slurm_text.specs.declared.plain.request.Request.TheVariants.{Submit, Cancel, Hold, Release, Requeue, UpdateJob, UpdateNode, UpdatePartition, CreateReservation, DeleteReservation, Report, Pass, Shutdown, Show}
 use Rattle.slurm_text.specs.declared.plain.refusal.Refusal.{Refusal}
 use Rattle.slurm_text.specs.declared.plain.refusal.Refusal.TheVariants.{HistoryFull, MomentTooLarge, ShuttingDown}
 use Rattle.slurm_text.specs.declared.plain.reply.Reply.{Reply}
 use Rattle.slurm_text.specs.declared.plain.reply.Reply.TheVariants.{Submitted, Done, Passed, Orders, Idle, Shown, Refused}
+use Rattle.backfill_planner.specs.Plans.{PlannedView}
 use Rattle.partitions.specs.Partitions.{place_meant}
 use Rattle.ctl_state.specs.State.{State, last_moment}
 use Rattle.ctl_state.specs.Soundness.{IsAsked, IsLimit, IsSound}
@@ -13,7 +14,7 @@ use Rattle.ctl_state.specs.Refusals.{refused_if, first_refusal, unless_refused, 
 use Rattle.ctl_state.specs.Verdicts.{Verdict, Refuses, Tells, Makes, reply_by, left_by, stamped}
 use Rattle.ctl_pass.specs.Passing.{pass_refusals}
 use Rattle.ctl_report.specs.Answering.{report_refusals}
-use Rattle.ctl_node_side.specs.Passes.{after_pass, made_by_pass, planned_by_pass}
+use Rattle.ctl_node_side.specs.Passes.{IsPassedOver, after_pass, made_by_pass, pass_input, planned_by_pass}
 use Rattle.ctl_node_side.specs.Restarting.{report_made}
 use Rattle.ctl_submit.specs.Submission.{submit_refusals, submit_made}
 use Rattle.ctl_jobs.specs.declared.action.Action.TheVariants as act
@@ -142,6 +143,18 @@ steps_of s now user =
     if not (nat_lt last_moment now) && (not s.is_shut && is_privileged s user)
     then planned_by_pass s (raised s now)
     else 0
+
+-- Over a hinted plan a pass counts at most one step for each job that it plans and that doesn't stand as it stood there.
+abbrev pub IsHinted : PlannedView → State → ℕ → ℕ → ℕ → Type 0
+IsHinted hint s now before after = IsPassedOver hint s (raised s now) before after
+
+-- the moment for which an input is made: a moment past the last one counts as that
+abbrev pub input_moment : State → ℕ → ℕ
+input_moment s now = raised s (min now last_moment)
+
+-- what a pass by a privileged user at a moment would make its plan of
+abbrev pub input_at : State → ℕ → PlannedView
+input_at s now = pass_input s (input_moment s now)
 
 -- the request is in its ranges, as its type keeps them
 abbrev pub IsInRange : Request → Type 0

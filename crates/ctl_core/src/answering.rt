@@ -1,6 +1,6 @@
 //! One step: a request is judged, and where it is accepted the cluster changes and bears its moment.
 
-ghost use Rattle.std.specs.Prelude.{◌≡◌, ◌+◌, ◌^◌, ◌<◌, ◌≤◌, IfOk, OnOk, OnErr, if◌then◌else◌, Some, None};
+ghost use Rattle.std.specs.Prelude.{◌≡◌, ◌+◌, ◌^◌, ◌<◌, ◌≤◌, IfOk, IfSome, OnOk, OnErr, if◌then◌else◌, Some, None};
 ghost use Rattle.slurm_text.specs.declared.plain.request.Request.TheVariants.{Pass};
 ghost use Rattle.resource_profile.specs.Counts.{IsTickedUpTo};
 ghost use Rattle.ctl_state.specs.State.{state_of, last_moment};
@@ -8,7 +8,7 @@ ghost use Rattle.ctl_state.specs.Index.{IsIndexed};
 ghost use Rattle.ctl_state.specs.Soundness.{IsSound};
 ghost use Rattle.ctl_core.specs.Answering.{Answers};
 ghost use Rattle.ctl_core.specs.Sizes.{has_room};
-ghost use Rattle.ctl_core.specs.Step.{reply_of, state_after, entered, is_closed, is_entered, raised, steps_of, worked};
+ghost use Rattle.ctl_core.specs.Step.{IsHinted, reply_of, state_after, entered, is_closed, is_entered, raised, steps_of, worked};
 
 use crate::changing::{cancel_jobs, change_job, change_jobs};
 use crate::laws::a_step_keeps_all_sound;
@@ -32,7 +32,7 @@ use slurm_text::plain::reply::Reply;
 use slurm_text::plain::request::Request;
 use std::alloc::Global;
 
-const LAST_MOMENT: u64 = 250_000_000_000;
+pub(crate) const LAST_MOMENT: u64 = 250_000_000_000;
 
 // The answer at a moment; an entry makes the cluster bear it, and its size.
 fn stamp(cluster: &mut Cluster, moment: u64, size: u64, answered: Answered) -> Decided
@@ -211,6 +211,7 @@ fn answer_pass<L>(
     ensures after { OnOk result (state_of cluster.new ≡ state_after (state_of cluster.old) now user.now Pass) }
     ensures err { OnErr result (state_of cluster.new ≡ state_of cluster.old) }
     ensures steps { IsTickedUpTo (steps_of (state_of cluster.old) now user.now) steps.old steps.new }
+    ensures over { IfSome kept.old (λ old. IsHinted old (state_of cluster.old) now steps.old steps.new) }
     ensures indexed { IsIndexed cluster.new }
 {
     let moment = cluster.moment.max(now);
@@ -267,6 +268,7 @@ pub(crate) fn ask_pass<L>(
     ensures after { OnOk result (state_of cluster.new ≡ state_after (state_of cluster.old) now user.now Pass) }
     ensures err { OnErr result (state_of cluster.new ≡ state_of cluster.old) }
     ensures steps { IsTickedUpTo (steps_of (state_of cluster.old) now user.now) steps.old steps.new }
+    ensures over { IfSome kept.old (λ old. IsHinted old (state_of cluster.old) now steps.old steps.new) }
     ensures sound { IsSound (state_of cluster.new) }
     ensures indexed { IsIndexed cluster.new }
 {

@@ -1,16 +1,18 @@
 //! The controller.
 
-ghost use Rattle.std.specs.Prelude.{◌≡◌, IfOk, OnOk, OnErr, if◌then◌else◌, Some, None, map, All};
+ghost use Rattle.std.specs.Prelude.{◌≡◌, IfOk, IfSome, OnOk, OnErr, if◌then◌else◌, Some, None, map, All};
 ghost use Rattle.slurm_text.specs.declared.plain.request.Request.TheVariants.{Pass};
 ghost use Rattle.resource_profile.specs.Counts.{IsTickedUpTo};
 ghost use Rattle.ctl_state.specs.State.{opening};
 ghost use Rattle.ctl_state.specs.Soundness.{IsSound, IsLimit, IsNode, HasLimits, HasRanges};
-ghost use Rattle.ctl_core.specs.Step.{reply_of, state_after, is_entered, raised, steps_of};
+ghost use Rattle.ctl_core.specs.Step.{IsHinted, input_at, reply_of, state_after, is_entered, raised, steps_of};
 
 use crate::answering::{ask, ask_pass};
+use crate::inputs::find_input;
 use crate::reply::Decided;
 use accounts_qos::assocs::Assocs;
 use backfill_planner::Planned;
+use ctl_pass::PlanInput;
 use ctl_state::cluster::Cluster;
 use job_table::jobs::Jobs;
 use node_state::nodes::Nodes;
@@ -113,6 +115,20 @@ impl Ctl {
         self.cluster.is_shut
     }
 
+    /// The settings of slurm.conf(5). It takes no memory.
+    pub fn settings(&self) -> &Settings
+        ensures { result.now ≡ self.now.state.settings }
+    {
+        &self.cluster.settings
+    }
+
+    /// The nodes. It takes no memory.
+    pub fn nodes(&self) -> &Nodes
+        ensures { result.now.records ≡ self.now.state.nodes }
+    {
+        &self.cluster.nodes
+    }
+
     /// The table of jobs, with what their associations have used. It takes no memory.
     pub fn jobs(&self) -> &Jobs
         ensures records { result.now.records ≡ self.now.state.jobs }
@@ -122,7 +138,8 @@ impl Ctl {
     }
 
     /// A pass, whatever plan is at hand: it is made over the hint, else over the plan of the last pass, and is the same.
-    /// It counts a step for each job that it searches for: at most one for each that it plans, where it is allowed.
+    /// It counts a step for each job that it searches for: at most one for each that it plans, where it is allowed, and
+    /// over a hint none for those which stand as they stood in it.
     pub fn pass<L>(
         &mut self,
         now: u64,
@@ -137,6 +154,7 @@ impl Ctl {
         ensures after { OnOk result (self.new.state ≡ state_after self.old.state now user.now Pass) }
         ensures err { OnErr result (self.new ≡ self.old) }
         ensures steps { IsTickedUpTo (steps_of self.old.state now user.now) steps.old steps.new }
+        ensures over { IfSome hint (λ hint. IsHinted hint self.old.state now steps.old steps.new) }
         ensures sound { IsSound self.old.state × IsSound self.new.state }
     {
         take_hint(&mut self.kept, hint);
@@ -149,10 +167,23 @@ impl Ctl {
             steps,
         )
     }
+
+    /// What a pass by a privileged user at a moment would make its plan of; a moment past the last one counts as that.
+    /// The plan of the last pass goes with it, and the next pass that is given no hint plans from nothing. It costs what
+    /// a pass costs before its plan; where nodes fall silent by then it copies the jobs that hold something of them.
+    pub fn input(&mut self, now: u64) -> Result<PlanInput, Memory>
+        ensures input { IfOk result (λ input. input ≡ input_at self.old.state now) }
+        ensures stays { self.new ≡ self.old }
+        ensures sound { IsSound self.old.state }
+    {
+        find_input(self.alloc, &mut self.cluster, &mut self.kept, now)
+    }
 }
 
-// A hint takes the place of the plan that is kept. Nothing that a contract tells depends on either.
-fn take_hint(kept: &mut Option<Planned>, hint: Option<Planned>) {
+// A hint takes the place of the plan that is kept. What a pass does depends on neither.
+fn take_hint(kept: &mut Option<Planned>, hint: Option<Planned>)
+    ensures { IfSome hint (λ one. kept.new ≡ Some one) }
+{
     if hint.is_some() {
         *kept = hint;
     }

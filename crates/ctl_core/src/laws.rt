@@ -8,6 +8,7 @@ ghost use Rattle.slurm_text.specs.declared.plain.reply.Reply.{Reply};
 ghost use Rattle.slurm_text.specs.declared.plain.reply.Reply.TheVariants.{Idle};
 ghost use Rattle.slurm_text.specs.declared.plain.conf.PartState.{PartState};
 ghost use Rattle.job_table.specs.declared.record.JobRecord.{JobRecord};
+ghost use Rattle.resource_profile.specs.Counts.{IsTickedUpTo};
 ghost use Rattle.ctl_state.specs.State.{State};
 ghost use Rattle.ctl_state.specs.Soundness.{IsSound};
 ghost use Rattle.ctl_state.specs.Verdicts.{Stays, Makes};
@@ -16,11 +17,12 @@ ghost use Rattle.ctl_jobs.specs.declared.action.Action.{Action};
 ghost use Rattle.ctl_jobs.specs.Changing.{change_after, change_made};
 ghost use Rattle.ctl_nodes.specs.Updating.{update_after, update_made};
 ghost use Rattle.ctl_core.specs.Operating.{partition_after, partition_made};
-ghost use Rattle.ctl_core.specs.Step.{verdict_of, reply_of, state_after, raised, ChangesNothing, IsInRange};
+ghost use Rattle.ctl_core.specs.Step.{verdict_of, reply_of, state_after, steps_of, raised, input_at, ChangesNothing, IsHinted, IsInRange};
 
 use ctl_jobs::laws::{what_users_do_keeps_all_sound, where_no_job_changes_nothing_does};
 use ctl_node_side::laws::{
-    a_report_met_keeps_all_sound, a_whole_pass_keeps_all_sound, an_idle_whole_pass_changes_nothing,
+    a_report_met_keeps_all_sound, a_whole_pass_keeps_all_sound,
+    a_whole_pass_over_its_own_plan_counts_nothing, an_idle_whole_pass_changes_nothing,
 };
 use ctl_nodes::laws::{an_idle_order_changes_nothing, updating_nodes_keeps_all_sound};
 use ctl_reservations::laws::{
@@ -78,4 +80,13 @@ pub fn idle_requests_change_nothing()
     an_idle_order_changes_nothing();
     making_and_taking_reservations_changes_the_state();
     an_idle_whole_pass_changes_nothing();
+}
+
+/// A pass over the very plan of what it would plan counts nothing.
+pub fn a_pass_with_its_own_hint_counts_nothing()
+    ensures { (s : State) (now : ℕ) (user : List ℕ) (before after : ℕ) → IsSound s
+        → IsTickedUpTo (steps_of s now user) before after
+        → IsHinted (input_at s now) s now before after → after ≡ before }
+{
+    a_whole_pass_over_its_own_plan_counts_nothing();
 }

@@ -1,13 +1,13 @@
 //! Passes.
 
-ghost use Rattle.std.specs.Prelude.{◌≡◌, ◌≤◌, IfOk, OnOk, OnErr, if◌then◌else◌, Some, None};
+ghost use Rattle.std.specs.Prelude.{◌≡◌, ◌≤◌, IfOk, IfSome, OnOk, OnErr, if◌then◌else◌, Some, None};
 ghost use Rattle.resource_profile.specs.Counts.{IsTickedUpTo};
 ghost use Rattle.ctl_state.specs.State.{state_of, last_moment};
 ghost use Rattle.ctl_state.specs.Index.{IsIndexed};
 ghost use Rattle.ctl_state.specs.Soundness.{IsSound};
 ghost use Rattle.ctl_state.specs.Refusals.{first_refusal, unless_refused, is_privileged};
 ghost use Rattle.ctl_pass.specs.Passing.{pass_refusals};
-ghost use Rattle.ctl_node_side.specs.Passes.{made_by_pass, planned_by_pass};
+ghost use Rattle.ctl_node_side.specs.Passes.{IsPassedOver, made_by_pass, planned_by_pass};
 ghost use Rattle.ctl_core.specs.Answering.{Answers};
 ghost use Rattle.ctl_core.specs.Step.{unless_full};
 
@@ -64,6 +64,7 @@ pub(crate) fn pass<L>(
     ensures steps { IsTickedUpTo
         (if is_privileged (state_of cluster.old) user.now then planned_by_pass (state_of cluster.old) moment else 0)
         steps.old steps.new }
+    ensures over { IfSome kept.old (λ old. IsPassedOver old (state_of cluster.old) moment steps.old steps.new) }
     ensures indexed { IsIndexed cluster.new }
 {
     if let Some(refusal) = refusal_of(cluster, user) {

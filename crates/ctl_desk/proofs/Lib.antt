@@ -2,3 +2,4 @@ pub mod Entered
 pub mod Entering
 pub mod Following
 pub mod Owning
+pub mod Staying

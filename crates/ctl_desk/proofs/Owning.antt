@@ -1,5 +1,5 @@
 -- What a book of its own makes of a desk.
-use Rattle.std.proofs.Common.{◌≡◌, ℕ, Bool, true, false, ◌≤◌, List, [], ◌∷◌, ◌++◌, length, take, drop, refl, sym, ap, ◌∙◌, subst, arith, length-append, inl, inr, if◌then◌else◌, Ok, Err, Result, IfOk, OnOk, OnErr}
+use Rattle.std.proofs.Common.{◌≡◌, ℕ, Bool, true, false, ◌≤◌, List, [], ◌∷◌, ◌++◌, length, take, drop, refl, sym, ap, ◌∙◌, subst, arith, length-append, inl, inr, if◌then◌else◌, Ok, Err, Result, IfOk, OnOk, OnErr, Option, Some, None, IfSome}
 use Rattle.std.proofs.Math.Seq.{take-append_seam}
 use Rattle.std.proofs.lemmas.Bool.{cases_Bool, true≢false}
 use Rattle.std.proofs.lemmas.List.{append-nil, take_all, take-append-le, take-append-drop, drop-append-le}
@@ -7,7 +7,8 @@ use Rattle.slurm_text.specs.declared.plain.request.Request.{Request}
 use Rattle.ctl_state.specs.State.{State}
 use Rattle.resource_profile.specs.Counts.{ticked, IsTickedUpTo}
 use Rattle.slurm_text.specs.declared.plain.request.Request.TheVariants.{Pass}
-use Rattle.ctl_core.specs.Step.{reply_of, is_entered, steps_of}
+use Rattle.backfill_planner.specs.Plans.{PlannedView}
+use Rattle.ctl_core.specs.Step.{IsHinted, reply_of, is_entered, steps_of}
 use Rattle.ctl_desk.specs.declared.entry.Answer.{Answer}
 use Rattle.ctl_desk.specs.declared.entry.Entry.{Entry}
 use Rattle.ctl_desk.specs.Desk.{Sight, GoesOn, IsAnswered, seen, later, sight_of, history_of, state_at}
@@ -39,7 +40,7 @@ goes_on_one before entry h below own =
     drop-append-le before h.entries (entry ∷ []) below in
     rw (take-append-le before h.entries (entry ∷ []) below, since, own) refl
 
-goes_nowhere : (desk : Sight) → GoesOn desk desk
+pub goes_nowhere : (desk : Sight) → GoesOn desk desk
 goes_nowhere desk = ([], rw (append-nil desk.since, append-nil desk.mine) refl)
 
 -- the book after a call, and its entries
@@ -183,3 +184,38 @@ own_counted_up_to (Err e) now user before counted counted' old new stays counts 
     let there : present (history_of (at_book before new)) ≡ present old =
     ap (after_all new.opening) (all_seen before new) ∙ ap present stays in
     subst (λ (at : State). IsTickedUpTo (steps_of at now user) counted counted') (sym there) counts
+
+-- what holds of the state that a pass was made in holds of the state at its place
+pub own_there : {E : Type 0} (P : State → Type 0) (result : Result Answer E) (now : ℕ) (user : List ℕ) (before : ℕ)
+    (old new : History)
+    → let s = after_all old.opening old.entries in
+    IfOk result (λ answer. answer.place ≡ length old.entries)
+    → IfOk result
+    (λ answer. new.entries
+    ≡ (if is_entered answer.reply then old.entries ++ entry_of s 0 now user Pass ∷ [] else old.entries))
+    → P s
+    → IfOk result (λ answer. P (state_at old.opening (seen (at_book before new)) answer.place))
+own_there P (Ok answer) now user before old new place entered holds =
+    let s = after_all old.opening old.entries in
+    let front = before-place (is_entered answer.reply) answer.place old.entries new.entries
+    (entry_of s 0 now user Pass) place entered in
+    let there : state_at old.opening (seen (at_book before new)) answer.place ≡ s =
+    ap (λ es. after_all old.opening (take answer.place es)) (all_seen before new) ∙ ap (after_all old.opening) front in
+    subst P (sym there) holds
+own_there P (Err e) now user before old new place entered holds = tt
+
+-- the state after all that is seen at a book that is as it was
+pub own_present : (before : ℕ) (old new : History) → new ≡ old → present (history_of (at_book before new)) ≡ present old
+own_present before old new stays = ap (after_all new.opening) (all_seen before new) ∙ ap present stays
+
+pub own_there_err : {E : Type 0} (P : State → Type 0) (result : Result Answer E) (before : ℕ) (old new : History)
+    → OnErr result (new ≡ old) → P (present old)
+    → OnErr result (P (present (history_of (at_book before new))))
+own_there_err P (Ok answer) before old new stays holds = tt
+own_there_err P (Err e) before old new stays holds = subst P (sym (own_present before old new stays)) holds
+
+-- where nothing was counted
+pub not-hinted : (hint : Option PlannedView) (s : State) (now count : ℕ)
+    → IfSome hint (λ old. IsHinted old s now count count)
+not-hinted None s now count = tt
+not-hinted (Some old) s now count = λ steady are. record { times = 0; few = omega arith; is = refl }

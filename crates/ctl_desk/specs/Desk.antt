@@ -1,5 +1,6 @@
 -- A desk as contracts see it, and what a call at it does to the history that it has seen.
-use Rattle.std.specs.Prelude.{◌≡◌, ℕ, ◌≤◌, true, false, List, [], ◌∷◌, ◌++◌, length, take}
+use Rattle.std.specs.Prelude.{◌≡◌, ℕ, ◌≤◌, true, false, List, [], ◌∷◌, ◌++◌, length, take, Option, None}
+use Rattle.atomic_table.specs.Seated.{TableId}
 use Rattle.slurm_text.specs.declared.plain.request.Request.{Request}
 use Rattle.ctl_state.specs.State.{State}
 use Rattle.ctl_core.specs.Step.{reply_of, is_entered}
@@ -7,10 +8,11 @@ use Rattle.ctl_desk.specs.declared.entry.Entry.{Entry}
 use Rattle.ctl_desk.specs.declared.entry.Answer.{Answer}
 use Rattle.ctl_desk.specs.History.{History, after_all, entry_of, of_session, present}
 
--- A desk at a moment: the state before the first entry of the history, the number that the entries of this desk bear,
--- the entries that there were when the desk was made, those that it has seen come since, and those that were made at
--- it.
+-- A desk at a moment: the lock that keeps its book, where one does; the state before the first entry of the history; the
+-- number that the entries of this desk bear; the entries that there were when the desk was made, those that it has seen
+-- come since, and those that were made at it.
 pub record Sight : Type 0 where
+  pub lock : Option TableId
   pub opening : State
   pub number : ℕ
   pub before : List Entry
@@ -58,6 +60,7 @@ pub record Seat : Type 0 where
 
 abbrev pub sight_of : Seat → Sight
 sight_of seat = record {
+  lock = None;
   opening = seat.opening;
   number = 0;
   before = seat.before;

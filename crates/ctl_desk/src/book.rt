@@ -1,10 +1,10 @@
 //! The book: the controller with its history.
 
-ghost use Rattle.std.specs.Prelude.{◌≡◌, ◌<◌, ◌++◌, ◌∷◌, [], IfOk, OnOk, OnErr, if◌then◌else◌, length, Some, None, vec_len, vec_capacity};
+ghost use Rattle.std.specs.Prelude.{◌≡◌, ◌<◌, ◌++◌, ◌∷◌, [], IfOk, IfSome, OnOk, OnErr, if◌then◌else◌, length, Some, None, vec_len, vec_capacity};
 ghost use Rattle.slurm_text.specs.declared.plain.request.Request.TheVariants.{Pass};
 ghost use Rattle.resource_profile.specs.Counts.{IsTickedUpTo};
 ghost use Rattle.ctl_state.specs.Soundness.{IsSound};
-ghost use Rattle.ctl_core.specs.Step.{reply_of, is_entered, steps_of};
+ghost use Rattle.ctl_core.specs.Step.{IsHinted, input_at, reply_of, is_entered, steps_of};
 ghost use Rattle.ctl_desk.specs.History.{entry_of, present, IsHistory};
 
 use crate::entry::{Answer, Entry};
@@ -13,6 +13,7 @@ use ctl_core::controller::Ctl;
 use ctl_core::laws::raised_moments_decide_alike;
 use ctl_core::reply::Decided;
 use ctl_node_side::laws::passes_are_free;
+use ctl_pass::PlanInput;
 use resource_profile::Steps;
 use slurm_text::memory_error::Memory;
 use slurm_text::name::Name;
@@ -120,6 +121,7 @@ impl Book {
         ensures opening { self.new.opening ≡ self.old.opening }
         ensures err { OnErr result (self.new ≡ self.old) }
         ensures steps { IsTickedUpTo (steps_of (present self.old) now user.now) steps.old steps.new }
+        ensures over { IfSome hint (λ hint. IsHinted hint (present self.old) now steps.old steps.new) }
     {
         raised_moments_decide_alike();
         passes_are_free();
@@ -127,6 +129,16 @@ impl Book {
         let name = user.copy()?;
         let decided = self.ctl.pass(now, user, hint, steps)?;
         Ok(enter(&mut self.entries, session, name, Request::Pass, decided))
+    }
+
+    /// What a pass by a privileged user at a moment would make its plan of, with the plan that the controller keeps, of
+    /// which none stays. The cost is the controller's.
+    pub fn input(&mut self, now: u64) -> Result<PlanInput, Memory>
+        ensures input { IfOk result (λ input. input ≡ input_at (present self.old) now) }
+        ensures stays { self.new ≡ self.old }
+        ensures history { IsHistory self.old }
+    {
+        self.ctl.input(now)
     }
 }
 

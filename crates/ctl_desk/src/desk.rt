@@ -1,14 +1,15 @@
 //! What a session asks at.
 
-ghost use Rattle.std.specs.Prelude.{◌≡◌, length, IfOk, OnErr};
+ghost use Rattle.std.specs.Prelude.{◌≡◌, length, IfOk, IfSome, OnErr};
 ghost use Rattle.slurm_text.specs.declared.plain.request.Request.TheVariants.{Pass};
 ghost use Rattle.resource_profile.specs.Counts.{IsTickedUpTo};
-ghost use Rattle.ctl_core.specs.Step.{steps_of};
+ghost use Rattle.ctl_core.specs.Step.{IsHinted, input_at, steps_of};
 ghost use Rattle.ctl_desk.specs.Desk.{Sight, GoesOn, IsAnswered, seen, history_of, state_at};
 ghost use Rattle.ctl_desk.specs.History.{IsHistory, present};
 
 use crate::entry::Answer;
 use backfill_planner::Planned;
+use ctl_pass::PlanInput;
 use resource_profile::{Plain, Steps};
 use slurm_text::memory_error::Memory;
 use slurm_text::name::Name;
@@ -28,8 +29,8 @@ pub trait Desk {
         ensures err { OnErr result ((sight self.new).mine ≡ (sight self.old).mine) };
 
     /// Makes a pass for a user at a moment, whatever plan is at hand. It counts at most a step for each job that it plans:
-    /// where it is answered, at its place. After want of memory nothing of it is entered, and these are the jobs that it
-    /// would plan after all that the desk has seen.
+    /// where it is answered, at its place; and over a hint none for those which stand as they stood in it. After want of
+    /// memory nothing of it is entered, and these are the jobs that it would plan after all that the desk has seen.
     fn pass(
         &mut self,
         now: u64,
@@ -45,7 +46,20 @@ pub trait Desk {
             (steps_of (state_at (sight self.old).opening (seen (sight self.new)) answer.place) now user.now)
             steps.old steps.new) }
         ensures steps_err { OnErr result (IsTickedUpTo
-            (steps_of (present (history_of (sight self.new))) now user.now) steps.old steps.new) };
+            (steps_of (present (history_of (sight self.new))) now user.now) steps.old steps.new) }
+        ensures over { IfOk result (λ answer. IfSome hint (λ hint.
+            IsHinted hint (state_at (sight self.old).opening (seen (sight self.new)) answer.place) now
+            steps.old steps.new)) }
+        ensures over_err { OnErr result (IfSome hint (λ hint.
+            IsHinted hint (present (history_of (sight self.new))) now steps.old steps.new)) };
+
+    /// What a pass by a privileged user at a moment would make its plan of, after all that the desk has seen then. The
+    /// plan that the controller keeps goes with it: a pass that is given it, or a plan made over it, as its hint searches
+    /// for little, and one that is given none plans from nothing. It costs what a pass costs before its plan.
+    fn input(&mut self, now: u64) -> Result<PlanInput, Memory>
+        ensures goes_on { GoesOn (sight self.old) (sight self.new) }
+        ensures mine { (sight self.new).mine ≡ (sight self.old).mine }
+        ensures input { IfOk result (λ input. input ≡ input_at (present (history_of (sight self.new))) now) };
 
     /// How many entries the desk has seen.
     fn seen_len(&self) -> u64

@@ -6,6 +6,7 @@ use crate::book::Book;
 use crate::desk::Desk;
 use crate::entry::Answer;
 use backfill_planner::Planned;
+use ctl_pass::PlanInput;
 use resource_profile::{Plain, Steps};
 use slurm_text::memory_error::Memory;
 use slurm_text::name::Name;
@@ -72,6 +73,10 @@ impl Desk for OwnDesk {
         steps: &mut Steps<Plain>,
     ) -> Result<Answer, Memory> {
         self.book.pass(0, now, user, hint, steps)
+    }
+
+    fn input(&mut self, now: u64) -> Result<PlanInput, Memory> {
+        self.book.input(now)
     }
 
     fn seen_len(&self) -> u64 {

@@ -5,3 +5,4 @@ pub mod Putting
 pub mod Running
 pub mod Back
 pub mod Coming
+pub mod Over

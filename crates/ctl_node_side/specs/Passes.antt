@@ -3,7 +3,9 @@ use Rattle.std.specs.Prelude.{ℕ, ◌+◌, Bool, ◌&&◌, not, if◌then◌els
 use Rattle.slurm_text.specs.declared.plain.reply.Reply.TheVariants.{Passed}
 use Rattle.ctl_state.specs.State.{State}
 use Rattle.ctl_state.specs.Verdicts.{Verdict, Stays, Makes}
+use Rattle.backfill_planner.specs.Plans.{PlannedView}
 use Rattle.ctl_pass.specs.Freedom.{StartsAreFree}
+use Rattle.ctl_pass.specs.Inputs.{IsSteppedOver, input_of}
 use Rattle.ctl_pass.specs.Limits.{is_over}
 use Rattle.ctl_pass.specs.Passing.{is_idle, jobs_planned, outcome, pass_after}
 use Rattle.ctl_node_side.specs.Silence.{any_silent, failing_count, silenced}
@@ -32,6 +34,14 @@ made_by_pass s now =
 -- how many jobs it plans
 abbrev pub planned_by_pass : State → ℕ → ℕ
 planned_by_pass s now = jobs_planned (silenced s now) now
+
+-- what its plan is made of
+abbrev pub pass_input : State → ℕ → PlannedView
+pass_input s now = input_of (silenced s now) now
+
+-- Over an older plan it counts at most one step for each job that it plans and that doesn't stand as it stood there.
+abbrev pub IsPassedOver : PlannedView → State → ℕ → ℕ → ℕ → Type 0
+IsPassedOver old s now before after = IsSteppedOver old (silenced s now) now before after
 
 -- A pass starts jobs alone that nothing hinders, once silent nodes are seen to.
 abbrev pub PassIsFree : State → ℕ → Type 0

@@ -16,14 +16,14 @@ ghost use Rattle.ctl_pass.specs.Readiness.{jobs_left, placements};
 ghost use Rattle.ctl_pass.specs.Starting.{HasStarted, WasHeldBack};
 ghost use Rattle.ctl_report.specs.Reporting.{report_after};
 ghost use Rattle.ctl_node_side.specs.Keeping.{put_all};
-ghost use Rattle.ctl_node_side.specs.Passes.{PassIsFree, after_pass, pass_is_idle};
+ghost use Rattle.ctl_node_side.specs.Passes.{IsPassedOver, PassIsFree, after_pass, pass_input, pass_is_idle};
 ghost use Rattle.ctl_node_side.specs.Restarting.{met};
 ghost use Rattle.ctl_node_side.specs.Silence.{silenced};
 
 use ctl_nodes::laws::{lost_nodes_keep_all_sound, others_stay_where_nodes_are_lost};
 use ctl_pass::laws::{
-    a_pass_keeps_all_sound, a_started_job_was_planned, an_idle_pass_changes_nothing,
-    starts_are_free, starts_get_all_they_planned,
+    a_pass_keeps_all_sound, a_pass_over_its_own_plan_counts_nothing, a_started_job_was_planned,
+    an_idle_pass_changes_nothing, starts_are_free, starts_get_all_they_planned,
 };
 use ctl_report::laws::a_report_keeps_all_sound;
 use ctl_state::laws::nodes_that_stay_keep_all_sound;
@@ -86,6 +86,15 @@ pub fn a_job_started_by_a_pass_was_planned()
         (after_pass s now).jobs }
 {
     a_started_job_was_planned();
+}
+
+/// Over the very plan that a pass makes each job stands as it stood, and nothing is counted.
+pub fn a_whole_pass_over_its_own_plan_counts_nothing()
+    ensures { (s : State) (now before after : ℕ) → IsSound s → s.moment ≤ now → now ≤ last_moment
+        → IsPassedOver (pass_input s now) s now before after → after ≡ before }
+{
+    silence_keeps_all_sound();
+    a_pass_over_its_own_plan_counts_nothing();
 }
 
 /// A report keeps all sound, also one of a daemon that was restarted.

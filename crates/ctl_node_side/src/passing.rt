@@ -1,13 +1,13 @@
 //! A whole pass: it sees to the nodes that fall silent, and then plans and starts.
 
-ghost use Rattle.std.specs.Prelude.{◌≡◌, ◌≢◌, ◌≤◌, ◌+◌, ◌<◌, ◌^◌, ℕ, true, false, IfOk, OnOk, OnErr, length};
+ghost use Rattle.std.specs.Prelude.{◌≡◌, ◌≢◌, ◌≤◌, ◌+◌, ◌<◌, ◌^◌, ℕ, true, false, IfOk, IfSome, OnOk, OnErr, length};
 ghost use Rattle.cpu_ids.specs.Rows.{has_id};
 ghost use Rattle.resource_profile.specs.Counts.{IsTickedUpTo};
 ghost use Rattle.ctl_state.specs.Index.{IsIndexed};
 ghost use Rattle.ctl_state.specs.Soundness.{IsSound};
 ghost use Rattle.ctl_state.specs.State.{state_of, last_moment};
 ghost use Rattle.ctl_pass.specs.Passing as pass;
-ghost use Rattle.ctl_node_side.specs.Passes.{planned_by_pass};
+ghost use Rattle.ctl_node_side.specs.Passes.{IsPassedOver, planned_by_pass};
 ghost use Rattle.ctl_node_side.specs.Came.{Came};
 ghost use Rattle.ctl_node_side.specs.Silence.{any_silent, silent_at, silenced};
 
@@ -83,6 +83,7 @@ fn pass_heard<L>(
     ensures came { IfOk result (Came (state_of cluster.old) (state_of cluster.new) moment room) }
     ensures err { OnErr result (state_of cluster.new ≡ state_of cluster.old) }
     ensures steps { IsTickedUpTo (planned_by_pass (state_of cluster.old) moment) steps.old steps.new }
+    ensures over { IfSome kept.old (λ old. IsPassedOver old (state_of cluster.old) moment steps.old steps.new) }
     ensures indexed { IsIndexed cluster.new }
 {
     there_are_few_jobs();
@@ -115,6 +116,7 @@ fn pass_silenced<L>(
     ensures came { IfOk result (Came (state_of cluster.old) (state_of cluster.new) moment room) }
     ensures err { OnErr result (state_of cluster.new ≡ state_of cluster.old) }
     ensures steps { IsTickedUpTo (planned_by_pass (state_of cluster.old) moment) steps.old steps.new }
+    ensures over { IfSome kept.old (λ old. IsPassedOver old (state_of cluster.old) moment steps.old steps.new) }
     ensures indexed { IsIndexed cluster.new }
 {
     silence_keeps_all_sound();
@@ -139,7 +141,8 @@ fn pass_silenced<L>(
 /// A whole pass at its raised moment, where the history has room for it or not. Where no node falls silent it costs what
 /// `ctl_pass::decide` and `act` cost, beside a look at each node; where some do it copies the jobs that hold something of
 /// them too, and walks over all jobs once more. Its plan is made over the kept one, if any, and kept in its place; it
-/// counts at most a step for each job that it plans. SlurmdTimeout in slurm.conf(5).
+/// counts at most a step for each job that it plans, and over a plan that is kept none for those which stand as they stood
+/// in it. SlurmdTimeout in slurm.conf(5).
 pub fn pass<L>(
     alloc: Global,
     cluster: &mut Cluster,
@@ -155,6 +158,7 @@ pub fn pass<L>(
     ensures came { IfOk result (Came (state_of cluster.old) (state_of cluster.new) moment room) }
     ensures err { OnErr result (state_of cluster.new ≡ state_of cluster.old) }
     ensures steps { IsTickedUpTo (planned_by_pass (state_of cluster.old) moment) steps.old steps.new }
+    ensures over { IfSome kept.old (λ old. IsPassedOver old (state_of cluster.old) moment steps.old steps.new) }
     ensures indexed { IsIndexed cluster.new }
 {
     let silent = silent_places(cluster, moment);

@@ -11,3 +11,4 @@ pub mod Begun
 pub mod Passes
 pub mod Few
 pub mod KeepingOut
+pub mod OwnPlans

@@ -8,3 +8,4 @@ pub mod Live
 pub mod Taking
 pub mod Reserved
 pub mod Freedom
+pub mod Inputs

@@ -14,6 +14,7 @@ ghost use Rattle.ctl_pass.specs.Starting.{HasStarted, JobStart, WasHeldBack, beg
 ghost use Rattle.ctl_pass.specs.Reserved.{PlansKeepToReservations};
 ghost use Rattle.ctl_pass.specs.Freedom.{StartsAreFree};
 ghost use Rattle.ctl_pass.specs.Taking.{CanStart, unplanned};
+ghost use Rattle.ctl_pass.specs.Inputs.{IsSteppedOver, input_of};
 ghost use Rattle.ctl_pass.specs.Passing.{outcome, pass_after, placements_due, is_idle};
 
 use backfill_planner::laws::{
@@ -165,6 +166,16 @@ pub fn what_a_pass_plans_is_sound()
     reservations_keep_all_sound();
     reservations_stay_apart();
     who_is_awaited_stays();
+}
+
+/// Over the very plan that a pass makes each job stands as it stood, and nothing is counted.
+pub fn a_pass_over_its_own_plan_counts_nothing()
+    ensures { (s : State) (now before after : ℕ) → IsSound s
+        → IsSteppedOver (input_of s now) s now before after → after ≡ before }
+{
+    what_is_ranked_stays();
+    a_stable_sort_makes_the_order::<JobRecord>();
+    placements_are_first();
 }
 
 /// The placements that are due in a pass can start one after another.

@@ -3,6 +3,7 @@
 
 mod base;
 mod beginning;
+mod input;
 pub mod laws;
 mod limits;
 mod live_arrays;
@@ -11,6 +12,7 @@ mod same_plans;
 mod split;
 mod starts;
 
+pub use input::{PlanInput, plan_input};
 pub use live_arrays::LiveArrays;
 pub use pass::{Decided, act, decide, is_idle, refusal_of};
 pub use starts::DueStart;

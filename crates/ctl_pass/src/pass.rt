@@ -1,10 +1,8 @@
 //! A pass: what it decides, and what it does.
 
-ghost use Rattle.std.specs.Prelude.{◌≡◌, ◌≤◌, ◌<◌, ◌&&◌, not, nat_eq, nat_lt, IfOk, filter, length, All};
+ghost use Rattle.std.specs.Prelude.{◌≡◌, ◌≤◌, ◌<◌, ◌&&◌, not, nat_eq, nat_lt, IfOk, IfSome, filter, length};
 ghost use Rattle.std.specs.List.{list_all, list_any};
 ghost use Rattle.resource_profile.specs.Counts.{IsTickedUpTo};
-ghost use Rattle.backfill_planner.specs.declared.job.PlanJob.{PlanJob as AJob};
-ghost use Rattle.backfill_planner.specs.Plans.{plan_of};
 ghost use Rattle.ctl_state.specs.State.{state_of, last_moment};
 ghost use Rattle.ctl_state.specs.Index.{IsIndexed};
 ghost use Rattle.ctl_state.specs.Soundness.{IsSound};
@@ -17,26 +15,24 @@ ghost use Rattle.run_limits.specs.Tallies.{Shows};
 ghost use Rattle.ctl_state.specs.Counted.{holding};
 ghost use Rattle.ctl_pass.specs.Readiness.{jobs_left, placements, ready};
 ghost use Rattle.ctl_pass.specs.SamePlans.{same_plans};
+ghost use Rattle.ctl_pass.specs.Inputs.{IsSteppedOver};
 ghost use Rattle.ctl_pass.specs.Passing;
 
-use crate::base::base_of;
 use crate::beginning::begin;
-use crate::laws::{what_is_due_can_start, what_is_ranked_stays};
+use crate::input::{find_input, plan_over};
+use crate::laws::what_is_due_can_start;
 use crate::limits::{any_gone, count_over, time_out};
 use crate::live_arrays::{LiveArrays, live_arrays};
 use crate::same_plans::are_same;
 use crate::split::split;
 use crate::starts::DueStart;
-use backfill_planner::{Base, Placed, PlanJob, Planned, plan};
-use ctl_rank::measure;
+use backfill_planner::{Placed, Planned};
 use ctl_state::cluster::Cluster;
 use ctl_state::counting::count_holding;
 use ctl_state::laws::parts_stay;
 use ctl_state::record::ArrayRecord;
-use ctl_waiting::rank;
 use job_table::awaited::Awaited;
 use job_table::laws::who_is_awaited_stays;
-use plan_keeper::replan;
 use reservations::record::Reservation;
 use resource_profile::Steps;
 use run_limits::tally::Tally;
@@ -71,25 +67,6 @@ pub fn refusal_of(cluster: &Cluster, user: &Name) -> Option<Refusal>
     }
 }
 
-// The plan of the ranked jobs, over one that is kept.
-fn make_plan<L>(
-    alloc: Global,
-    kept: Option<&Planned>,
-    base: Base,
-    ranked: Vec<PlanJob>,
-    now: u64,
-    steps: &mut Steps<L>,
-) -> Result<Planned, Memory>
-    requires nodes { All (λ (job : AJob). All (λ node. node < length base.rooms) job.nodes) ranked.items }
-    ensures parts { IfOk result (λ planned. planned ≡ record { base = base; ranked = ranked.items; moment = now }) }
-    ensures steps { IsTickedUpTo (length ranked.items) steps.old steps.new }
-{
-    match kept {
-        Some(kept) => replan(alloc, kept, base, ranked, now, steps),
-        None => plan(alloc, base, ranked, now, steps),
-    }
-}
-
 // Equal placements, in their order.
 fn copy_all(alloc: Global, placements: &[Placed]) -> Result<Vec<Placed>, Memory>
     ensures { IfOk result (λ copies. copies.items ≡ placements.now) }
@@ -99,34 +76,6 @@ fn copy_all(alloc: Global, placements: &[Placed]) -> Result<Vec<Placed>, Memory>
         copies.push(placed.copy(alloc)?)?;
     }
     Ok(copies)
-}
-
-// The plan of what the pass's first steps leave, beside what the jobs hold: made over a plan that is kept, or from
-// scratch, which comes to the same. It counts a step for each job that it searches for.
-fn plan_over<L>(
-    alloc: Global,
-    cluster: &Cluster,
-    kept: Option<&Planned>,
-    now: u64,
-    awaited: &Awaited,
-    tally: &Tally,
-    steps: &mut Steps<L>,
-) -> Result<Planned, Memory>
-    requires sound { IsSound (state_of cluster.now) }
-    requires raised { cluster.now.moment ≤ now }
-    requires in_time { now ≤ last_moment }
-    requires awaited { ShowsAwaited awaited.now cluster.now.jobs.records }
-    requires counted { Shows cluster.now.assocs.records tally.now (holding cluster.now.jobs.records) }
-    ensures plan { IfOk result (λ planned.
-        plan_of planned.base planned.ranked planned.moment ≡ placements (state_of cluster.now) now) }
-    ensures steps { IsTickedUpTo (Passing.jobs_planned (state_of cluster.now) now) steps.old steps.new }
-{
-    what_is_ranked_stays();
-    let base = base_of(alloc, cluster, now, awaited)?;
-    let factors = measure(alloc, cluster, now)?;
-    let ranked = rank(alloc, cluster, tally, &factors)?;
-    let planned = make_plan(alloc, kept, base, ranked, now, steps)?;
-    Ok(planned)
 }
 
 /// What a pass at its raised moment does. Its plan is made over the one that is kept, if any, and kept then in its place;
@@ -149,11 +98,13 @@ pub fn decide<L>(
     requires in_time { now ≤ last_moment }
     ensures decided { IfOk result (Passing.IsDecided (state_of cluster.now) now) }
     ensures steps { IsTickedUpTo (Passing.jobs_planned (state_of cluster.now) now) steps.old steps.new }
+    ensures over { IfSome kept.old (λ old. IsSteppedOver old (state_of cluster.now) now steps.old steps.new) }
 {
     who_is_awaited_stays();
     let awaited = Awaited::of(alloc, &cluster.jobs)?;
     let tally = count_holding(alloc, &cluster.assocs, cluster.jobs.records())?;
-    let planned = plan_over(alloc, cluster, kept.as_ref(), now, &awaited, &tally, steps)?;
+    let input = find_input(alloc, cluster, now, &awaited, &tally)?;
+    let planned = plan_over(alloc, kept.as_ref(), input, steps)?;
     let plan = copy_all(alloc, planned.placements())?;
     let decided = decide_with(alloc, cluster, now, awaited, tally, plan)?;
     *kept = Some(planned);

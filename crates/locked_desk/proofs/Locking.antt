@@ -12,7 +12,8 @@ use Rattle.turn_lock.specs.Views.{StartsWith, bearing}
 use Rattle.turn_lock.specs.Passes.{HasTurn, Adds, SeesMore, IsKnown, seen_all}
 use Rattle.resource_profile.specs.Counts.{IsTickedUpTo}
 use Rattle.ctl_state.specs.State.{State}
-use Rattle.ctl_core.specs.Step.{reply_of, is_entered, steps_of}
+use Rattle.backfill_planner.specs.Plans.{PlannedView}
+use Rattle.ctl_core.specs.Step.{IsHinted, reply_of, is_entered, steps_of}
 use Rattle.ctl_desk.specs.declared.entry.Answer.{Answer}
 use Rattle.ctl_desk.specs.declared.entry.Entry.{Entry}
 use Rattle.ctl_desk.specs.Desk.{Sight, GoesOn, IsAnswered, seen, later, state_at, history_of}
@@ -108,10 +109,14 @@ module _ {lock : TableId} {opening : State} {before len : ℕ} {is_shut : Bool} 
   after_number : after.number ≡ pass.number
   after_number = ap (λ (p : BookView). p.number) t.left ∙ number_is
 
+  after_lock : after.lock ≡ pass.lock
+  after_lock = ap (λ (p : BookView). p.lock) t.left ∙ ap (λ (p : BookView). p.lock) t.took.sees.same
+
   pub goes_on : GoesOn (sight_by opening before pass) (sight_by opening before after)
   goes_on = (
     more,
     λ i. record {
+      lock = Some (after_lock i);
       opening = opening;
       number = after_number i;
       before = (ap (take before) went_on ∙ take-append-le before pass.seen more t.desk.since) i;
@@ -197,6 +202,13 @@ module _ {lock : TableId} {opening : State} {before len : ℕ} {is_shut : Bool} 
       ap (λ (p : BookView). p.mine) t.left ∙ (ap (bearing bearer turn.number) (t.grown ∙ (ap (λ es. old.entries ++ es) none_added ∙ append-nil old.entries))
       ∙ (ap (λ n. bearing bearer n old.entries) number_is ∙ none_own))
 
+  -- the state after all that the desk has seen then, where nothing was added
+  pub seen_present : tail ≡ [] → present (history_of (sight_by opening before after)) ≡ present old
+  seen_present none_added =
+      let whole : seen (sight_by opening before after) ≡ old.entries =
+      seen_after ∙ (after_is ∙ (t.grown ∙ (ap (λ es. old.entries ++ es) none_added ∙ append-nil old.entries))) in
+      λ i. after_all (sym opened i) (whole i)
+
   abbrev the_seat : LockedSeat
   the_seat = record { opening = opening; before = before; pass = Some pass }
 
@@ -239,6 +251,24 @@ module _ {lock : TableId} {opening : State} {before len : ℕ} {is_shut : Bool} 
       let same : present (history_of (sight_by opening before after)) ≡ present old = λ i. after_all (sym opened i) (whole i) in
       subst (λ (at : State). IsTickedUpTo (steps_of at now user) counted counted') (sym same) counts
 
+  -- what holds of the state that a request was worked in holds of the state at its place
+  pub seat_there : {E : Type 0} (seat : LockedSeat) → the_seat ≡ seat → (P : State → Type 0) (now : ℕ) (user : List ℕ) (request : Request) (result : Result Answer E) (number : ℕ) → IsWorked number old new now user request result
+      → P (present old)
+      → IfOk result (λ answer. P (state_at (sight_there seat).opening (seen (sight_by opening before after)) answer.place))
+  seat_there seat is P now user request (Ok answer) number worked holds =
+      subst (λ (s : LockedSeat). P (state_at (sight_there s).opening (seen (sight_by opening before after)) answer.place)) is
+      (subst P (sym (there answer.place worked.place (front_is answer.place worked.place))) holds)
+  seat_there seat is P now user request (Err e) number worked holds = tt
+
+  pub seat_there_err : {E : Type 0} (P : State → Type 0) (now : ℕ) (user : List ℕ) (request : Request) (result : Result Answer E) (number : ℕ) → IsWorked number old new now user request result
+      → P (present old)
+      → OnErr result (P (present (history_of (sight_by opening before after))))
+  seat_there_err P now user request (Ok answer) number worked holds = tt
+  seat_there_err P now user request (Err e) number worked holds =
+      let whole : seen (sight_by opening before after) ≡ old.entries = seen_after ∙ (after_is ∙ ap (λ (h : History). h.entries) worked.err) in
+      let same : present (history_of (sight_by opening before after)) ≡ present old = λ i. after_all (sym opened i) (whole i) in
+      subst P (sym same) holds
+
 -- what a desk's turn is in which a request was worked
 pub turn_worked : {E : Type 0} (lock : TableId) (opening : State) (before len : ℕ) (is_shut : Bool) (held : Option BookView) (pass turn after : BookView) (old new : History) (number now : ℕ) (user : List ℕ) (request : Request) (result : Result Answer E)
     → HasPass lock opening before len is_shut held → held ≡ Some pass → HasTurn entries_of begins_as pass turn old → IsKnown bearer turn → number ≡ turn.number
@@ -269,6 +299,25 @@ turn_looked lock opening before len is_shut held pass turn after book has is too
   left = left;
 }
 
+-- one in which the book was asked for what changes nothing of it
+pub turn_asked : (lock : TableId) (opening : State) (before len : ℕ) (is_shut : Bool) (held : Option BookView) (pass turn after : BookView) (old new : History)
+    → HasPass lock opening before len is_shut held → held ≡ Some pass → HasTurn entries_of begins_as pass turn old → IsKnown bearer turn → new ≡ old → after ≡ seen_all entries_of bearer turn new
+    → Took lock opening before len is_shut pass turn after old new []
+turn_asked lock opening before len is_shut held pass turn after old new has is took known same left = record {
+  desk = subst (HasPass lock opening before len is_shut) is has;
+  took = took;
+  known = known;
+  begins = ap (λ (h : History). h.opening) same;
+  grown = ap (λ (h : History). h.entries) same ∙ sym (append-nil old.entries);
+  own = All-nil (λ (entry : Entry). entry.session ≡ turn.number);
+  left = left;
+}
+
 -- a book as it was found adds nothing
 pub adds_none : (turn : BookView) (book : History) → book.entries ≡ turn.seen → Adds entries_of bearer turn book
 adds_none turn book whole = ([], whole ∙ sym (append-nil turn.seen), All-nil (λ (entry : Entry). entry.session ≡ turn.number))
+
+-- where nothing was counted
+pub not-hinted : (hint : Option PlannedView) (s : State) (now count : ℕ) → IfSome hint (λ old. IsHinted old s now count count)
+not-hinted None s now count = tt
+not-hinted (Some old) s now count = λ steady are. record { times = 0; few = omega arith; is = refl }

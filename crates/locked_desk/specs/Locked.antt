@@ -23,6 +23,7 @@ pub record LockedSeat : Type 0 where
 -- what a desk sees that has this pass
 abbrev pub sight_by : State → ℕ → BookView → Sight
 sight_by opening before pass = record {
+  lock = Some pass.lock;
   opening = opening;
   number = pass.number;
   before = take before pass.seen;
@@ -33,7 +34,7 @@ sight_by opening before pass = record {
 -- what is seen at a lock: between two calls a desk has its pass
 abbrev pub sight_at : State → ℕ → Option BookView → Sight
 sight_at opening before (Some pass) = sight_by opening before pass
-sight_at opening before None = record { opening = opening; number = 0; before = []; since = []; mine = [] }
+sight_at opening before None = record { lock = None; opening = opening; number = 0; before = []; since = []; mine = [] }
 
 abbrev pub sight_there : LockedSeat → Sight
 sight_there seat = sight_at seat.opening seat.before seat.pass

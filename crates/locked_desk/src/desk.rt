@@ -1,7 +1,7 @@
 //! A desk of one of several threads.
 
 ghost use Rattle.std.specs.Prelude.{◌≡◌, [], IfSome, Some};
-ghost use Rattle.turn_lock.specs.Passes.{SeesMore};
+ghost use Rattle.turn_lock.specs.Passes.{SeesMore, IsKnown};
 ghost use Rattle.locked_desk.specs.Locked.{sight_there};
 ghost use Rattle.ctl_desk.specs.Desk.{history_of};
 ghost use Rattle.ctl_desk.specs.History.{IsHistory};
@@ -11,6 +11,7 @@ use backfill_planner::Planned;
 use ctl_desk::book::Book;
 use ctl_desk::desk::Desk;
 use ctl_desk::entry::{Answer, Entry};
+use ctl_pass::PlanInput;
 use resource_profile::{Plain, Steps};
 use slurm_text::memory_error::Memory;
 use slurm_text::name::Name;
@@ -81,10 +82,12 @@ pub fn locked_desk<'a, R: Wait>(rt: &'a R, lock: &'a BookLock, pass: BookPass) -
 impl<'a, R: Wait> LockedDesk<'a, R> {
     /// The pass of the desk. It takes no memory.
     pub fn into_pass(self) -> BookPass
-        ensures { self.entry.pass ≡ Some result }
+        ensures pass { self.entry.pass ≡ Some result }
+        ensures known { IsKnown (λ entry. entry.session) result }
     {
         let LockedDesk { pass, .. } = self;
         let Some(pass) = pass else { unreachable!() };
+        let _ = pass.number();
         pass
     }
 }
@@ -128,6 +131,21 @@ impl<'a, R: Wait> Desk for LockedDesk<'a, R> {
         let _ = pass.number();
         self.pass = Some(pass);
         answer
+    }
+
+    fn input(&mut self, now: u64) -> Result<PlanInput, Memory> {
+        let Some(pass) = self.pass.take() else {
+            unreachable!()
+        };
+        let mut held = self.lock.enter(self.rt, pass);
+        let _ = held.turn.number();
+        let input = held.value.input(now);
+        self.len = held.value.len();
+        self.is_shut = held.value.ctl().is_shut();
+        let pass = self.lock.leave(held);
+        let _ = pass.number();
+        self.pass = Some(pass);
+        input
     }
 
     fn seen_len(&self) -> u64 {

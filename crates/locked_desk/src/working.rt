@@ -1,9 +1,9 @@
 //! Requests worked by who has the turn at the book.
 
-ghost use Rattle.std.specs.Prelude.{◌≡◌, ◌<◌, ◌^◌, length};
+ghost use Rattle.std.specs.Prelude.{◌≡◌, ◌<◌, ◌^◌, IfSome, length};
 ghost use Rattle.slurm_text.specs.declared.plain.request.Request.TheVariants.{Pass};
 ghost use Rattle.resource_profile.specs.Counts.{IsTickedUpTo};
-ghost use Rattle.ctl_core.specs.Step.{steps_of};
+ghost use Rattle.ctl_core.specs.Step.{IsHinted, steps_of};
 ghost use Rattle.ctl_desk.specs.History.{present};
 ghost use Rattle.locked_desk.specs.Locked.{IsWorked};
 
@@ -56,6 +56,7 @@ pub fn pass_book(
     ensures worked { IsWorked session book.old book.new now user.now Pass result }
     ensures short { length book.new.entries < 2 ^ 62 }
     ensures steps { IsTickedUpTo (steps_of (present book.old) now user.now) steps.old steps.new }
+    ensures over { IfSome hint (λ hint. IsHinted hint (present book.old) now steps.old steps.new) }
 {
     if book.len() >= MOST_ENTRIES {
         drop_hint(hint);

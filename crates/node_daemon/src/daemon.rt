@@ -1,6 +1,7 @@
 //! The daemon of a node.
 
 ghost use Rattle.std.specs.Prelude.{◌≡◌, ◌<◌, ◌+◌, ◌^◌, IfOk, OnOk, OnErr};
+ghost use Rattle.std.specs.Bool.{Decides};
 ghost use Rattle.node_daemon.specs.Daemon.{accepted, are_due, finished, given, polled, reported, started};
 
 use crate::over::{forget, with_over};
@@ -57,6 +58,13 @@ impl DaemonState {
             over: Vec::new(alloc),
             taken: true,
         })
+    }
+
+    /// Whether there is a number for a further report. It takes no memory.
+    pub fn can_report(&self) -> bool
+        ensures { Decides result (self.now.number + 1 < 2 ^ 64) }
+    {
+        self.number < u64::MAX
     }
 
     /// Sees which scripts have ended at a moment, and tells what runs and what is over, in a report with the next

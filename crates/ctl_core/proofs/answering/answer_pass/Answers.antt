@@ -6,6 +6,7 @@ use Rattle.ctl_state.specs.State.{state_of, last_moment}
 use Rattle.ctl_core.specs.Sizes.{has_room, size_of}
 use Rattle.ctl_core.specs.Step.{raised}
 use Rattle.resource_profile.specs.Counts.{IsTickedUpTo}
+use Rattle.ctl_core.proofs.Hinted.{hinted-raised, not-hinted}
 use Rattle.ctl_core.proofs.Stamping.{reply-worked, size-asked, state-worked, steps-worked}
 use Rattle.ctl_core.proofs.answering.answer_pass.Goals as goal
 
@@ -50,3 +51,17 @@ returns-clause-after g c =
     ∙ size-asked c.room_for-size.result (has_room s Pass) (size_of Pass) c.room_for-size.ensures.room
     c.room_for-size.ensures.value has)
     (rw moment at c.stamp-2.ensures.after)
+
+pub returns-in_err-answered-clause-over : goal.returns-in_err-answered-clause-over
+returns-in_err-answered-clause-over g c =
+    let s = state_of c.args.cluster.now in
+    let moment : c.max-moment.result ≡ raised s c.args.now = search rules in
+    hinted-raised c.args.kept.now s c.args.now c.max-moment.result c.args.steps.now c.pass.new.steps moment
+    c.in_err-answered.ensures.over
+
+pub returns-clause-over : goal.returns-clause-over
+returns-clause-over g c =
+    let s = state_of c.args.cluster.now in
+    let moment : c.max-moment.result ≡ raised s c.args.now = search rules in
+    hinted-raised c.args.kept.now s c.args.now c.max-moment.result c.args.steps.now c.pass.new.steps moment
+    c.in_ok-answered.ensures.over

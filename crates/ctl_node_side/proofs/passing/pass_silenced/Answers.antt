@@ -9,6 +9,7 @@ use Rattle.ctl_nodes.specs.Failing.{loses}
 use Rattle.ctl_node_side.specs.Came.{Came}
 use Rattle.ctl_node_side.proofs.Back.{index_back, state_back}
 use Rattle.ctl_node_side.proofs.Coming.{busy_silenced, came_fallen, failing_alike, few_ended, few_failed}
+use Rattle.ctl_node_side.proofs.Over.{not-over, over-found}
 use Rattle.ctl_node_side.proofs.Silent.{silenced_some}
 use Rattle.ctl_node_side.proofs.passing.pass_silenced.Goals as goal
 
@@ -90,3 +91,24 @@ returns-in-Err-clause-indexed g c =
     (index_back c.kept_jobs_are_put_back.ensures c.args.moment (has_id c.args.silent.now) c.args.cluster.now
     c.fall_silent.new.cluster c.in_ok-before.before c.requires.places c.in_ok-before.ensures c.requires.sound.rising
     c.fall_silent.ensures.after c.requires.indexed)
+
+pub returns-in_err-before-clause-over : goal.returns-in_err-before-clause-over
+returns-in_err-before-clause-over g c = not-over c.args.kept.now (state_of c.args.cluster.now) c.args.moment c.args.steps.now
+
+pub returns-in-Ok-clause-over : goal.returns-in-Ok-clause-over
+returns-in-Ok-clause-over g c =
+    let s = state_of c.args.cluster.now in
+    over-found c.args.kept.now s (state_of c.fall_silent.new.cluster) c.args.moment c.args.steps.now c.decide.new.steps
+    (c.fall_silent.ensures.after ∙ sym (silenced_some s c.args.moment c.requires.some)) c.in-Ok.ensures.over
+
+pub returns-in-Ok-2-clause-over : goal.returns-in-Ok-2-clause-over
+returns-in-Ok-2-clause-over g c =
+    let s = state_of c.args.cluster.now in
+    over-found c.args.kept.now s (state_of c.fall_silent.new.cluster) c.args.moment c.args.steps.now c.decide.new.steps
+    (c.fall_silent.ensures.after ∙ sym (silenced_some s c.args.moment c.requires.some)) c.in-Ok.ensures.over
+
+pub returns-in-Err-clause-over : goal.returns-in-Err-clause-over
+returns-in-Err-clause-over g c =
+    let s = state_of c.args.cluster.now in
+    over-found c.args.kept.now s (state_of c.fall_silent.new.cluster) c.args.moment c.args.steps.now c.decide.new.steps
+    (c.fall_silent.ensures.after ∙ sym (silenced_some s c.args.moment c.requires.some)) c.in-Err.ensures.over

@@ -4,6 +4,7 @@ use Rattle.ctl_state.specs.State.{State}
 use Rattle.ctl_core.specs.Step.{raised, reply_of, steps_of}
 use Rattle.ctl_desk.specs.History.{History, present}
 use Rattle.ctl_desk.proofs.Entered.{entered_as}
+use Rattle.ctl_desk.proofs.Owning.{not-hinted}
 use Rattle.ctl_desk.proofs.Entering.{IsHistory-decided}
 use Rattle.resource_profile.specs.Counts.{IsTickedUpTo}
 use Rattle.ctl_desk.proofs.book.Book.pass.Goals as goal
@@ -51,3 +52,9 @@ returns-clause-entries g c =
     (c.reserve.ensures.items ∙ ap (λ (h : History). h.entries) c.self.view_is)
     (decided.moment ∙ ap (λ (s : State). raised s now) same) c.in_ok-name.ensures
     (decided.reply ∙ ap (λ (s : State). reply_of s now user Pass) same)
+
+pub returns-in_err-decided-clause-over : goal.returns-in_err-decided-clause-over
+returns-in_err-decided-clause-over g c = rw (sym (c.self.invariant.1 ∙ ap (λ (h : History). present h) c.self.view_is)) c.in_err-decided.ensures.over
+
+pub returns-clause-over : goal.returns-clause-over
+returns-clause-over g c = rw (sym (c.self.invariant.1 ∙ ap (λ (h : History). present h) c.self.view_is)) c.in_ok-decided.ensures.over

@@ -1,7 +1,10 @@
 use Rattle.slurm_text.specs.declared.plain.request.Request.TheVariants.{Pass}
-use Rattle.std.proofs.Common.{refl}
+use Rattle.std.proofs.Common.{IfSome, refl}
+use Rattle.backfill_planner.specs.Plans.{PlannedView}
+use Rattle.ctl_state.specs.State.{State}
+use Rattle.ctl_core.specs.Step.{IsHinted}
 use Rattle.ctl_desk.specs.History.{entry_of, after_all}
-use Rattle.ctl_desk.proofs.Owning.{own_goes_on, own_answered, own_counted, own_counted_up_to}
+use Rattle.ctl_desk.proofs.Owning.{own_goes_on, own_answered, own_counted, own_counted_up_to, own_there, own_there_err}
 use Rattle.ctl_desk.proofs.own_desk.OwnDeskDesk.pass.Goals as goal
 
 pub returns-clause-goes_on : goal.returns-clause-goes_on
@@ -31,3 +34,19 @@ returns-clause-steps_err c =
     let called = c.pass.ensures in
     own_counted_up_to _ c.args.now c.args.user.now c.self.inside.before _ _ c.self.inside.book c.pass.new.self
     called.err called.steps
+
+pub returns-clause-over : goal.returns-clause-over
+returns-clause-over c =
+    let called = c.pass.ensures in
+    let hinted = λ (s : State). IfSome c.args.hint (λ (hint : PlannedView).
+    IsHinted hint s c.args.now c.args.steps.now c.pass.new.steps) in
+    rw (← c.self.view_is)
+    (own_there hinted _ c.args.now c.args.user.now c.self.inside.before c.self.inside.book c.pass.new.self
+    called.place called.entries called.over)
+
+pub returns-clause-over_err : goal.returns-clause-over_err
+returns-clause-over_err c =
+    let called = c.pass.ensures in
+    let hinted = λ (s : State). IfSome c.args.hint (λ (hint : PlannedView).
+    IsHinted hint s c.args.now c.args.steps.now c.pass.new.steps) in
+    own_there_err hinted _ c.self.inside.before c.self.inside.book c.pass.new.self called.err called.over

@@ -1,0 +1,32 @@
+//! What a pass would make its plan of.
+
+ghost use Rattle.std.specs.Prelude.{◌≡◌, IfOk};
+ghost use Rattle.ctl_state.specs.Index.{IsIndexed};
+ghost use Rattle.ctl_state.specs.Soundness.{IsSound};
+ghost use Rattle.ctl_state.specs.State.{state_of};
+ghost use Rattle.ctl_core.specs.Step.{input_at};
+
+use crate::answering::LAST_MOMENT;
+use backfill_planner::Planned;
+use ctl_node_side::input;
+use ctl_pass::PlanInput;
+use ctl_state::cluster::Cluster;
+use slurm_text::memory_error::Memory;
+use std::alloc::Global;
+
+/// What a pass at a moment would make its plan of, with the plan that is kept, of which none stays.
+pub(crate) fn find_input(
+    alloc: Global,
+    cluster: &mut Cluster,
+    kept: &mut Option<Planned>,
+    now: u64,
+) -> Result<PlanInput, Memory>
+    requires sound { IsSound (state_of cluster.old) }
+    requires indexed { IsIndexed cluster.old }
+    ensures input { IfOk result (λ input. input ≡ input_at (state_of cluster.old) now) }
+    ensures stays { state_of cluster.new ≡ state_of cluster.old }
+    ensures indexed { IsIndexed cluster.new }
+{
+    let moment = cluster.moment.max(now.min(LAST_MOMENT));
+    input(alloc, cluster, kept, moment)
+}

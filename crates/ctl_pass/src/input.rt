@@ -1,0 +1,178 @@
+//! What the plan of a pass is made of, and the plan.
+
+ghost use Rattle.std.specs.Prelude.{◌≡◌, ◌≤◌, ◌<◌, ℕ, Bool, IfOk, IfSome, length, All, option_copied};
+ghost use Rattle.resource_profile.specs.Counts.{IsTickedUpTo};
+ghost use Rattle.backfill_planner.specs.declared.job.PlanJob.{PlanJob as AJob};
+ghost use Rattle.backfill_planner.specs.Plans.{PlannedView};
+ghost use Rattle.job_table.specs.Awaiting.{ShowsAwaited};
+ghost use Rattle.plan_keeper.specs.Steady.{AreSteady, others};
+ghost use Rattle.run_limits.specs.Tallies.{Shows};
+ghost use Rattle.ctl_state.specs.Counted.{holding};
+ghost use Rattle.ctl_state.specs.Soundness.{IsSound};
+ghost use Rattle.ctl_state.specs.State.{state_of, last_moment};
+ghost use Rattle.ctl_pass.specs.Inputs.{input_of};
+
+use crate::base::base_of;
+use crate::laws::what_is_ranked_stays;
+use backfill_planner::{Base, PlanJob, Planned, plan};
+use ctl_rank::measure;
+use ctl_state::cluster::Cluster;
+use ctl_state::counting::count_holding;
+use ctl_waiting::rank;
+use job_table::awaited::Awaited;
+use plan_keeper::replan;
+use resource_profile::Steps;
+use run_limits::tally::Tally;
+use slurm_text::memory_error::Memory;
+use std::alloc::Global;
+use std::marker::Model;
+
+/// What the plan of a pass is made of (own). The nodes of each job are places of the base's rooms. A contract sees the
+/// parts of the plan, and not the older one, over which it may be made.
+#[derive(Drop)]
+pub struct PlanInput {
+    pub base: Base,
+    /// The jobs, the highest first.
+    pub ranked: Vec<PlanJob>,
+    /// An older plan. Whichever it is, the plan is the same.
+    pub kept: Option<Planned>,
+    /// In seconds since 1970.
+    pub now: u64,
+}
+
+impl Model for PlanInput {
+    ghost use Rattle.std.specs.Prelude.{All};
+    ghost use Rattle.backfill_planner.specs.Placements.{IsOnRooms};
+    ghost use Rattle.backfill_planner.specs.Plans.{PlannedView};
+
+    ghost Value = { PlannedView };
+
+    ghost view = { λ input. record { base = input.base; ranked = input.ranked.items; moment = input.now } };
+
+    ghost invariant = { λ input. All (IsOnRooms input.base.rooms) input.ranked.items };
+}
+
+impl PlanInput {
+    /// The plan of it: made over the older one, if any, or from scratch, which comes to the same. It counts a step for
+    /// each job that it searches for.
+    pub fn plan<L>(self, alloc: Global, steps: &mut Steps<L>) -> Result<Planned, Memory>
+        ensures plan { IfOk result (λ planned. planned ≡ self) }
+        ensures steps { IsTickedUpTo (length self.ranked) steps.old steps.new }
+    {
+        let PlanInput {
+            base,
+            ranked,
+            kept,
+            now,
+        } = self;
+        make_plan(alloc, kept.as_ref(), base, ranked, now, steps)
+    }
+}
+
+// The plan of the ranked jobs, over one that is kept.
+fn make_plan<L>(
+    alloc: Global,
+    kept: Option<&Planned>,
+    base: Base,
+    ranked: Vec<PlanJob>,
+    now: u64,
+    steps: &mut Steps<L>,
+) -> Result<Planned, Memory>
+    requires nodes { All (λ (job : AJob). All (λ node. node < length base.rooms) job.nodes) ranked.items }
+    ensures parts { IfOk result (λ planned. planned ≡ record { base = base; ranked = ranked.items; moment = now }) }
+    ensures steps { IsTickedUpTo (length ranked.items) steps.old steps.new }
+    ensures over { IfSome (option_copied kept.entry) (λ old. (steady : ℕ → Bool)
+        → AreSteady old base ranked.items now steady
+        → IsTickedUpTo (others steady (length ranked.items)) steps.old steps.new) }
+{
+    match kept {
+        Some(kept) => replan(alloc, kept, base, ranked, now, steps),
+        None => plan(alloc, base, ranked, now, steps),
+    }
+}
+
+/// The plan of this input over one that is kept, if any; the input's own older plan isn't used.
+pub(crate) fn plan_over<L>(
+    alloc: Global,
+    kept: Option<&Planned>,
+    input: PlanInput,
+    steps: &mut Steps<L>,
+) -> Result<Planned, Memory>
+    ensures plan { IfOk result (λ planned. planned ≡ input) }
+    ensures steps { IsTickedUpTo (length input.ranked) steps.old steps.new }
+    ensures over { IfSome (option_copied kept.entry) (λ old. (steady : ℕ → Bool)
+        → AreSteady old input.base input.ranked input.moment steady
+        → IsTickedUpTo (others steady (length input.ranked)) steps.old steps.new) }
+{
+    let PlanInput {
+        base,
+        ranked,
+        now,
+        ..
+    } = input;
+    make_plan(alloc, kept, base, ranked, now, steps)
+}
+
+/// What a pass at its raised moment plans, beside what its jobs hold, with no older plan.
+pub(crate) fn find_input(
+    alloc: Global,
+    cluster: &Cluster,
+    now: u64,
+    awaited: &Awaited,
+    tally: &Tally,
+) -> Result<PlanInput, Memory>
+    requires sound { IsSound (state_of cluster.now) }
+    requires raised { cluster.now.moment ≤ now }
+    requires in_time { now ≤ last_moment }
+    requires awaited { ShowsAwaited awaited.now cluster.now.jobs.records }
+    requires counted { Shows cluster.now.assocs.records tally.now (holding cluster.now.jobs.records) }
+    ensures { IfOk result (λ input. input ≡ input_of (state_of cluster.now) now) }
+{
+    what_is_ranked_stays();
+    let base = base_of(alloc, cluster, now, awaited)?;
+    let factors = measure(alloc, cluster, now)?;
+    let ranked = rank(alloc, cluster, tally, &factors)?;
+    Ok(PlanInput {
+        base,
+        ranked,
+        kept: None,
+        now,
+    })
+}
+
+/// What a pass at its raised moment plans. The plan that is kept goes with it, and none stays; after want of memory it
+/// stays. It costs what `decide` costs before its plan.
+pub fn plan_input(
+    alloc: Global,
+    cluster: &Cluster,
+    kept: &mut Option<Planned>,
+    now: u64,
+) -> Result<PlanInput, Memory>
+    requires sound { IsSound (state_of cluster.now) }
+    requires raised { cluster.now.moment ≤ now }
+    requires in_time { now ≤ last_moment }
+    ensures { IfOk result (λ input. input ≡ input_of (state_of cluster.now) now) }
+{
+    let awaited = Awaited::of(alloc, &cluster.jobs)?;
+    let tally = count_holding(alloc, &cluster.assocs, cluster.jobs.records())?;
+    let input = find_input(alloc, cluster, now, &awaited, &tally)?;
+    Ok(with_kept(input, kept.take()))
+}
+
+// The input with this older plan.
+fn with_kept(input: PlanInput, kept: Option<Planned>) -> PlanInput
+    ensures { result ≡ input }
+{
+    let PlanInput {
+        base,
+        ranked,
+        now,
+        ..
+    } = input;
+    PlanInput {
+        base,
+        ranked,
+        kept,
+        now,
+    }
+}

@@ -1,0 +1,5 @@
+pub mod Cutting
+pub mod Ending
+pub mod Following
+pub mod Timings
+pub mod Turning
