@@ -1,0 +1,15 @@
+pub mod Lists
+pub mod Numbers
+pub mod Claimed
+pub mod Sending
+pub mod Polling
+pub mod Obeying
+pub mod LeftAlone
+pub mod Apart
+pub mod Launching
+pub mod Hearing
+pub mod Accepting
+pub mod Holding
+pub mod Others
+pub mod Delivering
+pub mod Reporting
