@@ -13,3 +13,4 @@ pub mod Holding
 pub mod Others
 pub mod Delivering
 pub mod Reporting
+pub mod Altering
