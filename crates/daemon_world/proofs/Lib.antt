@@ -14,3 +14,6 @@ pub mod Others
 pub mod Delivering
 pub mod Reporting
 pub mod Altering
+pub mod Starting
+pub mod Requests
+pub mod Whole

@@ -25,8 +25,8 @@ pub record World : Type 0 where
 -- a daemon is started anew with a boot number; a user asks for anything, a pass among it.
 pub data Event : Type 0 where
   Polls : (now : ℕ) (node : List ℕ) → Event
-  Reported : (now : ℕ) (report : Report) → Event
-  Ordered : (now : ℕ) (orders : Orders) → Event
+  ReportComes : (now : ℕ) (report : Report) → Event
+  OrdersCome : (now : ℕ) (orders : Orders) → Event
   Restarts : (node : List ℕ) (boot : ℕ) → Event
   Asks : (now : ℕ) (user : List ℕ) (request : Request) → Event
 
@@ -38,8 +38,8 @@ IsNoReport request = Unit {0}
 -- Only what was sent can come, and boot numbers of a daemon rise.
 abbrev pub CanHappen : World → Event → Type 0
 CanHappen w (Polls now node) = Unit {0}
-CanHappen w (Reported now report) = Contains w.reports report
-CanHappen w (Ordered now orders) = Contains w.orders orders
+CanHappen w (ReportComes now report) = Contains w.reports report
+CanHappen w (OrdersCome now orders) = Contains w.orders orders
 CanHappen w (Restarts node boot) = (w.daemons node).boot < boot
 CanHappen w (Asks now user request) = IsInRange request × IsNoReport request
 
@@ -58,11 +58,11 @@ world_after w (Polls now node) = record w {
   daemons = with_daemon node (polled now (w.daemons node)) w.daemons;
   reports = reported (polled now (w.daemons node)) ∷ w.reports;
 }
-world_after w (Reported now report) = record w {
+world_after w (ReportComes now report) = record w {
   state = state_after w.state now root (Reports report);
   orders = with_reply (reply_of w.state now root (Reports report)) w.orders;
 }
-world_after w (Ordered now orders) = record w {
+world_after w (OrdersCome now orders) = record w {
   daemons = with_daemon orders.node (given now orders (w.daemons orders.node)) w.daemons;
 }
 world_after w (Restarts node boot) = record w { daemons = with_daemon node (started node boot) w.daemons }
