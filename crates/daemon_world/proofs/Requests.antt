@@ -1,0 +1,342 @@
+-- What users ask, and a pass, leave each node's side alone.
+use Rattle.std.proofs.Common.{ℕ, ◌≡◌, ◌≤◌, ◌<◌, ◌∙◌, Bool, true, false, ◌&&◌, not, List, [], ◌∷◌, ◌++◌, map, filter, All, Any, Option, Some, None, if◌then◌else◌, refl, sym, ap, subst, arith, inl, inr, slice_get}
+use Rattle.std.specs.Prelude.{nat_lt}
+use Rattle.std.specs.List.{list_any}
+use Rattle.std.proofs.lemmas.Bool.{and_left, both_ways, cases_Bool, cond_both, ltb-false, not_from_false}
+use Rattle.slurm_text.specs.declared.plain.limit.Limit.{Limit}
+use Rattle.slurm_text.specs.declared.plain.nice.Nice.{Nice}
+use Rattle.slurm_text.specs.declared.plain.conf.PartState.{PartState}
+use Rattle.slurm_text.specs.declared.plain.job.JobDesc.{JobDesc}
+use Rattle.slurm_text.specs.declared.plain.refusal.Refusal.{Refusal}
+use Rattle.slurm_text.specs.declared.plain.refusal.Refusal.TheVariants.{MomentTooLarge, ShuttingDown}
+use Rattle.slurm_text.specs.declared.plain.request.NodeOrder.{NodeOrder}
+use Rattle.slurm_text.specs.declared.plain.request.NodeOrder.TheVariants as order
+use Rattle.slurm_text.specs.declared.plain.request.Request.{Request}
+use Rattle.slurm_text.specs.declared.plain.request.Request.TheVariants.{Submit, Cancel, Hold, Release, Requeue, UpdateJob, UpdateNode, UpdatePartition, CreateReservation, DeleteReservation, Report, Pass, Shutdown, Show}
+use Rattle.slurm_text.specs.declared.plain.state.Final.TheVariants as final
+use Rattle.slurm_text.specs.declared.plain.state.JobState.{JobState}
+use Rattle.slurm_text.specs.declared.plain.state.JobState.TheVariants.{Pending, Running, Completing, Ended}
+use Rattle.node_state.specs.declared.record.NodeChange.TheVariants as change
+use Rattle.node_state.specs.declared.record.NodeRecord.{NodeRecord}
+use Rattle.partitions.specs.Partitions.{place_meant}
+use Rattle.job_table.specs.declared.record.JobRecord.{JobRecord}
+use Rattle.job_table.specs.declared.record.Part.{Part}
+use Rattle.job_table.specs.declared.change.Change.TheVariants.{Leave, SetLimit, SetNice}
+use Rattle.job_table.specs.Changes.{changed}
+use Rattle.job_table.specs.JobStates.{is_ended, is_holding, is_pending, is_running}
+use Rattle.job_table.specs.Table.{is_old}
+use Rattle.ctl_state.specs.Holding.{has_members}
+use Rattle.ctl_state.specs.Planning.{is_at}
+use Rattle.ctl_state.specs.Refusals.{first_refusal, refused_if, unless_refused}
+use Rattle.ctl_state.specs.Soundness.{IsKept, IsSound, is_up_at}
+use Rattle.ctl_state.specs.State.{State, last_moment}
+use Rattle.ctl_state.specs.Verdicts.{Verdict, Refuses, Tells, Stays, Makes, left_by, reply_by}
+use Rattle.ctl_jobs.specs.declared.action.Action.{Action}
+use Rattle.ctl_jobs.specs.declared.action.Action.TheVariants as act
+use Rattle.ctl_jobs.specs.Actions.{cancelled_in, done_to, with_limit, with_nice}
+use Rattle.ctl_jobs.specs.Changing.{are_meant, are_naming, change_after, change_made, done_if, done_where, goes, may_do}
+use Rattle.ctl_nodes.specs.Changing.{changed_where}
+use Rattle.ctl_nodes.specs.Failing.{after_loss}
+use Rattle.ctl_nodes.specs.Updating.{changes_any, is_among, lost_by, update_after}
+use Rattle.ctl_pass.specs.Limits.{is_over, timed_out}
+use Rattle.ctl_pass.specs.Passing.{outcome, pass_after}
+use Rattle.ctl_pass.specs.Readiness.{goes as gone, jobs_left, placements, ready}
+use Rattle.ctl_pass.specs.Starting.{started}
+use Rattle.ctl_node_side.specs.Passes.{after_pass, pass_is_idle}
+use Rattle.ctl_node_side.specs.Silence.{any_silent, falls_silent, silent_at, silenced, without_silent}
+use Rattle.ctl_submit.specs.Submission.{made_under, new_arrays, new_jobs, submit_after, terms_of, Terms}
+use Rattle.ctl_core.specs.Operating.{is_in_state, partition_made}
+use Rattle.ctl_core.specs.Sizes.{has_room, size_of}
+use Rattle.ctl_core.specs.Step.{entered, is_closed, is_entered, made, raised, refusals_of, state_after, unless_full, verdict_of, worked}
+use Rattle.daemon_world.specs.Claims.{Claim, Holds, IsClaimed, IsHeldAt}
+use Rattle.daemon_world.specs.Leaving.{LeavesNode}
+use Rattle.daemon_world.specs.Worlds.{IsNoReport}
+use Rattle.daemon_world.proofs.Altering.{keeps_down, keeps_drain, keeps_resume, keeps_silent, leaves_on, nodes_left}
+use Rattle.daemon_world.proofs.Holding.{IsAlike, again_alike, alike_holds, alike_on, cancel_alike, itself, leave_alike, loss_holds}
+use Rattle.daemon_world.proofs.LeftAlone.{left_same}
+use Rattle.daemon_world.proofs.Lists.{any_filter, any_left, any_map, any_none, any_weaker}
+use Rattle.daemon_world.proofs.Starting.{MayStart, Plans, plans_start, starts_any}
+
+-- the nodes stay, and what is held of them
+pub left_held : (s s' : State) (node : List ℕ) → s'.nodes ≡ s.nodes
+    → ((place : ℕ) (claim : Claim) → IsHeldAt s.jobs place claim → IsHeldAt s'.jobs place claim) → LeavesNode s s' node
+left_held s s' node nodes held = record {
+  place = (left_same s (record s { nodes = s'.nodes }) node nodes refl).place;
+  kept = (left_same s (record s { nodes = s'.nodes }) node nodes refl).kept;
+  held = λ place there up. inl (
+    ap (λ (all : List NodeRecord). is_up_at all place) (sym nodes) ∙ up,
+    λ claim holds. held place claim holds,
+  );
+  emptied = (left_same s (record s { nodes = s'.nodes }) node nodes refl).emptied;
+}
+
+-- each job keeps what it holds
+pub map_held : (jobs : List JobRecord) (after : JobRecord → JobRecord) (place : ℕ) (claim : Claim)
+    → ((job : JobRecord) → Holds place claim job → Holds place claim (after job)) → IsHeldAt jobs place claim
+    → IsHeldAt (map after jobs) place claim
+map_held jobs after place claim each held =
+    any_map (λ (job : JobRecord). Unit {0}) (Holds place claim) (Holds place claim) after jobs
+    (λ job any holds. each job holds) (λ k d below. tt) held
+
+-- ---- what users do to jobs
+
+cancelled-alike : (now : ℕ) (job : JobRecord) (state : JobState) → IsAlike job (cancelled_in now job state)
+cancelled-alike now job Pending = cancel_alike now job
+cancelled-alike now job Running = leave_alike final.Cancelled now None job
+cancelled-alike now job (Completing end) = again_alike job
+cancelled-alike now job (Ended end) = itself job
+
+limit-alike : (limit : Option Limit) (job : JobRecord) → IsAlike job (with_limit limit job)
+limit-alike None job = itself job
+limit-alike (Some limit) job = record { id = refl; starts = refl; parts = refl }
+
+nice-alike : (nice : Option Nice) (job : JobRecord) → IsAlike job (with_nice nice job)
+nice-alike None job = itself job
+nice-alike (Some nice) job = record { id = refl; starts = refl; parts = refl }
+
+done-alike : (now : ℕ) (user : List ℕ) (action : Action) (job : JobRecord) → IsAlike job (done_to now user action job)
+done-alike now user act.Cancel job = cancelled-alike now job job.state
+done-alike now user (act.Hold for_owner) job = record { id = refl; starts = refl; parts = refl }
+done-alike now user act.Release job = record { id = refl; starts = refl; parts = refl }
+done-alike now user act.Requeue job = leave_alike final.Requeue now None job
+done-alike now user (act.Update limit nice) job =
+    alike_on job (with_limit limit job) (with_nice nice (with_limit limit job)) (limit-alike limit job)
+    (nice-alike nice (with_limit limit job))
+
+change-left : (s : State) (now : ℕ) (user : List ℕ) (action : Action) (named : JobRecord → Bool) (node : List ℕ)
+    → LeavesNode s (change_after s now user action named) node
+change-left s now user action named node =
+    left_held s (change_after s now user action named) node refl
+    (λ place claim. map_held s.jobs (done_if s now user action named) place claim
+    (λ job. cond_both (named job && may_do s user action job) (done_to now user action job) job
+    (λ (after : JobRecord). Holds place claim job → Holds place claim after)
+    (λ is holds. alike_holds place claim job (done_to now user action job) (done-alike now user action job) holds)
+    (λ not holds. holds)))
+
+-- ---- what operators say of nodes
+
+loss-held : (s : State) (now : ℕ) (lost : ℕ → Bool) (place : ℕ) (claim : Claim) → lost place ≡ false
+    → IsHeldAt s.jobs place claim → IsHeldAt (map (after_loss now lost) s.jobs) place claim
+loss-held s now lost place claim kept =
+    map_held s.jobs (after_loss now lost) place claim (λ job holds. loss_holds now place lost claim job kept holds)
+
+update-left : (s : State) (now : ℕ) (names : List (List ℕ)) (state : NodeOrder) (node : List ℕ)
+    → LeavesNode s (update_after s now names state) node
+update-left s now names order.Down node =
+    nodes_left (changed_where change.Down (is_among names)) (is_among names) (keeps_down (is_among names)) s (update_after s now names order.Down) node refl
+    (λ place claim kept. loss-held s now (lost_by s.nodes names order.Down) place claim kept)
+update-left s now names order.Drain node =
+    nodes_left (changed_where change.Drain (is_among names)) (λ node. false) (keeps_drain (is_among names)) s (update_after s now names order.Drain) node refl
+    (λ place claim kept. loss-held s now (lost_by s.nodes names order.Drain) place claim refl)
+update-left s now names order.Resume node =
+    nodes_left (changed_where change.Resume (is_among names)) (λ node. false) (keeps_resume (is_among names)) s (update_after s now names order.Resume) node refl
+    (λ place claim kept. loss-held s now (lost_by s.nodes names order.Resume) place claim refl)
+
+-- ---- a pass
+
+silence-left : (s : State) (now : ℕ) (node : List ℕ) → LeavesNode s (silenced s now) node
+silence-left s now node =
+    let silent = falls_silent s.settings.slurmd_timeout now in
+    cond_both (any_silent s now) (without_silent s now) s (λ (t : State). LeavesNode s t node)
+    (λ some. nodes_left (changed_where change.Silent silent) silent (keeps_silent silent) s (without_silent s now) node refl
+    (λ place claim kept. loss-held s now (silent_at s now) place claim kept))
+    (λ none. left_same s s node refl refl)
+
+-- a job that holds something neither waits nor has ended
+record HoldsOn (place : ℕ) (claim : Claim) (job : JobRecord) : Type 0 where
+  pub holds : Holds place claim job
+  pub state : is_holding job.state ≡ true
+
+has-parts : (place : ℕ) (claim : Claim) (parts : List Part) → Any (IsClaimed place claim) parts
+    → has_members parts ≡ true
+has-parts place claim [] any = absurd (any_none (IsClaimed place claim) any)
+has-parts place claim (part ∷ later) any = refl
+
+holds-on : (moment place : ℕ) (claim : Claim) (job : JobRecord) → IsKept moment job → Holds place claim job
+    → HoldsOn place claim job
+holds-on moment place claim job kept holds = record {
+  holds = holds;
+  state = sym kept.parts.some ∙ has-parts place claim job.parts holds.part;
+}
+
+holding-goes-on : (now place : ℕ) (claim : Claim) (job : JobRecord) → HoldsOn place claim job
+    → HoldsOn place claim (timed_out now job)
+holding-goes-on now place claim job on =
+    cond_both (is_over now job) (changed (Leave final.Timeout now None) job) job (HoldsOn place claim)
+    (λ over. record {
+      holds = alike_holds place claim job (changed (Leave final.Timeout now None) job)
+          (leave_alike final.Timeout now None job) on.holds;
+      state = cond_both (is_running job.state) (record job {
+        state = Completing final.Timeout;
+        ended = Some now;
+        exit = None;
+      }) job (λ (after : JobRecord). is_holding after.state ≡ true) (λ runs. refl) (λ other. on.state);
+    })
+    (λ not. on)
+
+not-ended : (state : JobState) → is_holding state ≡ true → is_ended state ≡ false
+not-ended Pending holds = refl
+not-ended Running holds = refl
+not-ended (Completing end) holds = refl
+not-ended (Ended end) holds = absurd (both_ways false refl holds)
+
+not-pending : (state : JobState) → is_holding state ≡ true → is_pending state ≡ false
+not-pending Pending holds = absurd (both_ways false refl holds)
+not-pending Running holds = refl
+not-pending (Completing end) holds = refl
+not-pending (Ended end) holds = refl
+
+never-old : (s : State) (now : ℕ) (job : JobRecord) → is_holding job.state ≡ true → gone s now job ≡ false
+never-old s now job holds = rw (not-ended job.state holds) refl
+
+held-left : (s : State) (now place : ℕ) (claim : Claim) → IsSound s → IsHeldAt s.jobs place claim
+    → Any (HoldsOn place claim) (jobs_left s now)
+held-left s now place claim sound held =
+    any_filter (λ (job : JobRecord). Unit {0}) (HoldsOn place claim) (λ job. not (gone s now job))
+    (map (timed_out now) s.jobs)
+    (λ job all on. not_from_false (gone s now job) (never-old s now job on.state)) (λ k d below. tt)
+    (any_map (IsKept s.moment) (Holds place claim) (HoldsOn place claim) (timed_out now) s.jobs
+    (λ job kept holds. holding-goes-on now place claim job (holds-on s.moment place claim job kept holds)) sound.jobs
+    held)
+
+pass-left : Plans → (s : State) (now : ℕ) (node : List ℕ) → IsSound s → MayStart (ready s now).jobs (placements s now)
+    → LeavesNode s (pass_after s now) node
+pass-left plans s now node sound may =
+    left_held s (pass_after s now) node refl
+    (λ place claim held. any_weaker (HoldsOn place claim) (Holds place claim) (outcome s now).jobs
+    (λ job on. on.holds)
+    (starts_any (HoldsOn place claim) (λ job on. not-pending job.state on.state) s now (jobs_left s now)
+    (placements s now) may (held-left s now place claim sound held)))
+
+-- what the crates below promise of passes
+pub record Passes : Type 0 where
+  pub plans : Plans
+  pub silence : (s : State) (now : ℕ) → IsSound s → s.moment ≤ now → now ≤ last_moment → IsSound (silenced s now)
+  pub planned : (s : State) (now : ℕ) → IsSound s → s.moment ≤ now → now ≤ last_moment
+      → IsSound (record (ready s now) { plan = []; moment = now })
+
+-- what a pass plans may start
+pub pass_may : Passes → (s : State) (now : ℕ) → IsSound s → s.moment ≤ now → now ≤ last_moment
+    → MayStart (ready s now).jobs (placements s now)
+pass_may passes s now sound raised in_time =
+    plans_start passes.plans s now (passes.planned s now sound raised in_time).rising
+
+pub silenced_raised : (s : State) (now : ℕ) → s.moment ≤ now → (silenced s now).moment ≤ now
+silenced_raised s now raised =
+    cond_both (any_silent s now) (without_silent s now) s (λ (t : State). t.moment ≤ now) (λ some. omega arith)
+    (λ none. raised)
+
+whole-pass-left : Passes → (s : State) (now : ℕ) (node : List ℕ) → IsSound s → s.moment ≤ now → now ≤ last_moment
+    → LeavesNode s (after_pass s now) node
+whole-pass-left passes s now node sound raised in_time =
+    let t = silenced s now in
+    let sound' = passes.silence s now sound raised in_time in
+    leaves_on s t (after_pass s now) node (silence-left s now node)
+    (pass-left passes.plans t now node sound'
+    (pass_may passes t now sound' (silenced_raised s now raised) in_time))
+
+-- ---- each request
+
+-- whatever state the verdict makes leaves the node's side alone
+abbrev LeavesBy : State → List ℕ → Verdict → Type 0
+LeavesBy s node (Refuses refusal) = Unit {0}
+LeavesBy s node (Tells view) = Unit {0}
+LeavesBy s node Stays = Unit {0}
+LeavesBy s node (Makes reply after) = LeavesNode s after node
+
+change-made : (s : State) (now : ℕ) (user : List ℕ) (action : Action) (named : JobRecord → Bool) (node : List ℕ)
+    → LeavesBy s node (change_made s now user action named)
+change-made s now user action named node =
+    cond_both (list_any (goes s user action named) s.jobs) _ Stays (LeavesBy s node)
+    (λ some. change-left s now user action named node) (λ none. tt)
+
+submit-made : (s : State) (now : ℕ) (user : List ℕ) (desc : JobDesc) (node : List ℕ) (terms : Option Terms)
+    → LeavesBy s node (made_under s now user desc terms)
+submit-made s now user desc node None = tt
+submit-made s now user desc node (Some terms) =
+    let jobs = new_jobs s now user desc terms desc.array in
+    left_held s (submit_after s jobs (new_arrays s desc.array)) node refl
+    (λ place claim held. any_left (Holds place claim) s.jobs jobs held)
+
+partition-made : (s : State) (state : PartState) (node : List ℕ) (place : Option ℕ)
+    → LeavesBy s node (partition_made s state place)
+partition-made s state node None = tt
+partition-made s state node (Some place) =
+    cond_both (is_in_state state (slice_get s.partitions place)) Stays _ (LeavesBy s node) (λ had. tt)
+    (λ out. left_held s _ node refl (λ place claim held. held))
+
+leaves-made : Passes → (s : State) (moment : ℕ) (user : List ℕ) (request : Request) (node : List ℕ) → IsSound s
+    → s.moment ≤ moment → moment ≤ last_moment → IsNoReport request → LeavesBy s node (made s moment user request)
+leaves-made passes s moment user (Submit desc) node sound later in_time own =
+    submit-made s moment user desc node (terms_of s user desc)
+leaves-made passes s moment user (Cancel targets) node sound later in_time own =
+    change-made s moment user act.Cancel (are_meant targets) node
+leaves-made passes s moment user (Hold targets for_owner) node sound later in_time own =
+    change-made s moment user (act.Hold for_owner) (are_naming targets) node
+leaves-made passes s moment user (Release targets) node sound later in_time own =
+    change-made s moment user act.Release (are_naming targets) node
+leaves-made passes s moment user (Requeue target) node sound later in_time own =
+    change-made s moment user act.Requeue (are_naming (target ∷ [])) node
+leaves-made passes s moment user (UpdateJob target limit nice) node sound later in_time own =
+    change-made s moment user (act.Update limit nice) (are_naming (target ∷ [])) node
+leaves-made passes s moment user (UpdateNode nodes state) node sound later in_time own =
+    cond_both (changes_any s nodes state) _ Stays (LeavesBy s node) (λ some. update-left s moment nodes state node)
+    (λ none. tt)
+leaves-made passes s moment user (UpdatePartition name state) node sound later in_time own =
+    partition-made s state node (place_meant (Some name) s.partitions)
+leaves-made passes s moment user (CreateReservation desc) node sound later in_time own =
+    left_held s _ node refl (λ place claim held. held)
+leaves-made passes s moment user (DeleteReservation name) node sound later in_time own =
+    left_held s _ node refl (λ place claim held. held)
+leaves-made passes s moment user Shutdown node sound later in_time own =
+    left_held s _ node refl (λ place claim held. held)
+leaves-made passes s moment user (Report report) node sound later in_time own = absurd own
+leaves-made passes s moment user Pass node sound later in_time own =
+    cond_both (pass_is_idle s moment) Stays _ (LeavesBy s node) (λ idle. tt)
+    (λ busy. whole-pass-left passes s moment node sound later in_time)
+leaves-made passes s moment user (Show query) node sound later in_time own = tt
+
+leaves-full : (s : State) (node : List ℕ) (room : Bool) (verdict : Verdict) → LeavesBy s node verdict
+    → LeavesBy s node (unless_full room verdict)
+leaves-full s node true verdict leaves = leaves
+leaves-full s node false (Refuses refusal) leaves = tt
+leaves-full s node false (Tells view) leaves = tt
+leaves-full s node false Stays leaves = tt
+leaves-full s node false (Makes reply after) leaves = tt
+
+leaves-judged : (s : State) (node : List ℕ) (refusal : Option Refusal) (verdict : Verdict) → LeavesBy s node verdict
+    → LeavesBy s node (unless_refused refusal verdict)
+leaves-judged s node None verdict leaves = leaves
+leaves-judged s node (Some refusal) verdict leaves = tt
+
+leaves-early : Passes → (s : State) (now : ℕ) (user : List ℕ) (request : Request) (node : List ℕ)
+    (early closed : Bool) → IsSound s → IsNoReport request → nat_lt last_moment now ≡ early
+    → LeavesBy s node
+    (unless_refused (first_refusal (refused_if early MomentTooLarge ∷ refused_if closed ShuttingDown ∷ []))
+    (worked s (raised s now) user request))
+leaves-early passes s now user request node true closed sound own is = tt
+leaves-early passes s now user request node false true sound own is = tt
+leaves-early passes s now user request node false false sound own is =
+    let moment = raised s now in
+    let in_time = ltb-false last_moment now is in
+    leaves-judged s node (first_refusal (refusals_of s moment user request)) _
+    (leaves-full s node (has_room s request) (made s moment user request)
+    (leaves-made passes s moment user request node sound (omega arith) (omega (arith, sound.moment, in_time)) no))
+
+leaves-left : (s : State) (moment size : ℕ) (node : List ℕ) (verdict : Verdict) → LeavesBy s node verdict
+    → LeavesNode s (if is_entered (reply_by verdict) then entered moment size (left_by s verdict) else s) node
+leaves-left s moment size node (Refuses refusal) leaves = left_same s s node refl refl
+leaves-left s moment size node (Tells view) leaves = left_same s s node refl refl
+leaves-left s moment size node Stays leaves = left_same s s node refl refl
+leaves-left s moment size node (Makes reply after) leaves =
+    cond_both (is_entered reply) (entered moment size after) s (λ (t : State). LeavesNode s t node)
+    (λ enters. leaves_on s after (entered moment size after) node leaves
+    (left_same after (entered moment size after) node refl refl))
+    (λ other. left_same s s node refl refl)
+
+-- Whatever is asked but a report leaves each node's side alone.
+pub asked_leaves : Passes → (s : State) (now : ℕ) (user : List ℕ) (request : Request) (node : List ℕ) → IsSound s
+    → IsNoReport request → LeavesNode s (state_after s now user request) node
+asked_leaves passes s now user request node sound own =
+    leaves-left s (raised s now) (size_of request) node (verdict_of s now user request)
+    (leaves-early passes s now user request node (nat_lt last_moment now) (is_closed s request) sound own refl)

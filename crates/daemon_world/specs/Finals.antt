@@ -1,0 +1,21 @@
+-- How a start of a job ends: it leaves Running once, and then it is settled how.
+use Rattle.std.specs.Prelude.{◌≡◌, ◌⊎◌, ◌<◌, ◌≤◌, ℕ, IfSome, List, All, Any, Option, Some, None}
+use Rattle.slurm_text.specs.declared.plain.state.Final.{Final}
+use Rattle.slurm_text.specs.declared.plain.state.Final.TheVariants.{Cancelled, Requeue}
+use Rattle.slurm_text.specs.declared.plain.state.JobState.{JobState}
+use Rattle.slurm_text.specs.declared.plain.state.JobState.TheVariants.{Pending, Running, Completing, Ended}
+use Rattle.job_table.specs.declared.record.JobRecord.{JobRecord}
+
+-- how the last start of a job in this state ends, once it has left Running: who waits starts again
+abbrev pub final_of : JobState → Option Final
+final_of Pending = Some Requeue
+final_of Running = None
+final_of (Completing final) = Some final
+final_of (Ended final) = Some final
+
+-- the end stays, but a cancel may come to one that was to start again
+abbrev pub IsSettled : Final → Option Final → Type 0
+IsSettled final after = (after ≡ Some final) ⊎ ((final ≡ Requeue) × (after ≡ Some Cancelled))
+
+abbrev pub StaysSettled : JobState → JobState → Type 0
+StaysSettled state after = IfSome (final_of state) (λ final. IsSettled final (final_of after))

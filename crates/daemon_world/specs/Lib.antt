@@ -1,0 +1,5 @@
+pub mod Worlds
+pub mod Claims
+pub mod Together
+pub mod Leaving
+pub mod Finals
