@@ -2,3 +2,5 @@
 #![tactic(auto)]
 
 mod intervals;
+mod running;
+pub mod sums;
