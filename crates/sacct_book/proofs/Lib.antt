@@ -1,1 +1,6 @@
 pub mod Summing
+pub mod Ranges
+pub mod Counting
+pub mod Bounded
+pub mod Pushing
+pub mod Keeps
