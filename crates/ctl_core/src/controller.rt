@@ -3,7 +3,7 @@
 ghost use Rattle.std.specs.Prelude.{◌≡◌, IfOk, IfSome, OnOk, OnErr, if◌then◌else◌, Some, None, map, All};
 ghost use Rattle.slurm_text.specs.declared.plain.request.Request.TheVariants.{Pass};
 ghost use Rattle.resource_profile.specs.Counts.{IsTickedUpTo};
-ghost use Rattle.ctl_state.specs.State.{opening};
+ghost use Rattle.ctl_state.specs.State.{opening, state_of};
 ghost use Rattle.ctl_state.specs.Soundness.{IsSound, IsLimit, IsNode, HasLimits, HasRanges};
 ghost use Rattle.ctl_core.specs.Step.{IsHinted, input_at, reply_of, state_after, is_entered, raised, steps_of};
 
@@ -135,6 +135,14 @@ impl Ctl {
         ensures usage { result.now.usage ≡ self.now.state.usage }
     {
         &self.cluster.jobs
+    }
+
+    /// What the controller keeps, as plain data. It takes no memory.
+    pub fn cluster(&self) -> &Cluster
+        ensures value { state_of result.now ≡ self.now.state }
+        ensures sound { IsSound self.now.state }
+    {
+        &self.cluster
     }
 
     /// A pass, whatever plan is at hand: it is made over the hint, else over the plan of the last pass, and is the same.
