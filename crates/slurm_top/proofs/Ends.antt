@@ -13,8 +13,8 @@ use Rattle.ctl_session.specs.declared.session.How.{How}
 use Rattle.ctl_session.specs.declared.session.How.TheVariants as how
 use Rattle.ctl_session.specs.Session.{most_blocks}
 use Rattle.generator.specs.Generated.{generated}
-use Rattle.slurm_top.specs.declared.cluster.ClusterRefusal.{ClusterRefusal}
-use Rattle.slurm_top.specs.declared.cluster.ClusterRefusal.TheVariants as cluster
+use Rattle.cluster_files.specs.declared.cluster.ClusterRefusal.{ClusterRefusal}
+use Rattle.cluster_files.specs.declared.cluster.ClusterRefusal.TheVariants as cluster
 use Rattle.slurm_top.specs.declared.end.End.{End}
 use Rattle.slurm_top.specs.declared.end.End.TheVariants.{Usage, NoFile, BadConf, BadAssocs, Memory, Script, Generated, WriteFault, Spent, Serving, Called}
 use Rattle.slurm_io.specs.Faults.{CountsNone}

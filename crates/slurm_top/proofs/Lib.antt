@@ -1,7 +1,6 @@
 pub mod Blocks
 pub mod Completeness
 pub mod Ends
-pub mod FileTexts
 pub mod Scripts
 pub mod Summing
 pub mod Telling

@@ -1,5 +1,3 @@
-pub mod Cluster
-pub mod Files
 pub mod Lines
 pub mod Run
 pub mod Script

@@ -4,6 +4,8 @@ use Rattle.assoc_reader.specs.Refusal
 use Rattle.assoc_reader.specs.declared.refusal.AssocKind.{AssocKind}
 use Rattle.conf_values.specs.declared.refusal.ConfKind.{ConfKind}
 use Rattle.conf_values.specs.Refusal.{kind_text}
+use Rattle.cluster_files.specs.declared.opening.OpenRefusal.{OpenRefusal}
+use Rattle.cluster_files.specs.declared.opening.OpenRefusal.TheVariants as open
 use Rattle.ctl_session.specs.declared.session.How.{How}
 use Rattle.ctl_session.specs.declared.session.How.TheVariants as how
 use Rattle.server_call.specs.Calls as calls
@@ -11,6 +13,13 @@ use Rattle.server_call.specs.declared.end.CallEnd.{CallEnd}
 use Rattle.server_call.specs.declared.end.CallEnd.TheVariants as call
 use Rattle.slurm_top.specs.declared.end.End.{End}
 use Rattle.slurm_top.specs.declared.end.End.TheVariants.{Usage, NoFile, BadConf, BadAssocs, Memory, Script, Generated, WriteFault, Spent, Serving, Called}
+
+-- the end of a run whose cluster wasn't opened
+abbrev pub unopened : OpenRefusal → End
+unopened open.NoFile = NoFile
+unopened (open.BadConf line kind) = BadConf line kind
+unopened (open.BadAssocs line kind) = BadAssocs line kind
+unopened open.Memory = Memory
 
 -- the status of a script's run
 abbrev pub script_status : How → ℕ

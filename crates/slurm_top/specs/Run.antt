@@ -20,28 +20,17 @@ use Rattle.server_call.specs.Calls.{IsCaused, IsDecided, IsSpent}
 use Rattle.server_call.specs.Calls as calls
 use Rattle.server_call.specs.declared.end.CallEnd.{CallEnd}
 use Rattle.simulation.specs.Simulation.{Simulated, summary}
-use Rattle.slurm_top.specs.declared.cluster.ClusterRefusal.{ClusterRefusal}
-use Rattle.slurm_top.specs.declared.cluster.ClusterRefusal.TheVariants as cluster
+use Rattle.cluster_files.specs.declared.cluster.ClusterRefusal.{ClusterRefusal}
+use Rattle.cluster_files.specs.declared.cluster.ClusterRefusal.TheVariants as cluster
 use Rattle.slurm_top.specs.declared.end.End.{End}
 use Rattle.slurm_top.specs.declared.end.End.TheVariants.{Usage, NoFile, BadConf, BadAssocs, Memory, Script, Generated, WriteFault, Spent, Serving, Called}
 use Rattle.slurm_top.specs.declared.program.WordsFault.{WordsFault}
 use Rattle.slurm_top.specs.declared.program.WordsFault.TheVariants.{NotText}
 use Rattle.slurm_top.specs.declared.program.WordsFault.TheVariants as words
-use Rattle.slurm_top.specs.Cluster.{opening_in}
+use Rattle.cluster_files.specs.Cluster.{opening_in}
+use Rattle.cluster_files.specs.Files.{Opens}
 use Rattle.slurm_top.specs.Script.{IsScript}
 use Rattle.slurm_top.specs.SimulatedCluster.{simulation_of}
-
--- the text is that of the file of this name, where the files are told
-abbrev pub IsTextOf : Option (List ShelfFile) → List ℕ → List ℕ → Type 0
-IsTextOf told name text = IfSome told (λ files. bytes_named files name ≡ Some text)
-
--- the files of these names open a run so: two texts do, which are those of the files where the files are told
-pub record Opens (told : Option (List ShelfFile)) (named : Named) (opened : Result State ClusterRefusal) : Type 0 where
-  pub conf : List ℕ
-  pub assocs : List ℕ
-  pub is_conf : IsTextOf told named.conf conf
-  pub is_assocs : IsTextOf told named.assocs assocs
-  pub is_opened : opening_in conf assocs ≡ opened
 
 -- a script was run on the cluster of the files of these names, and ended so
 pub record Ran (old new : Outside) (named : Named) (how : How) : Type 0 where

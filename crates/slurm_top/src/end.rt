@@ -2,10 +2,11 @@
 
 ghost use Rattle.std.specs.Prelude.{◌≡◌, ◌≤◌, ◌++◌, length, codes};
 ghost use Rattle.slurm_io.specs.Bytes.{Tells};
-ghost use Rattle.slurm_top.specs.Lines.{status_of, line_of, place_line, conf_line, assocs_line, call_line};
+ghost use Rattle.slurm_top.specs.Lines.{status_of, line_of, place_line, conf_line, assocs_line, call_line, unopened};
 
 use arrayvec::ArrayString;
 use assoc_reader::refusal::AssocKind;
+use cluster_files::OpenRefusal;
 use conf_reader::refusal::ConfKind;
 use ctl_session::How;
 use itoa::Buffer;
@@ -36,7 +37,7 @@ pub enum End {
     WriteFault,
     /// A job of a simulation is left behind its last round.
     Spent,
-    /// A server is asked for, which isn't run yet.
+    /// A server is asked for, which is another call's to run.
     Serving,
     /// A server was called, and the call ended so.
     Called(CallEnd),
@@ -59,6 +60,18 @@ impl End {
             End::Spent | End::Script(How::Spent) => 9,
             End::Called(end) => end.status(),
         }
+    }
+}
+
+/// The end of a run whose cluster wasn't opened.
+pub fn end_unopened(refusal: OpenRefusal) -> End
+    ensures { result ≡ unopened refusal }
+{
+    match refusal {
+        OpenRefusal::NoFile => End::NoFile,
+        OpenRefusal::BadConf { line, kind } => End::BadConf { line, kind },
+        OpenRefusal::BadAssocs { line, kind } => End::BadAssocs { line, kind },
+        OpenRefusal::Memory => End::Memory,
     }
 }
 

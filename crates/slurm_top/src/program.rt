@@ -23,11 +23,9 @@ ghost use Rattle.server_call.specs.Outside.{beside, hosting, outside};
 ghost use Rattle.slurm_top.specs.Run.{end_without_words, IsEnd, IsEndAsked, IsEndOn, IsNotDone, IsCallKnown, Finds, IsWholeScript};
 ghost use Rattle.slurm_top.specs.Script.{IsScript};
 ghost use Rattle.slurm_top.specs.SimulatedCluster.{simulation_of};
-ghost use Rattle.slurm_top.specs.declared.cluster.ClusterRefusal.{ClusterRefusal};
+ghost use Rattle.cluster_files.specs.declared.cluster.ClusterRefusal.{ClusterRefusal};
 
-use crate::cluster::ClusterRefusal;
-use crate::end::{End, tell};
-use crate::files::read_files;
+use crate::end::{End, end_unopened, tell};
 use crate::generate::write_generated;
 use crate::script::run_script;
 use crate::simulated::write_summary;
@@ -35,9 +33,10 @@ use block_frame::{
     bad_texts_stay, blocks_are_cut_once, blocks_go_first, kinds_are_apart, nothing_is_partial,
     texts_are_cut,
 };
+use cluster_files::open_named;
 use program_words::{Asked, FileNames, asked_in};
 use server_call::call_server;
-use slurm_io::{Link, Shelf, ShelfRefusal, Sink};
+use slurm_io::{Link, Shelf, Sink};
 use slurm_net::Host;
 use slurm_text::memory_error::Memory;
 use std::alloc::Global;
@@ -58,7 +57,7 @@ fn whole_inputs_are_answered()
     nothing_is_partial();
 }
 
-// Reads the two files of these names, and runs the script on their cluster.
+// Opens the cluster of the files of these names, and runs the script there.
 fn run_on_files<Q: Shelf, L: Link>(
     alloc: Global,
     names: &FileNames<'_>,
@@ -69,16 +68,9 @@ fn run_on_files<Q: Shelf, L: Link>(
         (outside (Q.files shelf.old) (Q.shelf_faults shelf.old) (L.wire link.old))
         (outside (Q.files shelf.new) (Q.shelf_faults shelf.new) (L.wire link.new)) result }
 {
-    let files = match read_files(alloc, shelf, names) {
-        Ok(files) => files,
-        Err(ShelfRefusal::Failed) => return End::NoFile,
-        Err(ShelfRefusal::Memory) => return End::Memory,
-    };
-    match run_script(alloc, files.conf.as_slice(), files.assocs.as_slice(), link) {
-        Ok(how) => End::Script(how),
-        Err(ClusterRefusal::BadConf { line, kind }) => End::BadConf { line, kind },
-        Err(ClusterRefusal::BadAssocs { line, kind }) => End::BadAssocs { line, kind },
-        Err(ClusterRefusal::Memory) => End::Memory,
+    match open_named(alloc, names, shelf) {
+        Ok(desk) => End::Script(run_script(alloc, desk, link)),
+        Err(refusal) => end_unopened(refusal),
     }
 }
 
@@ -169,7 +161,7 @@ pub fn run_without_words<E: Sink>(errors: &mut E, fault: WordsFault) -> u8
 /// the link's input on its output by a controller of that cluster. With `--generate` it writes the script that a number
 /// stands for on the link's output, and reads nothing; with `--run` beside that it simulates the jobs of that script, and
 /// writes the line that tells of it. Behind the name of another command it calls a server of this machine by the host.
-/// With `--serve` it does nothing yet.
+/// A server, with `--serve`, is run by another call, since it waits; here nothing is done for such words.
 pub fn run<Q: Shelf, L: Link, E: Sink, H: Host>(
     alloc: Global,
     words: &[String],

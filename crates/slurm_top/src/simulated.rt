@@ -7,9 +7,9 @@ ghost use Rattle.simulation.specs.Simulation.{Simulated, summary};
 ghost use Rattle.slurm_top.specs.Run.{IsEndSimulating};
 ghost use Rattle.slurm_top.specs.SimulatedCluster.{simulated_conf, simulated_assocs, simulation_of};
 
-use crate::cluster::{ClusterRefusal, open_desk};
 use crate::end::End;
 use crate::generate::write_whole;
+use cluster_files::{ClusterRefusal, open_desk};
 use ctl_desk::own_desk::OwnDesk;
 use resource_profile::start;
 use simulation::{SimulationRefusal, simulate};

@@ -5,7 +5,7 @@ ghost use Rattle.assoc_reader.specs.declared.refusal.AssocKind.{AssocKind};
 ghost use Rattle.conf_values.specs.declared.refusal.ConfKind.{ConfKind};
 ghost use Rattle.ctl_state.specs.State.{State};
 ghost use Rattle.ctl_state.specs.Soundness.{IsSound};
-ghost use Rattle.slurm_top.specs.Cluster.{opening_in};
+ghost use Rattle.cluster_files.specs.Cluster.{opening_in};
 
 use assoc_reader::read_assocs;
 use assoc_reader::refusal::{AssocKind, AssocRefusal};
@@ -29,7 +29,7 @@ pub enum ClusterRefusal {
 
 impl From<ConfRefusal> for ClusterRefusal {
     ghost use Rattle.std.specs.Prelude.{◌≡◌};
-    ghost use Rattle.slurm_top.specs.Cluster.{of_conf};
+    ghost use Rattle.cluster_files.specs.Cluster.{of_conf};
 
     ghost from_gives = { λ refusal e. e ≡ of_conf refusal };
 
@@ -43,7 +43,7 @@ impl From<ConfRefusal> for ClusterRefusal {
 
 impl From<AssocRefusal> for ClusterRefusal {
     ghost use Rattle.std.specs.Prelude.{◌≡◌};
-    ghost use Rattle.slurm_top.specs.Cluster.{of_assocs};
+    ghost use Rattle.cluster_files.specs.Cluster.{of_assocs};
 
     ghost from_gives = { λ refusal e. e ≡ of_assocs refusal };
 
@@ -57,7 +57,7 @@ impl From<AssocRefusal> for ClusterRefusal {
 
 impl From<memory_error::Memory> for ClusterRefusal {
     ghost use Rattle.std.specs.Prelude.{◌≡◌};
-    ghost use Rattle.slurm_top.specs.declared.cluster.ClusterRefusal.TheVariants.{Memory};
+    ghost use Rattle.cluster_files.specs.declared.cluster.ClusterRefusal.TheVariants.{Memory};
 
     ghost from_gives = { λ _ e. e ≡ Memory };
 

@@ -10,8 +10,8 @@ use Rattle.conf_values.specs.Refusal.{◌>>=◌}
 use Rattle.conf_values.specs.declared.refusal.ConfRefusal.{ConfRefusal}
 use Rattle.conf_values.specs.declared.refusal.ConfRefusal.TheVariants as conf_fault
 use Rattle.ctl_state.specs.State.{State, opening}
-use Rattle.slurm_top.specs.declared.cluster.ClusterRefusal.{ClusterRefusal}
-use Rattle.slurm_top.specs.declared.cluster.ClusterRefusal.TheVariants.{BadConf, BadAssocs, Memory}
+use Rattle.cluster_files.specs.declared.cluster.ClusterRefusal.{ClusterRefusal}
+use Rattle.cluster_files.specs.declared.cluster.ClusterRefusal.TheVariants.{BadConf, BadAssocs, Memory}
 
 -- why slurm.conf gives no cluster
 abbrev pub of_conf : ConfRefusal → ClusterRefusal

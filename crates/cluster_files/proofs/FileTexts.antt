@@ -6,11 +6,10 @@ use Rattle.slurm_io.specs.Shelf.{ShelfFile, bytes_named}
 use Rattle.assoc_reader.specs.Reader.{assocs_in}
 use Rattle.conf_reader.specs.Reader.{conf_in}
 use Rattle.ctl_state.specs.State.{State}
-use Rattle.slurm_top.specs.Cluster.{opening_in}
-use Rattle.slurm_top.specs.Files.{IsFrontOf}
+use Rattle.cluster_files.specs.Cluster.{opening_in}
+use Rattle.cluster_files.specs.Files.{IsFrontOf, IsTextOf, Opens}
 use Rattle.program_words.specs.Asked.{Named}
-use Rattle.slurm_top.specs.Run.{IsTextOf, Opens}
-use Rattle.slurm_top.specs.declared.cluster.ClusterRefusal.{ClusterRefusal}
+use Rattle.cluster_files.specs.declared.cluster.ClusterRefusal.{ClusterRefusal}
 
 -- files that are too long say the same
 long_confs : (file other : List ℕ) → 1048576 < length file → 1048576 < length other → conf_in file ≡ conf_in other

@@ -1,8 +1,8 @@
-//! The two files that a run reads.
+//! The two files of a cluster, read.
 
 ghost use Rattle.std.specs.Prelude.{◌≡◌, IfOk};
 ghost use Rattle.slurm_io.specs.ShelfRefusal.{CountsReading};
-ghost use Rattle.slurm_top.specs.Files.{IsFrontOf};
+ghost use Rattle.cluster_files.specs.Files.{IsFrontOf};
 
 use program_words::FileNames;
 use slurm_io::{Shelf, ShelfRefusal, read_file};

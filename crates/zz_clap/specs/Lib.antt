@@ -1,3 +1,0 @@
-pub mod Controller
-pub mod Bare
-pub mod Words

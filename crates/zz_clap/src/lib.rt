@@ -1,5 +1,0 @@
-//! x
-#![tactic(auto)]
-
-mod controller;
-mod said;
