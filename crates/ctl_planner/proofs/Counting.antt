@@ -1,5 +1,5 @@
 -- What a turn counts, and that a desk goes on through it.
-use Rattle.std.proofs.Common.{◌≡◌, ℕ, zero, ◌≤◌, Bool, true, List, [], ◌∷◌, ◌++◌, length, take, refl, sym, ap, ◌∙◌, subst, arith, append-nil, append_assoc, length-append}
+use Rattle.std.proofs.Common.{◌≡◌, ℕ, zero, ◌≤◌, Bool, true, List, [], ◌∷◌, ◌++◌, length, take, eqb, refl, sym, ap, ◌∙◌, subst, arith, append-nil, append_assoc, length-append}
 use Rattle.std.proofs.Math.Seq.{take-append_seam, take-length}
 use Rattle.std.proofs.lemmas.List.{take_all}
 use Rattle.std.proofs.lemmas.List.Elements.{filter-append}
@@ -26,12 +26,18 @@ goes_nowhere desk = ([], rw (append-nil desk.since, append-nil desk.mine) refl)
 -- and one that sees entries come, and then others
 later-twice : (desk : Sight) (one two : List Entry) → later (later desk one) two ≡ later desk (one ++ two)
 later-twice desk one two =
-    rw (
-      append_assoc desk.since one two,
-      filter-append (λ (entry : Entry). entry.session == desk.number) one two,
-      append_assoc desk.mine (of_session desk.number one) (of_session desk.number two),
-    )
-    refl
+    let n = desk.number in
+    let mine : (desk.mine ++ of_session n one) ++ of_session n two ≡ desk.mine ++ of_session n (one ++ two) =
+    append_assoc desk.mine (of_session n one) (of_session n two)
+    ∙ ap (λ (es : List Entry). desk.mine ++ es)
+    (sym (filter-append (λ (entry : Entry). eqb entry.session n) one two)) in
+    λ i. record {
+      opening = desk.opening;
+      number = n;
+      before = desk.before;
+      since = append_assoc desk.since one two i;
+      mine = mine i;
+    }
 
 pub goes_further : (desk middle desk' : Sight) → GoesOn desk middle → GoesOn middle desk' → GoesOn desk desk'
 goes_further desk middle desk' first second = (
@@ -73,7 +79,7 @@ answered-later desk middle desk' now user request answer goes mine answered =
       reply = answered.reply ∙ ap (λ (s : State). reply_of s now user request) state;
       accepted = λ accepts.
           let both = answered.accepted accepts in (
-            both.0 ∙ ap (λ e. take answer.place (seen desk') ++ e ∷ []) entry,
+            both.0 ∙ ap (λ (e : Entry). take answer.place (seen desk') ++ e ∷ []) entry,
             both.1 ∙ (λ i. mine i ++ entry i ∷ []),
           );
       other = λ refuses.
