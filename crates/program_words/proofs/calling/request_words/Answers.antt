@@ -13,7 +13,3 @@ returns-in-Err-BadWord c = λ user.
     let same = ap (map string_bytes) c.as_slice.ensures.value ∙ c.in_ok-list.ensures in
     let bad = (c.in-Err-BadWord.ensures.refused c.in-Err-BadWord._place).0 (ap Err c.in-Err-BadWord.field-0-is) in
     bad_word user _ _ (ap first_bad_word (sym same) ∙ bad)
-
-pub prove-unreachable-requires : goal.prove-unreachable-requires
-prove-unreachable-requires c =
-    c.in-Err-BadWords.ensures.by_word c.in-Err-BadWords._place (ap Err c.in-Err-BadWords.field-0-is)
