@@ -1,2 +1,3 @@
 pub mod Controllers
+pub mod Headers
 pub mod Servers

@@ -72,7 +72,7 @@ read_as_told word user port a =
 -- a word that begins so
 begins : (word : List ℕ) → starts_with nat_eq word (codes "--ctld=") ≡ true → word ≡ codes "--ctld=" ++ drop 7 word
 begins word same =
-    sym (take-append-drop 7 word) ∙ ap (λ t. t ++ drop 7 word) (sym (same_text (codes "--ctld=") (take 7 word) same))
+    sym (take-append-drop 7 word) ∙ ap (λ t. t ++ drop 7 word) (sym (same_text (codes "--ctld=") (take 7 word) (sym same)))
 
 -- a text is what stands round the first sign
 parts_make : (word rest : List ℕ) (at : ℕ) → word ≡ codes "--ctld=" ++ rest → position is_sign rest ≡ Some at

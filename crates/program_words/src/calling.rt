@@ -61,7 +61,8 @@ fn request_words(alloc: Global, name: &String, words: &[String]) -> Result<Optio
     match words_of(alloc, list.as_slice()) {
         Ok(words) => Ok(Some(words)),
         Err(WordsRefusal::Memory) => Err(Memory),
-        Err(_) => Ok(None),
+        Err(WordsRefusal::BadWord { place: _place }) => Ok(None),
+        Err(WordsRefusal::BadWords { place: _place }) => unreachable!(),
     }
 }
 
