@@ -79,13 +79,7 @@ where
 }
 
 // Opens the cluster and serves it.
-fn open_and_serve<
-    R: Threads + Wait + Sync,
-    Q: Shelf,
-    K: Sink,
-    C: Clock + Send + Drop,
-    H: Host,
->(
+fn open_and_serve<R: Threads + Wait + Sync, Q: Shelf, K: Sink, C: Clock + Send + Drop, H: Host>(
     rt: &R,
     alloc: Global,
     words: &ServeWords<'_>,

@@ -26,6 +26,13 @@ pub(crate) fn run_script<L: Link>(alloc: Global, desk: OwnDesk, link: &mut L) ->
     spellings_join();
     let mut desk = desk;
     let mut clock = MemClock::new(0, 0);
-    let ended = serve_link(alloc, Form::Plain, link, &mut desk, &mut clock, &mut start());
+    let ended = serve_link(
+        alloc,
+        Form::Plain,
+        link,
+        &mut desk,
+        &mut clock,
+        &mut start(),
+    );
     ended.how
 }
