@@ -42,6 +42,13 @@ pub fn run_script<L: Link>(
     spellings_join();
     let mut desk = open_desk(alloc, conf, assocs)?;
     let mut clock = MemClock::new(0, 0);
-    let ended = serve_link(alloc, Form::Plain, link, &mut desk, &mut clock, &mut start());
+    let ended = serve_link(
+        alloc,
+        Form::Plain,
+        link,
+        &mut desk,
+        &mut clock,
+        &mut start(),
+    );
     Ok(ended.how)
 }
