@@ -1,6 +1,5 @@
 -- What answering a block comes to.
-use Rattle.std.proofs.Common.{◌≡◌, ◌⊎◌, ℕ, List, [], ◌++◌, Option, None, Some, IfSome, Result, Ok, Err, inl, inr, refl, sym, ◌∙◌, subst}
-use Rattle.std.proofs.lemmas.List.{append-nil}
+use Rattle.std.proofs.Common.{◌≡◌, ◌⊎◌, ℕ, List, Option, IfSome, Ok, Err, inl, inr, refl, sym, ◌∙◌, subst}
 use Rattle.std.specs.Io.KnownBytes.{Appends}
 use Rattle.slurm_io.specs.Bytes.{AppendsFront}
 use Rattle.slurm_io.specs.Faults.{CountsOne}
@@ -11,18 +10,13 @@ use Rattle.block_frame.specs.declared.form.Form.TheVariants.{Plain, Framed}
 use Rattle.command_words.specs.declared.framed.FramedHead.{FramedHead}
 use Rattle.command_words.specs.declared.framed.FramedHead.TheVariants as head
 use Rattle.command_words.specs.declared.header.Meaning.{Meaning}
-use Rattle.ctl_desk.specs.Desk.{Sight, later}
 use Rattle.ctl_session.specs.declared.answer.Fault.TheVariants as fault
 use Rattle.ctl_session.specs.declared.answer.Told.{Told}
 use Rattle.ctl_session.specs.Meaning.{HeadMeans, Means, head_of}
 use Rattle.ctl_session.specs.Reading.{ReadsStay}
 use Rattle.ctl_session.specs.Turn.{AnswersBlock, AnswersOne, MakesNone, NeedsClock, Post, PostReads, Tells, Works, bytes_in}
-use Rattle.ctl_session.proofs.Asking.{AsksNot, AsksSo}
+use Rattle.ctl_session.proofs.Asking.{AsksSo}
 use Rattle.ctl_session.proofs.Working.{one_of, told_one}
-
--- a desk that wasn't asked
-pub stays : (desk : Sight) → MakesNone desk desk
-stays desk = (([], rw (append-nil desk.since, append-nil desk.mine) refl), refl)
 
 head_needs : (block : Block) (says : FramedHead) (meaning : Meaning) (moment : Option ℕ) → head_of block ≡ says
     → HeadMeans block.attachment says meaning moment → IfSome moment (λ _. NeedsClock Framed block)
@@ -67,14 +61,7 @@ answered_part form block old new at at' meaning told bytes asked tells spelled s
     let all = answer form block at at' meaning told bytes asked tells spelled in
     (stay, writes, (all.one, subst (AppendsFront old.taken new.taken) all.reply sent, all.reads))
 
--- memory was wanting when it was read
-pub unread : (form : Form) (block : Block) (wire : Wire) (at at' : Post) → at'.desk ≡ at.desk
-    → AsksNot form block at.clock at'.clock at.count at'.count
-    → AnswersBlock form block wire wire at at' (Err fault.Memory)
-unread form block wire at at' same (moment, needs, reads) =
-    (refl, inl (moment, needs, subst (MakesNone at.desk) (sym same) (stays at.desk), reads))
-
--- when it was asked or told
+-- memory was wanting when it was asked or told
 pub untold : (form : Form) (block : Block) (wire : Wire) (at at' : Post) (meaning : Meaning)
     → AsksSo form block at.clock at'.clock at.count at'.count meaning
     → MakesNone at.desk at'.desk ⊎ Works meaning at.desk at'.desk

@@ -1,17 +1,16 @@
 -- What a block asks, and the clock that was read for it.
-use Rattle.std.proofs.Common.{◌≡◌, ℕ, List, [], ◌∷◌, Option, None, Some, IfSome, Result, Ok, Err, IfOk, OnErr, refl, sym, subst}
+use Rattle.std.proofs.Common.{◌≡◌, ℕ, [], ◌∷◌, Option, Some, IfSome, Result, Ok, Err, IfOk, OnErr, refl, sym, subst}
 use Rattle.block_frame.specs.declared.block.Block.{Block}
 use Rattle.block_frame.specs.declared.form.Form.{Form}
-use Rattle.block_frame.specs.declared.form.Form.TheVariants.{Plain, Framed}
+use Rattle.block_frame.specs.declared.form.Form.TheVariants.{Framed}
 use Rattle.command_words.specs.FramedHeader.{asked_at}
 use Rattle.command_words.specs.declared.framed.Caller.{Caller}
 use Rattle.command_words.specs.declared.framed.FramedHead.{FramedHead}
 use Rattle.command_words.specs.declared.framed.FramedHead.TheVariants as head
 use Rattle.command_words.specs.declared.header.Meaning.{Meaning}
 use Rattle.ctl_session.specs.Clock.{Timing}
-use Rattle.ctl_session.specs.Meaning.{HeadMeans, Means, head_of, meaning_of}
+use Rattle.ctl_session.specs.Meaning.{HeadMeans, Means, head_of}
 use Rattle.ctl_session.specs.Turn.{NeedsClock, Reads, ReadsMoment}
-use Rattle.ctl_session.proofs.Clocks.{reads_none}
 
 -- what a call brings that reads what a block asks
 abbrev pub AsksSo : Form → Block → Timing → Timing → ℕ → ℕ → Meaning → Type 0
@@ -39,27 +38,3 @@ pub called_not : {T E : Type 0} (result : Result T E) (block : Block) (caller : 
     → Reads clock clock' count count' (moment ∷ []) → OnErr result (AsksNot Framed block clock clock' count count')
 called_not (Ok x) block caller moment clock clock' count count' says reads = tt
 called_not (Err e) block caller moment clock clock' count count' says reads = (Some moment, (caller, says), reads)
-
--- a block with a bad header
-pub bad : (block : Block) (says : FramedHead) (meaning : Meaning) (clock : Timing) (count : ℕ)
-    → head_of block ≡ says → HeadMeans block.attachment says meaning None
-    → AsksSo Framed block clock clock count count meaning
-bad block says meaning clock count is means =
-    let Said : FramedHead → Type 0 = λ h. HeadMeans block.attachment h meaning None in
-    (None, subst Said (sym is) means, reads_none clock count)
-
--- memory was wanting before the clock was read
-pub asked_not : (form : Form) (block : Block) (clock : Timing) (count : ℕ)
-    → AsksNot form block clock clock count count
-asked_not form block clock count = (None, tt, reads_none clock count)
-
--- a block of the plain form
-pub plainly : {E : Type 0} (result : Result Meaning E) (block : Block) (clock : Timing) (count : ℕ)
-    → IfOk result (λ meaning. meaning ≡ meaning_of block) → IfOk result (AsksSo Plain block clock clock count count)
-plainly (Ok meaning) block clock count is = (None, (refl, is), reads_none clock count)
-plainly (Err e) block clock count is = tt
-
-pub plainly_not : {T E : Type 0} (result : Result T E) (block : Block) (clock : Timing) (count : ℕ)
-    → OnErr result (AsksNot Plain block clock clock count count)
-plainly_not (Ok x) block clock count = tt
-plainly_not (Err e) block clock count = asked_not Plain block clock count

@@ -1,5 +1,5 @@
 -- Readings of a clock that follow one another.
-use Rattle.std.proofs.Common.{◌≡◌, ℕ, ◌+◌, ◌-◌, ◌^◌, ◌<◌, true, List, [], ◌∷◌, ◌++◌, Option, None, Some, is_some, IfSome, IsSome, IsSomeAnd, refl, sym, ap, ◌∙◌, subst, arith, length, length-append, append_assoc}
+use Rattle.std.proofs.Common.{◌≡◌, ℕ, ◌+◌, ◌-◌, ◌^◌, ◌<◌, List, [], ◌∷◌, ◌++◌, Option, None, Some, IfSome, IsSome, IsSomeAnd, refl, sym, ap, ◌∙◌, subst, arith, length, length-append, append_assoc}
 use Rattle.std.proofs.lemmas.List.{append-nil}
 use Rattle.slurm_net.specs.Course.{Course, AddsMoment, GoesOnTelling}
 use Rattle.ctl_session.specs.Clock.{Gives, Timing, timing}
@@ -36,7 +36,7 @@ grown_twice None (Some bs) (Some zs) xs ys first next = absurd first
 grown_twice (Some ms) (Some bs) (Some zs) xs ys first next =
     next ∙ ap (λ l. l ++ ys) first ∙ append_assoc ms xs ys
 
-none_is_not : {X : Type 0} → IsSome {T = X} None → ⊥
+none_is_not : IsSome {T = List ℕ} None → ⊥
 none_is_not e = cc
 
 goes_on_twice : (course : Option Course) (a b c : Option (List ℕ)) (xs ys : List ℕ) → Grown a b xs

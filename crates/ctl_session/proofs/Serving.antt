@@ -18,12 +18,11 @@ use Rattle.ctl_desk.specs.History.{IsHistory}
 use Rattle.ctl_session.specs.declared.session.How.{How}
 use Rattle.ctl_session.specs.declared.session.How.TheVariants as how
 use Rattle.ctl_session.specs.Answers.{Answered, Answers, AreAsked, IsOpenBehind, moments, replies}
-use Rattle.ctl_session.specs.Clock.{Gives, Timing}
 use Rattle.ctl_session.specs.Meaning.{Means}
 use Rattle.ctl_session.specs.Reading.{TakesBlock, TakesNone, WritesStay}
-use Rattle.ctl_session.specs.Session.{Ending, IsCause, IsServed, IsUnused, IsWhole, MindsShut, StaysOpen, given, is_shut, most_blocks}
-use Rattle.ctl_session.specs.Turn.{DropsBlock, IsLastLook, IsQuiet, IsTurn, NeedsClock, Post, PostReads, Reads, WorksBlock, post}
-use Rattle.ctl_session.proofs.Clocks.{gives_none, reads_none, reads_twice}
+use Rattle.ctl_session.specs.Session.{Ending, IsCause, IsServed, IsUnused, IsWhole, MindsShut, StaysOpen, is_shut, most_blocks}
+use Rattle.ctl_session.specs.Turn.{DropsBlock, IsLastLook, IsQuiet, IsTurn, NeedsClock, Post, PostReads, Reads, WorksBlock}
+use Rattle.ctl_session.proofs.Clocks.{reads_none, reads_twice}
 use Rattle.ctl_session.proofs.Joining.{joined, none_asked, open_last, open_later}
 use Rattle.ctl_session.proofs.Working.{nothing_made}
 
@@ -78,7 +77,7 @@ pub record IsUnderWay (form : Form) (old now : Wire) (at at' : Post) (blocks : B
   pub so_far : IsSoFar form old now at at' blocks count
   pub unshut : GoesOnOpen form at'.desk count so_far.answers
 
-so_far_at_start : (form : Form) (wire : Wire) (at : Post) → at.count ≡ 0
+abbrev so_far_at_start : (form : Form) (wire : Wire) (at : Post) → at.count ≡ 0
     → IsSoFar form wire wire at at (record { form = form; place = 0; pending = [] }) 0
 so_far_at_start form wire at start = record {
   served = [];
@@ -203,8 +202,11 @@ so_far_after laws form old mid new at between after blocks blocks' count few way
     )
 
 not_true : (b : Bool) → ¬ (b ≡ true) → b ≡ false
-not_true true no = absurd (no refl)
-not_true false no = refl
+not_true true other = absurd (other refl)
+not_true false other = refl
+
+pub not_so : (b : Bool) → b ≡ false → b ≡ true → ⊥
+not_so b is other = cc
 
 -- and behind which no shutdown is seen
 pub under_way_after : Laws → (form : Form) (old mid new : Wire) (at between after : Post) (blocks blocks' : BlocksState)
@@ -507,8 +509,7 @@ served_shut laws form old mid new at between after blocks blocks' count few way 
     let one = turn.0.one in
     let e = quietly so_far.served blocks'.pending so_far.answers None in
     quiet_end form old new new at after after blocks' blocks'.pending (count + 1) how.Shut None so_far (omega arith)
-    history (none_asked form after.desk) (not_read after) so_far.consumed
-    (
+    history (none_asked form after.desk) (not_read after) so_far.consumed (
       record { none_worked = refl; none_last = refl; sent = so_far.sent; writes = so_far.writes },
       so_far.reads,
       omega (arith, so_far.count_is),
@@ -573,8 +574,7 @@ served_after_turn laws form old mid new at between after blocks blocks' count ho
     let so_far = way.so_far in
     let reply = works.one.answer.reply in
     let whole_reply : replies (works.one.answer ∷ []) ≡ reply = append-nil reply in
-    worked_end laws form old mid new at between after blocks blocks' count how.WriteFault so_far works few history
-    (
+    worked_end laws form old mid new at between after blocks blocks' count how.WriteFault so_far works few history (
       reads ∙ so_far.reads,
       subst (λ n. CountsOne n new.writes) so_far.writes counted,
       (

@@ -11,7 +11,7 @@ use Rattle.ctl_session.specs.declared.answer.Fault.TheVariants as fault
 use Rattle.ctl_session.specs.declared.reading.Found.TheVariants as found
 use Rattle.ctl_session.specs.declared.session.How.TheVariants as how
 use Rattle.ctl_session.specs.Reading.{IsFound, TakesBlock, WritesStay}
-use Rattle.ctl_session.specs.Turn.{AnswersBlock, AnswersOne, DropsBlock, IsTurn, Post, PostReads, WorksBlock}
+use Rattle.ctl_session.specs.Turn.{AnswersBlock, AnswersOne, IsTurn, Post, PostReads, WorksBlock}
 
 -- a block that was read, where writing leaves what is left
 takes : (old mid new : Wire) (blocks blocks' : BlocksState) (block : Block) → TakesBlock old mid blocks blocks' block

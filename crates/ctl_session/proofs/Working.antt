@@ -145,13 +145,13 @@ asked_tells desk desk' asked answer answer_told goes answered text status place 
     tells_of desk desk' asked answer answer_told works.0 works.1 answered text status place
 
 -- what asks nothing of a desk makes no entry, and is told the same in every state
-record AsksNone (meaning : Meaning) (text : List ℕ) : Type 0 where
-  tells : (s : State) → text ≡ told s meaning
-  status : (s : State) → 1 ≡ status_told s meaning
-  place : (n : ℕ) → 0 ≡ place_told n meaning
-  makes : (s : State) (number : ℕ) → entry_made s number meaning ≡ None
+pub record AsksNone (meaning : Meaning) (text : List ℕ) : Type 0 where
+  pub tells : (s : State) → text ≡ told s meaning
+  pub status : (s : State) → 1 ≡ status_told s meaning
+  pub place : (n : ℕ) → 0 ≡ place_told n meaning
+  pub makes : (s : State) (number : ℕ) → entry_made s number meaning ≡ None
 
-unasked_works : (desk : Sight) (meaning : Meaning)
+abbrev unasked_works : (desk : Sight) (meaning : Meaning)
     → ((s : State) (number : ℕ) → entry_made s number meaning ≡ None) → Works meaning desk desk
 unasked_works desk meaning makes = record {
   place = length (seen desk);
@@ -184,11 +184,11 @@ unasked (Err e) written desk meaning text none is so = tt
 
 -- ---- an answer in a form
 
-all_one : (P : Answered → Type 0) (a : Answered) → P a → All P (a ∷ [])
+pub all_one : (P : Answered → Type 0) (a : Answered) → P a → All P (a ∷ [])
 all_one P a p = All-cons P a [] p (All-nil P)
 
 -- the answer of a desk, as a form spells it
-pub answer_of : (form : Form) (block : Block) (meaning : Meaning) (moment : Option ℕ) (desk desk' : Sight)
+abbrev pub answer_of : (form : Form) (block : Block) (meaning : Meaning) (moment : Option ℕ) (desk desk' : Sight)
     → Works meaning desk desk' → Answered
 answer_of form block meaning moment desk desk' works = record {
   moment = moment;
@@ -199,7 +199,7 @@ answer_of form block meaning moment desk desk' works = record {
 }
 
 -- a desk that worked what a block asks answered the block
-pub one_of : (form : Form) (block : Block) (meaning : Meaning) (moment : Option ℕ) (desk desk' : Sight)
+abbrev pub one_of : (form : Form) (block : Block) (meaning : Meaning) (moment : Option ℕ) (desk desk' : Sight)
     → Works meaning desk desk' → Means form block meaning moment → AnswersOne form block desk desk'
 one_of form block meaning moment desk desk' works means =
     let a = answer_of form block meaning moment desk desk' works in

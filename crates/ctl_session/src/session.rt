@@ -153,7 +153,15 @@ pub fn serve_link<L: Link, D: Desk, C: Clock>(
     let mut readings = 0;
     for answered in 0..MOST_BLOCKS {
         let end = turn(
-            alloc, form, link, desk, clock, &mut readings, steps, &mut blocks, &mut buffer,
+            alloc,
+            form,
+            link,
+            desk,
+            clock,
+            &mut readings,
+            steps,
+            &mut blocks,
+            &mut buffer,
         );
         if let Some(how) = end {
             return finished(desk, how, answered, readings);
