@@ -2,7 +2,7 @@
 use Rattle.std.specs.Prelude.{◌≡◌, ◌⊎◌, ℕ, List, ◌++◌, Option, Some}
 use Rattle.std.specs.Io.KnownBytes.{Appends, Consumes, IsAtEnd}
 use Rattle.slurm_io.specs.Bytes.{AppendsFront, Tells}
-use Rattle.slurm_io.specs.Faults.{CountsOne}
+use Rattle.slurm_io.specs.Faults.{CountsOne, CountsNone}
 use Rattle.slurm_io.specs.Wire.{Wire}
 use Rattle.block_frame.specs.declared.block.Block.{Block}
 use Rattle.block_frame.specs.Replies.{IsReply, BeginsWithReply}
