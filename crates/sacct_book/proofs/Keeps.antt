@@ -1,9 +1,10 @@
 -- Intervals go on telling what was used, by one more entry.
-use Rattle.std.proofs.Common.{◌≡◌, ℕ, ◌+◌, ◌*◌, ◌^◌, ◌≤◌, ◌<◌, max, min, Bool, true, false, cond, List, [], ◌∷◌, ◌++◌, length, map, get_or, refl, sym, ap, ◌∙◌, arith, true≢false}
+use Rattle.std.proofs.Common.{◌≡◌, ℕ, ◌+◌, ◌-◌, ◌*◌, ◌^◌, ◌≤◌, ◌<◌, max, min, Bool, true, false, cond, List, [], ◌∷◌, ◌++◌, length, map, replicate, get_or, refl, sym, ap, ◌∙◌, arith, true≢false}
 use Rattle.std.proofs.Math.Nat.{mul-le-mul_left}
-use Rattle.std.proofs.lemmas.List.{get_or-map, length-map}
+use Rattle.std.proofs.lemmas.List.{get_or-map, get_or-replicate, length-map}
 use Rattle.std.proofs.lemmas.List.Sums.{sum_by-cons}
 use Rattle.slurm_text.specs.declared.plain.request.Request.{Request}
+use Rattle.job_table.specs.declared.record.JobRecord.{JobRecord}
 use Rattle.ctl_state.specs.State.{State}
 use Rattle.ctl_state.specs.Soundness.{IsSound}
 use Rattle.ctl_state.specs.Verdicts.{left_by}
@@ -79,18 +80,18 @@ keeps-none opening held holdings sound long few counts are =
     }
 
 pub keeps-add : (h : History) (e : Entry) (t : State) (finished finished' : List Interval)
-    (holdings holdings' : List Holding) (held : List ℕ)
+    (holdings holdings' : List Holding)
     → KeepsUse h finished holdings → IsLegal h.opening (h.entries ++ e ∷ [])
     → t ≡ state_after (present h) e.moment e.user e.request → IsSound t
-    → ((at : ℕ) → at < length holdings → get_or held at 0 ≡ cpus_running t.jobs at)
     → length holdings' ≡ length holdings
     → ((place : ℕ) (d : Holding) → place < length holdings → (get_or holdings' place d).since ≤ e.moment)
-    → ((place : ℕ) (d : Holding) (n : ℕ) (window : Window) (now : ℕ) → place < length holdings → e.moment ≤ now
+    → ((place : ℕ) (d : Holding) (window : Window) (now : ℕ) → place < length holdings → e.moment ≤ now
     → kept_use finished' (get_or holdings' place d) place window now
-    ≡ kept_use finished (get_or holdings place d) place window e.moment + get_or held place n * seconds_in window e.moment now)
+    ≡ kept_use finished (get_or holdings place d) place window e.moment
+    + cpus_running t.jobs place * seconds_in window e.moment now)
     → (t ≡ after_all h.opening (h.entries ++ e ∷ []))
     × KeepsUse (record { opening = h.opening; entries = h.entries ++ e ∷ [] }) finished' holdings'
-keeps-add h e t finished finished' holdings holdings' held kept legal made sound counts long since goes =
+keeps-add h e t finished finished' holdings holdings' kept legal made sound long since goes =
     let reached : t ≡ after_all h.opening (h.entries ++ e ∷ []) = made ∙ sym (after_all-push h.opening h.entries e) in
     let step = last-step h.opening h.entries e legal in
     let there : (after_all h.opening (h.entries ++ e ∷ [])).moment ≡ e.moment =
@@ -108,10 +109,9 @@ keeps-add h e t finished finished' holdings holdings' held kept legal made sound
       since = λ place d inside. omega (arith, there, since place d (omega (arith, inside, long)));
       used = λ place d window now inside after.
           let inner : place < length holdings = omega (arith, inside, long) in
-          goes place d 0 window now inner (omega (arith, after, there))
-          ∙ ap (λ before. before + get_or held place 0 * seconds_in window e.moment now)
+          goes place d window now inner (omega (arith, after, there))
+          ∙ ap (λ before. before + cpus_running t.jobs place * seconds_in window e.moment now)
           (kept.used place d window e.moment inner step.moment)
-          ∙ ap (λ cpus. used_at h place window e.moment + cpus * seconds_in window e.moment now) (counts place inner)
           ∙ sym (pushed place window now);
       small = λ place window now after.
           omega (
@@ -122,3 +122,24 @@ keeps-add h e t finished finished' holdings holdings' held kept legal made sound
           );
     } in
     (reached, keeps)
+
+-- what is counted from nothing on is what there is
+pub counted : (s : State) (jobs : List JobRecord) (none held : List ℕ) (count at : ℕ) → IsSound s → jobs ≡ s.jobs
+    → none ≡ replicate count 0 → at < count
+    → get_or held at 0 ≡ min (get_or none at 0 + cpus_running jobs at) (2 ^ 64 - 1)
+    → get_or held at 0 ≡ cpus_running s.jobs at
+counted s jobs none held count at sound same empty inside counts =
+    let nothing : get_or none at 0 ≡ 0 = ap (λ l. get_or l at 0) empty ∙ get_or-replicate count at 0 0 inside in
+    let all : cpus_running jobs at ≡ cpus_running s.jobs at = ap (λ l. cpus_running l at) same in
+    omega (arith, nothing, all, counts, running-few s at sound)
+
+-- a machine's word is wide enough for what was used
+pub word-wide : (h : History) (finished : List Interval) (holdings : List Holding) (holding : Holding)
+    (place result now : ℕ) (window : Window) → KeepsUse h finished holdings → place < length holdings
+    → (present h).moment ≤ now → now ≤ 250000000000 → holding ≡ get_or holdings place holding
+    → result ≡ min (kept_use finished holding place window now) (2 ^ 64 - 1)
+    → result ≡ used_at h place window now
+word-wide h finished holdings holding place result now window kept inside after early is found =
+    let tells : kept_use finished holding place window now ≡ used_at h place window now =
+    ap (λ one. kept_use finished one place window now) is ∙ kept.used place holding window now inside after in
+    omega (arith, found, tells, early, kept.small place window now after)

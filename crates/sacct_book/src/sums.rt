@@ -1,9 +1,13 @@
 //! The sums of what users have used.
 
-ghost use Rattle.std.specs.Prelude.{◌≡◌, ◌≤◌, ◌<◌, ◌++◌, ◌∷◌, [], IfOk, OnOk, OnErr, map, vec_len, vec_capacity};
+ghost use Rattle.std.specs.Prelude.{◌≡◌, ◌≤◌, ◌<◌, ◌+◌, ◌*◌, ◌^◌, ◌++◌, ◌∷◌, [], ℕ, IfOk, OnOk, OnErr, map, replicate, slice_index_or, vec_len, vec_capacity};
 ghost use Rattle.ctl_state.specs.State.{last_moment};
+ghost use Rattle.ctl_state.specs.Soundness.{IsSound};
+ghost use Rattle.ctl_core.specs.Step.{state_after};
 ghost use Rattle.ctl_desk.specs.History.{IsLegal, present};
 ghost use Rattle.sacct_book.specs.declared.intervals.Holding.{Holding};
+ghost use Rattle.sacct_book.specs.declared.intervals.Window.{Window};
+ghost use Rattle.sacct_book.specs.Intervals.{kept_use, seconds_in};
 ghost use Rattle.sacct_book.specs.Used as spec;
 
 use crate::intervals::{Holding, Interval, Window, go_on_all, kept_use};
@@ -57,6 +61,61 @@ fn begin(alloc: Global, held: &[u64], moment: u64) -> Result<Vec<Holding>, Memor
     )
 }
 
+// Takes the room that an entry needs: its own, that of an interval for each association, and a row of counts.
+fn make_room(
+    alloc: Global,
+    entries: &mut Vec<Entry>,
+    finished: &mut Vec<Interval>,
+    associations: usize,
+) -> Result<Vec<u64>, Memory>
+    ensures entries { entries.new.items ≡ entries.old.items }
+    ensures finished { finished.new.items ≡ finished.old.items }
+    ensures spare { OnOk result (vec_len entries.new < vec_capacity entries.new) }
+    ensures room { OnOk result (vec_len finished.new + associations ≤ vec_capacity finished.new) }
+    ensures held { IfOk result (λ held. held.items ≡ replicate associations 0) }
+{
+    entries.reserve(1)?;
+    finished.reserve(associations)?;
+    Ok(vec![in alloc; 0; associations]?)
+}
+
+// Has the controller decide an entry once more.
+fn decide(ctl: &mut Ctl, entry: &Entry) -> Result<(), Memory>
+    ensures after { OnOk result (ctl.new.state
+        ≡ state_after ctl.old.state entry.now.moment entry.now.user entry.now.request) }
+    ensures err { OnErr result (ctl.new ≡ ctl.old) }
+{
+    let _ = ctl.ask(entry.moment, &entry.user, &entry.request)?;
+    Ok(())
+}
+
+// From a moment on running jobs hold what they hold at the controller.
+fn follow(
+    finished: &mut Vec<Interval>,
+    holdings: &mut Vec<Holding>,
+    held: Vec<u64>,
+    ctl: &Ctl,
+    moment: u64,
+)
+    requires room { vec_len finished.old + vec_len holdings.old ≤ vec_capacity finished.old }
+    requires few { vec_len holdings.old < 2 ^ 32 }
+    requires since { (place : ℕ) (d : Holding) → place < vec_len holdings.old
+        → (slice_index_or holdings.old.items place d).since ≤ moment }
+    requires none { held.items ≡ replicate (vec_len holdings.old) 0 }
+    ensures sound { IsSound ctl.now.state }
+    ensures each { vec_len holdings.new ≡ vec_len holdings.old }
+    ensures since { (place : ℕ) (d : Holding) → place < vec_len holdings.old
+        → (slice_index_or holdings.new.items place d).since ≤ moment }
+    ensures used { (place : ℕ) (d : Holding) (window : Window) (now : ℕ) → place < vec_len holdings.old → moment ≤ now
+        → kept_use finished.new.items (slice_index_or holdings.new.items place d) place window now
+        ≡ kept_use finished.old.items (slice_index_or holdings.old.items place d) place window moment
+        + spec.cpus_running ctl.now.state.jobs place * seconds_in window moment now }
+{
+    let mut held = held;
+    add_running(&mut held, ctl.cluster().jobs.records());
+    go_on_all(finished, holdings, held.as_slice(), moment);
+}
+
 // Puts an entry behind the others, which have room for it.
 fn push(entries: &mut Vec<Entry>, entry: Entry)
     requires { vec_len entries.old < vec_capacity entries.old }
@@ -95,18 +154,18 @@ impl Sums {
         ensures entries { OnOk result (self.new.entries ≡ self.old.entries ++ entry ∷ []) }
         ensures err { OnErr result (self.new ≡ self.old) }
     {
-        let associations = self.holdings.len();
-        self.entries.reserve(1)?;
-        self.finished.reserve(associations)?;
-        let mut held = vec![in self.alloc; 0; associations]?;
-        let _ = self
-            .ctl
-            .ask(entry.moment, &entry.user, &entry.request)?;
-        add_running(&mut held, self.ctl.cluster().jobs.records());
-        go_on_all(
+        let held = make_room(
+            self.alloc,
+            &mut self.entries,
+            &mut self.finished,
+            self.holdings.len(),
+        )?;
+        decide(&mut self.ctl, &entry)?;
+        follow(
             &mut self.finished,
             &mut self.holdings,
-            held.as_slice(),
+            held,
+            &self.ctl,
             entry.moment,
         );
         push(&mut self.entries, entry);
