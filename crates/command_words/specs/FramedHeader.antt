@@ -31,12 +31,13 @@ abbrev pub unless_bad : Option ℕ → FramedHead → FramedHead
 unless_bad None head = head
 unless_bad (Some place) head = BadWords place
 
+-- what a header says that isn't too long
+unfoldable pub head_said : List ℕ → FramedHead
+head_said header = unless_bad (first_bad header) (called_by (caller_in (words_in header)))
+
 -- What the header of a block with this attachment says.
 unfoldable pub framed_head_in : List ℕ → Option (List ℕ) → FramedHead
-framed_head_in header attachment =
-    if is_too_long header attachment
-    then BadHeader
-    else unless_bad (first_bad header) (called_by (caller_in (words_in header)))
+framed_head_in header attachment = if is_too_long header attachment then BadHeader else head_said header
 
 -- what a caller asks at a moment
 abbrev pub asked_at : Caller → ℕ → Option (List ℕ) → Meaning

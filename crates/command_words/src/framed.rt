@@ -1,8 +1,8 @@
 //! The header of a framed block, with its attachment. It names no moment.
 
-ghost use Rattle.std.specs.Prelude.{◌≡◌, false, nat_lt, length, option_copied, IfOk};
+ghost use Rattle.std.specs.Prelude.{◌≡◌, ◌<◌, ◌^◌, false, nat_lt, length, option_copied, IfOk};
 ghost use Rattle.std.specs.Option.{option_map_or};
-ghost use Rattle.command_words.specs.FramedHeader.{asked_at, called_by, caller_in, framed_head_in};
+ghost use Rattle.command_words.specs.FramedHeader.{asked_at, called_by, caller_in, framed_head_in, head_said};
 
 use crate::header::{Head, Meaning, read_asked};
 use operands::names::read_name;
@@ -69,6 +69,18 @@ fn read_words(alloc: Global, words: Words) -> Result<FramedHead, Memory>
     }
 }
 
+#[tactic(auto, unfolding(crate::specs::FramedHeader::head_said))]
+fn read_said(alloc: Global, header: &[u8]) -> Result<FramedHead, Memory>
+    requires { length header.now < 2 ^ 32 }
+    ensures { IfOk result (λ head. head ≡ head_said header.now) }
+{
+    match split_words(alloc, header) {
+        Ok(words) => read_words(alloc, words),
+        Err(WordsRefusal::BadWords { place }) => Ok(FramedHead::BadWords { place }),
+        Err(WordsRefusal::BadWord { place: _ } | WordsRefusal::Memory) => Err(Memory),
+    }
+}
+
 /// Reads the header of a framed block that has this attachment. Linear in the header.
 #[tactic(auto, unfolding(crate::specs::FramedHeader::framed_head_in))]
 pub fn read_framed_head(
@@ -81,11 +93,7 @@ pub fn read_framed_head(
     if header.len() > MAX_HEADER || is_long(attachment) {
         return Ok(FramedHead::BadHeader);
     }
-    match split_words(alloc, header) {
-        Ok(words) => read_words(alloc, words),
-        Err(WordsRefusal::BadWords { place }) => Ok(FramedHead::BadWords { place }),
-        Err(WordsRefusal::BadWord { place: _ } | WordsRefusal::Memory) => Err(Memory),
-    }
+    read_said(alloc, header)
 }
 
 /// What a caller asks at a moment, by its words and the attachment. Its cost is that of `read_header`.
