@@ -1,5 +1,5 @@
 -- What a turn counts, and that a desk goes on through it.
-use Rattle.std.proofs.Common.{◌≡◌, ℕ, zero, ◌≤◌, Bool, true, List, [], ◌∷◌, ◌++◌, length, take, eqb, refl, sym, ap, ◌∙◌, subst, arith, append-nil, append_assoc, length-append}
+use Rattle.std.proofs.Common.{◌≡◌, ℕ, zero, ◌≤◌, Bool, true, List, [], ◌∷◌, ◌++◌, length, take, eqb, refl, sym, ap, ◌∙◌, subst, arith, Result, Ok, Err, OnErr, append-nil, append_assoc, length-append}
 use Rattle.std.proofs.Math.Seq.{take-append_seam, take-length}
 use Rattle.std.proofs.lemmas.List.{take_all}
 use Rattle.std.proofs.lemmas.List.Elements.{filter-append}
@@ -107,8 +107,8 @@ cut-short desk desk' now outside outside' inside goes counted = record {
   middle = desk';
   before = goes;
   after = goes_nowhere desk';
-  outside = counted;
-  inside = λ steady are. not-counted _ inside;
+  beside_book = counted;
+  in_pass = λ steady are. not-counted _ inside;
   alone = λ _. refl;
 }
 
@@ -130,8 +130,8 @@ planned-beside law desk middle desk' now place user outside outside' inside insi
       middle = middle;
       before = first;
       after = second;
-      outside = counted;
-      inside = subst (λ (s : State). IsHinted (input_there middle now) (there s) now inside inside') opening over;
+      beside_book = counted;
+      in_pass = subst (λ (s : State). IsHinted (input_there middle now) (there s) now inside inside') opening over;
       alone = λ at.
           let s = present (history_of middle) in
           let same : there middle.opening ≡ s = state-behind middle desk' place second at in
@@ -142,6 +142,25 @@ planned-beside law desk middle desk' now place user outside outside' inside insi
           (subst (λ (at : State). IsHinted (input_there middle now) at now inside inside') same over);
     }
 
--- the state at the end of all that is seen is the present
-pub state-last : (desk : Sight) → state_at desk.opening (seen desk) (length (seen desk)) ≡ present (history_of desk)
-state-last desk = ap (after_all desk.opening) (take-length (seen desk))
+-- a turn whose pass wanted memory, as if it had been made after all that was seen
+pub planned-beside-err : OwnHintCountsNothing → (desk middle desk' : Sight) (now : ℕ) (user : List ℕ)
+    (outside outside' inside inside' : ℕ) (planned : PlannedView) → GoesOn desk middle → GoesOn middle desk'
+    → IsHistory (history_of middle) → planned ≡ input_there middle now
+    → IsTickedUpTo (length (input_there middle now).ranked) outside outside'
+    → IsTickedUpTo (steps_of (present (history_of desk')) now user) inside inside'
+    → IsHinted planned (present (history_of desk')) now inside inside'
+    → IsPlannedBeside desk desk' now (length (seen desk')) outside outside' inside inside'
+planned-beside-err law desk middle desk' now user outside outside' inside inside' planned first second history is
+    counted most hinted =
+    let end : present (history_of desk') ≡ state_at middle.opening (seen desk') (length (seen desk')) =
+    ap (λ (o : State). after_all o (seen desk')) (same-opening middle desk' second)
+    ∙ ap (after_all middle.opening) (sym (take-length (seen desk'))) in
+    planned-beside law desk middle desk' now (length (seen desk')) user outside outside' inside inside' planned first
+    second history is counted
+    (subst (λ (s : State). IsTickedUpTo (steps_of s now user) inside inside') end most)
+    (subst (λ (s : State). IsHinted planned s now inside inside') end hinted)
+
+-- what holds in each case holds where the answer is an error
+pub on-err : {X E : Type 0} (result : Result X E) (P : Type 0) → P → OnErr result P
+on-err (Ok value) P holds = tt
+on-err (Err error) P holds = holds
