@@ -17,3 +17,5 @@ pub mod Altering
 pub mod Starting
 pub mod Requests
 pub mod Whole
+pub mod Settling
+pub mod Ending
