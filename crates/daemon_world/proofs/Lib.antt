@@ -19,3 +19,4 @@ pub mod Requests
 pub mod Whole
 pub mod Settling
 pub mod Ending
+pub mod Once
