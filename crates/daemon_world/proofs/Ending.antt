@@ -138,8 +138,8 @@ pass-goes s t Q lasts now size next may all few =
     let over = map (timed_out now) t.jobs in
     let left = All-filter stay Q over (map-settles Q (timed_out now) t.jobs lasts.settles (over_settles now) all) in
     let few_left = All-filter stay Few over
-        (map-settles Few (timed_out now) t.jobs (λ job after settles fewer. omega (arith, settles.starts, fewer))
-        (over_settles now) few) in
+    (map-settles Few (timed_out now) t.jobs (λ job after settles fewer. omega (arith, settles.starts, fewer))
+    (over_settles now) few) in
     let begin : All Both (jobs_left t now) = λ k d below. record {
       has = left k d below;
       few = λ waits. few_left k d below;
@@ -163,10 +163,10 @@ whole-pass-goes passes s Q lasts now sound raised in_time all few =
     let went = silence-goes s Q lasts now all in
     let Few = λ (job : JobRecord). job.starts ≤ s.size in
     let few_left : All Few t.jobs =
-        cond_both (any_silent s now) (without_silent s now) s (λ (t : State). All Few t.jobs)
-        (λ some. map-settles Few (after_loss now (silent_at s now)) s.jobs
-        (λ job after settles fewer. omega (arith, settles.starts, fewer)) (loss_settles now (silent_at s now)) few)
-        (λ none. few) in
+    cond_both (any_silent s now) (without_silent s now) s (λ (t : State). All Few t.jobs)
+    (λ some. map-settles Few (after_loss now (silent_at s now)) s.jobs
+    (λ job after settles fewer. omega (arith, settles.starts, fewer)) (loss_settles now (silent_at s now)) few)
+    (λ none. few) in
     pass-goes s t Q lasts now went.size went.next
     (pass_may passes t now sound' (silenced_raised s now raised) in_time) went.all few_left
 

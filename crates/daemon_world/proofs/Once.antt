@@ -103,9 +103,9 @@ step-since : Passes → (jobs : List JobRecord) (next : ℕ) (s : State) (now : 
 step-since passes jobs next s now user request sound since =
     let small : s.size ≤ 1073742080 = omega (arith, sound.size) in
     let went = step_goes passes s (Was jobs next) (was-lasts s jobs next small since.next_id) now user request sound
-        since.all since.few in
+    since.all since.few in
     let had = All-weaker (λ (job : JobRecord). job.starts ≤ s.size) (λ (job : JobRecord). job.starts ≤ s.size + 1)
-        (λ job fewer. omega (arith, fewer)) s.jobs since.few in
+    (λ job fewer. omega (arith, fewer)) s.jobs since.few in
     record {
       few = few-on s (state_after s now user request) since.few
           (step_goes passes s (λ (job : JobRecord). job.starts ≤ s.size + 1) (few-lasts s) now user request sound had
@@ -156,7 +156,7 @@ settled-since s after k d sound below id starts (inl (i, old, within, is, later)
     elim (cases_order i k) [
       | inl same ↦
           let this : old ≡ get_or s.jobs k d =
-              sym is ∙ ap (λ (n : ℕ). get_or s.jobs n old) same ∙ get_or_default s.jobs k old d below in
+          sym is ∙ ap (λ (n : ℕ). get_or s.jobs n old) same ∙ get_or_default s.jobs k old d below in
           settled-by (subst (λ (job : JobRecord). IsLater job after) this later) starts
       | inr differ ↦ elim differ [
         | inl before ↦
@@ -206,7 +206,7 @@ pub starts_end : EventsKeep → Passes → (w : World) (events : List Event) →
 starts_end keep passes w events came can =
     let together = came_together keep w came in
     let since = events-since keep passes w.state.jobs w.state.next_id w events together can
-        (since-itself w.state (few-starts keep passes w came)) in
+    (since-itself w.state (few-starts keep passes w came)) in
     λ k d below j e within id starts.
     settled-since w.state (get_or (world_after_all w events).state.jobs j e) k d together.sound below id starts
     (since.all j e within)
