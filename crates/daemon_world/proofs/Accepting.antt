@@ -81,8 +81,8 @@ quiet-by s reports orders daemon report place now comes (Some heard) is news =
       | inr same ↦
           let sent = comes.sent in
           let not_restarted : is_restarted s report ≡ false =
-              ap (λ kept. unwrap_or (option_map (λ (heard : Heard). nat_lt heard.boot report.boot) kept) false) is
-              ∙ le-ltb heard.boot report.boot (omega (arith, same, sent.boot, news.boot)) in
+          ap (λ kept. unwrap_or (option_map (λ (heard : Heard). nat_lt heard.boot report.boot) kept) false) is
+          ∙ le-ltb heard.boot report.boot (omega (arith, same, sent.boot, news.boot)) in
           inr (
             cond-false (is_restarted s report) (stamped now (lost_after s now (nat_eq place))) s not_restarted,
             omega (arith, same, sent.boot, news.boot),
@@ -173,7 +173,7 @@ held-on : (s : State) (reports : List Report) (orders : List Orders) (daemon : D
     → All (IsHeldAt (after s now place report).jobs place) (claims_of daemon)
 held-on s reports orders daemon report place now comes same life up =
     let listed = All-map (λ (claim : Claim). is_among report.running claim.start ≡ true) claim_run daemon.running
-        (comes.tells life).running in
+    (comes.tells life).running in
     subst (λ (t : State). All (IsHeldAt (map (reported now place report) t.jobs) place) (claims_of daemon)) (sym same)
     (λ k d below. let claim = get_or (claims_of daemon) k d in
     held-still now place report claim s.jobs (listed k d below)
@@ -187,16 +187,16 @@ held-after : Lower → (s : State) (reports : List Report) (orders : List Orders
 held-after lower s reports orders daemon report place now comes up =
     let Held = IsHeldAt (after s now place report).jobs place in
     let nothing = λ (none : daemon.running ≡ []). subst (λ (running : List Running). All Held (map claim_run running))
-        (sym none) (All-nil Held) in
+    (sym none) (All-nil Held) in
     elim (quiet s reports orders daemon report place now comes) [
       | inl none ↦ nothing none
       | inr runs ↦ elim (came_up (heard_by now report) (lists_nothing report.running)
           (met s now place report).nodes place up) [
-        | inl was ↦
-            held-on s reports orders daemon report place now comes runs.0 runs.1
-            (ap (λ nodes. is_up_at nodes place) (sym (nodes_met s now place report)) ∙ was)
-        | inr empty ↦ nothing (none-runs s reports orders daemon report place now comes empty)
-      ]
+            | inl was ↦
+                held-on s reports orders daemon report place now comes runs.0 runs.1
+                (ap (λ nodes. is_up_at nodes place) (sym (nodes_met s now place report)) ∙ was)
+            | inr empty ↦ nothing (none-runs s reports orders daemon report place now comes empty)
+          ]
     ]
 
 the-place : Lower → (s : State) (reports : List Report) (orders : List Orders) (daemon : Daemon) (report : Report)
@@ -278,12 +278,12 @@ new-claims report start [] all some = absurd (omega (arith, some))
 new-claims report start (launch ∷ later) all some =
     let New = λ (one : Start). (is_among report.running one ≡ false) × (tells_over report one ≡ false) in
     let NewLaunch = λ (launch : Launch). (is_among report.running launch.start ≡ false)
-        × (tells_over report launch.start ≡ false) in
+    × (tells_over report launch.start ≡ false) in
     elim (cases_Bool (is_same launch.start start)) [
       | inl same ↦ subst New (same-start launch.start start same) (All-head NewLaunch launch later all)
       | inr differ ↦
           let less = count_no (λ (claim : Claim). is_same claim.start start) (claim_launch launch)
-              (map claim_launch later) differ in
+          (map claim_launch later) differ in
           new-claims report start later (All-tail NewLaunch launch later all) (omega (arith, less, some))
     ]
 
@@ -318,7 +318,7 @@ absent-over report start (done ∷ later) all unlisted untold =
     elim (cases_Bool (is_same done.start start)) [
       | inl same ↦
           let known = subst (λ (x : Start). (is_among report.running x || tells_over report x) ≡ true)
-              (same-start done.start start same) (All-head Known done later all) in
+          (same-start done.start start same) (All-head Known done later all) in
           elim (or_cases (is_among report.running start) (tells_over report start) known) [
             | inl listed ↦ absurd (both_ways (is_among report.running start) unlisted listed)
             | inr told ↦ absurd (both_ways (tells_over report start) untold told)
@@ -346,12 +346,12 @@ once-after lower s reports orders daemon report place now comes life start =
     elim (cases_lt 0 (times_claiming more start)) [
       | inl some ↦
           let new = new-claims report start (filter_map (launch_of place report) jobs)
-              (launches_new now place report jobs) some in
+          (launches_new now place report jobs) some in
           omega (
             arith,
             both,
             launches_once start now place report jobs
-            (sound-met lower s now place report comes.sound comes.raised comes.in_time).rising,
+                (sound-met lower s now place report comes.sound comes.raised comes.in_time).rising,
             absent-running report start daemon.running tells.running new.0,
             absent-over report start daemon.over tells.over new.0 new.1,
           )
@@ -378,7 +378,7 @@ fit-launched lower s reports orders daemon report place now comes life up =
     let claims = claims_of daemon ++ launched s now place report in
     let sound = lower.met s now place report comes.sound comes.raised comes.in_time in
     let up' = stays_up (heard_by now report) (lists_nothing report.running) (met s now place report).nodes place
-        (ap (λ nodes. is_up_at nodes place) (nodes_met s now place report) ∙ up) in
+    (ap (λ nodes. is_up_at nodes place) (nodes_met s now place report) ∙ up) in
     let once = once-after lower s reports orders daemon report place now comes life in
     record {
       apart = λ cpu. held_apart place cpu s'.jobs claims (sound.held.once place cpu)
@@ -398,7 +398,7 @@ fit-ordered lower s reports orders daemon report place now comes is =
     let s' = after s now place report in
     let made = answers s now place report in
     let Fits = λ (launches : List Launch).
-        Fit s' report.node (claims_of daemon ++ map claim_launch launches) daemon.over in
+    Fit s' report.node (claims_of daemon ++ map claim_launch launches) daemon.over in
     elim (cases_Bool (is_up_at s.nodes place)) [
       | inl up ↦
           subst Fits (sym made.launches)
@@ -437,7 +437,7 @@ emptied-after : Lower → (s : State) (reports : List Report) (orders : List Ord
     → RunsNothing (answer s now place report ∷ orders) daemon
 emptied-after lower s reports orders daemon report place now comes told =
     let was = emptied_by (heard_by now report) (lists_nothing report.running) (met s now place report).nodes place
-        told in
+    told in
     let same = sym (nodes_met s now place report) in
     let down : is_up_at s.nodes place ≡ false = ap (λ nodes. is_up_at nodes place) same ∙ was.0 in
     let none : daemon.running ≡ [] = elim was.1 [

@@ -184,7 +184,7 @@ same-places : (alter : NodeRecord → NodeRecord) → ((node : NodeRecord) → (
     → (name : List ℕ) (nodes : List NodeRecord) → place_named name (map alter nodes) ≡ place_named name nodes
 same-places alter confs name nodes =
     let first = prefix-same (λ node. not (is_named name node)) alter
-        (λ node. ap (λ conf. not (bytes_eq conf.name name)) (confs node)) nodes in
+    (λ node. ap (λ conf. not (bytes_eq conf.name name)) (confs node)) nodes in
     ap₂ (λ n count. cond (nat_lt n count) (Some n) None) first (length-map nodes alter)
 
 heard-same : (alter : NodeRecord → NodeRecord) → ((node : NodeRecord) → (alter node).heard ≡ node.heard)

@@ -68,7 +68,7 @@ none-shared place cpu one jobs [] once has held all none = omega arith
 none-shared place cpu one jobs (claim ∷ later) once has held all none =
     let starts = count_cons (λ (other : Claim). is_same other.start one.start) claim later in
     let rest = none-shared place cpu one jobs later once has held (All-tail (IsHeldAt jobs place) claim later all)
-        (omega (arith, starts, none)) in
+    (omega (arith, starts, none)) in
     elim (cases_Bool (has_id claim.cpus cpu)) [
       | inl also ↦ elim (cases_Bool (is_same claim.start one.start)) [
         | inl is ↦
@@ -95,13 +95,13 @@ held_apart place cpu jobs [] held all once = omega arith
 held_apart place cpu jobs (claim ∷ later) held all once =
     let starts = λ (start : Start). count_cons (λ (other : Claim). is_same other.start start) claim later in
     let rest = held_apart place cpu jobs later held (All-tail (IsHeldAt jobs place) claim later all)
-        (λ start. omega (arith, starts start, once start)) in
+    (λ start. omega (arith, starts start, once start)) in
     elim (cases_Bool (has_id claim.cpus cpu)) [
       | inl has ↦
           let first = count_yes (λ (other : Claim). is_same other.start claim.start) claim later
-              (same_start claim.start) in
+          (same_start claim.start) in
           let none = none-shared place cpu claim jobs later held has (All-head (IsHeldAt jobs place) claim later all)
-              (All-tail (IsHeldAt jobs place) claim later all) (omega (arith, first, once claim.start)) in
+          (All-tail (IsHeldAt jobs place) claim later all) (omega (arith, first, once claim.start)) in
           omega (arith, count_yes (λ (other : Claim). has_id other.cpus cpu) claim later has, none)
       | inr out ↦ omega (arith, count_no (λ (other : Claim). has_id other.cpus cpu) claim later out, rest)
     ]

@@ -145,7 +145,7 @@ launch-of now place report job =
     (option_map (launch_part place job) (find (is_on place) job.parts)) None (OfJob now place report job)
     (λ is. let each = and_parts (is_running job.state) (not (is_listed report job || is_some (done_of report job))) is in
     let silent = or_parts (is_listed report job) (is_some (done_of report job))
-        (not-true (is_listed report job || is_some (done_of report job)) each.1) in
+    (not-true (is_listed report job || is_some (done_of report job)) each.1) in
     launched-part now place report job each.0 silent.0 silent.1 (find (is_on place) job.parts) refl)
     (λ other. tt)
 
@@ -185,8 +185,8 @@ launches_held now place report (job ∷ jobs) =
     let Later = λ (launch : Launch). IsHeldAt (map after jobs) place (claim_launch launch) in
     let Now = λ (launch : Launch). IsHeldAt (after job ∷ map after jobs) place (claim_launch launch) in
     let rest = All-weaker Later Now
-        (λ launch held. any_there (Holds place (claim_launch launch)) (after job) (map after jobs) held)
-        (filter_map (launch_of place report) jobs) (launches_held now place report jobs) in
+    (λ launch held. any_there (Holds place (claim_launch launch)) (after job) (map after jobs) held)
+    (filter_map (launch_of place report) jobs) (launches_held now place report jobs) in
     held-one now place report job (launch_of place report job) jobs (launch-of now place report job) rest
   where
     held-one : (now place : ℕ) (report : Report) (job : JobRecord) (launch : Option Launch) (jobs : List JobRecord)
@@ -211,8 +211,8 @@ none-of (launch ∷ later) start above =
     let Above = λ (launch : Launch). start.id < launch.start.id in
     let behind = All-head Above launch later above in
     let differ : is_same launch.start start ≡ false =
-        and_left (nat_eq launch.start.id start.id) (nat_eq launch.start.number start.number)
-        (ne_eqb launch.start.id start.id (λ is. omega (arith, is, behind))) in
+    and_left (nat_eq launch.start.id start.id) (nat_eq launch.start.number start.number)
+    (ne_eqb launch.start.id start.id (λ is. omega (arith, is, behind))) in
     omega (
       arith,
       count_no (λ (claim : Claim). is_same claim.start start) (claim_launch launch) (map claim_launch later) differ,
@@ -248,19 +248,19 @@ one-more start now place report job (Some launch) rest is above once =
           let here = and_parts (nat_eq launch.start.id start.id) (nat_eq launch.start.number start.number) same in
           let id = eqb-true launch.start.id start.id here.0 in
           let none = none-of rest start (All-weaker (λ (launch : Launch). job.id < launch.start.id)
-              (λ (launch : Launch). start.id < launch.start.id) (λ other behind. omega (arith, behind, is.id, id)) rest
-              above) in
+          (λ (launch : Launch). start.id < launch.start.id) (λ other behind. omega (arith, behind, is.id, id)) rest
+          above) in
           omega (
             arith,
             count_yes (λ (claim : Claim). is_same claim.start start) (claim_launch launch) (map claim_launch rest)
-            same,
+                same,
             none,
           )
       | inr differ ↦
           omega (
             arith,
             count_no (λ (claim : Claim). is_same claim.start start) (claim_launch launch) (map claim_launch rest)
-            differ,
+                differ,
             once,
           )
     ]

@@ -17,3 +17,6 @@ pub mod Altering
 pub mod Starting
 pub mod Requests
 pub mod Whole
+pub mod Settling
+pub mod Ending
+pub mod Once

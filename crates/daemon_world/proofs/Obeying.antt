@@ -63,7 +63,7 @@ fit_accepted now s node orders daemon fit =
       arith,
       fewer-killed orders.kills daemon.running (λ (claim : Claim). is_same claim.start start) (claims_ordered orders),
       count_kept (λ (done : Done). is_same done.start start)
-      (λ (done : Done). not (is_among orders.forgets done.start)) daemon.over,
+          (λ (done : Done). not (is_among orders.forgets done.start)) daemon.over,
     )))
 
 -- where nothing runs, nothing runs but what is launched

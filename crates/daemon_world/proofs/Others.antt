@@ -80,7 +80,7 @@ pub others_left : Lower → (s : State) (now place : ℕ) (report : Report) (oth
 others_left lower s now place report other differ here =
     let s' = after s now place report in
     let away = λ (at : ℕ) (there : place_named other s.nodes ≡ Some at).
-        apart lower s report.node other place at differ here there in
+    apart lower s report.node other place at differ here there in
     record {
       place = same_place lower s now place report other;
       kept = ap (option_and_then (heard_of s'.nodes)) (same_place lower s now place report other)

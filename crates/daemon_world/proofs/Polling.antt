@@ -92,7 +92,7 @@ pub tells_apart : (s : State) (node : List ℕ) (daemon : Daemon) → Fit s node
     → All (λ start. tells_over (reported daemon) start ≡ false) (reported daemon).running
 tells_apart s node daemon fit =
     let each = all_unmap (λ (claim : Claim). 1 ≤ times_claiming (claims_of daemon) claim.start) claim_run daemon.running
-        (each_claims (claims_of daemon)) in
+    (each_claims (claims_of daemon)) in
     All-map (λ start. tells_over (reported daemon) start ≡ false) (λ (one : Running). one.start) daemon.running
     (All-weaker (λ (one : Running). 1 ≤ times_claiming (claims_of daemon) one.start)
     (λ (one : Running). tells_over (reported daemon) one.start ≡ false)

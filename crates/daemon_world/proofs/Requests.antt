@@ -321,7 +321,7 @@ leaves-early passes s now user request node false false sound own is =
     let in_time = ltb-false last_moment now is in
     leaves-judged s node (first_refusal (refusals_of s moment user request)) _
     (leaves-full s node (has_room s request) (made s moment user request)
-    (leaves-made passes s moment user request node sound (omega arith) (omega (arith, sound.moment, in_time)) no))
+    (leaves-made passes s moment user request node sound (omega arith) (omega (arith, sound.moment, in_time)) own))
 
 leaves-left : (s : State) (moment size : ℕ) (node : List ℕ) (verdict : Verdict) → LeavesBy s node verdict
     → LeavesNode s (if is_entered (reply_by verdict) then entered moment size (left_by s verdict) else s) node

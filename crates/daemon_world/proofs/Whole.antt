@@ -20,7 +20,7 @@ use Rattle.node_daemon.specs.Daemon.{Daemon, are_due, given, polled, reported, s
 use Rattle.node_daemon.specs.Turn.{root}
 use Rattle.daemon_world.specs.Claims.{claims_of, claims_ordered}
 use Rattle.daemon_world.specs.Together.{Fit, HeardSince, HeardUpTo, InStep, RunsNothing, Together, is_emptied, kept_of}
-use Rattle.daemon_world.specs.Worlds.{AllCanHappen, CanHappen, Event, IsNoReport, World, opening_world, with_daemon, world_after, world_after_all}
+use Rattle.daemon_world.specs.Worlds.{AllCanHappen, CanHappen, Event, HasComeAbout, IsNoReport, World, opening_world, with_daemon, world_after, world_after_all}
 use Rattle.daemon_world.proofs.Accepting.{Lower}
 use Rattle.daemon_world.proofs.Claimed.{fit_none}
 use Rattle.daemon_world.proofs.LeftAlone.{left_on}
@@ -121,11 +121,14 @@ event_together promises w (Event.Restarts node boot) together can = restarts_tog
 event_together promises w (Event.Asks now user request) together can =
     request_together promises.passes promises.steps w now user request together can.0 can.1
 
-pub events_together : Promises → (w : World) (events : List Event) → Together w → AllCanHappen w events
+abbrev pub EventsKeep : Type 0
+EventsKeep = (w : World) (event : Event) → Together w → CanHappen w event → Together (world_after w event)
+
+events-together : EventsKeep → (w : World) (events : List Event) → Together w → AllCanHappen w events
     → Together (world_after_all w events)
-events_together promises w [] together can = together
-events_together promises w (event ∷ later) together can =
-    events_together promises (world_after w event) later (event_together promises w event together can.0) can.1
+events-together keep w [] together can = together
+events-together keep w (event ∷ later) together can =
+    events-together keep (world_after w event) later (keep w event together can.0) can.1
 
 -- ---- the opening
 
@@ -166,3 +169,9 @@ opening_together conf file boots sound = record {
   sound = sound;
   each = λ node. opens conf file node (boots node);
 }
+
+pub came_together : EventsKeep → (w : World) → HasComeAbout w → Together w
+came_together keep w came =
+    let begin = opening_world came.conf came.file came.boots in
+    subst Together (sym came.is)
+    (events-together keep begin came.events (opening_together came.conf came.file came.boots came.sound) came.could)

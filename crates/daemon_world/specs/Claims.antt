@@ -37,6 +37,10 @@ claims_ordered orders = map claim_launch orders.launches
 abbrev pub times_claimed : List Claim → ℕ → ℕ
 times_claimed claims cpu = count_by (λ (claim : Claim). has_id claim.cpus cpu) claims
 
+-- each processor of the node is of one start at most that runs there
+abbrev pub RunsApart : Daemon → Type 0
+RunsApart daemon = (cpu : ℕ) → times_claimed (claims_of daemon) cpu ≤ 1
+
 -- how often the start stands among these, and among those that are over
 abbrev pub times_claiming : List Claim → Start → ℕ
 times_claiming claims start = count_by (λ (claim : Claim). is_same claim.start start) claims
@@ -58,7 +62,7 @@ pub record Holds (place : ℕ) (claim : Claim) (job : JobRecord) : Type 0 where
 abbrev pub IsHeldAt : List JobRecord → ℕ → Claim → Type 0
 IsHeldAt jobs place claim = Any (Holds place claim) jobs
 
--- the node is there, and isn't down: then all of these are held there
+-- while the node isn't down, all of these are held there
 abbrev pub AreHeld : State → List ℕ → List Claim → Type 0
 AreHeld s node claims = (place : ℕ) → place_named node s.nodes ≡ Some place → is_up_at s.nodes place ≡ true
     → All (IsHeldAt s.jobs place) claims

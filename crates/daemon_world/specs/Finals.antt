@@ -1,10 +1,11 @@
 -- How a start of a job ends: it leaves Running once, and then it is settled how.
-use Rattle.std.specs.Prelude.{◌≡◌, ◌⊎◌, ◌<◌, ◌≤◌, ℕ, IfSome, List, All, Any, Option, Some, None}
+use Rattle.std.specs.Prelude.{◌≡◌, ◌⊎◌, IfSome, All, Option, Some, None}
 use Rattle.slurm_text.specs.declared.plain.state.Final.{Final}
 use Rattle.slurm_text.specs.declared.plain.state.Final.TheVariants.{Cancelled, Requeue}
 use Rattle.slurm_text.specs.declared.plain.state.JobState.{JobState}
 use Rattle.slurm_text.specs.declared.plain.state.JobState.TheVariants.{Pending, Running, Completing, Ended}
 use Rattle.job_table.specs.declared.record.JobRecord.{JobRecord}
+use Rattle.ctl_state.specs.State.{State}
 
 -- how the last start of a job in this state ends, once it has left Running: who waits starts again
 abbrev pub final_of : JobState → Option Final
@@ -19,3 +20,8 @@ IsSettled final after = (after ≡ Some final) ⊎ ((final ≡ Requeue) × (afte
 
 abbrev pub StaysSettled : JobState → JobState → Type 0
 StaysSettled state after = IfSome (final_of state) (λ final. IsSettled final (final_of after))
+
+-- Each job of a state that is there in a later one with the same last start: how that start ends is settled as it was.
+abbrev pub EndOnce : State → State → Type 0
+EndOnce s s' = All (λ (job : JobRecord). All (λ (after : JobRecord). after.id ≡ job.id → after.starts ≡ job.starts
+    → StaysSettled job.state after.state) s'.jobs) s.jobs

@@ -8,6 +8,7 @@ use Rattle.slurm_text.specs.declared.plain.reply.Reply.{Reply}
 use Rattle.slurm_text.specs.declared.plain.reply.Reply.TheVariants.{Orders as Ordered}
 use Rattle.slurm_text.specs.declared.plain.request.Request.{Request}
 use Rattle.slurm_text.specs.declared.plain.request.Request.TheVariants.{Report as Reports}
+use Rattle.ctl_state.specs.Soundness.{IsSound}
 use Rattle.ctl_state.specs.State.{State, opening}
 use Rattle.ctl_core.specs.Step.{IsInRange, reply_of, state_after}
 use Rattle.node_daemon.specs.Daemon.{Daemon, given, polled, reported, started}
@@ -85,3 +86,13 @@ opening_world conf file boots = record {
   reports = [];
   orders = [];
 }
+
+-- The world has come about: from the opening one of two files, by events of which each could happen when it did.
+pub record HasComeAbout (w : World) : Type 0 where
+  pub conf : ConfView
+  pub file : AssocView
+  pub boots : List ℕ → ℕ
+  pub sound : IsSound (opening conf file)
+  pub events : List Event
+  pub could : AllCanHappen (opening_world conf file boots) events
+  pub is : w ≡ world_after_all (opening_world conf file boots) events

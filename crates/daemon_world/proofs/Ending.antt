@@ -1,0 +1,346 @@
+-- Through every event a start of a job ends once, and then it is settled how.
+use Rattle.std.proofs.Common.{ℕ, suc, ◌≡◌, ◌≢◌, ◌≤◌, ◌<◌, ◌+◌, ◌*◌, ◌-◌, ◌^◌, ◌∙◌, Bool, true, false, ◌&&◌, not, min, List, [], ◌∷◌, ◌++◌, map, filter, length, get_or, All, Any, Option, Some, None, IfSome, if◌then◌else◌, refl, sym, ap, subst, arith, inl, inr, ◌⊎◌, nat_eq, slice_get}
+use Rattle.std.specs.Prelude.{nat_lt}
+use Rattle.std.specs.List.{enumerate_from, list_any}
+use Rattle.std.proofs.lemmas.Bool.{both_ways, cases_order, cond_both, ltb-false}
+use Rattle.std.proofs.lemmas.List.{get_or_default}
+use Rattle.std.proofs.lemmas.List.Elements.{All-append, All-cons, All-filter, All-map, All-nil, All-weaker}
+use Rattle.slurm_text.specs.declared.plain.array.ArraySpec.{ArraySpec}
+use Rattle.slurm_text.specs.declared.plain.conf.PartState.{PartState}
+use Rattle.slurm_text.specs.declared.plain.job.JobDesc.{JobDesc}
+use Rattle.slurm_text.specs.declared.plain.refusal.Refusal.{Refusal}
+use Rattle.slurm_text.specs.declared.plain.refusal.Refusal.TheVariants.{MomentTooLarge, ShuttingDown}
+use Rattle.slurm_text.specs.declared.plain.report.Report.{Report as Told}
+use Rattle.slurm_text.specs.declared.plain.request.NodeOrder.{NodeOrder}
+use Rattle.slurm_text.specs.declared.plain.request.Request.{Request}
+use Rattle.slurm_text.specs.declared.plain.request.Request.TheVariants.{Submit, Cancel, Hold, Release, Requeue, UpdateJob, UpdateNode, UpdatePartition, CreateReservation, DeleteReservation, Report, Pass, Shutdown, Show}
+use Rattle.slurm_text.specs.declared.plain.reply.Reply.TheVariants.{Done}
+use Rattle.slurm_text.specs.declared.plain.state.JobState.{JobState}
+use Rattle.partitions.specs.Partitions.{place_meant}
+use Rattle.job_table.specs.declared.record.JobRecord.{JobRecord}
+use Rattle.job_table.specs.declared.record.Part.{Part}
+use Rattle.job_table.specs.declared.change.Change.TheVariants.{Start}
+use Rattle.job_table.specs.Changes.{changed}
+use Rattle.job_table.specs.JobStates.{is_pending}
+use Rattle.job_table.specs.Table.{HaveRisingIds}
+use Rattle.ctl_state.specs.Refusals.{first_refusal, refused_if, unless_refused}
+use Rattle.ctl_state.specs.Soundness.{IsSound}
+use Rattle.ctl_state.specs.State.{State, last_moment}
+use Rattle.ctl_state.specs.Verdicts.{Verdict, Refuses, Tells, Stays, Makes, left_by, reply_by, stamped}
+use Rattle.ctl_jobs.specs.declared.action.Action.{Action}
+use Rattle.ctl_jobs.specs.declared.action.Action.TheVariants as act
+use Rattle.ctl_jobs.specs.Actions.{done_to}
+use Rattle.ctl_jobs.specs.Changing.{are_meant, are_naming, change_after, change_made, done_if, goes, may_do}
+use Rattle.ctl_nodes.specs.Failing.{after_loss, lost_after}
+use Rattle.ctl_nodes.specs.Updating.{changes_any, lost_by, update_after}
+use Rattle.ctl_pass.specs.Limits.{timed_out}
+use Rattle.ctl_pass.specs.Passing.{outcome, pass_after}
+use Rattle.ctl_pass.specs.Readiness.{goes as gone, jobs_left, placements, ready}
+use Rattle.ctl_report.specs.Answering.{is_restarted, node_of}
+use Rattle.ctl_report.specs.Reporting.{report_after, reported}
+use Rattle.ctl_node_side.specs.Passes.{after_pass, pass_is_idle}
+use Rattle.ctl_node_side.specs.Restarting.{made_by_report, met}
+use Rattle.ctl_node_side.specs.Silence.{any_silent, silent_at, silenced, without_silent}
+use Rattle.ctl_submit.specs.Submission.{Terms, made_under, new_arrays, new_job, new_jobs, submit_after, task, terms_of}
+use Rattle.ctl_core.specs.Operating.{is_in_state, partition_after, partition_made}
+use Rattle.ctl_core.specs.Sizes.{has_room, size_of}
+use Rattle.ctl_core.specs.Step.{entered, is_closed, is_entered, made, raised, refusals_of, state_after, unless_full, verdict_of, worked}
+use Rattle.daemon_world.specs.Finals.{StaysSettled}
+use Rattle.daemon_world.proofs.Requests.{Passes, pass_may, silenced_raised}
+use Rattle.daemon_world.proofs.Settling.{Settles, done_settles, loss_settles, over_settles, report_settles, settled_on, settles_itself}
+use Rattle.daemon_world.proofs.Starting.{MayStart, starts_all}
+
+-- What jobs may have that no event takes from them: it stays where a start is settled, comes to a new job, and to one
+-- that starts once more.
+pub record Lasts (s : State) (Q : JobRecord → Type 0) : Type 0 where
+  pub settles : (job after : JobRecord) → Settles job after → Q job → Q after
+  pub new : (job : JobRecord) → s.next_id ≤ job.id → job.starts ≡ 0 → Q job
+  pub starts : (job : JobRecord) (now : ℕ) (parts : List Part) (names : List (List ℕ)) → is_pending job.state ≡ true
+      → job.starts ≤ s.size → Q job → Q (changed (Start now parts names) job)
+
+-- the state goes on: what lasts of the jobs lasts, and its size and next number don't fall
+pub record Goes (s after : State) (Q : JobRecord → Type 0) : Type 0 where
+  pub all : All Q after.jobs
+  pub size : after.size ≡ s.size
+  pub next : s.next_id ≤ after.next_id
+
+-- ---- jobs that change
+
+map-settles : (Q : JobRecord → Type 0) (change : JobRecord → JobRecord) (jobs : List JobRecord)
+    → ((job after : JobRecord) → Settles job after → Q job → Q after)
+    → ((job : JobRecord) → Settles job (change job)) → All Q jobs → All Q (map change jobs)
+map-settles Q change jobs keeps each all =
+    All-map Q change jobs
+    (All-weaker Q (λ (job : JobRecord). Q (change job)) (λ job has. keeps job (change job) (each job) has) jobs all)
+
+change-goes : (s : State) (Q : JobRecord → Type 0) → Lasts s Q → (now : ℕ) (user : List ℕ) (action : Action)
+    (named : JobRecord → Bool) → All Q s.jobs → Goes s (change_after s now user action named) Q
+change-goes s Q lasts now user action named all = record {
+  all = map-settles Q (done_if s now user action named) s.jobs lasts.settles
+      (λ job. cond_both (named job && may_do s user action job) (done_to now user action job) job (Settles job)
+      (λ is. done_settles now user action job) (λ not. settles_itself job)) all;
+  size = refl;
+  next = omega arith;
+}
+
+update-goes : (s : State) (Q : JobRecord → Type 0) → Lasts s Q → (now : ℕ) (names : List (List ℕ)) (state : NodeOrder)
+    → All Q s.jobs → Goes s (update_after s now names state) Q
+update-goes s Q lasts now names state all = record {
+  all = map-settles Q (after_loss now (lost_by s.nodes names state)) s.jobs lasts.settles
+      (loss_settles now (lost_by s.nodes names state)) all;
+  size = refl;
+  next = omega arith;
+}
+
+loss-goes : (s : State) (Q : JobRecord → Type 0) → Lasts s Q → (now : ℕ) (lost : ℕ → Bool) → All Q s.jobs
+    → All Q (map (after_loss now lost) s.jobs)
+loss-goes s Q lasts now lost all =
+    map-settles Q (after_loss now lost) s.jobs lasts.settles (loss_settles now lost) all
+
+met-goes : (s : State) (Q : JobRecord → Type 0) → Lasts s Q → (now place : ℕ) (report : Told) → All Q s.jobs
+    → Goes s (met s now place report) Q
+met-goes s Q lasts now place report all =
+    cond_both (is_restarted s report) (stamped now (lost_after s now (nat_eq place))) s (λ (t : State). Goes s t Q)
+    (λ some. record { all = loss-goes s Q lasts now (nat_eq place) all; size = refl; next = omega arith })
+    (λ none. record { all = all; size = refl; next = omega arith })
+
+report-goes : (s : State) (Q : JobRecord → Type 0) → Lasts s Q → (now place : ℕ) (report : Told) → All Q s.jobs
+    → Goes s (report_after (met s now place report) now place report) Q
+report-goes s Q lasts now place report all =
+    let came = met-goes s Q lasts now place report all in
+    record {
+      all = map-settles Q (reported now place report) (met s now place report).jobs lasts.settles
+          (report_settles now place report) came.all;
+      size = came.size;
+      next = came.next;
+    }
+
+silence-goes : (s : State) (Q : JobRecord → Type 0) → Lasts s Q → (now : ℕ) → All Q s.jobs → Goes s (silenced s now) Q
+silence-goes s Q lasts now all =
+    cond_both (any_silent s now) (without_silent s now) s (λ (t : State). Goes s t Q)
+    (λ some. record { all = loss-goes s Q lasts now (silent_at s now) all; size = refl; next = omega arith })
+    (λ none. record { all = all; size = refl; next = omega arith })
+
+-- ---- starts
+
+-- what lasts, and that a job that waits was started no more often than there is size
+record MayGo (size : ℕ) (Q : JobRecord → Type 0) (job : JobRecord) : Type 0 where
+  pub has : Q job
+  pub few : is_pending job.state ≡ true → job.starts ≤ size
+
+pass-goes : (s t : State) (Q : JobRecord → Type 0) → Lasts s Q → (now : ℕ) → t.size ≡ s.size → s.next_id ≤ t.next_id
+    → MayStart (ready t now).jobs (placements t now) → All Q t.jobs
+    → All (λ (job : JobRecord). job.starts ≤ s.size) t.jobs → Goes s (pass_after t now) Q
+pass-goes s t Q lasts now size next may all few =
+    let Few = λ (job : JobRecord). job.starts ≤ s.size in
+    let Both = MayGo s.size Q in
+    let stay : JobRecord → Bool = λ job. not (gone t now job) in
+    let over = map (timed_out now) t.jobs in
+    let left = All-filter stay Q over (map-settles Q (timed_out now) t.jobs lasts.settles (over_settles now) all) in
+    let few_left = All-filter stay Few over
+    (map-settles Few (timed_out now) t.jobs (λ job after settles fewer. omega (arith, settles.starts, fewer))
+    (over_settles now) few) in
+    let begin : All Both (jobs_left t now) = λ k d below. record {
+      has = left k d below;
+      few = λ waits. few_left k d below;
+    } in
+    record {
+      all = All-weaker Both Q (λ job both. both.has) (outcome t now).jobs
+          (starts_all Both t now (λ job parts names waits both. record {
+            has = lasts.starts job now parts names waits (both.few waits) both.has;
+            few = λ never. absurd (both_ways false refl never);
+          }) (jobs_left t now) (placements t now) may begin);
+      size = size;
+      next = next;
+    }
+
+whole-pass-goes : Passes → (s : State) (Q : JobRecord → Type 0) → Lasts s Q → (now : ℕ) → IsSound s → s.moment ≤ now
+    → now ≤ last_moment → All Q s.jobs → All (λ (job : JobRecord). job.starts ≤ s.size) s.jobs
+    → Goes s (after_pass s now) Q
+whole-pass-goes passes s Q lasts now sound raised in_time all few =
+    let t = silenced s now in
+    let sound' = passes.silence s now sound raised in_time in
+    let went = silence-goes s Q lasts now all in
+    let Few = λ (job : JobRecord). job.starts ≤ s.size in
+    let few_left : All Few t.jobs =
+    cond_both (any_silent s now) (without_silent s now) s (λ (t : State). All Few t.jobs)
+    (λ some. map-settles Few (after_loss now (silent_at s now)) s.jobs
+    (λ job after settles fewer. omega (arith, settles.starts, fewer)) (loss_settles now (silent_at s now)) few)
+    (λ none. few) in
+    pass-goes s t Q lasts now went.size went.next
+    (pass_may passes t now sound' (silenced_raised s now raised) in_time) went.all few_left
+
+-- ---- new jobs
+
+-- they have the next numbers, and were never started
+abbrev IsNew : State → JobRecord → Type 0
+IsNew s job = (s.next_id ≤ job.id) × (job.starts ≡ 0)
+
+tasks-new : (s : State) (now : ℕ) (user : List ℕ) (desc : JobDesc) (terms : Terms) (most : Option ℕ)
+    (indices : List (ℕ × ℕ)) → All (IsNew s) (map (task s now user desc terms most) indices)
+tasks-new s now user desc terms most [] = All-nil (IsNew s)
+tasks-new s now user desc terms most ((place, index) ∷ later) =
+    All-cons (IsNew s) (task s now user desc terms most (place, index)) (map (task s now user desc terms most) later)
+    (omega arith, refl) (tasks-new s now user desc terms most later)
+
+jobs-new : (s : State) (now : ℕ) (user : List ℕ) (desc : JobDesc) (terms : Terms) (array : Option ArraySpec)
+    → All (IsNew s) (new_jobs s now user desc terms array)
+unfolding new_jobs
+jobs-new s now user desc terms None = All-cons (IsNew s) _ [] (omega arith, refl) (All-nil (IsNew s))
+jobs-new s now user desc terms (Some array) =
+    tasks-new s now user desc terms array.most (enumerate_from 0 array.indices)
+
+submit-goes : (s : State) (Q : JobRecord → Type 0) → Lasts s Q → (now : ℕ) (user : List ℕ) (desc : JobDesc)
+    (terms : Terms) → All Q s.jobs
+    → Goes s (submit_after s (new_jobs s now user desc terms desc.array) (new_arrays s desc.array)) Q
+submit-goes s Q lasts now user desc terms all =
+    let jobs = new_jobs s now user desc terms desc.array in
+    record {
+      all = All-append Q s.jobs jobs all
+          (All-weaker (IsNew s) Q (λ job new. lasts.new job new.0 new.1) jobs
+          (jobs-new s now user desc terms desc.array));
+      size = refl;
+      next = omega arith;
+    }
+
+-- ---- each request
+
+abbrev GoesBy : State → (JobRecord → Type 0) → Verdict → Type 0
+GoesBy s Q (Refuses refusal) = Unit {0}
+GoesBy s Q (Tells view) = Unit {0}
+GoesBy s Q Stays = Unit {0}
+GoesBy s Q (Makes reply after) = Goes s after Q
+
+change-by : (s : State) (Q : JobRecord → Type 0) → Lasts s Q → (now : ℕ) (user : List ℕ) (action : Action)
+    (named : JobRecord → Bool) → All Q s.jobs → GoesBy s Q (change_made s now user action named)
+change-by s Q lasts now user action named all =
+    cond_both (list_any (goes s user action named) s.jobs) (Makes Done (change_after s now user action named)) Stays
+    (GoesBy s Q) (λ some. change-goes s Q lasts now user action named all) (λ none. tt)
+
+submit-by : (s : State) (Q : JobRecord → Type 0) → Lasts s Q → (now : ℕ) (user : List ℕ) (desc : JobDesc)
+    (terms : Option Terms) → All Q s.jobs → GoesBy s Q (made_under s now user desc terms)
+submit-by s Q lasts now user desc None all = tt
+submit-by s Q lasts now user desc (Some terms) all = submit-goes s Q lasts now user desc terms all
+
+partition-by : (s : State) (Q : JobRecord → Type 0) (state : PartState) (place : Option ℕ) → All Q s.jobs
+    → GoesBy s Q (partition_made s state place)
+partition-by s Q state None all = tt
+partition-by s Q state (Some place) all =
+    cond_both (is_in_state state (slice_get s.partitions place)) Stays
+    (Makes Done (partition_after s place state)) (GoesBy s Q) (λ had. tt)
+    (λ out. record { all = all; size = refl; next = omega arith })
+
+report-by : (s : State) (Q : JobRecord → Type 0) → Lasts s Q → (now : ℕ) (report : Told) (found : Option ℕ)
+    → All Q s.jobs → GoesBy s Q (made_by_report s now report found)
+report-by s Q lasts now report None all = tt
+report-by s Q lasts now report (Some place) all = report-goes s Q lasts now place report all
+
+goes-made : Passes → (s : State) (Q : JobRecord → Type 0) → Lasts s Q → (moment : ℕ) (user : List ℕ)
+    (request : Request) → IsSound s → s.moment ≤ moment → moment ≤ last_moment → All Q s.jobs
+    → All (λ (job : JobRecord). job.starts ≤ s.size) s.jobs → GoesBy s Q (made s moment user request)
+goes-made passes s Q lasts moment user (Submit desc) sound later in_time all few =
+    submit-by s Q lasts moment user desc (terms_of s user desc) all
+goes-made passes s Q lasts moment user (Cancel targets) sound later in_time all few =
+    change-by s Q lasts moment user act.Cancel (are_meant targets) all
+goes-made passes s Q lasts moment user (Hold targets for_owner) sound later in_time all few =
+    change-by s Q lasts moment user (act.Hold for_owner) (are_naming targets) all
+goes-made passes s Q lasts moment user (Release targets) sound later in_time all few =
+    change-by s Q lasts moment user act.Release (are_naming targets) all
+goes-made passes s Q lasts moment user (Requeue target) sound later in_time all few =
+    change-by s Q lasts moment user act.Requeue (are_naming (target ∷ [])) all
+goes-made passes s Q lasts moment user (UpdateJob target limit nice) sound later in_time all few =
+    change-by s Q lasts moment user (act.Update limit nice) (are_naming (target ∷ [])) all
+goes-made passes s Q lasts moment user (UpdateNode nodes state) sound later in_time all few =
+    cond_both (changes_any s nodes state) (Makes Done (update_after s moment nodes state)) Stays (GoesBy s Q)
+    (λ some. update-goes s Q lasts moment nodes state all) (λ none. tt)
+goes-made passes s Q lasts moment user (UpdatePartition name state) sound later in_time all few =
+    partition-by s Q state (place_meant (Some name) s.partitions) all
+goes-made passes s Q lasts moment user (CreateReservation desc) sound later in_time all few =
+    record { all = all; size = refl; next = omega arith }
+goes-made passes s Q lasts moment user (DeleteReservation name) sound later in_time all few =
+    record { all = all; size = refl; next = omega arith }
+goes-made passes s Q lasts moment user Shutdown sound later in_time all few =
+    record { all = all; size = refl; next = omega arith }
+goes-made passes s Q lasts moment user (Report report) sound later in_time all few =
+    report-by s Q lasts moment report (node_of s report) all
+goes-made passes s Q lasts moment user Pass sound later in_time all few =
+    cond_both (pass_is_idle s moment) Stays _ (GoesBy s Q) (λ idle. tt)
+    (λ busy. whole-pass-goes passes s Q lasts moment sound later in_time all few)
+goes-made passes s Q lasts moment user (Show query) sound later in_time all few = tt
+
+goes-full : (s : State) (Q : JobRecord → Type 0) (room : Bool) (verdict : Verdict) → GoesBy s Q verdict
+    → GoesBy s Q (unless_full room verdict)
+goes-full s Q true verdict went = went
+goes-full s Q false (Refuses refusal) went = tt
+goes-full s Q false (Tells view) went = tt
+goes-full s Q false Stays went = tt
+goes-full s Q false (Makes reply after) went = tt
+
+goes-judged : (s : State) (Q : JobRecord → Type 0) (refusal : Option Refusal) (verdict : Verdict) → GoesBy s Q verdict
+    → GoesBy s Q (unless_refused refusal verdict)
+goes-judged s Q None verdict went = went
+goes-judged s Q (Some refusal) verdict went = tt
+
+goes-early : Passes → (s : State) (Q : JobRecord → Type 0) → Lasts s Q → (now : ℕ) (user : List ℕ)
+    (request : Request) (early closed : Bool) → IsSound s → All Q s.jobs
+    → All (λ (job : JobRecord). job.starts ≤ s.size) s.jobs → nat_lt last_moment now ≡ early
+    → GoesBy s Q
+    (unless_refused (first_refusal (refused_if early MomentTooLarge ∷ refused_if closed ShuttingDown ∷ []))
+    (worked s (raised s now) user request))
+goes-early passes s Q lasts now user request true closed sound all few is = tt
+goes-early passes s Q lasts now user request false true sound all few is = tt
+goes-early passes s Q lasts now user request false false sound all few is =
+    let moment = raised s now in
+    let in_time = ltb-false last_moment now is in
+    goes-judged s Q (first_refusal (refusals_of s moment user request)) _
+    (goes-full s Q (has_room s request) (made s moment user request)
+    (goes-made passes s Q lasts moment user request sound (omega arith) (omega (arith, sound.moment, in_time)) all few))
+
+-- the next state: what lasts lasts, and it has grown where an entry was made
+pub record GoesOn (s after : State) (Q : JobRecord → Type 0) : Type 0 where
+  pub all : All Q after.jobs
+  pub size : (after.jobs ≡ s.jobs) ⊎ (s.size + 1 ≤ after.size)
+  pub not_less : s.size ≤ after.size
+  pub next : s.next_id ≤ after.next_id
+
+sized : (request : Request) → 1 ≤ size_of request
+sized (Submit desc) = omega arith
+sized (Cancel targets) = omega arith
+sized (Hold targets for_owner) = omega arith
+sized (Release targets) = omega arith
+sized (Requeue target) = omega arith
+sized (UpdateJob target limit nice) = omega arith
+sized (UpdateNode nodes state) = omega arith
+sized (UpdatePartition name state) = omega arith
+sized (CreateReservation desc) = omega arith
+sized (DeleteReservation name) = omega arith
+sized (Report report) = omega arith
+sized Pass = omega arith
+sized Shutdown = omega arith
+sized (Show query) = omega arith
+
+stays-on : (s : State) (Q : JobRecord → Type 0) → All Q s.jobs → GoesOn s s Q
+stays-on s Q all = record { all = all; size = inl refl; not_less = omega arith; next = omega arith }
+
+goes-left : (s : State) (Q : JobRecord → Type 0) (moment size : ℕ) (verdict : Verdict) → 1 ≤ size → All Q s.jobs
+    → GoesBy s Q verdict
+    → GoesOn s (if is_entered (reply_by verdict) then entered moment size (left_by s verdict) else s) Q
+goes-left s Q moment size (Refuses refusal) some all went = stays-on s Q all
+goes-left s Q moment size (Tells view) some all went = stays-on s Q all
+goes-left s Q moment size Stays some all went = stays-on s Q all
+goes-left s Q moment size (Makes reply after) some all went =
+    cond_both (is_entered reply) (entered moment size after) s (λ (t : State). GoesOn s t Q)
+    (λ enters. record {
+      all = went.all;
+      size = inr (omega (arith, went.size, some));
+      not_less = omega (arith, went.size);
+      next = went.next;
+    })
+    (λ other. stays-on s Q all)
+
+pub step_goes : Passes → (s : State) (Q : JobRecord → Type 0) → Lasts s Q → (now : ℕ) (user : List ℕ)
+    (request : Request) → IsSound s → All Q s.jobs → All (λ (job : JobRecord). job.starts ≤ s.size) s.jobs
+    → GoesOn s (state_after s now user request) Q
+step_goes passes s Q lasts now user request sound all few =
+    goes-left s Q (raised s now) (size_of request) (verdict_of s now user request) (sized request) all
+    (goes-early passes s Q lasts now user request (nat_lt last_moment now) (is_closed s request) sound all few refl)
