@@ -49,9 +49,9 @@ fn share_of(interval: &Interval, place: u32, window: Window) -> u64
         .saturating_mul(seconds_in(window, interval.from, interval.until))
 }
 
-#[tactic(auto, unfolding(crate::specs::Intervals::kept_use))]
 /// What the association at a place has used in the window until a moment. The number stands still at its type's end.
 /// Linear in the intervals; it takes no memory.
+#[tactic(auto, unfolding(crate::specs::Intervals::kept_use))]
 pub(crate) fn kept_use(
     finished: &[Interval],
     holding: Holding,
@@ -72,7 +72,13 @@ pub(crate) fn kept_use(
 
 // From a moment on the running jobs of an association hold so many processors. Where these are as many as before, the
 // interval goes on.
-fn go_on(finished: &mut Vec<Interval>, holding: Holding, assoc: u32, cpus: u64, moment: u64) -> Holding
+fn go_on(
+    finished: &mut Vec<Interval>,
+    holding: Holding,
+    assoc: u32,
+    cpus: u64,
+    moment: u64,
+) -> Holding
     requires room { vec_len finished.old < vec_capacity finished.old }
     requires since { holding.since ≤ moment }
     ensures since { result.since ≤ moment }
