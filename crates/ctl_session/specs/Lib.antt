@@ -3,3 +3,4 @@ pub mod Clock
 pub mod Meaning
 pub mod Reading
 pub mod Session
+pub mod Turn

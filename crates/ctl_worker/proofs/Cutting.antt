@@ -1,8 +1,8 @@
 -- Where connections stand in a history that begins with what their desk has seen in the end.
-use Rattle.std.proofs.Common.{◌≡◌, ℕ, suc, zero, ◌+◌, ◌-◌, ◌<◌, ◌≤◌, ◌==◌, eqb, Bool, if◌then◌else◌, true, false, List, [], ◌∷◌, ◌++◌, length, take, drop, slice_get, All, Any, Option, Some, None, ◌⊎◌, ⊎_elim, refl, sym, ap, ◌∙◌, subst, arith, append_assoc, append-nil, length-append, eq-eqb}
+use Rattle.std.proofs.Common.{◌≡◌, ℕ, suc, zero, ◌+◌, ◌-◌, ◌<◌, ◌≤◌, ◌==◌, eqb, Bool, if◌then◌else◌, true, false, List, [], ◌∷◌, ◌++◌, length, take, drop, slice_get, All, Any, Some, ◌⊎◌, ⊎_elim, refl, sym, ap, ◌∙◌, subst, arith, append_assoc, append-nil, length-append, eq-eqb}
 use Rattle.std.proofs.lemmas.Bool.{cases_lt}
 use Rattle.std.proofs.lemmas.List.{take_at, drop_at, append_cancel_left}
-use Rattle.std.proofs.lemmas.List.Elements.{All-nil, All-cons, All-weaker, filter-append}
+use Rattle.std.proofs.lemmas.List.Elements.{All-nil, All-cons, filter-append}
 use Rattle.slurm_net.specs.Session.{LinkSession}
 use Rattle.turn_lock.specs.Views.{StartsWith}
 use Rattle.ctl_state.specs.State.{State}
@@ -12,7 +12,7 @@ use Rattle.ctl_desk.specs.History.{of_session}
 use Rattle.ctl_session.specs.Clock.{Timing}
 use Rattle.ctl_worker.specs.Serving.{Serving, IsServing, cut_of, moments_in, moments_of, session_in, sessions_in}
 use Rattle.ctl_worker.specs.Run.{IsRefreshed, Follow}
-use Rattle.ctl_worker.specs.Served.{HasSeen, StandsIn, Served, between, entries_within, IsWithin}
+use Rattle.ctl_worker.specs.Served.{HasSeen, Served, between, entries_within, IsWithin}
 use Rattle.ctl_worker.proofs.Following.{goes_on_twice}
 
 -- ---- what is seen grows

@@ -4,7 +4,7 @@ use Rattle.std.proofs.lemmas.List.Concat.{flat_map-append}
 use Rattle.std.proofs.lemmas.List.Elements.{filter-append}
 use Rattle.slurm_net.specs.Session.{LinkSession}
 use Rattle.ctl_desk.specs.declared.entry.Entry.{Entry}
-use Rattle.ctl_desk.specs.Desk.{Sight, GoesOn, later, seen}
+use Rattle.ctl_desk.specs.Desk.{Sight, GoesOn, later}
 use Rattle.ctl_desk.specs.History.{of_session}
 use Rattle.ctl_session.specs.Clock.{Timing, Gives}
 use Rattle.ctl_worker.specs.Serving.{Serving, moments_of, moments_in}

@@ -1,20 +1,19 @@
 -- A worker's turns, one by one and one after another.
-use Rattle.std.proofs.Common.{◌≡◌, ◌⊎◌, ℕ, List, [], ◌∷◌, ◌++◌, Option, Some, None, true, false, refl, sym, ap, ◌∙◌, subst, subst₂, inl, inr, ⊎_elim, append_assoc, append-nil, length, All}
+use Rattle.std.proofs.Common.{◌≡◌, ◌⊎◌, ℕ, List, [], ◌∷◌, ◌++◌, Option, Some, None, refl, sym, ap, ◌∙◌, subst, subst₂, inl, inr, ⊎_elim, append_assoc, append-nil, length}
 use Rattle.std.proofs.lemmas.List.{map-append}
 use Rattle.std.proofs.lemmas.List.Elements.{All-append, All-nil, All-cons}
 use Rattle.slurm_io.specs.Wire.{Wire}
 use Rattle.slurm_io.specs.Faults.{CountsOne}
 use Rattle.slurm_net.specs.Session.{LinkSession, AddsSession}
-use Rattle.ctl_desk.specs.Desk.{Sight, seen}
+use Rattle.ctl_desk.specs.Desk.{seen}
 use Rattle.ctl_session.specs.declared.session.How.{How}
 use Rattle.ctl_session.specs.declared.session.How.TheVariants as how
-use Rattle.ctl_session.specs.Clock.{Timing}
 use Rattle.ctl_session.specs.Session.{EndsByShut, is_shut, given}
 use Rattle.ctl_worker.specs.declared.working.WorkerEnd.{WorkerEnd}
 use Rattle.ctl_worker.specs.declared.working.WorkerEnd.TheVariants.{Shut, DoorFault, Memory}
 use Rattle.ctl_worker.specs.Serving.{Serving, IsServing, cut_of, session_in, sessions_in}
 use Rattle.ctl_worker.specs.Standing.{Standing}
-use Rattle.ctl_worker.specs.Run.{IsRefreshed, Follow}
+use Rattle.ctl_worker.specs.Run.{IsRefreshed}
 use Rattle.ctl_worker.specs.Cause.{EachGoesOn, LastEnds, IsEnd, end_by}
 use Rattle.ctl_worker.specs.Worked.{AddsSessions, IsWorked}
 use Rattle.ctl_worker.proofs.Following.{stays, follow_on, sessions_on, sessions_stay, gives_on, gives_none, moments_on}

@@ -103,6 +103,7 @@ complete laws s old new how.Spent bytes known none few reads writes script =
     let all = whole_input bytes new.left script.read (rw known at script.consumed) in
     absurd (no_more_blocks laws most_blocks script.read all.0 script.end.2.0 script.end.2.1 script.end.2.2 script.end.3
     (ap (rest_of Plain) (sym all.1) ∙ none) (subst (λ b. length (blocks_of Plain b) ≤ most_blocks) all.1 few))
+complete laws s old new how.Shut bytes known none few reads writes script = absurd script.end
 complete laws s old new how.ReadFault bytes known none few reads writes script =
     absurd (omega (arith, script.end.1.0, reads.0, reads.1))
 complete laws s old new how.WriteFault bytes known none few reads writes script =

@@ -15,9 +15,10 @@ use Rattle.command_words.specs.declared.header.Meaning.{Meaning}
 use Rattle.ctl_session.specs.declared.session.How.{How}
 use Rattle.ctl_session.specs.declared.session.How.TheVariants as how
 use Rattle.ctl_session.specs.declared.session.Ended.{Ended}
-use Rattle.ctl_session.specs.Answers.{Answered, Answers, entries, meanings, replies}
+use Rattle.ctl_session.specs.Answers.{Answered, Answers, AreAsked, entries, meanings, replies}
+use Rattle.ctl_session.specs.Clock.{Timing}
 use Rattle.ctl_session.specs.Meaning.{meaning_of, told, state_behind}
-use Rattle.ctl_session.specs.Session.{Ending, IsServed, IsWhole, IsCause, most_blocks}
+use Rattle.ctl_session.specs.Session.{Ending, IsServed, IsWhole, IsCause, MindsShut, most_blocks}
 use Rattle.ctl_node_side.specs.Passes.{PassIsFree}
 use Rattle.slurm_top.specs.Script.{asked_first, told_all, state_behind_all, script_of, IsWritten, IsEndOf, IsScript}
 use Rattle.slurm_top.proofs.Blocks.{Laws, read_by, OneMore, worked_first, asked_up_to, asked_all}
@@ -35,7 +36,7 @@ record IsTold (opening : State) (e : Ending) : Type 0 where
 
 -- the answers at a desk that nobody else asks
 alone_at : (opening : State) (seat : Seat) (answers : List Answered)
-    → Answers (sight_of (fresh opening)) (sight_of seat) answers
+    → Answers Plain (sight_of (fresh opening)) (sight_of seat) answers
     → seat.before ≡ [] → Alone opening 0 seat.since 0 answers
 alone_at opening seat answers made none =
     let since : seat.since ≡ made.since = ap (λ (d : Sight). d.since) made.goes_on in
@@ -47,9 +48,19 @@ alone_at opening seat answers made none =
       all = add-zero (length (entries answers)) ∙ ap length (made.own ∙ sym mine);
     }
 
-told_of : (old new : Wire) (opening : State) (seat : Seat) (ended : Ended) (e : Ending) → RaisedAlike
-    → IsServed Plain old new (sight_of (fresh opening)) (sight_of seat) ended e → IsTold opening e
-told_of old new opening seat ended e alike served =
+-- the answers in the plain form go with what the blocks ask
+plain_asked : (blocks : List Block) (answers : List Answered) → AreAsked Plain blocks answers
+    → meanings answers ≡ map meaning_of blocks
+plain_asked [] [] asked = refl
+plain_asked [] (a ∷ answers) asked = absurd asked
+plain_asked (b ∷ blocks) [] asked = absurd asked
+plain_asked (b ∷ blocks) (a ∷ answers) asked =
+    ap (λ m. m ∷ meanings answers) asked.0.1 ∙ ap (λ l. meaning_of b ∷ l) (plain_asked blocks answers asked.1)
+
+told_of : (old new : Wire) (opening : State) (seat : Seat) (clock clock' : Timing) (ended : Ended) (e : Ending)
+    → RaisedAlike
+    → IsServed Plain old new (sight_of (fresh opening)) (sight_of seat) clock clock' ended e → IsTold opening e
+told_of old new opening seat clock clock' ended e alike served =
     let made = served.answers in
     let none : seat.before ≡ [] = ap (λ (d : Sight). d.before) made.goes_on in
     let same : seat.opening ≡ opening = ap (λ (d : Sight). d.opening) made.goes_on in
@@ -57,13 +68,14 @@ told_of old new opening seat ended e alike served =
     let sound : StaysSound opening seat.since = rw (seen, same) at served.history.sound in
     let alone = alone_at opening seat (e.answers ++ e.last) made none in
     let alone_all : Alone opening 0 seat.since 0 ((e.answers ++ e.last) ++ []) = rw append-nil alone in
+    let whole_asked = plain_asked e.blocks e.answers served.asked in
     let asked : meanings (e.answers ++ e.last) ≡ map meaning_of (e.blocks ++ e.worked) =
     map-append (λ (a : Answered). a.meaning) e.answers e.last
-    ∙ ap (λ l. l ++ meanings e.last) served.asked
-    ∙ ap (λ l. map meaning_of e.blocks ++ l) served.asked_last
+    ∙ ap (λ l. l ++ meanings e.last) whole_asked
+    ∙ ap (λ l. map meaning_of e.blocks ++ l) (plain_asked e.worked e.last served.asked_last)
     ∙ sym (map-append meaning_of e.blocks e.worked) in
     record {
-      whole = told_first opening 0 seat.since 0 e.answers e.last alike sound alone ∙ ap (told_all opening) served.asked;
+      whole = told_first opening 0 seat.since 0 e.answers e.last alike sound alone ∙ ap (told_all opening) whole_asked;
       all = sym (flat_map-append (λ (a : Answered). a.reply) e.answers e.last)
           ∙ told_first opening 0 seat.since 0 (e.answers ++ e.last) [] alike sound alone_all
           ∙ ap (told_all opening) asked;
@@ -161,10 +173,10 @@ spent opening e laws each many told =
     )
 
 -- How a session that no other one interrupts ended, as the end of a script.
-script_end : (opening : State) (old new : Wire) (e : Ending) (how : How) → Laws → All (IsBlock Plain) e.blocks
-    → OneMore e → length (e.blocks ++ e.worked) ≤ most_blocks
-    → IsTold opening e → IsCause Plain old new e how → IsEndOf opening old new (read_by e) how
-script_end opening old new e how.Closed laws each more few told (whole, reads, at_end, none) =
+script_end : (opening : State) (old new : Wire) (desk : Sight) (e : Ending) (how : How) → Laws
+    → All (IsBlock Plain) e.blocks → OneMore e → length (e.blocks ++ e.worked) ≤ most_blocks
+    → IsTold opening e → MindsShut Plain desk e how → IsCause Plain old new e how → IsEndOf opening old new (read_by e) how
+script_end opening old new desk e how.Closed laws each more few told minds (whole, reads, at_end, none) =
     let read = all_read opening e laws each (inl (rw none laws.empty)) few told in (
       written opening old new e whole read.script_is,
       reads,
@@ -173,7 +185,7 @@ script_end opening old new e how.Closed laws each more few told (whole, reads, a
           ∙ none,
       rw read.blocks_are (omega (arith, few, length-append e.blocks e.worked)),
     )
-script_end opening old new e (how.Truncated place) laws each more few told
+script_end opening old new desk e (how.Truncated place) laws each more few told minds
     (whole, reads, at_end, partial, some, at, fewer) =
     let read = all_read opening e laws each (inl partial) few told in (
       written opening old new e whole read.script_is,
@@ -184,7 +196,7 @@ script_end opening old new e (how.Truncated place) laws each more few told
       rw read.blocks_are at,
       rw read.blocks_are fewer,
     )
-script_end opening old new e (how.Bad place) laws each more few told (whole, reads, bad, at, fewer) =
+script_end opening old new desk e (how.Bad place) laws each more few told minds (whole, reads, bad, at, fewer) =
     let read = all_read opening e laws each (inr bad) few told in (
       written opening old new e whole read.script_is,
       reads,
@@ -192,17 +204,18 @@ script_end opening old new e (how.Bad place) laws each more few told (whole, rea
       rw read.blocks_are at,
       rw read.blocks_are fewer,
     )
-script_end opening old new e how.ReadFault laws each more few told (whole, counted, partial) =
+script_end opening old new desk e how.Shut laws each more few told minds cause = absurd minds
+script_end opening old new desk e how.ReadFault laws each more few told minds (whole, counted, partial) =
     let read = all_read opening e laws each (inl partial) few told in
     (written opening old new e whole read.script_is, counted)
-script_end opening old new e how.Spent laws each more few told (whole, reads, many, some) =
+script_end opening old new desk e how.Spent laws each more few told minds (whole, reads, many, some) =
     let start = spent opening e laws each many told in (
       written opening old new e whole start.1,
       reads,
       (e.rest, some, rw start.0 refl),
       omega (arith, many, start.2),
     )
-script_end opening old new e how.WriteFault laws each more few told (reads, counted, (sent, short, sent_is)) =
+script_end opening old new desk e how.WriteFault laws each more few told minds (reads, counted, (sent, short, sent_is)) =
     let begun = worked_first laws e each more in
     let start = script_begins opening e begun.0 begun.1 few told in (
       reads,
@@ -218,7 +231,7 @@ script_end opening old new e how.WriteFault laws each more few told (reads, coun
         rw (start.1, take_past (replies e.answers) (replies e.last) start.0 sent (omega arith)) sent_is,
       ),
     )
-script_end opening old new e how.Memory laws each more few told (reads, writes, sent) =
+script_end opening old new desk e how.Memory laws each more few told minds (reads, writes, sent) =
     let begun = worked_first laws e each more in
     let cut : blocks_of Plain (read_by e) ≡ e.blocks ++ (e.worked ++ begun.0) = begun.1
     ∙ append_assoc e.blocks e.worked begun.0 in
@@ -233,6 +246,7 @@ sent_of : (old new : Wire) (e : Ending) (how : How) → IsCause Plain old new e 
     → (n : ℕ) × (n ≤ length (replies e.last)) × Appends old.taken new.taken
     (replies e.answers ++ take n (replies e.last))
 sent_of old new e how.Closed cause = (0, omega arith, rw append-nil cause.0.sent)
+sent_of old new e how.Shut cause = (0, omega arith, rw append-nil cause.0.sent)
 sent_of old new e (how.Truncated place) cause = (0, omega arith, rw append-nil cause.0.sent)
 sent_of old new e (how.Bad place) cause = (0, omega arith, rw append-nil cause.0.sent)
 sent_of old new e how.Spent cause = (0, omega arith, rw append-nil cause.0.sent)
@@ -244,11 +258,12 @@ sent_of old new e how.Memory cause = (0, omega arith, rw append-nil cause.2)
 abbrev pub AllFree : Type 0
 AllFree = (s : State) (now : ℕ) → PassIsFree s now
 
-script_of_session : (opening : State) (old new : Wire) (seat : Seat) (ended : Ended) (e : Ending) → RaisedAlike
-    → AllFree → Laws
-    → IsServed Plain old new (sight_of (fresh opening)) (sight_of seat) ended e → IsScript opening old new ended.how
-script_of_session opening old new seat ended e alike free laws served =
-    let told = told_of old new opening seat ended e alike served in
+script_of_session : (opening : State) (old new : Wire) (seat : Seat) (clock clock' : Timing) (ended : Ended)
+    (e : Ending) → RaisedAlike → AllFree → Laws
+    → IsServed Plain old new (sight_of (fresh opening)) (sight_of seat) clock clock' ended e
+    → IsScript opening old new ended.how
+script_of_session opening old new seat clock clock' ended e alike free laws served =
+    let told = told_of old new opening seat clock clock' ended e alike served in
     let begun = worked_first laws e served.blocks served.one_more in
     let worked = e.blocks ++ e.worked in
     let asked = asked_all (read_by e) worked begun.0 begun.1 in
@@ -257,7 +272,8 @@ script_of_session opening old new seat ended e alike free laws served =
       read = read_by e;
       worked = length worked;
       consumed = served.consumed;
-      end = script_end opening old new e ended.how laws served.blocks served.one_more served.bounded told served.cause;
+      end = script_end opening old new (sight_of seat) e ended.how laws served.blocks served.one_more served.bounded told
+          served.shut served.cause;
       written = (
         length (replies e.answers) + sent.0,
         let front : take (length (replies e.answers) + sent.0) (replies e.answers ++ replies e.last)
@@ -274,11 +290,11 @@ script_of_session opening old new seat ended e alike free laws served =
     }
 
 -- A session at a desk of its own, which no one asked before, is a script.
-pub script_at_seat : (opening : State) (old new : Wire) (seat seat' : Seat) (ended : Ended) → RaisedAlike → AllFree
-    → Laws
+pub script_at_seat : (opening : State) (old new : Wire) (seat seat' : Seat) (clock clock' : Timing) (ended : Ended)
+    → RaisedAlike → AllFree → Laws
     → seat ≡ fresh opening
-    → ((e : Ending) × IsServed Plain old new (sight_of seat) (sight_of seat') ended e)
+    → ((e : Ending) × IsServed Plain old new (sight_of seat) (sight_of seat') clock clock' ended e)
     → IsScript opening old new ended.how
-script_at_seat opening old new seat seat' ended alike free laws is_fresh (e, served) =
-    script_of_session opening old new seat' ended e alike free laws
-    (subst (λ (s : Seat). IsServed Plain old new (sight_of s) (sight_of seat') ended e) is_fresh served)
+script_at_seat opening old new seat seat' clock clock' ended alike free laws is_fresh (e, served) =
+    script_of_session opening old new seat' clock clock' ended e alike free laws
+    (subst (λ (s : Seat). IsServed Plain old new (sight_of s) (sight_of seat') clock clock' ended e) is_fresh served)

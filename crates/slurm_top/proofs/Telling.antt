@@ -5,6 +5,7 @@ use Rattle.std.proofs.lemmas.List.Elements.{All-head, All-tail}
 use Rattle.std.specs.Option.{option_to_list}
 use Rattle.slurm_text.specs.declared.plain.request.Request.{Request}
 use Rattle.command_words.specs.declared.header.Asked.{Asked}
+use Rattle.block_frame.specs.declared.form.Form.TheVariants.{Plain}
 use Rattle.ctl_state.specs.State.{State}
 use Rattle.ctl_state.specs.Soundness.{IsSound}
 use Rattle.ctl_core.specs.Step.{reply_of, state_after, is_entered, raised}
@@ -99,7 +100,7 @@ entries_fit low (a ∷ answers) high rise =
 -- on from behind it.
 pub record Alone (opening : State) (number : ℕ) (history : List Entry) (low : ℕ)
     (answers : List Answered) : Type 0 where
-  pub each : All (IsAnswerIn opening number history) answers
+  pub each : All (IsAnswerIn Plain opening number history) answers
   pub rise : Rise low answers (length history)
   pub all : length (entries answers) + low ≡ length history
 
@@ -113,7 +114,7 @@ pub goes_alone : (opening : State) (number : ℕ) (history : List Entry) (low : 
     (answers : List Answered) → Alone opening number history low (a ∷ answers)
     → Alone opening number history (behind a) answers
 goes_alone opening number history low a answers alone = record {
-  each = All-tail (IsAnswerIn opening number history) a answers alone.each;
+  each = All-tail (IsAnswerIn Plain opening number history) a answers alone.each;
   rise = alone.rise.1;
   all = omega (
     arith,
@@ -129,7 +130,7 @@ pub next_state : (opening : State) (number : ℕ) (history : List Entry) (low : 
     → Alone opening number history low (a ∷ answers) → state_at opening history (behind a)
     ≡ state_behind (state_at opening history low) a.meaning
 next_state opening number history low a answers alike sound alone =
-    let own = All-head (IsAnswerIn opening number history) a answers alone.each in
+    let own = All-head (IsAnswerIn Plain opening number history) a answers alone.each in
     state_next opening number history a.meaning a.place a.entry alike sound own.entry own.stands
     ∙ ap (λ p. state_behind (state_at opening history p) a.meaning)
     (at_place opening number history low a answers alone)
@@ -142,7 +143,7 @@ pub told_first : (opening : State) (number : ℕ) (history : List Entry) (low : 
 told_first opening number history low [] others alike sound alone = refl
 told_first opening number history low (a ∷ first) others alike sound alone =
     let s = state_at opening history low in
-    let own = All-head (IsAnswerIn opening number history) a (first ++ others) alone.each in
+    let own = All-head (IsAnswerIn Plain opening number history) a (first ++ others) alone.each in
     let reply : a.reply ≡ told s a.meaning =
     own.reply ∙ ap (λ p. told (state_at opening history p) a.meaning)
     (at_place opening number history low a (first ++ others) alone) in

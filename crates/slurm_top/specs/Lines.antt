@@ -12,6 +12,7 @@ use Rattle.slurm_top.specs.declared.end.End.TheVariants.{Usage, NoFile, BadConf,
 -- the status of a script's run
 abbrev pub script_status : How → ℕ
 script_status how.Closed = 0
+script_status how.Shut = 0
 script_status how.ReadFault = 5
 script_status how.WriteFault = 6
 script_status (how.Truncated place) = 7
@@ -48,6 +49,7 @@ assocs_line line kind =
 -- the line of a script's run; there is none where the input was answered to its end
 abbrev pub script_line : How → List ℕ
 script_line how.Closed = []
+script_line how.Shut = []
 script_line how.ReadFault = codes "slurm: error: read\n"
 script_line how.WriteFault = codes "slurm: error: write\n"
 script_line (how.Truncated place) = place_line place

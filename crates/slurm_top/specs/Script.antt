@@ -10,7 +10,7 @@ use Rattle.ctl_state.specs.Soundness.{IsSound}
 use Rattle.ctl_node_side.specs.Passes.{PassIsFree}
 use Rattle.command_words.specs.declared.header.Meaning.{Meaning}
 use Rattle.ctl_session.specs.declared.session.How.{How}
-use Rattle.ctl_session.specs.declared.session.How.TheVariants.{Closed, Truncated, Bad, Spent, ReadFault, WriteFault, Memory}
+use Rattle.ctl_session.specs.declared.session.How.TheVariants.{Closed, Truncated, Bad, Spent, ReadFault, WriteFault, Shut, Memory}
 use Rattle.ctl_session.specs.Meaning.{meaning_of, told, state_behind}
 use Rattle.ctl_session.specs.Session.{most_blocks}
 
@@ -63,6 +63,8 @@ IsEndOf s old new read ReadFault = IsWritten s old new read × CountsOne old.rea
 IsEndOf s old new read WriteFault =
     (new.reads ≡ old.reads) × CountsOne old.writes new.writes
     × ((n : ℕ) × (n < length (script_of s read)) × Appends old.taken new.taken (take n (script_of s read)))
+-- a shutdown ends no script
+IsEndOf s old new read Shut = ⊥
 -- memory was wanting, and the first blocks were answered whole
 IsEndOf s old new read Memory =
     (new.reads ≡ old.reads) × (new.writes ≡ old.writes)

@@ -43,7 +43,7 @@ impl End {
         ensures { result ≡ status_of self }
     {
         match self {
-            End::Script(How::Closed) | End::Generated => 0,
+            End::Script(How::Closed | How::Shut) | End::Generated => 0,
             End::Usage => 2,
             End::BadConf { .. } => 3,
             End::BadAssocs { .. } => 4,
@@ -110,7 +110,7 @@ fn line_of(end: End) -> ArrayString<LINE_LEN>
     ensures { result.bytes ≡ line_of end }
 {
     match end {
-        End::Script(How::Closed) | End::Generated => ArrayString::new(),
+        End::Script(How::Closed | How::Shut) | End::Generated => ArrayString::new(),
         End::Usage => cause_line("usage"),
         End::BadConf { line, kind } => conf_line(line, kind),
         End::BadAssocs { line, kind } => assocs_line(line, kind),

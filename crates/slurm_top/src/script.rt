@@ -14,6 +14,7 @@ use ctl_node_side::laws::passes_are_free;
 use ctl_session::{How, serve_link};
 use resource_profile::start;
 use slurm_io::Link;
+use slurm_net::MemClock;
 use std::alloc::Global;
 
 /// Answers the blocks of a link, by a controller of the cluster of a file slurm.conf(5) and an association file,
@@ -40,6 +41,14 @@ pub fn run_script<L: Link>(
     nothing_is_partial();
     spellings_join();
     let mut desk = open_desk(alloc, conf, assocs)?;
-    let ended = serve_link(alloc, Form::Plain, link, &mut desk, &mut start());
+    let mut clock = MemClock::new(0, 0);
+    let ended = serve_link(
+        alloc,
+        Form::Plain,
+        link,
+        &mut desk,
+        &mut clock,
+        &mut start(),
+    );
     Ok(ended.how)
 }

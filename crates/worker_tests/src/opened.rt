@@ -10,9 +10,11 @@ use ctl_core::controller::Ctl;
 use ctl_desk::book::Book;
 use std::alloc::Global;
 
-const CONF: &[u8] = b"NodeName=n1 CPUs=4 RealMemory=1000\nPartitionName=main Nodes=ALL Default=YES\n";
+const CONF: &[u8] =
+    b"NodeName=n1 CPUs=4 RealMemory=1000\nPartitionName=main Nodes=ALL Default=YES\n";
 
-const ASSOCS: &[u8] = b"Cluster - 'cluster'\nParent - 'root'\nAccount - 'acct'\nParent - 'acct'\nUser - 'u1'\n";
+const ASSOCS: &[u8] =
+    b"Cluster - 'cluster'\nParent - 'root'\nAccount - 'acct'\nParent - 'acct'\nUser - 'u1'\n";
 
 // The controller of the cluster of two files, where they are good and there is memory.
 fn controller(alloc: Global, conf: &[u8], assocs: &[u8]) -> Option<Ctl>

@@ -26,7 +26,12 @@ pub fn link_asking(alloc: Global, frame: &[u8], failing: Vec<u64>) -> Result<Mem
 }
 
 /// Lets a worker serve at a desk.
-pub fn serve_at<R: Wait, D: Desk>(rt: &R, alloc: Global, door: &mut MemDoor, desk: &mut D) -> WorkerEnd
+pub fn serve_at<R: Wait, D: Desk>(
+    rt: &R,
+    alloc: Global,
+    door: &mut MemDoor,
+    desk: &mut D,
+) -> WorkerEnd
     requires { IsUnusedDoor door.old }
 {
     let mut clock = MemClock::new(1000, 1);

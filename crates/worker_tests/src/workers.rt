@@ -13,7 +13,10 @@ fn a_door_that_fails_ends_a_worker_that_has_served(rt: HostRuntime) -> Result<()
     let alloc = rt.alloc();
     let comes = vec![in alloc; Some(link_asking(alloc, QUERY, Vec::new(alloc))?)]?;
     let mut door = MemDoor::new(alloc, comes, vec![in alloc; 2]?)?;
-    assert_eq!(rt; serve_alone(&rt, alloc, &mut door), Some(WorkerEnd::DoorFault));
+    assert_eq!(rt;
+        serve_alone(&rt, alloc, &mut door),
+        Some(WorkerEnd::DoorFault)
+    );
     let [first] = door.sessions() else {
         return Err("there isn't one session".into());
     };
@@ -26,7 +29,11 @@ fn a_link_that_fails_ends_no_worker(rt: HostRuntime) -> Result<(), Fail> {
     let alloc = rt.alloc();
     let bad = link_asking(alloc, QUERY, vec![in alloc; 1]?)?;
     let good = link_asking(alloc, SHUTDOWN, Vec::new(alloc))?;
-    let mut door = MemDoor::new(alloc, vec![in alloc; Some(bad), Some(good)]?, Vec::new(alloc))?;
+    let mut door = MemDoor::new(
+        alloc,
+        vec![in alloc; Some(bad), Some(good)]?,
+        Vec::new(alloc),
+    )?;
     assert_eq!(rt; serve_alone(&rt, alloc, &mut door), Some(WorkerEnd::Shut));
     let [first, second] = door.sessions() else {
         return Err("there aren't two sessions".into());

@@ -14,5 +14,5 @@ returns-clause-ran g c =
     let desk = c.in_ok-desk.ensures.fresh in (
       desk.0,
       desk.1,
-      script_at_seat _ _ _ _ _ _ c.raised_moments_decide_alike.ensures.state c.passes_are_free.ensures laws desk.2 c.serve_link-ended.ensures,
+      script_at_seat _ _ _ _ _ _ _ _ c.raised_moments_decide_alike.ensures.state c.passes_are_free.ensures laws desk.2 c.serve_link-ended.ensures,
     )

@@ -1,7 +1,5 @@
 -- Two files open with one state.
 use Rattle.std.proofs.Common.{◌≡◌, ℕ, List, sym, ◌∙◌, ap₂}
-use Rattle.slurm_text.specs.Assocs.{AssocView}
-use Rattle.slurm_text.specs.Confs.{ConfView}
 use Rattle.ctl_state.specs.State.{State, opening}
 use Rattle.worker_tests.specs.Opening.{IsOpened}
 
