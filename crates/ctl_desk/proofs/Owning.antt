@@ -215,7 +215,10 @@ own_there_err P (Ok answer) before old new stays holds = tt
 own_there_err P (Err e) before old new stays holds = subst P (sym (own_present before old new stays)) holds
 
 -- where nothing was counted
+none-ticked : (most count : ℕ) → IsTickedUpTo most count count
+none-ticked most count = record { times = 0; few = omega arith; is = refl }
+
 pub not-hinted : (hint : Option PlannedView) (s : State) (now count : ℕ)
     → IfSome hint (λ old. IsHinted old s now count count)
 not-hinted None s now count = tt
-not-hinted (Some old) s now count = λ steady are. record { times = 0; few = omega arith; is = refl }
+not-hinted (Some old) s now count = λ steady are. none-ticked _ count

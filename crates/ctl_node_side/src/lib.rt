@@ -2,13 +2,13 @@
 //! fell silent first.
 #![tactic(auto)]
 
-mod input;
+mod inputs;
 mod kept;
 pub mod laws;
 mod passing;
 mod restarting;
 mod silence;
 
-pub use input::input;
+pub use inputs::input;
 pub use passing::{PassOutcome, pass};
 pub use restarting::{accept, orders};

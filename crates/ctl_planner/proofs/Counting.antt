@@ -1,5 +1,5 @@
 -- What a turn counts, and that a desk goes on through it.
-use Rattle.std.proofs.Common.{◌≡◌, ℕ, zero, ◌≤◌, Bool, true, List, [], ◌∷◌, ◌++◌, length, take, refl, sym, ap, ◌∙◌, subst, arith, append-nil, append_assoc, length-append}
+use Rattle.std.proofs.Common.{◌≡◌, ℕ, zero, ◌≤◌, Bool, true, List, [], ◌∷◌, ◌++◌, length, take, eqb, refl, sym, ap, ◌∙◌, subst, arith, append-nil, append_assoc, length-append}
 use Rattle.std.proofs.Math.Seq.{take-append_seam, take-length}
 use Rattle.std.proofs.lemmas.List.{take_all}
 use Rattle.std.proofs.lemmas.List.Elements.{filter-append}
@@ -26,12 +26,18 @@ goes_nowhere desk = ([], rw (append-nil desk.since, append-nil desk.mine) refl)
 -- and one that sees entries come, and then others
 later-twice : (desk : Sight) (one two : List Entry) → later (later desk one) two ≡ later desk (one ++ two)
 later-twice desk one two =
-    rw (
-      append_assoc desk.since one two,
-      filter-append (λ (entry : Entry). entry.session == desk.number) one two,
-      append_assoc desk.mine (of_session desk.number one) (of_session desk.number two),
-    )
-    refl
+    let n = desk.number in
+    let mine : (desk.mine ++ of_session n one) ++ of_session n two ≡ desk.mine ++ of_session n (one ++ two) =
+    append_assoc desk.mine (of_session n one) (of_session n two)
+    ∙ ap (λ (es : List Entry). desk.mine ++ es)
+    (sym (filter-append (λ (entry : Entry). eqb entry.session n) one two)) in
+    λ i. record {
+      opening = desk.opening;
+      number = n;
+      before = desk.before;
+      since = append_assoc desk.since one two i;
+      mine = mine i;
+    }
 
 pub goes_further : (desk middle desk' : Sight) → GoesOn desk middle → GoesOn middle desk' → GoesOn desk desk'
 goes_further desk middle desk' first second = (
@@ -73,7 +79,7 @@ answered-later desk middle desk' now user request answer goes mine answered =
       reply = answered.reply ∙ ap (λ (s : State). reply_of s now user request) state;
       accepted = λ accepts.
           let both = answered.accepted accepts in (
-            both.0 ∙ ap (λ e. take answer.place (seen desk') ++ e ∷ []) entry,
+            both.0 ∙ ap (λ (e : Entry). take answer.place (seen desk') ++ e ∷ []) entry,
             both.1 ∙ (λ i. mine i ++ entry i ∷ []),
           );
       other = λ refuses.
@@ -101,8 +107,8 @@ cut-short desk desk' now outside outside' inside goes counted = record {
   middle = desk';
   before = goes;
   after = goes_nowhere desk';
-  outside = counted;
-  inside = λ steady are. not-counted _ inside;
+  beside_book = counted;
+  in_pass = λ steady are. not-counted _ inside;
   alone = λ _. refl;
 }
 
@@ -124,8 +130,8 @@ planned-beside law desk middle desk' now place user outside outside' inside insi
       middle = middle;
       before = first;
       after = second;
-      outside = counted;
-      inside = subst (λ (s : State). IsHinted (input_there middle now) (there s) now inside inside') opening over;
+      beside_book = counted;
+      in_pass = subst (λ (s : State). IsHinted (input_there middle now) (there s) now inside inside') opening over;
       alone = λ at.
           let s = present (history_of middle) in
           let same : there middle.opening ≡ s = state-behind middle desk' place second at in
@@ -136,6 +142,20 @@ planned-beside law desk middle desk' now place user outside outside' inside insi
           (subst (λ (at : State). IsHinted (input_there middle now) at now inside inside') same over);
     }
 
--- the state at the end of all that is seen is the present
-pub state-last : (desk : Sight) → state_at desk.opening (seen desk) (length (seen desk)) ≡ present (history_of desk)
-state-last desk = ap (after_all desk.opening) (take-length (seen desk))
+-- a turn whose pass wanted memory, as if it had been made after all that was seen
+pub planned-beside-err : OwnHintCountsNothing → (desk middle desk' : Sight) (now : ℕ) (user : List ℕ)
+    (outside outside' inside inside' : ℕ) (planned : PlannedView) → GoesOn desk middle → GoesOn middle desk'
+    → IsHistory (history_of middle) → planned ≡ input_there middle now
+    → IsTickedUpTo (length (input_there middle now).ranked) outside outside'
+    → IsTickedUpTo (steps_of (present (history_of desk')) now user) inside inside'
+    → IsHinted planned (present (history_of desk')) now inside inside'
+    → IsPlannedBeside desk desk' now (length (seen desk')) outside outside' inside inside'
+planned-beside-err law desk middle desk' now user outside outside' inside inside' planned first second history is
+    counted most hinted =
+    let end : present (history_of desk') ≡ state_at middle.opening (seen desk') (length (seen desk')) =
+    ap (λ (o : State). after_all o (seen desk')) (same-opening middle desk' second)
+    ∙ ap (after_all middle.opening) (sym (take-length (seen desk'))) in
+    planned-beside law desk middle desk' now (length (seen desk')) user outside outside' inside inside' planned first
+    second history is counted
+    (subst (λ (s : State). IsTickedUpTo (steps_of s now user) inside inside') end most)
+    (subst (λ (s : State). IsHinted planned s now inside inside') end hinted)

@@ -18,8 +18,8 @@ pub record IsPlannedBeside (desk desk' : Sight) (now place outside outside' insi
   pub before : GoesOn desk middle
   pub after : GoesOn middle desk'
   -- beside the book it counted at most a step for each job of the input
-  pub outside : IsTickedUpTo (length (input_there middle now).ranked) outside outside'
+  pub beside_book : IsTickedUpTo (length (input_there middle now).ranked) outside outside'
   -- the pass counted at most one for each job that it planned and that didn't stand as it stood in the input's plan
-  pub inside : IsHinted (input_there middle now) (state_at desk.opening (seen desk') place) now inside inside'
+  pub in_pass : IsHinted (input_there middle now) (state_at desk.opening (seen desk') place) now inside inside'
   -- and none where nothing came in between
   pub alone : place ≡ length (seen middle) → inside' ≡ inside

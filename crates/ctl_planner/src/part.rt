@@ -40,9 +40,28 @@ fn make_turn<D: Desk, G: Gate>(alloc: Global, desk: &mut D, now: u64, gate: &mut
     }
 }
 
+// Makes a turn where one is due, and tells the last one.
+#[tactic(auto, using(crate::proofs::Counting::goes_nowhere))]
+fn turn_if_due<D: Desk, G: Gate>(
+    alloc: Global,
+    desk: &mut D,
+    now: u64,
+    interval: u32,
+    last: Option<LastTurn>,
+    gate: &mut G,
+) -> Option<LastTurn>
+    ensures { GoesOn (D.sight desk.old) (D.sight desk.new) }
+{
+    if is_due(last.as_ref(), now, interval, desk.seen_len()) {
+        return Some(make_turn(alloc, desk, now, gate));
+    }
+    last
+}
+
 /// The planner's part of a server: it makes a turn whenever `interval` seconds have passed since its last one, or the
 /// desk has seen entries come since then, and rests in between, until a shutdown was accepted. A turn for which memory
 /// was wanting is passed over. bf_interval in slurm.conf(5).
+#[tactic(auto, using(crate::proofs::Counting::goes_nowhere, crate::proofs::Counting::goes_further))]
 pub fn planner_part<R: Wait, D: Desk, C: Clock, G: Gate>(
     rt: &R,
     alloc: Global,
@@ -60,9 +79,7 @@ pub fn planner_part<R: Wait, D: Desk, C: Clock, G: Gate>(
             return;
         }
         let now = clock.now();
-        if is_due(last.as_ref(), now, interval, desk.seen_len()) {
-            last = Some(make_turn(alloc, desk, now, gate));
-        }
+        last = turn_if_due(alloc, desk, now, interval, last, gate);
         clock.rest();
     }
     unreachable!()

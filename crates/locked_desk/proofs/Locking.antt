@@ -318,6 +318,9 @@ pub adds_none : (turn : BookView) (book : History) → book.entries ≡ turn.see
 adds_none turn book whole = ([], whole ∙ sym (append-nil turn.seen), All-nil (λ (entry : Entry). entry.session ≡ turn.number))
 
 -- where nothing was counted
-pub not-hinted : (hint : Option PlannedView) (s : State) (now count : ℕ) → IfSome hint (λ old. IsHinted old s now count count)
-not-hinted None s now count = tt
-not-hinted (Some old) s now count = λ steady are. record { times = 0; few = omega arith; is = refl }
+none_ticked : (most count : ℕ) → IsTickedUpTo most count count
+none_ticked most count = record { times = 0; few = omega arith; is = refl }
+
+pub not_hinted : (hint : Option PlannedView) (s : State) (now count : ℕ) → IfSome hint (λ old. IsHinted old s now count count)
+not_hinted None s now count = tt
+not_hinted (Some old) s now count = λ steady are. none_ticked _ count

@@ -2,8 +2,6 @@ use Rattle.std.proofs.Common.{◌∙◌, subst, sym}
 use Rattle.ctl_state.specs.State.{state_of}
 use Rattle.ctl_node_side.specs.Came.{Came}
 use Rattle.ctl_node_side.proofs.Coming.{came_passed}
-use Rattle.ctl_node_side.proofs.Over.{over-found}
-use Rattle.ctl_node_side.proofs.Silent.{silenced_none}
 use Rattle.ctl_node_side.proofs.passing.pass_heard.Goals as goal
 
 pub returns-clause-came : goal.returns-clause-came

@@ -1,5 +1,6 @@
 use Rattle.std.proofs.Common.{ap}
 use Rattle.ctl_core.specs.Views.{CtlView}
+use Rattle.ctl_state.specs.State.{state_of}
 use Rattle.ctl_core.proofs.Hinted.{by-hint}
 use Rattle.ctl_core.proofs.controller.Ctl.pass.Goals as goal
 
@@ -15,5 +16,5 @@ returns-clause-steps g c = rw (← ap (λ (v : CtlView). v.state) c.self.view_is
 pub returns-clause-over : goal.returns-clause-over
 returns-clause-over g c =
     rw (← ap (λ (v : CtlView). v.state) c.self.view_is)
-    (by-hint c.args.hint c.take_hint.new.kept _ c.args.now c.args.steps.now c.ask_pass.new.steps c.take_hint.ensures
+    (by-hint c.args.hint c.take_hint.new.kept (state_of c.self.inside.cluster) c.args.now c.args.steps.now c.ask_pass.new.steps c.take_hint.ensures
     c.ask_pass.ensures.over)

@@ -1,10 +1,10 @@
-use Rattle.std.proofs.Common.{◌≡◌, ap, ◌∙◌, sym, ℕ}
+use Rattle.std.proofs.Common.{◌≡◌, ap, ◌∙◌, sym, subst, ℕ, IfSome}
 use Rattle.slurm_text.specs.declared.plain.request.Request.TheVariants.{Pass}
 use Rattle.ctl_state.specs.State.{State}
-use Rattle.ctl_core.specs.Step.{raised, reply_of, steps_of}
+use Rattle.backfill_planner.specs.Plans.{PlannedView}
+use Rattle.ctl_core.specs.Step.{IsHinted, raised, reply_of, steps_of}
 use Rattle.ctl_desk.specs.History.{History, present}
 use Rattle.ctl_desk.proofs.Entered.{entered_as}
-use Rattle.ctl_desk.proofs.Owning.{not-hinted}
 use Rattle.ctl_desk.proofs.Entering.{IsHistory-decided}
 use Rattle.resource_profile.specs.Counts.{IsTickedUpTo}
 use Rattle.ctl_desk.proofs.book.Book.pass.Goals as goal
@@ -54,7 +54,13 @@ returns-clause-entries g c =
     (decided.reply ∙ ap (λ (s : State). reply_of s now user Pass) same)
 
 pub returns-in_err-decided-clause-over : goal.returns-in_err-decided-clause-over
-returns-in_err-decided-clause-over g c = rw (sym (c.self.invariant.1 ∙ ap (λ (h : History). present h) c.self.view_is)) c.in_err-decided.ensures.over
+returns-in_err-decided-clause-over g c =
+    subst (λ (s : State). IfSome c.args.hint (λ (hint : PlannedView).
+    IsHinted hint s c.args.now c.args.steps.now c.pass.new.steps))
+    (c.self.invariant.1 ∙ ap (λ (h : History). present h) c.self.view_is) c.in_err-decided.ensures.over
 
 pub returns-clause-over : goal.returns-clause-over
-returns-clause-over g c = rw (sym (c.self.invariant.1 ∙ ap (λ (h : History). present h) c.self.view_is)) c.in_ok-decided.ensures.over
+returns-clause-over g c =
+    subst (λ (s : State). IfSome c.args.hint (λ (hint : PlannedView).
+    IsHinted hint s c.args.now c.args.steps.now c.pass.new.steps))
+    (c.self.invariant.1 ∙ ap (λ (h : History). present h) c.self.view_is) c.in_ok-decided.ensures.over

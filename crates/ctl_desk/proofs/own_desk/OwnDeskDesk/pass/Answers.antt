@@ -1,10 +1,11 @@
 use Rattle.slurm_text.specs.declared.plain.request.Request.TheVariants.{Pass}
-use Rattle.std.proofs.Common.{IfSome, refl}
+use Rattle.std.proofs.Common.{IfOk, IfSome, ap, refl, subst}
 use Rattle.backfill_planner.specs.Plans.{PlannedView}
 use Rattle.ctl_state.specs.State.{State}
 use Rattle.ctl_core.specs.Step.{IsHinted}
+use Rattle.ctl_desk.specs.Desk.{Seat, seen, state_at}
 use Rattle.ctl_desk.specs.History.{entry_of, after_all}
-use Rattle.ctl_desk.proofs.Owning.{own_goes_on, own_answered, own_counted, own_counted_up_to, own_there, own_there_err}
+use Rattle.ctl_desk.proofs.Owning.{at_book, own_goes_on, own_answered, own_counted, own_counted_up_to, own_there, own_there_err}
 use Rattle.ctl_desk.proofs.own_desk.OwnDeskDesk.pass.Goals as goal
 
 pub returns-clause-goes_on : goal.returns-clause-goes_on
@@ -40,8 +41,10 @@ returns-clause-over c =
     let called = c.pass.ensures in
     let hinted = λ (s : State). IfSome c.args.hint (λ (hint : PlannedView).
     IsHinted hint s c.args.now c.args.steps.now c.pass.new.steps) in
-    rw (← c.self.view_is)
-    (own_there hinted _ c.args.now c.args.user.now c.self.inside.before c.self.inside.book c.pass.new.self
+    subst (λ (opening : State). IfOk c.pass.result (λ answer. hinted
+    (state_at opening (seen (at_book c.self.inside.before c.pass.new.self)) answer.place)))
+    (ap (λ (seat : Seat). seat.opening) c.self.view_is)
+    (own_there hinted c.pass.result c.args.now c.args.user.now c.self.inside.before c.self.inside.book c.pass.new.self
     called.place called.entries called.over)
 
 pub returns-clause-over_err : goal.returns-clause-over_err
@@ -49,4 +52,4 @@ returns-clause-over_err c =
     let called = c.pass.ensures in
     let hinted = λ (s : State). IfSome c.args.hint (λ (hint : PlannedView).
     IsHinted hint s c.args.now c.args.steps.now c.pass.new.steps) in
-    own_there_err hinted _ c.self.inside.before c.self.inside.book c.pass.new.self called.err called.over
+    own_there_err hinted c.pass.result c.self.inside.before c.self.inside.book c.pass.new.self called.err called.over

@@ -5,7 +5,7 @@ use Rattle.ctl_state.specs.Soundness.{IsSound}
 use Rattle.ctl_state.specs.State.{State, state_of}
 use Rattle.ctl_node_side.proofs.Back.{index_back, state_back}
 use Rattle.ctl_node_side.proofs.Silent.{silenced_some}
-use Rattle.ctl_node_side.proofs.input.input_silenced.Goals as goal
+use Rattle.ctl_node_side.proofs.inputs.input_silenced.Goals as goal
 
 pub plan_input-input-requires-clause-sound : goal.plan_input-input-requires-clause-sound
 plan_input-input-requires-clause-sound c =

@@ -2,7 +2,7 @@ use Rattle.std.proofs.lemmas.Bool.{both_ways}
 use Rattle.ctl_state.specs.State.{state_of}
 use Rattle.ctl_node_side.specs.Silence.{falls_silent}
 use Rattle.ctl_node_side.proofs.Places.{none_found, some_found}
-use Rattle.ctl_node_side.proofs.input.input.Goals as goal
+use Rattle.ctl_node_side.proofs.inputs.input.Goals as goal
 
 pub input_heard-requires-clause-heard : goal.input_heard-requires-clause-heard
 input_heard-requires-clause-heard c =
