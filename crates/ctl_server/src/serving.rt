@@ -11,7 +11,7 @@ ghost use Rattle.ctl_server.specs.Numbered.{AreServed};
 use crate::ending::ServeEnd;
 use ctl_desk::book::Book;
 use slurm_io::Sink;
-use slurm_net::{Clock, Gate, Host};
+use slurm_net::{Clock, Door, Gate, Host};
 use std::alloc::Global;
 use std::sync::Wait;
 use std::thread::Threads;
@@ -42,6 +42,7 @@ pub fn serve<
 ) -> ServeEnd
 where
     H::Door: Send + Drop,
+    <H::Door as Door>::Link: Send,
     requires fresh { book.entries ≡ [] }
     requires workers { (1 ≤ workers) × (workers ≤ 64) }
     requires gates { vec_len gates ≡ workers + 1 }
