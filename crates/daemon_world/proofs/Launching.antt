@@ -143,7 +143,8 @@ launch-of : (now place : ℕ) (report : Report) (job : JobRecord)
 launch-of now place report job =
     cond_both (is_running job.state && not (is_listed report job || is_some (done_of report job)))
     (option_map (launch_part place job) (find (is_on place) job.parts)) None (OfJob now place report job)
-    (λ is. let each = and_parts (is_running job.state) (not (is_listed report job || is_some (done_of report job))) is in
+    (λ is. let each = and_parts (is_running job.state)
+    (not (is_listed report job || is_some (done_of report job))) is in
     let silent = or_parts (is_listed report job) (is_some (done_of report job))
     (not-true (is_listed report job || is_some (done_of report job)) each.1) in
     launched-part now place report job each.0 silent.0 silent.1 (find (is_on place) job.parts) refl)

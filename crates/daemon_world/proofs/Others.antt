@@ -75,7 +75,8 @@ kept-there s now place report (Some at) differ =
     ap (option_and_then (λ (one : NodeRecord). one.heard)) (same-record s now place at report (differ at refl))
 
 pub others_left : Lower → (s : State) (now place : ℕ) (report : Report) (other : List ℕ) → (report.node ≡ other → ⊥)
-    → place_named report.node s.nodes ≡ Some place → LeavesNode s (report_after (met s now place report) now place report) other
+    → place_named report.node s.nodes ≡ Some place
+    → LeavesNode s (report_after (met s now place report) now place report) other
 others_left lower s now place report other differ here =
     let s' = after s now place report in
     let away = λ (at : ℕ) (there : place_named other s.nodes ≡ Some at).

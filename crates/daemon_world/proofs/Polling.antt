@@ -37,7 +37,8 @@ starts_stay now start (one ∷ later) =
     elim (cases_Bool (is_over now one)) [
       | inl over ↦ rw over (omega (arith, rest, whole, told-one one.start start one.script (told_over now later)))
       | inr runs ↦
-          rw runs (omega (arith, rest, whole, count_cons claims (claim_run one) (map claim_run (still_running now later))))
+          rw runs
+          (omega (arith, rest, whole, count_cons claims (claim_run one) (map claim_run (still_running now later))))
     ]
 
 -- what was listed as running is told to be over in no way that the list doesn't know
@@ -193,5 +194,8 @@ restarts_on s reports orders node daemon boot later step =
           (λ one up is before life. absurd (omega (arith, (up is).boot, later, life))) reports step.sent;
       parted = step.parted;
       answered = step.answered;
-      emptied = λ place is told. record { running = refl; ordered = λ k d below due. absurd (both_ways false refl due) };
+      emptied = λ place is told. record {
+        running = refl;
+        ordered = λ k d below due. absurd (both_ways false refl due);
+      };
     }

@@ -52,8 +52,8 @@ came s now reports orders daemons report verdict sound sent each accepted =
           reports report step.sent sent refl;
       tells = λ life. All-contains (λ (one : Report). one.node ≡ node → HeardBefore kept one.boot one.number
           → one.boot ≡ daemon.boot → Tells one daemon) reports report step.told sent refl accepted.news life;
-      parted = All-contains (λ (one : Report). one.node ≡ node → All (λ start. tells_over one start ≡ false) one.running)
-          reports report step.parted sent refl;
+      parted = All-contains (λ (one : Report). one.node ≡ node
+          → All (λ start. tells_over one start ≡ false) one.running) reports report step.parted sent refl;
     }
 
 -- an accepted report keeps each daemon in step

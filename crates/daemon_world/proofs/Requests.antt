@@ -120,13 +120,16 @@ loss-held s now lost place claim kept =
 update-left : (s : State) (now : ℕ) (names : List (List ℕ)) (state : NodeOrder) (node : List ℕ)
     → LeavesNode s (update_after s now names state) node
 update-left s now names order.Down node =
-    nodes_left (changed_where change.Down (is_among names)) (is_among names) (keeps_down (is_among names)) s (update_after s now names order.Down) node refl
+    nodes_left (changed_where change.Down (is_among names)) (is_among names) (keeps_down (is_among names)) s
+    (update_after s now names order.Down) node refl
     (λ place claim kept. loss-held s now (lost_by s.nodes names order.Down) place claim kept)
 update-left s now names order.Drain node =
-    nodes_left (changed_where change.Drain (is_among names)) (λ node. false) (keeps_drain (is_among names)) s (update_after s now names order.Drain) node refl
+    nodes_left (changed_where change.Drain (is_among names)) (λ node. false) (keeps_drain (is_among names)) s
+    (update_after s now names order.Drain) node refl
     (λ place claim kept. loss-held s now (lost_by s.nodes names order.Drain) place claim refl)
 update-left s now names order.Resume node =
-    nodes_left (changed_where change.Resume (is_among names)) (λ node. false) (keeps_resume (is_among names)) s (update_after s now names order.Resume) node refl
+    nodes_left (changed_where change.Resume (is_among names)) (λ node. false) (keeps_resume (is_among names)) s
+    (update_after s now names order.Resume) node refl
     (λ place claim kept. loss-held s now (lost_by s.nodes names order.Resume) place claim refl)
 
 -- ---- a pass
@@ -135,7 +138,8 @@ silence-left : (s : State) (now : ℕ) (node : List ℕ) → LeavesNode s (silen
 silence-left s now node =
     let silent = falls_silent s.settings.slurmd_timeout now in
     cond_both (any_silent s now) (without_silent s now) s (λ (t : State). LeavesNode s t node)
-    (λ some. nodes_left (changed_where change.Silent silent) silent (keeps_silent silent) s (without_silent s now) node refl
+    (λ some. nodes_left (changed_where change.Silent silent) silent (keeps_silent silent) s (without_silent s now) node
+    refl
     (λ place claim kept. loss-held s now (silent_at s now) place claim kept))
     (λ none. left_same s s node refl refl)
 

@@ -126,7 +126,8 @@ only-waits id [] rising any =
 only-waits id (job ∷ jobs) rising any =
     let Here = λ (job : JobRecord). (job.id ≡ id) × (is_pending job.state ≡ true) in
     let Wait = λ (job : JobRecord). has_id id job ≡ true → is_pending job.state ≡ true in
-    let later : HaveRisingIds jobs = λ i j d before within. rising (suc i) (suc j) d (omega (arith, before)) (omega (arith, within)) in
+    let later : HaveRisingIds jobs = λ i j d before within.
+    rising (suc i) (suc j) d (omega (arith, before)) (omega (arith, within)) in
     elim (any_cases Here job jobs any) [
       | inl here ↦
           All-cons Wait job jobs (λ is. here.1)

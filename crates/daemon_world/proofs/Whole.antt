@@ -40,7 +40,8 @@ by_name P node daemon daemons other own others =
 
 -- ---- what daemons do
 
-pub polls_together : (w : World) (now : ℕ) (node : List ℕ) → Together w → Together (world_after w (Event.Polls now node))
+pub polls_together : (w : World) (now : ℕ) (node : List ℕ) → Together w
+    → Together (world_after w (Event.Polls now node))
 polls_together w now node together =
     let daemon = w.daemons node in
     let after = polled now daemon in
