@@ -88,7 +88,8 @@ none-shared place cpu one jobs (claim ∷ later) once has held all none =
     ]
 
 pub held_apart : (place cpu : ℕ) (jobs : List JobRecord) (claims : List Claim)
-    → times_held (parts_of jobs) place cpu ≤ 1 → All (IsHeldAt jobs place) claims → ((start : Start) → times_claiming claims start ≤ 1)
+    → times_held (parts_of jobs) place cpu ≤ 1
+    → All (IsHeldAt jobs place) claims → ((start : Start) → times_claiming claims start ≤ 1)
     → times_claimed claims cpu ≤ 1
 unfolding times_held
 held_apart place cpu jobs [] held all once = omega arith
