@@ -1,6 +1,5 @@
 -- A report that is accepted keeps its daemon in step.
-use Rattle.std.proofs.Common.{ℕ, suc, ◌≡◌, ◌≤◌, ◌<◌, ◌+◌, ◌∙◌, Bool, true, false, not, ◌||◌, List, [], ◌∷◌, ◌++◌, append-nil, map, length, filter_map, count_by, cond, get_or, All, Any, Option, Some, None, option_map, option_and_then, unwrap_or, refl, sym, ap, subst, arith, inl, inr, ◌⊎◌, nat_eq, nat_lt}
-use Rattle.std.specs.List.{list_any}
+use Rattle.std.proofs.Common.{ℕ, ◌≡◌, ◌≤◌, ◌<◌, ◌+◌, ◌∙◌, Bool, true, false, ◌||◌, List, [], ◌∷◌, ◌++◌, append-nil, map, length, filter_map, get_or, All, Option, Some, None, option_map, option_and_then, unwrap_or, refl, sym, ap, subst, arith, inl, inr, ◌⊎◌, nat_eq, nat_lt}
 use Rattle.std.proofs.lemmas.Bool.{both_ways, cases_Bool, cases_lt, cond_both, cond-false, le-ltb, ne_eqb, or_cases}
 use Rattle.std.proofs.lemmas.Bool.Decides.{nat_tests}
 use Rattle.std.proofs.lemmas.List.Elements.{All-append, All-cons, All-head, All-map, All-nil, All-tail, All-weaker}
@@ -30,7 +29,6 @@ use Rattle.node_daemon.specs.declared.running.Running.{Running}
 use Rattle.daemon_world.specs.Claims.{Claim, Holds, IsHeldAt, claim_launch, claim_run, claims_of, claims_ordered, times_claiming, times_over}
 use Rattle.daemon_world.specs.Together.{Fit, HeardBefore, HeardNoLife, HeardSince, HeardUpTo, InStep, IsAfter, IsUpTo, RunsNothing, Tells, is_emptied, kept_of, tells_over}
 use Rattle.daemon_world.proofs.Apart.{held_apart}
-use Rattle.daemon_world.proofs.Claimed.{start_is}
 use Rattle.daemon_world.proofs.Hearing.{came_up, emptied_by, heard_at, stays_up}
 use Rattle.daemon_world.proofs.Launching.{launches_held, launches_new, launches_once, listed_stays}
 use Rattle.daemon_world.proofs.Lists.{any_map, count_append, count_no}

@@ -1,8 +1,8 @@
 -- What is done to nodes leaves their names, and lets none come up at which something may run that nobody knows of.
-use Rattle.std.proofs.Common.{ℕ, zero, suc, ◌≡◌, ◌+◌, ◌<◌, ◌∙◌, Bool, true, false, not, ◌&&◌, ◌||◌, cond, List, [], ◌∷◌, length, map, All, Option, Some, None, is_none, bytes_eq, if◌then◌else◌, refl, sym, ap, ap₂, subst, inl, inr, ◌⊎◌, option_and_then}
-use Rattle.std.specs.Prelude.{nat_lt, position}
-use Rattle.std.specs.List.{position_or_len, prefix_len}
-use Rattle.std.proofs.lemmas.Bool.{and_from, and_parts, both_ways, cases_Bool, cond_both, cond-false, cond-true, or_cases}
+use Rattle.std.proofs.Common.{ℕ, zero, suc, ◌≡◌, ◌+◌, ◌∙◌, Bool, true, false, not, ◌||◌, cond, List, [], ◌∷◌, map, Option, Some, None, is_none, bytes_eq, refl, sym, ap, ap₂, inl, inr, ◌⊎◌, option_and_then}
+use Rattle.std.specs.Prelude.{nat_lt}
+use Rattle.std.specs.List.{prefix_len}
+use Rattle.std.proofs.lemmas.Bool.{and_from, and_parts, both_ways, cases_Bool, cond_both, cond-false, or_cases}
 use Rattle.std.proofs.lemmas.List.{length-map}
 use Rattle.slurm_text.specs.declared.plain.report.Heard.{Heard}
 use Rattle.node_state.specs.declared.record.DownBy.{DownBy}
@@ -18,8 +18,8 @@ use Rattle.ctl_nodes.specs.Changing.{changed_where}
 use Rattle.ctl_nodes.specs.Updating.{is_set_down}
 use Rattle.ctl_report.specs.Reporting.{heard_of}
 use Rattle.daemon_world.specs.Claims.{Claim, IsHeldAt}
-use Rattle.daemon_world.specs.Leaving.{LeavesNode, StaysHeld}
-use Rattle.daemon_world.specs.Together.{is_emptied, kept_of}
+use Rattle.daemon_world.specs.Leaving.{LeavesNode}
+use Rattle.daemon_world.specs.Together.{is_emptied}
 
 -- the node was up and isn't lost, or was never heard, or was emptied
 abbrev pub WasUp : NodeRecord → Bool → Type 0

@@ -1,5 +1,5 @@
 -- Starts that jobs hold, of which no two are one, share no processor.
-use Rattle.std.proofs.Common.{ℕ, ◌≡◌, ◌≤◌, ◌+◌, ◌∙◌, Bool, true, false, ◌&&◌, List, [], ◌∷◌, ◌++◌, count_by, cond, All, Any, refl, sym, ap, subst, arith, inl, inr, nat_eq}
+use Rattle.std.proofs.Common.{ℕ, ◌≡◌, ◌≤◌, ◌∙◌, true, false, List, [], ◌∷◌, count_by, All, sym, ap, arith, inl, inr, nat_eq}
 use Rattle.std.specs.List.{list_any}
 use Rattle.std.proofs.lemmas.Bool.{and_from, both_ways, cases_Bool, eq-eqb}
 use Rattle.std.proofs.lemmas.List.Elements.{All-head, All-tail}
@@ -87,7 +87,8 @@ none-shared place cpu one jobs (claim ∷ later) once has held all none =
       | inr out ↦ omega (arith, count_no (λ (other : Claim). has_id other.cpus cpu) claim later out, rest)
     ]
 
-pub held_apart : (place cpu : ℕ) (jobs : List JobRecord) (claims : List Claim) → times_held (parts_of jobs) place cpu ≤ 1
+pub held_apart : (place cpu : ℕ) (jobs : List JobRecord) (claims : List Claim)
+    → times_held (parts_of jobs) place cpu ≤ 1
     → All (IsHeldAt jobs place) claims → ((start : Start) → times_claiming claims start ≤ 1)
     → times_claimed claims cpu ≤ 1
 unfolding times_held

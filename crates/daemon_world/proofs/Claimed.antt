@@ -1,15 +1,13 @@
 -- What fits a node goes on fitting where it shrinks; and what is told and over.
-use Rattle.std.proofs.Common.{ℕ, ◌≡◌, ◌≤◌, ◌+◌, ◌∙◌, Bool, true, false, ◌&&◌, ◌||◌, List, [], ◌∷◌, ◌++◌, map, length, count_by, sum_by, filter, cond, All, Some, refl, sym, ap, subst, arith, inl, inr, nat_eq}
+use Rattle.std.proofs.Common.{ℕ, ◌≡◌, ◌≤◌, ◌+◌, ◌∙◌, Bool, true, false, List, [], ◌∷◌, map, count_by, All, refl, arith, nat_eq}
 use Rattle.std.specs.List.{list_any}
-use Rattle.std.proofs.lemmas.Bool.{cases_Bool, and_from, and_parts, eq-eqb, eqb-true, or_left, or_right}
-use Rattle.std.proofs.lemmas.List.Elements.{All-cons, All-head, All-nil, All-tail, All-weaker}
+use Rattle.std.proofs.lemmas.Bool.{and_from, and_parts, eq-eqb, eqb-true, or_left, or_right}
+use Rattle.std.proofs.lemmas.List.Elements.{All-cons, All-nil, All-weaker}
 use Rattle.slurm_text.specs.declared.plain.report.Start.{Start}
 use Rattle.slurm_text.specs.declared.plain.report.Done.{Done}
-use Rattle.node_state.specs.Nodes.{place_named}
-use Rattle.ctl_state.specs.Soundness.{is_up_at}
 use Rattle.ctl_state.specs.State.{State}
 use Rattle.node_daemon.specs.Daemon.{is_among, is_same}
-use Rattle.daemon_world.specs.Claims.{Claim, IsHeldAt, times_claimed, times_claiming, times_over}
+use Rattle.daemon_world.specs.Claims.{Claim, IsHeldAt, times_claiming, times_over}
 use Rattle.daemon_world.specs.Together.{Fit}
 use Rattle.daemon_world.proofs.Lists.{count_cons, count_yes, list_any_map, none_counts}
 

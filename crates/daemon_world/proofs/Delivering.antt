@@ -1,25 +1,23 @@
 -- What comes of a report at the controller: it is refused, or it is worked and answered by orders.
-use Rattle.std.proofs.Common.{ℕ, ◌≡◌, ◌≤◌, ◌∙◌, Bool, true, false, not, ◌&&◌, ◌||◌, nat_eq, List, [], ◌∷◌, Option, Some, None, is_none, refl, sym, ap, subst, arith, inl, inr, ◌⊎◌}
+use Rattle.std.proofs.Common.{ℕ, ◌≡◌, ◌≤◌, Bool, true, false, not, ◌&&◌, ◌||◌, nat_eq, List, [], ◌∷◌, Option, Some, None, is_none, refl, arith, inl, inr, ◌⊎◌}
 use Rattle.std.specs.Prelude.{nat_lt}
 use Rattle.std.proofs.lemmas.Bool.{and_parts, eqb-true, ltb-false, ltb-true, or_cases}
-use Rattle.slurm_text.specs.declared.plain.orders.Orders.{Orders}
 use Rattle.slurm_text.specs.declared.plain.refusal.Refusal.{Refusal}
 use Rattle.slurm_text.specs.declared.plain.refusal.Refusal.TheVariants.{AccessDenied, HistoryFull, MomentTooLarge, ShuttingDown, StaleReport, UnknownNode}
-use Rattle.slurm_text.specs.declared.plain.reply.Reply.{Reply}
-use Rattle.slurm_text.specs.declared.plain.reply.Reply.TheVariants.{Orders as Ordered, Refused}
+use Rattle.slurm_text.specs.declared.plain.reply.Reply.TheVariants.{Orders as Ordered}
 use Rattle.slurm_text.specs.declared.plain.report.Heard.{Heard}
 use Rattle.slurm_text.specs.declared.plain.report.Report.{Report}
 use Rattle.slurm_text.specs.declared.plain.request.Request.TheVariants.{Report as Reports}
 use Rattle.node_state.specs.Nodes.{place_named}
 use Rattle.ctl_state.specs.State.{State, last_moment}
 use Rattle.ctl_state.specs.Refusals.{first_refusal, is_privileged, refused_if, unless_refused}
-use Rattle.ctl_state.specs.Verdicts.{Verdict, Refuses, Makes, left_by, reply_by}
-use Rattle.ctl_report.specs.Answering.{last_heard, node_of, report_refusals, staleness}
+use Rattle.ctl_state.specs.Verdicts.{Verdict, Refuses, Makes}
+use Rattle.ctl_report.specs.Answering.{last_heard, node_of, staleness}
 use Rattle.ctl_report.specs.Ordering.{orders_of}
 use Rattle.ctl_report.specs.Reporting.{is_after, report_after}
-use Rattle.ctl_node_side.specs.Restarting.{made_by_report, met, report_made}
-use Rattle.ctl_core.specs.Sizes.{has_room, size_of}
-use Rattle.ctl_core.specs.Step.{early_refusals, entered, is_closed, is_entered, raised, reply_of, state_after, unless_full, verdict_of, worked}
+use Rattle.ctl_node_side.specs.Restarting.{made_by_report, met}
+use Rattle.ctl_core.specs.Sizes.{has_room}
+use Rattle.ctl_core.specs.Step.{is_closed, raised, unless_full, verdict_of, worked}
 use Rattle.daemon_world.specs.Together.{HeardBefore, IsAfter, kept_of}
 
 -- the report is accepted, of the node at a place

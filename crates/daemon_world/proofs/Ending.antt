@@ -1,9 +1,8 @@
 -- Through every event a start of a job ends once, and then it is settled how.
-use Rattle.std.proofs.Common.{ℕ, suc, ◌≡◌, ◌≢◌, ◌≤◌, ◌<◌, ◌+◌, ◌*◌, ◌-◌, ◌^◌, ◌∙◌, Bool, true, false, ◌&&◌, not, min, List, [], ◌∷◌, ◌++◌, map, filter, length, get_or, All, Any, Option, Some, None, IfSome, if◌then◌else◌, refl, sym, ap, subst, arith, inl, inr, ◌⊎◌, nat_eq, slice_get}
+use Rattle.std.proofs.Common.{ℕ, ◌≡◌, ◌≤◌, ◌+◌, Bool, true, false, ◌&&◌, not, List, [], ◌∷◌, map, All, Option, Some, None, if◌then◌else◌, refl, arith, inl, inr, ◌⊎◌, nat_eq, slice_get}
 use Rattle.std.specs.Prelude.{nat_lt}
 use Rattle.std.specs.List.{enumerate_from, list_any}
-use Rattle.std.proofs.lemmas.Bool.{both_ways, cases_order, cond_both, ltb-false}
-use Rattle.std.proofs.lemmas.List.{get_or_default}
+use Rattle.std.proofs.lemmas.Bool.{both_ways, cond_both, ltb-false}
 use Rattle.std.proofs.lemmas.List.Elements.{All-append, All-cons, All-filter, All-map, All-nil, All-weaker}
 use Rattle.slurm_text.specs.declared.plain.array.ArraySpec.{ArraySpec}
 use Rattle.slurm_text.specs.declared.plain.conf.PartState.{PartState}
@@ -15,14 +14,12 @@ use Rattle.slurm_text.specs.declared.plain.request.NodeOrder.{NodeOrder}
 use Rattle.slurm_text.specs.declared.plain.request.Request.{Request}
 use Rattle.slurm_text.specs.declared.plain.request.Request.TheVariants.{Submit, Cancel, Hold, Release, Requeue, UpdateJob, UpdateNode, UpdatePartition, CreateReservation, DeleteReservation, Report, Pass, Shutdown, Show}
 use Rattle.slurm_text.specs.declared.plain.reply.Reply.TheVariants.{Done}
-use Rattle.slurm_text.specs.declared.plain.state.JobState.{JobState}
 use Rattle.partitions.specs.Partitions.{place_meant}
 use Rattle.job_table.specs.declared.record.JobRecord.{JobRecord}
 use Rattle.job_table.specs.declared.record.Part.{Part}
 use Rattle.job_table.specs.declared.change.Change.TheVariants.{Start}
 use Rattle.job_table.specs.Changes.{changed}
 use Rattle.job_table.specs.JobStates.{is_pending}
-use Rattle.job_table.specs.Table.{HaveRisingIds}
 use Rattle.ctl_state.specs.Refusals.{first_refusal, refused_if, unless_refused}
 use Rattle.ctl_state.specs.Soundness.{IsSound}
 use Rattle.ctl_state.specs.State.{State, last_moment}
@@ -41,13 +38,12 @@ use Rattle.ctl_report.specs.Reporting.{report_after, reported}
 use Rattle.ctl_node_side.specs.Passes.{after_pass, pass_is_idle}
 use Rattle.ctl_node_side.specs.Restarting.{made_by_report, met}
 use Rattle.ctl_node_side.specs.Silence.{any_silent, silent_at, silenced, without_silent}
-use Rattle.ctl_submit.specs.Submission.{Terms, made_under, new_arrays, new_job, new_jobs, submit_after, task, terms_of}
+use Rattle.ctl_submit.specs.Submission.{Terms, made_under, new_arrays, new_jobs, submit_after, task, terms_of}
 use Rattle.ctl_core.specs.Operating.{is_in_state, partition_after, partition_made}
 use Rattle.ctl_core.specs.Sizes.{has_room, size_of}
 use Rattle.ctl_core.specs.Step.{entered, is_closed, is_entered, made, raised, refusals_of, state_after, unless_full, verdict_of, worked}
-use Rattle.daemon_world.specs.Finals.{StaysSettled}
 use Rattle.daemon_world.proofs.Requests.{Passes, pass_may, silenced_raised}
-use Rattle.daemon_world.proofs.Settling.{Settles, done_settles, loss_settles, over_settles, report_settles, settled_on, settles_itself}
+use Rattle.daemon_world.proofs.Settling.{Settles, done_settles, loss_settles, over_settles, report_settles, settles_itself}
 use Rattle.daemon_world.proofs.Starting.{MayStart, starts_all}
 
 -- What jobs may have that no event takes from them: it stays where a start is settled, comes to a new job, and to one

@@ -1,13 +1,13 @@
 -- What a report makes of the nodes: of the one that reports, and of the others.
-use Rattle.std.proofs.Common.{ℕ, zero, suc, ◌≡◌, ◌<◌, ◌∙◌, Bool, true, false, ◌&&◌, ◌||◌, List, [], ◌∷◌, length, Option, Some, None, slice_get, if◌then◌else◌, refl, sym, ap, arith, inl, inr, ◌⊎◌}
-use Rattle.std.proofs.lemmas.Bool.{and_parts, both_ways, cases_Bool, or_cases}
+use Rattle.std.proofs.Common.{ℕ, zero, suc, ◌≡◌, ◌<◌, Bool, true, false, ◌&&◌, ◌||◌, List, [], ◌∷◌, length, Some, slice_get, refl, ap, arith, inl, inr, ◌⊎◌}
+use Rattle.std.proofs.lemmas.Bool.{and_parts, both_ways, or_cases}
 use Rattle.slurm_text.specs.declared.plain.report.Heard.{Heard}
 use Rattle.node_state.specs.declared.record.DownBy.{DownBy}
 use Rattle.node_state.specs.declared.record.DownBy.TheVariants as down
 use Rattle.node_state.specs.declared.record.NodeChange.{NodeChange}
 use Rattle.node_state.specs.declared.record.NodeChange.TheVariants.{Heard as HeardFrom}
 use Rattle.node_state.specs.declared.record.NodeRecord.{NodeRecord}
-use Rattle.node_state.specs.Nodes.{change_at, changed, is_up, noted}
+use Rattle.node_state.specs.Nodes.{change_at, is_up, noted}
 use Rattle.ctl_state.specs.Planning.{is_at}
 use Rattle.ctl_state.specs.Soundness.{is_up_at}
 use Rattle.ctl_nodes.specs.Updating.{is_set_down}

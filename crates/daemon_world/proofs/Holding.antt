@@ -1,22 +1,19 @@
 -- What jobs hold of a node goes on being held through all that takes nothing there.
-use Rattle.std.proofs.Common.{ℕ, ◌≡◌, ◌∙◌, Bool, true, false, not, ◌&&◌, List, [], ◌∷◌, ◌++◌, map, filter, All, Any, Option, Some, None, if◌then◌else◌, refl, sym, ap, subst, arith, inl, inr, nat_eq}
-use Rattle.std.specs.List.{list_any}
-use Rattle.std.proofs.lemmas.Bool.{and_parts, both_ways, cases_Bool, cond_both, eqb-true, ne_eqb, not_from_false}
-use Rattle.slurm_text.specs.declared.plain.limit.Limit.{Limit}
-use Rattle.slurm_text.specs.declared.plain.nice.Nice.{Nice}
+use Rattle.std.proofs.Common.{ℕ, ◌≡◌, ◌∙◌, Bool, false, not, List, [], ◌∷◌, Any, Option, Some, None, refl, sym, ap, subst}
+use Rattle.std.proofs.lemmas.Bool.{cond_both, ne_eqb, not_from_false}
 use Rattle.slurm_text.specs.declared.plain.report.Done.{Done}
 use Rattle.slurm_text.specs.declared.plain.report.Report.{Report}
 use Rattle.slurm_text.specs.declared.plain.state.Final.{Final}
-use Rattle.slurm_text.specs.declared.plain.state.Final.TheVariants.{Requeue, Cancelled, Completed, Failed, Timeout, NodeFail}
+use Rattle.slurm_text.specs.declared.plain.state.Final.TheVariants.{Requeue, Cancelled}
 use Rattle.slurm_text.specs.declared.plain.state.JobState.{JobState}
 use Rattle.slurm_text.specs.declared.plain.state.JobState.TheVariants.{Pending, Running, Completing, Ended}
 use Rattle.job_table.specs.declared.record.JobRecord.{JobRecord}
 use Rattle.job_table.specs.declared.record.Part.{Part}
-use Rattle.job_table.specs.declared.change.Change.TheVariants.{CancelPending, CancelRequeue, DropPart, Leave, SetHold, SetLimit, SetNice}
+use Rattle.job_table.specs.declared.change.Change.TheVariants.{CancelPending, CancelRequeue, DropPart, Leave}
 use Rattle.job_table.specs.Changes.{changed, is_on, not_again, off_node, parts_off, with_left}
 use Rattle.job_table.specs.JobStates.{is_pending, is_running}
 use Rattle.ctl_nodes.specs.Failing.{after_loss, failed, failing, loses, off_lost, parts_kept}
-use Rattle.ctl_report.specs.Reporting.{after_told, done_of, final_of as final_by, is_at, is_batch_host, is_listed, reported, script_over, told_over}
+use Rattle.ctl_report.specs.Reporting.{after_told, done_of, final_of as final_by, is_at, is_batch_host, is_listed, reported, script_over}
 use Rattle.daemon_world.specs.Claims.{Claim, Holds, IsClaimed}
 use Rattle.daemon_world.proofs.Lists.{any_filter, any_none}
 

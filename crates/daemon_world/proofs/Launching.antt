@@ -1,7 +1,7 @@
 -- What is ordered to be launched in answer to a report: starts of which the report says nothing, each held on its node.
-use Rattle.std.proofs.Common.{ℕ, suc, ◌≡◌, ◌≤◌, ◌<◌, ◌+◌, ◌∙◌, Bool, true, false, not, ◌&&◌, ◌||◌, List, [], ◌∷◌, ◌++◌, map, find, filter_map, count_by, cond, get_or, All, Any, Option, Some, None, is_some, option_map, refl, sym, ap, subst, arith, inl, inr, nat_eq}
+use Rattle.std.proofs.Common.{ℕ, suc, ◌≡◌, ◌≤◌, ◌<◌, ◌∙◌, Bool, true, false, not, ◌&&◌, ◌||◌, List, [], ◌∷◌, map, find, filter_map, All, Any, Option, Some, None, is_some, option_map, refl, sym, ap, subst, arith, inl, inr, nat_eq}
 use Rattle.std.specs.List.{cons_option, list_any}
-use Rattle.std.proofs.lemmas.Bool.{and_left, and_parts, both_ways, cases_Bool, cond_both, cond-false, cond-true, eqb-true, ne_eqb, not-true, or_left, or_parts}
+use Rattle.std.proofs.lemmas.Bool.{and_left, and_parts, both_ways, cases_Bool, cond_both, cond-false, cond-true, eqb-true, ne_eqb, not-true, or_parts}
 use Rattle.std.proofs.lemmas.Bool.Decides.{nat_tests}
 use Rattle.std.proofs.lemmas.List.Elements.{All-cons, All-head, All-nil, All-tail, All-weaker}
 use Rattle.slurm_text.specs.declared.plain.orders.Launch.{Launch}
@@ -19,7 +19,7 @@ use Rattle.job_table.specs.Table.{HaveRisingIds}
 use Rattle.ctl_report.specs.Ordering.{launch_of, launch_part, start_of}
 use Rattle.ctl_report.specs.Reporting.{after_told, done_of, is_at, is_last_start, is_listed, reported}
 use Rattle.node_daemon.specs.Daemon.{is_among, is_same}
-use Rattle.daemon_world.specs.Claims.{Claim, Holds, IsClaimed, IsHeldAt, claim_launch, times_claiming}
+use Rattle.daemon_world.specs.Claims.{Claim, Holds, IsHeldAt, claim_launch, times_claiming}
 use Rattle.daemon_world.specs.Together.{tells_over}
 use Rattle.daemon_world.proofs.Lists.{any_here, any_there, count_no, count_yes, list_any_map}
 
@@ -143,7 +143,8 @@ launch-of : (now place : ℕ) (report : Report) (job : JobRecord)
 launch-of now place report job =
     cond_both (is_running job.state && not (is_listed report job || is_some (done_of report job)))
     (option_map (launch_part place job) (find (is_on place) job.parts)) None (OfJob now place report job)
-    (λ is. let each = and_parts (is_running job.state) (not (is_listed report job || is_some (done_of report job))) is in
+    (λ is. let each = and_parts (is_running job.state)
+    (not (is_listed report job || is_some (done_of report job))) is in
     let silent = or_parts (is_listed report job) (is_some (done_of report job))
     (not-true (is_listed report job || is_some (done_of report job)) each.1) in
     launched-part now place report job each.0 silent.0 silent.1 (find (is_on place) job.parts) refl)

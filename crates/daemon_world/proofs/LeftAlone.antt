@@ -1,10 +1,9 @@
 -- Where a step of the controller leaves a node's side alone, its daemon stays in step.
-use Rattle.std.proofs.Common.{ℕ, ◌≡◌, ◌∙◌, Bool, true, false, List, [], ◌∷◌, ◌++◌, map, get_or, All, Some, None, refl, sym, ap, ap₂, subst, inl, inr, option_and_then}
+use Rattle.std.proofs.Common.{ℕ, ◌≡◌, ◌∙◌, true, List, [], ◌++◌, map, get_or, All, Some, None, sym, ap, ap₂, subst, inl, inr, option_and_then}
 use Rattle.std.proofs.lemmas.List.Elements.{All-nil, All-weaker}
 use Rattle.slurm_text.specs.declared.plain.orders.Launch.{Launch}
 use Rattle.slurm_text.specs.declared.plain.orders.Orders.{Orders}
 use Rattle.slurm_text.specs.declared.plain.report.Done.{Done}
-use Rattle.slurm_text.specs.declared.plain.report.Heard.{Heard}
 use Rattle.slurm_text.specs.declared.plain.report.Report.{Report}
 use Rattle.node_state.specs.declared.record.NodeRecord.{NodeRecord}
 use Rattle.node_state.specs.Nodes.{place_named}
@@ -17,7 +16,7 @@ use Rattle.node_daemon.specs.Daemon.{Daemon}
 use Rattle.node_daemon.specs.declared.running.Running.{Running}
 use Rattle.daemon_world.specs.Claims.{Claim, IsHeldAt, claim_launch, claim_run, claims_of, claims_ordered}
 use Rattle.daemon_world.specs.Leaving.{LeavesNode}
-use Rattle.daemon_world.specs.Together.{Fit, HeardBefore, HeardNoLife, HeardSince, HeardUpTo, InStep, RunsNothing, is_emptied, kept_of}
+use Rattle.daemon_world.specs.Together.{Fit, HeardBefore, HeardNoLife, HeardSince, HeardUpTo, InStep, is_emptied, kept_of}
 use Rattle.daemon_world.proofs.Numbers.{due}
 
 -- what fits goes on fitting, where nothing is claimed of a node that was never heard or was emptied

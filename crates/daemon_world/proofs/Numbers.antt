@@ -1,5 +1,5 @@
 -- Boot numbers and the numbers of reports, in their order; the names of nodes; orders that are due.
-use Rattle.std.proofs.Common.{ℕ, ◌≡◌, ◌≤◌, ◌<◌, ◌+◌, ◌∙◌, Bool, true, false, not, ◌&&◌, List, Option, Some, None, refl, sym, ap, subst, arith, bytes_eq, nat_eq}
+use Rattle.std.proofs.Common.{ℕ, ◌≡◌, ◌<◌, ◌+◌, true, false, not, List, Option, Some, None, sym, arith, bytes_eq, nat_eq}
 use Rattle.std.proofs.lemmas.Bool.{and_parts, both_ways, eqb-true, not-true}
 use Rattle.std.proofs.lemmas.Slice.Eq.{bytes_eq-Decides}
 use Rattle.slurm_text.specs.declared.plain.report.Heard.{Heard}

@@ -1,5 +1,5 @@
 -- A daemon takes orders, where they are due.
-use Rattle.std.proofs.Common.{ℕ, ◌≡◌, ◌≤◌, ◌<◌, ◌+◌, ◌∙◌, Bool, true, false, not, List, [], ◌∷◌, ◌++◌, map, count_by, filter, All, refl, sym, ap, ap₂, subst, arith, inl, inr}
+use Rattle.std.proofs.Common.{ℕ, ◌≡◌, ◌≤◌, ◌∙◌, Bool, true, false, not, List, [], ◌∷◌, ◌++◌, map, count_by, filter, refl, sym, ap, ap₂, subst, arith}
 use Rattle.std.proofs.lemmas.Bool.{both_ways, cond_both}
 use Rattle.std.proofs.lemmas.List.{map-append}
 use Rattle.std.proofs.lemmas.List.Elements.{All-append, All-filter, All-map, All-weaker}
@@ -9,13 +9,13 @@ use Rattle.slurm_text.specs.declared.plain.report.Done.{Done}
 use Rattle.slurm_text.specs.declared.plain.report.Report.{Report}
 use Rattle.slurm_text.specs.declared.plain.report.Start.{Start}
 use Rattle.ctl_state.specs.State.{State}
-use Rattle.node_daemon.specs.Daemon.{Daemon, accepted, are_due, given, is_among, is_same, launched, not_forgotten, not_killed}
+use Rattle.node_daemon.specs.Daemon.{Daemon, accepted, are_due, given, is_among, is_same, launched, not_killed}
 use Rattle.node_daemon.specs.declared.running.Running.{Running}
-use Rattle.daemon_world.specs.Claims.{Claim, IsHeldAt, claim_launch, claim_run, claims_of, claims_ordered, times_claiming, times_over}
+use Rattle.daemon_world.specs.Claims.{Claim, IsHeldAt, claim_launch, claim_run, claims_of, claims_ordered}
 use Rattle.daemon_world.specs.Together.{Fit, HeardBefore, HeardNoLife, HeardSince, InStep, IsUpTo, RunsNothing, Tells, kept_of}
 use Rattle.daemon_world.proofs.Claimed.{fit_less}
 use Rattle.daemon_world.proofs.Lists.{all_left, all_right, all_unmap, count_append, count_filter, count_kept}
-use Rattle.daemon_world.proofs.Numbers.{Due, due, same, since_before, since_life, up_to}
+use Rattle.daemon_world.proofs.Numbers.{due, since_before, since_life, up_to}
 
 -- what runs once they are taken: what isn't killed, and what is launched
 claims-launched : (now : ℕ) (launches : List Launch)

@@ -1,13 +1,12 @@
 -- A report leaves the side of every other node as it is.
-use Rattle.std.proofs.Common.{ℕ, ◌≡◌, ◌<◌, ◌≤◌, ◌∙◌, Bool, true, false, List, [], ◌∷◌, length, HoldsAt, slice_get, arith, map, All, Any, Some, None, Option, refl, sym, ap, subst, inl, inr, nat_eq, option_and_then, option_map, unwrap_or}
-use Rattle.std.proofs.lemmas.Bool.{both_ways, cond_both, ne_eqb}
+use Rattle.std.proofs.Common.{ℕ, ◌≡◌, ◌<◌, ◌∙◌, Bool, false, List, [], ◌∷◌, length, HoldsAt, slice_get, arith, Some, None, Option, refl, sym, ap, inl, nat_eq, option_and_then, option_map, unwrap_or}
+use Rattle.std.proofs.lemmas.Bool.{cond_both, ne_eqb}
 use Rattle.slurm_text.specs.declared.plain.report.Report.{Report}
 use Rattle.node_state.specs.declared.record.NodeChange.TheVariants.{Heard as HeardFrom}
 use Rattle.node_state.specs.declared.record.NodeRecord.{NodeRecord}
 use Rattle.node_state.specs.Nodes.{is_up, place_named}
 use Rattle.job_table.specs.declared.record.JobRecord.{JobRecord}
 use Rattle.ctl_state.specs.Planning.{is_at}
-use Rattle.ctl_state.specs.Soundness.{is_up_at}
 use Rattle.ctl_state.specs.State.{State}
 use Rattle.ctl_state.specs.Verdicts.{stamped}
 use Rattle.ctl_nodes.specs.Failing.{after_loss, lost_after}
@@ -16,7 +15,7 @@ use Rattle.ctl_report.specs.Reporting.{heard_by, heard_of, lists_nothing, report
 use Rattle.ctl_node_side.specs.Restarting.{met}
 use Rattle.daemon_world.specs.Claims.{Claim, Holds, IsHeldAt}
 use Rattle.daemon_world.specs.Leaving.{LeavesNode}
-use Rattle.daemon_world.specs.Together.{is_emptied, kept_of}
+use Rattle.daemon_world.specs.Together.{is_emptied}
 use Rattle.daemon_world.proofs.Accepting.{Lower, after, nodes_met, same_place}
 use Rattle.daemon_world.proofs.Hearing.{elsewhere}
 use Rattle.daemon_world.proofs.Holding.{loss_holds, report_holds}
@@ -76,7 +75,8 @@ kept-there s now place report (Some at) differ =
     ap (option_and_then (λ (one : NodeRecord). one.heard)) (same-record s now place at report (differ at refl))
 
 pub others_left : Lower → (s : State) (now place : ℕ) (report : Report) (other : List ℕ) → (report.node ≡ other → ⊥)
-    → place_named report.node s.nodes ≡ Some place → LeavesNode s (report_after (met s now place report) now place report) other
+    → place_named report.node s.nodes ≡ Some place
+    → LeavesNode s (report_after (met s now place report) now place report) other
 others_left lower s now place report other differ here =
     let s' = after s now place report in
     let away = λ (at : ℕ) (there : place_named other s.nodes ≡ Some at).

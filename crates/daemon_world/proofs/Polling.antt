@@ -1,6 +1,6 @@
 -- A daemon polls, or is started anew.
-use Rattle.std.proofs.Common.{ℕ, ◌≡◌, ◌≤◌, ◌<◌, ◌+◌, ◌∙◌, Bool, true, false, not, ◌||◌, List, [], ◌∷◌, ◌++◌, map, count_by, filter, cond, All, Option, Some, None, refl, sym, ap, subst, arith, inl, inr, option_map, unwrap_or}
-use Rattle.std.specs.List.{cons_option, filter_map, list_any}
+use Rattle.std.proofs.Common.{ℕ, ◌≡◌, ◌≤◌, ◌<◌, ◌+◌, ◌∙◌, Bool, true, false, not, ◌||◌, List, [], ◌∷◌, ◌++◌, map, filter, cond, All, Option, Some, None, refl, sym, ap, arith, inl, inr, option_map}
+use Rattle.std.specs.List.{cons_option}
 use Rattle.std.proofs.lemmas.Bool.{cases_Bool, both_ways, or_left, or_right}
 use Rattle.std.proofs.lemmas.List.Elements.{All-append, All-cons, All-filter, All-head, All-map, All-nil, All-tail, All-weaker}
 use Rattle.slurm_text.specs.declared.plain.orders.Orders.{Orders}
@@ -8,11 +8,11 @@ use Rattle.slurm_text.specs.declared.plain.report.Done.{Done}
 use Rattle.slurm_text.specs.declared.plain.report.Report.{Report}
 use Rattle.slurm_text.specs.declared.plain.report.Start.{Start}
 use Rattle.ctl_state.specs.State.{State}
-use Rattle.node_daemon.specs.Daemon.{Daemon, are_due, done_with, has_ended, is_among, is_over, is_same, polled, reported, started, still_running, told_of, told_over}
+use Rattle.node_daemon.specs.Daemon.{Daemon, are_due, done_with, is_among, is_over, is_same, polled, reported, started, still_running, told_over}
 use Rattle.node_daemon.specs.declared.running.Running.{Running}
 use Rattle.node_daemon.specs.declared.running.Script.{Script}
 use Rattle.daemon_world.specs.Claims.{Claim, IsHeldAt, claim_run, claims_of, claims_ordered, times_claiming, times_over}
-use Rattle.daemon_world.specs.Together.{Fit, HeardBefore, HeardNoLife, HeardSince, InStep, IsUpTo, RunsNothing, Tells, kept_of, tells_over}
+use Rattle.daemon_world.specs.Together.{Fit, HeardBefore, HeardSince, InStep, IsUpTo, Tells, kept_of, tells_over}
 use Rattle.daemon_world.proofs.Claimed.{all_among, each_claims, fit_less, fit_none, not_told}
 use Rattle.daemon_world.proofs.Lists.{all_unmap, count_append, count_cons, count_filter}
 use Rattle.daemon_world.proofs.Numbers.{due, heard_in_life, heard_on, later_life, next, not_next, since_up, up_to}
@@ -37,7 +37,8 @@ starts_stay now start (one ∷ later) =
     elim (cases_Bool (is_over now one)) [
       | inl over ↦ rw over (omega (arith, rest, whole, told-one one.start start one.script (told_over now later)))
       | inr runs ↦
-          rw runs (omega (arith, rest, whole, count_cons claims (claim_run one) (map claim_run (still_running now later))))
+          rw runs
+          (omega (arith, rest, whole, count_cons claims (claim_run one) (map claim_run (still_running now later))))
     ]
 
 -- what was listed as running is told to be over in no way that the list doesn't know
@@ -193,5 +194,8 @@ restarts_on s reports orders node daemon boot later step =
           (λ one up is before life. absurd (omega (arith, (up is).boot, later, life))) reports step.sent;
       parted = step.parted;
       answered = step.answered;
-      emptied = λ place is told. record { running = refl; ordered = λ k d below due. absurd (both_ways false refl due) };
+      emptied = λ place is told. record {
+        running = refl;
+        ordered = λ k d below due. absurd (both_ways false refl due);
+      };
     }

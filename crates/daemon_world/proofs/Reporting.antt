@@ -1,12 +1,12 @@
 -- A report that comes to the controller keeps all together.
-use Rattle.std.proofs.Common.{ℕ, ◌≡◌, ◌≤◌, ◌∙◌, Bool, true, false, List, ◌∷◌, All, Contains, bytes_eq, if◌then◌else◌, refl, sym, ap, subst, arith, inl, inr}
+use Rattle.std.proofs.Common.{ℕ, ◌≡◌, ◌∙◌, false, List, ◌∷◌, All, Contains, bytes_eq, if◌then◌else◌, refl, sym, subst, arith, inl, inr}
 use Rattle.std.proofs.lemmas.Bool.{cases_Bool}
 use Rattle.std.proofs.lemmas.List.Elements.{All-contains}
 use Rattle.slurm_text.specs.declared.plain.orders.Orders.{Orders}
 use Rattle.slurm_text.specs.declared.plain.report.Report.{Report}
 use Rattle.slurm_text.specs.declared.plain.request.Request.TheVariants.{Report as Reports}
 use Rattle.ctl_state.specs.Soundness.{IsSound}
-use Rattle.ctl_state.specs.State.{State, last_moment}
+use Rattle.ctl_state.specs.State.{State}
 use Rattle.ctl_state.specs.Verdicts.{Verdict, left_by, reply_by}
 use Rattle.ctl_report.specs.Ordering.{orders_of}
 use Rattle.ctl_report.specs.Reporting.{report_after}
@@ -52,8 +52,8 @@ came s now reports orders daemons report verdict sound sent each accepted =
           reports report step.sent sent refl;
       tells = λ life. All-contains (λ (one : Report). one.node ≡ node → HeardBefore kept one.boot one.number
           → one.boot ≡ daemon.boot → Tells one daemon) reports report step.told sent refl accepted.news life;
-      parted = All-contains (λ (one : Report). one.node ≡ node → All (λ start. tells_over one start ≡ false) one.running)
-          reports report step.parted sent refl;
+      parted = All-contains (λ (one : Report). one.node ≡ node
+          → All (λ start. tells_over one start ≡ false) one.running) reports report step.parted sent refl;
     }
 
 -- an accepted report keeps each daemon in step

@@ -1,8 +1,8 @@
 -- What users ask, and a pass, leave each node's side alone.
-use Rattle.std.proofs.Common.{ℕ, ◌≡◌, ◌≤◌, ◌<◌, ◌∙◌, Bool, true, false, ◌&&◌, not, List, [], ◌∷◌, ◌++◌, map, filter, All, Any, Option, Some, None, if◌then◌else◌, refl, sym, ap, subst, arith, inl, inr, slice_get}
+use Rattle.std.proofs.Common.{ℕ, ◌≡◌, ◌≤◌, ◌∙◌, Bool, true, false, ◌&&◌, not, List, [], ◌∷◌, map, Any, Option, Some, None, if◌then◌else◌, refl, sym, ap, arith, inl, slice_get}
 use Rattle.std.specs.Prelude.{nat_lt}
 use Rattle.std.specs.List.{list_any}
-use Rattle.std.proofs.lemmas.Bool.{and_left, both_ways, cases_Bool, cond_both, ltb-false, not_from_false}
+use Rattle.std.proofs.lemmas.Bool.{both_ways, cond_both, ltb-false, not_from_false}
 use Rattle.slurm_text.specs.declared.plain.limit.Limit.{Limit}
 use Rattle.slurm_text.specs.declared.plain.nice.Nice.{Nice}
 use Rattle.slurm_text.specs.declared.plain.conf.PartState.{PartState}
@@ -21,12 +21,10 @@ use Rattle.node_state.specs.declared.record.NodeRecord.{NodeRecord}
 use Rattle.partitions.specs.Partitions.{place_meant}
 use Rattle.job_table.specs.declared.record.JobRecord.{JobRecord}
 use Rattle.job_table.specs.declared.record.Part.{Part}
-use Rattle.job_table.specs.declared.change.Change.TheVariants.{Leave, SetLimit, SetNice}
+use Rattle.job_table.specs.declared.change.Change.TheVariants.{Leave}
 use Rattle.job_table.specs.Changes.{changed}
 use Rattle.job_table.specs.JobStates.{is_ended, is_holding, is_pending, is_running}
-use Rattle.job_table.specs.Table.{is_old}
 use Rattle.ctl_state.specs.Holding.{has_members}
-use Rattle.ctl_state.specs.Planning.{is_at}
 use Rattle.ctl_state.specs.Refusals.{first_refusal, refused_if, unless_refused}
 use Rattle.ctl_state.specs.Soundness.{IsKept, IsSound, is_up_at}
 use Rattle.ctl_state.specs.State.{State, last_moment}
@@ -34,14 +32,13 @@ use Rattle.ctl_state.specs.Verdicts.{Verdict, Refuses, Tells, Stays, Makes, left
 use Rattle.ctl_jobs.specs.declared.action.Action.{Action}
 use Rattle.ctl_jobs.specs.declared.action.Action.TheVariants as act
 use Rattle.ctl_jobs.specs.Actions.{cancelled_in, done_to, with_limit, with_nice}
-use Rattle.ctl_jobs.specs.Changing.{are_meant, are_naming, change_after, change_made, done_if, done_where, goes, may_do}
+use Rattle.ctl_jobs.specs.Changing.{are_meant, are_naming, change_after, change_made, done_if, goes, may_do}
 use Rattle.ctl_nodes.specs.Changing.{changed_where}
 use Rattle.ctl_nodes.specs.Failing.{after_loss}
 use Rattle.ctl_nodes.specs.Updating.{changes_any, is_among, lost_by, update_after}
 use Rattle.ctl_pass.specs.Limits.{is_over, timed_out}
 use Rattle.ctl_pass.specs.Passing.{outcome, pass_after}
 use Rattle.ctl_pass.specs.Readiness.{goes as gone, jobs_left, placements, ready}
-use Rattle.ctl_pass.specs.Starting.{started}
 use Rattle.ctl_node_side.specs.Passes.{after_pass, pass_is_idle}
 use Rattle.ctl_node_side.specs.Silence.{any_silent, falls_silent, silent_at, silenced, without_silent}
 use Rattle.ctl_submit.specs.Submission.{made_under, new_arrays, new_jobs, submit_after, terms_of, Terms}
@@ -123,13 +120,16 @@ loss-held s now lost place claim kept =
 update-left : (s : State) (now : ℕ) (names : List (List ℕ)) (state : NodeOrder) (node : List ℕ)
     → LeavesNode s (update_after s now names state) node
 update-left s now names order.Down node =
-    nodes_left (changed_where change.Down (is_among names)) (is_among names) (keeps_down (is_among names)) s (update_after s now names order.Down) node refl
+    nodes_left (changed_where change.Down (is_among names)) (is_among names) (keeps_down (is_among names)) s
+    (update_after s now names order.Down) node refl
     (λ place claim kept. loss-held s now (lost_by s.nodes names order.Down) place claim kept)
 update-left s now names order.Drain node =
-    nodes_left (changed_where change.Drain (is_among names)) (λ node. false) (keeps_drain (is_among names)) s (update_after s now names order.Drain) node refl
+    nodes_left (changed_where change.Drain (is_among names)) (λ node. false) (keeps_drain (is_among names)) s
+    (update_after s now names order.Drain) node refl
     (λ place claim kept. loss-held s now (lost_by s.nodes names order.Drain) place claim refl)
 update-left s now names order.Resume node =
-    nodes_left (changed_where change.Resume (is_among names)) (λ node. false) (keeps_resume (is_among names)) s (update_after s now names order.Resume) node refl
+    nodes_left (changed_where change.Resume (is_among names)) (λ node. false) (keeps_resume (is_among names)) s
+    (update_after s now names order.Resume) node refl
     (λ place claim kept. loss-held s now (lost_by s.nodes names order.Resume) place claim refl)
 
 -- ---- a pass
@@ -138,7 +138,8 @@ silence-left : (s : State) (now : ℕ) (node : List ℕ) → LeavesNode s (silen
 silence-left s now node =
     let silent = falls_silent s.settings.slurmd_timeout now in
     cond_both (any_silent s now) (without_silent s now) s (λ (t : State). LeavesNode s t node)
-    (λ some. nodes_left (changed_where change.Silent silent) silent (keeps_silent silent) s (without_silent s now) node refl
+    (λ some. nodes_left (changed_where change.Silent silent) silent (keeps_silent silent) s (without_silent s now) node
+    refl
     (λ place claim kept. loss-held s now (silent_at s now) place claim kept))
     (λ none. left_same s s node refl refl)
 

@@ -6,7 +6,7 @@ use Rattle.slurm_text.specs.declared.plain.report.Report.{Report}
 use Rattle.ctl_state.specs.State.{State}
 use Rattle.node_daemon.specs.Daemon.{Daemon, are_due}
 use Rattle.daemon_world.specs.Claims.{claims_of, claims_ordered}
-use Rattle.daemon_world.specs.Together.{Fit, HeardBefore, HeardSince, InStep, IsUpTo, RunsNothing, Tells, kept_of, tells_over}
+use Rattle.daemon_world.specs.Together.{Fit, HeardBefore, HeardSince, InStep, IsUpTo, Tells, kept_of, tells_over}
 use Rattle.daemon_world.proofs.Numbers.{due}
 
 pub more_reports : (s : State) (reports : List Report) (orders : List Orders) (node : List ℕ) (daemon : Daemon)

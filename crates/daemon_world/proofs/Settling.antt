@@ -1,5 +1,5 @@
 -- What may happen to a job settles how its start ends, once.
-use Rattle.std.proofs.Common.{ℕ, suc, ◌≡◌, ◌≤◌, ◌<◌, ◌+◌, ◌-◌, ◌^◌, ◌∙◌, Bool, true, false, ◌&&◌, not, min, List, [], ◌∷◌, map, All, Any, Option, Some, None, IfSome, if◌then◌else◌, refl, sym, ap, subst, arith, inl, inr, ◌⊎◌, nat_eq}
+use Rattle.std.proofs.Common.{ℕ, ◌≡◌, ◌∙◌, Bool, true, false, List, [], ◌∷◌, Option, Some, None, IfSome, refl, sym, ap, subst, inl, inr}
 use Rattle.std.proofs.lemmas.Bool.{both_ways, cond_both}
 use Rattle.slurm_text.specs.declared.plain.limit.Limit.{Limit}
 use Rattle.slurm_text.specs.declared.plain.nice.Nice.{Nice}
@@ -11,7 +11,7 @@ use Rattle.slurm_text.specs.declared.plain.state.JobState.{JobState}
 use Rattle.slurm_text.specs.declared.plain.state.JobState.TheVariants.{Pending, Running, Completing, Ended}
 use Rattle.job_table.specs.declared.record.JobRecord.{JobRecord}
 use Rattle.job_table.specs.declared.record.Part.{Part}
-use Rattle.job_table.specs.declared.change.Change.TheVariants.{CancelPending, CancelRequeue, DropPart, Leave}
+use Rattle.job_table.specs.declared.change.Change.TheVariants.{CancelPending, DropPart, Leave}
 use Rattle.job_table.specs.Changes.{changed, not_again, off_node, parts_off, with_left}
 use Rattle.job_table.specs.JobStates.{is_pending, is_running, left}
 use Rattle.ctl_jobs.specs.declared.action.Action.{Action}

@@ -1,7 +1,7 @@
 -- The starts of a pass: each is of a job that waits, so what is held stays held.
-use Rattle.std.proofs.Common.{ℕ, suc, ◌≡◌, ◌≢◌, ◌<◌, ◌∙◌, Bool, true, false, ◌&&◌, not, List, [], ◌∷◌, map, filter, filter_map, length, All, AllPairs, Any, Option, Some, None, IfSome, is_none, get_or, slice_get, if◌then◌else◌, refl, sym, ap, subst, arith, inl, inr, nat_eq}
+use Rattle.std.proofs.Common.{ℕ, suc, ◌≡◌, ◌≢◌, ◌∙◌, true, false, ◌&&◌, List, [], ◌∷◌, map, filter, filter_map, All, AllPairs, Any, Option, Some, None, IfSome, is_none, get_or, refl, sym, ap, arith, inl, inr, nat_eq}
 use Rattle.std.specs.List.{cons_option}
-use Rattle.std.proofs.lemmas.Bool.{and_parts, both_ways, cases_Bool, cond_both, cond-false, eqb-true, eq-eqb, ne_eqb}
+use Rattle.std.proofs.lemmas.Bool.{and_parts, both_ways, cond_both, eqb-true}
 use Rattle.std.proofs.lemmas.List.Elements.{All-cons, All-head, All-map, All-nil, All-tail, All-weaker}
 use Rattle.std.proofs.lemmas.List.Kept.{AllPairs-cons, AllPairs-filter}
 use Rattle.slurm_text.specs.Options.{◌>>=◌}
@@ -17,7 +17,7 @@ use Rattle.job_table.specs.declared.record.Part.{Part}
 use Rattle.job_table.specs.declared.change.Change.TheVariants.{Start}
 use Rattle.job_table.specs.Changes.{changed}
 use Rattle.job_table.specs.JobStates.{is_pending}
-use Rattle.job_table.specs.Table.{HaveRisingIds, changed_if, has_id}
+use Rattle.job_table.specs.Table.{HaveRisingIds, has_id}
 use Rattle.ctl_state.specs.Events.{started_as}
 use Rattle.ctl_state.specs.Laws.{OrderKeepsApart}
 use Rattle.ctl_state.specs.Planning.{plan_job}
@@ -126,7 +126,8 @@ only-waits id [] rising any =
 only-waits id (job ∷ jobs) rising any =
     let Here = λ (job : JobRecord). (job.id ≡ id) × (is_pending job.state ≡ true) in
     let Wait = λ (job : JobRecord). has_id id job ≡ true → is_pending job.state ≡ true in
-    let later : HaveRisingIds jobs = λ i j d before within. rising (suc i) (suc j) d (omega (arith, before)) (omega (arith, within)) in
+    let later : HaveRisingIds jobs = λ i j d before within.
+    rising (suc i) (suc j) d (omega (arith, before)) (omega (arith, within)) in
     elim (any_cases Here job jobs any) [
       | inl here ↦
           All-cons Wait job jobs (λ is. here.1)

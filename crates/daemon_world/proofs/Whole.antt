@@ -1,7 +1,7 @@
 -- Each event keeps all together, and so do all events.
-use Rattle.std.proofs.Common.{ℕ, zero, suc, ◌≡◌, ◌≤◌, ◌<◌, ◌∙◌, Bool, true, false, List, [], ◌∷◌, ◌++◌, All, Contains, Some, None, Option, option_and_then, bytes_eq, map, if◌then◌else◌, refl, sym, ap, subst, arith, inl, inr}
-use Rattle.std.proofs.lemmas.Bool.{cases_Bool, cond-false, cond-true, cond_both}
-use Rattle.std.proofs.lemmas.List.Elements.{All-contains, All-nil}
+use Rattle.std.proofs.Common.{ℕ, zero, suc, ◌≡◌, ◌<◌, ◌∙◌, true, List, [], ◌∷◌, ◌++◌, Contains, Some, None, Option, option_and_then, bytes_eq, map, refl, sym, subst, arith}
+use Rattle.std.proofs.lemmas.Bool.{cond_both}
+use Rattle.std.proofs.lemmas.List.Elements.{All-contains}
 use Rattle.slurm_text.specs.Assocs.{AssocView}
 use Rattle.slurm_text.specs.Confs.{ConfView}
 use Rattle.slurm_text.specs.declared.plain.conf.NodeConf.{NodeConf}
@@ -9,9 +9,7 @@ use Rattle.slurm_text.specs.declared.plain.orders.Orders.{Orders}
 use Rattle.slurm_text.specs.declared.plain.report.Report.{Report}
 use Rattle.slurm_text.specs.declared.plain.request.Request.{Request}
 use Rattle.slurm_text.specs.declared.plain.request.Request.TheVariants.{Report as Reports}
-use Rattle.node_state.specs.declared.record.NodeRecord.{NodeRecord}
 use Rattle.node_state.specs.Nodes.{opened, place_named}
-use Rattle.ctl_state.specs.Planning.{is_at}
 use Rattle.ctl_state.specs.Soundness.{IsSound}
 use Rattle.ctl_state.specs.State.{State, opening}
 use Rattle.ctl_report.specs.Reporting.{heard_of}
@@ -19,12 +17,12 @@ use Rattle.ctl_core.specs.Step.{IsInRange, state_after}
 use Rattle.node_daemon.specs.Daemon.{Daemon, are_due, given, polled, reported, started}
 use Rattle.node_daemon.specs.Turn.{root}
 use Rattle.daemon_world.specs.Claims.{claims_of, claims_ordered}
-use Rattle.daemon_world.specs.Together.{Fit, HeardSince, HeardUpTo, InStep, RunsNothing, Together, is_emptied, kept_of}
+use Rattle.daemon_world.specs.Together.{Fit, HeardSince, HeardUpTo, InStep, Together, kept_of}
 use Rattle.daemon_world.specs.Worlds.{AllCanHappen, CanHappen, Event, HasComeAbout, IsNoReport, World, opening_world, with_daemon, world_after, world_after_all}
 use Rattle.daemon_world.proofs.Accepting.{Lower}
 use Rattle.daemon_world.proofs.Claimed.{fit_none}
 use Rattle.daemon_world.proofs.LeftAlone.{left_on}
-use Rattle.daemon_world.proofs.Numbers.{named, other_name, same_name}
+use Rattle.daemon_world.proofs.Numbers.{other_name, same_name}
 use Rattle.daemon_world.proofs.Obeying.{obeys_on}
 use Rattle.daemon_world.proofs.Polling.{polls_on, restarts_on}
 use Rattle.daemon_world.proofs.Reporting.{reports_on}
@@ -42,7 +40,8 @@ by_name P node daemon daemons other own others =
 
 -- ---- what daemons do
 
-pub polls_together : (w : World) (now : ℕ) (node : List ℕ) → Together w → Together (world_after w (Event.Polls now node))
+pub polls_together : (w : World) (now : ℕ) (node : List ℕ) → Together w
+    → Together (world_after w (Event.Polls now node))
 polls_together w now node together =
     let daemon = w.daemons node in
     let after = polled now daemon in

@@ -1,5 +1,5 @@
 -- What a daemon runs or may launch, and what the controller holds for it.
-use Rattle.std.specs.Prelude.{◌≡◌, ◌≤◌, ℕ, ◌+◌, Bool, true, List, length, map, count_by, All, Any, Some}
+use Rattle.std.specs.Prelude.{◌≡◌, ◌≤◌, ℕ, true, List, map, count_by, All, Any, Some}
 use Rattle.cpu_ids.specs.Rows.{has_id}
 use Rattle.slurm_text.specs.declared.plain.report.Start.{Start}
 use Rattle.slurm_text.specs.declared.plain.report.Done.{Done}

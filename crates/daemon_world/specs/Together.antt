@@ -4,7 +4,6 @@ use Rattle.slurm_text.specs.declared.plain.report.Start.{Start}
 use Rattle.slurm_text.specs.declared.plain.report.Done.{Done}
 use Rattle.slurm_text.specs.declared.plain.report.Heard.{Heard}
 use Rattle.slurm_text.specs.declared.plain.report.Report.{Report}
-use Rattle.slurm_text.specs.declared.plain.orders.Launch.{Launch}
 use Rattle.slurm_text.specs.declared.plain.orders.Orders.{Orders}
 use Rattle.node_state.specs.declared.record.NodeRecord.{NodeRecord}
 use Rattle.node_state.specs.Nodes.{place_named}

@@ -1,5 +1,5 @@
 -- The world of a cluster: its controller, the daemons of its nodes, and all that they ever sent one another.
-use Rattle.std.specs.Prelude.{◌≡◌, ◌<◌, ℕ, Bool, if◌then◌else◌, List, [], ◌∷◌, bytes_eq, Contains}
+use Rattle.std.specs.Prelude.{◌≡◌, ◌<◌, ℕ, if◌then◌else◌, List, [], ◌∷◌, bytes_eq, Contains}
 use Rattle.slurm_text.specs.Confs.{ConfView}
 use Rattle.slurm_text.specs.Assocs.{AssocView}
 use Rattle.slurm_text.specs.declared.plain.orders.Orders.{Orders}

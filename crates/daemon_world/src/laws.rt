@@ -1,5 +1,5 @@
-//! What holds of the controller and its daemons, whatever happens. A law is the contract of a function that does nothing
-//! but call the laws it rests on.
+//! What holds of the controller and its daemons, whatever happens. A law is the contract of a function that does
+//! nothing but call the laws it rests on.
 
 ghost use Rattle.std.specs.Prelude.{ℕ, List};
 ghost use Rattle.daemon_world.specs.Claims.{AreHeld, RunsApart, claims_of};
@@ -17,8 +17,8 @@ use ctl_state::laws::a_stable_sort_makes_the_order;
 use job_table::record::JobRecord;
 use node_state::laws::{a_change_leaves_the_confs, names_lead_to_places};
 
-/// Whatever happens, the controller and each daemon stay together. It is own: Slurm's manuals promise nothing of lost and
-/// repeated messages.
+/// Whatever happens, the controller and each daemon stay together. It is own: Slurm's manuals promise nothing of lost
+/// and repeated messages.
 pub fn every_event_keeps_all_together()
     ensures { (w : World) (event : Event) → Together w → CanHappen w event → Together (world_after w event) }
 {
@@ -45,8 +45,8 @@ pub fn daemons_run_what_is_held()
     every_event_keeps_all_together();
 }
 
-/// Each start of a job leaves Running at most once, and then it is settled how it ends, but that a cancel may come to one
-/// that was to start again.
+/// Each start of a job leaves Running at most once, and then it is settled how it ends, but that a cancel may come to
+/// one that was to start again.
 pub fn starts_end_once()
     ensures { (w : World) (events : List Event) → HasComeAbout w → AllCanHappen w events
         → EndOnce w.state (world_after_all w events).state }
