@@ -1,5 +1,5 @@
 -- What the workers' sessions are by the book, once all passes were taken in.
-use Rattle.std.proofs.Common.{◌≡◌, ◌≢◌, ◌∙◌, ◌++◌, ◌<◌, ℕ, List, [], ◌∷◌, length, map, All, Option, Some, None, IfSome, refl, sym, ap, subst, arith, true, false}
+use Rattle.std.proofs.Common.{◌≡◌, ◌≢◌, ◌∙◌, ◌++◌, ◌<◌, ℕ, List, [], ◌∷◌, length, map, All, Option, Some, None, IfSome, refl, sym, ap, subst, true, false}
 use Rattle.std.specs.Prelude.{AllPairs, Any, Bool, ◌||◌, nat_lt, slice_index_or}
 use Rattle.std.specs.List.{list_any}
 use Rattle.std.proofs.lemmas.Bool.{false≢true}
@@ -9,7 +9,7 @@ use Rattle.std.proofs.lemmas.List.Folds.{list_any_at}
 use Rattle.slurm_io.specs.Faults.{CountsOne}
 use Rattle.slurm_net.specs.Host.{CountsIf, KeepsSessions}
 use Rattle.std.specs.List.{AllZip}
-use Rattle.std.proofs.lemmas.List.Elements.{All-nil, All-cons, All-head, All-tail, All-append}
+use Rattle.std.proofs.lemmas.List.Elements.{All-nil, All-cons, All-head, All-tail}
 use Rattle.atomic_table.specs.Seated.{TableId}
 use Rattle.turn_lock.specs.declared.view.Claim.{Claim}
 use Rattle.turn_lock.specs.Views.{Differ, StartsWith}
@@ -19,11 +19,10 @@ use Rattle.ctl_state.specs.State.{State}
 use Rattle.ctl_desk.specs.declared.entry.Entry.{Entry}
 use Rattle.ctl_desk.specs.History.{History, of_session, after_all, present}
 use Rattle.locked_desk.specs.Locked.{BookView}
-use Rattle.ctl_worker.specs.declared.working.WorkerEnd.{WorkerEnd}
 use Rattle.ctl_worker.specs.declared.working.WorkerEnd.TheVariants.{Shut, DoorFault, Memory}
 use Rattle.ctl_server.specs.declared.workers.Worked.{Worked}
 use Rattle.ctl_server.specs.Numbered.{AreOfWorker, AreServed}
-use Rattle.ctl_server.specs.Parts.{BeganWith, HasMet, HasSeenShut, IsBookOf, IsLeft, IsWhole, claim_of, claims_of}
+use Rattle.ctl_server.specs.Parts.{BeganWith, HasMet, HasSeenShut, IsBookOf, IsLeft, IsWhole, claims_of}
 use Rattle.ctl_server.proofs.Meeting.{front_claims, front_differ, numbers_differ, starts_trans}
 
 pass_in : {A : Type 0} → Worked A → BookView
@@ -189,6 +188,9 @@ ends_shut {A} lock faults_of sessions_of opening course n all planner reporter d
     let whole = starts_trans book.entries pass.seen planner.seen is.seen by_planner in
     let in_all = stays opening planner.seen whole.0 seen_shut in
     let grown = subst (λ (es : List Entry). (after_all opening es).is_shut ≡ true) (sym whole.1) in_all in
-    let present_shut = subst (λ (o : State). (after_all o book.entries).is_shut ≡ true) (sym opens) grown in
-    (opens, present_shut, if_kept lock faults_of sessions_of opening course n all (planner ∷ reporter ∷ []) doors own
-    pass book closed left shut met alone is opens closing count keeps)
+    let present_shut = subst (λ (o : State). (after_all o book.entries).is_shut ≡ true) (sym opens) grown in (
+      opens,
+      present_shut,
+      if_kept lock faults_of sessions_of opening course n all (planner ∷ reporter ∷ []) doors own
+          pass book closed left shut met alone is opens closing count keeps,
+    )

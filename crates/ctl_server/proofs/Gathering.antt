@@ -1,5 +1,5 @@
 -- One more worker's pass and door beside those of the others.
-use Rattle.std.proofs.Common.{◌≡◌, ◌∙◌, ◌<◌, ◌+◌, ◌++◌, ℕ, List, [], ◌∷◌, length, All, map, refl, sym, ap, subst, arith, length-append}
+use Rattle.std.proofs.Common.{◌≡◌, ◌∙◌, ◌++◌, List, [], ◌∷◌, map, refl, sym, ap, subst, arith, length-append}
 use Rattle.std.specs.Prelude.{Any}
 use Rattle.std.proofs.lemmas.List.{get_or_append_left}
 use Rattle.std.proofs.lemmas.List.Elements.{All-nil, All-cons, All-append}
@@ -25,9 +25,13 @@ met_worker {A} old middle new all one met meets =
 
 -- one of some is one of more
 any_more : {X : Type 0} (P : X → Type 0) (xs : List X) (y : X) → Any P xs → Any P (xs ++ y ∷ [])
-any_more P xs y any =
-    (any.0, any.1, omega (arith, any.2, length-append xs (y ∷ [])),
-    get_or_append_left xs (y ∷ []) any.1 any.0 any.2 ∙ any.3, any.4)
+any_more P xs y any = (
+  any.0,
+  any.1,
+  omega (arith, any.2, length-append xs (y ∷ [])),
+  get_or_append_left xs (y ∷ []) any.1 any.0 any.2 ∙ any.3,
+  any.4,
+)
 
 ends_by : {A : Type 0} (all : List (Worked A)) (one : Worked A) (end last : WorkerEnd) → EndBy all end → one.end ≡ last
     → EndBy (all ++ one ∷ []) (worse end last)

@@ -1,5 +1,5 @@
 -- A desk that goes on twice goes on.
-use Rattle.std.proofs.Common.{◌≡◌, ◌∙◌, ◌==◌, ℕ, List, ◌++◌, sym, ap, append_assoc}
+use Rattle.std.proofs.Common.{◌≡◌, ◌∙◌, ◌==◌, List, ◌++◌, sym, ap, append_assoc}
 use Rattle.std.proofs.lemmas.List.Elements.{filter-append}
 use Rattle.ctl_desk.specs.declared.entry.Entry.{Entry}
 use Rattle.ctl_desk.specs.Desk.{Sight, GoesOn, later}
@@ -15,6 +15,7 @@ later_twice desk more again =
     λ i. record desk { since = since i; mine = mine i }
 
 pub goes_on_twice : (desk middle desk' : Sight) → GoesOn desk middle → GoesOn middle desk' → GoesOn desk desk'
-goes_on_twice desk middle desk' first next =
-    (first.0 ++ next.0,
-    next.1 ∙ (ap (λ (d : Sight). later d next.0) first.1 ∙ later_twice desk first.0 next.0))
+goes_on_twice desk middle desk' first next = (
+  first.0 ++ next.0,
+  next.1 ∙ (ap (λ (d : Sight). later d next.0) first.1 ∙ later_twice desk first.0 next.0),
+)

@@ -1,6 +1,6 @@
 -- What the parts of a server begin with.
 use Rattle.std.proofs.lemmas.List.Elements.{All-nil, All-cons, All-head, All-tail, All-append}
-use Rattle.std.proofs.Common.{◌≡◌, ◌∙◌, ◌++◌, ℕ, Result, Ok, Err, IfOk, List, [], ◌∷◌, length, All, Option, Some, None, IfSome, refl, sym, ap, subst, arith}
+use Rattle.std.proofs.Common.{◌≡◌, ◌∙◌, ◌++◌, ℕ, Result, Ok, IfOk, List, [], ◌∷◌, All, Option, Some, IfSome, sym, ap, subst}
 use Rattle.atomic_table.specs.Seated.{TableId}
 use Rattle.slurm_io.specs.Wire.{Wire}
 use Rattle.slurm_net.specs.Course.{Course}

@@ -1,5 +1,5 @@
 -- A pass at a desk, from when the desk is made with it until the desk gives it back.
-use Rattle.std.proofs.Common.{true, ◌≡◌, ◌==◌, ◌+◌, ◌∙◌, ℕ, List, [], ◌∷◌, ◌++◌, length, take, drop, Option, Some, None, IfSome, refl, sym, ap, subst, arith, length-append, append_assoc}
+use Rattle.std.proofs.Common.{true, ◌≡◌, ◌==◌, ◌∙◌, ℕ, List, [], ◌∷◌, ◌++◌, length, take, drop, Option, Some, None, IfSome, refl, sym, ap, subst, arith, length-append, append_assoc}
 use Rattle.std.proofs.lemmas.List.{take-append-drop}
 use Rattle.std.proofs.lemmas.List.Elements.{filter-append}
 use Rattle.atomic_table.specs.Seated.{TableId}
@@ -46,16 +46,16 @@ sat_by pass pass' opening opening' before before' (Some now) sight sees goes is 
       opening_is = ap (λ (s : Sight). s.opening) goes.1;
       seen_is = seen_now;
       unmade = λ mine.
-      let made : pass'.mine ≡ now.mine ++ of_session now.number more = ap (λ (s : Sight). s.mine) whole in
-      let before_none : now.mine ≡ [] = ap (λ (p : BookView). p.mine) sees.same ∙ mine in
-      let made_is : pass'.mine ≡ of_session pass'.number more =
-      made ∙ (ap (λ (es : List Entry). es ++ of_session now.number more) before_none
-      ∙ ap (λ (n : ℕ). of_session n more) (sym number)) in
-      let all : pass'.mine ≡ of_session pass'.number (seen (sight_by opening before now)) ++ of_session pass'.number more =
-      known.mine ∙ (ap (λ (es : List Entry). of_session pass'.number es) grown
-      ∙ filter-append (λ (e : Entry). e.session == pass'.number) (seen (sight_by opening before now)) more) in
-      none_in_front (of_session pass'.number (seen (sight_by opening before now))) (of_session pass'.number more)
-      (sym all ∙ made_is);
+          let made : pass'.mine ≡ now.mine ++ of_session now.number more = ap (λ (s : Sight). s.mine) whole in
+          let before_none : now.mine ≡ [] = ap (λ (p : BookView). p.mine) sees.same ∙ mine in
+          let made_is : pass'.mine ≡ of_session pass'.number more =
+          made ∙ (ap (λ (es : List Entry). es ++ of_session now.number more) before_none
+          ∙ ap (λ (n : ℕ). of_session n more) (sym number)) in
+          let all : pass'.mine ≡ of_session pass'.number (seen (sight_by opening before now)) ++ of_session pass'.number more =
+          known.mine ∙ (ap (λ (es : List Entry). of_session pass'.number es) grown
+          ∙ filter-append (λ (e : Entry). e.session == pass'.number) (seen (sight_by opening before now)) more) in
+          none_in_front (of_session pass'.number (seen (sight_by opening before now))) (of_session pass'.number more)
+          (sym all ∙ made_is);
     }
 
 pub sat : (pass pass' : BookView) (desk desk' : LockedSeat) → IfSome desk.pass (λ now. SeesMore pass now)

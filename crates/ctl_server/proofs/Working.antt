@@ -1,6 +1,6 @@
 -- What a worker leaves, by what it began with.
-use Rattle.std.proofs.Common.{◌≡◌, ◌∙◌, ◌-◌, ◌^◌, ◌<◌, ℕ, List, [], ◌∷◌, ◌++◌, length, Option, Some, None, IfSome, refl, sym, ap, subst, arith}
-use Rattle.std.specs.Prelude.{Any, IsSomeAnd, slice_get}
+use Rattle.std.proofs.Common.{◌≡◌, ◌∙◌, ◌-◌, ◌^◌, ◌<◌, ℕ, List, [], ◌++◌, length, Option, Some, None, IfSome, refl, sym, ap, subst, arith}
+use Rattle.std.specs.Prelude.{Any, slice_get}
 use Rattle.slurm_io.specs.Wire.{Wire}
 use Rattle.slurm_io.specs.Faults.{next_count}
 use Rattle.slurm_net.specs.Course.{Course, FollowsCourse, first_moments}
@@ -15,7 +15,7 @@ use Rattle.ctl_desk.specs.History.{History, of_session}
 use Rattle.locked_desk.specs.Locked.{BookView, LockedSeat, sight_at, sight_there}
 use Rattle.ctl_session.specs.Clock.{Timing, Gives, timing}
 use Rattle.ctl_worker.specs.declared.working.WorkerEnd.{WorkerEnd}
-use Rattle.ctl_worker.specs.declared.working.WorkerEnd.TheVariants.{DoorFault, Memory}
+use Rattle.ctl_worker.specs.declared.working.WorkerEnd.TheVariants.{Memory}
 use Rattle.ctl_worker.specs.Cause.{IsCause}
 use Rattle.ctl_worker.specs.Run.{Follow}
 use Rattle.ctl_worker.specs.Served.{IsWithin, KeepsServed}
@@ -173,10 +173,10 @@ left_by lock out_of faults_of sessions_of moments course_of opening course seat 
     } in record {
       own = sits.own ∙ ready.pass.own;
       failed = λ is.
-      let cause = subst (λ (end : WorkerEnd). IsCause end servings old new) is worked.1.cause in
-      subst (λ (n : ℕ). 0 < n) (sym (cause.2.0 ∙ ap next_count ready.unfailed)) counted;
+          let cause = subst (λ (end : WorkerEnd). IsCause end servings old new) is worked.1.cause in
+          subst (λ (n : ℕ). 0 < n) (sym (cause.2.0 ∙ ap next_count ready.unfailed)) counted;
       served = λ apart. if_added old.sessions new.sessions (sessions_in servings)
-      (λ sessions. (book : History) → IsWhole opening pass book → AreOfWorker course book pass.number sessions)
-      worked.1.sessions ready.unserved
-      (λ book whole. of_worker did book whole course ready.course_is ready.tells apart);
+          (λ sessions. (book : History) → IsWhole opening pass book → AreOfWorker course book pass.number sessions)
+          worked.1.sessions ready.unserved
+          (λ book whole. of_worker did book whole course ready.course_is ready.tells apart);
     }

@@ -1,5 +1,5 @@
 -- What the parts of a server begin with, and what they leave.
-use Rattle.std.specs.Prelude.{◌≡◌, ◌≢◌, ℕ, ◌<◌, true, List, [], ◌∷◌, ◌++◌, All, Any, map, length, Option, Some, None, IfSome}
+use Rattle.std.specs.Prelude.{◌≡◌, ◌≢◌, ℕ, ◌<◌, true, List, [], ◌∷◌, ◌++◌, All, Any, Option, Some, None, IfSome}
 use Rattle.atomic_table.specs.Seated.{TableId}
 use Rattle.slurm_io.specs.Wire.{Wire}
 use Rattle.slurm_net.specs.Course.{Course}
@@ -46,16 +46,16 @@ CanWork lock out_of seat = (seat.pass.lock ≡ lock) × (out_of seat.door ≡ No
 
 module _ {A C G : Type 0} (lock : TableId) (out_of : A → Option Wire) (faults_of : A → ℕ)
     (sessions_of : A → Option (List LinkSession)) (moments_of : C → Option (List ℕ)) (course_of : C → Option Course)
-    where
-  -- what a worker begins with: a new pass, a door as it is made, and a clock of this course that has given no moment
-  pub record IsReady (opening : State) (course : Option Course) (seat : Seat A C G) : Type 0 where
-    pub pass : IsNewPass lock opening seat.pass
-    pub nobody : out_of seat.door ≡ None
-    pub unfailed : faults_of seat.door ≡ 0
-    pub unserved : IfSome (sessions_of seat.door) (λ served. served ≡ [])
-    pub unread : IfSome (moments_of seat.clock) (λ given. given ≡ [])
-    pub tells : IfSome course (λ _. moments_of seat.clock ≡ Some [])
-    pub course_is : course_of seat.clock ≡ course
+  where
+    -- what a worker begins with: a new pass, a door as it is made, and a clock of this course that has given no moment
+    pub record IsReady (opening : State) (course : Option Course) (seat : Seat A C G) : Type 0 where
+      pub pass : IsNewPass lock opening seat.pass
+      pub nobody : out_of seat.door ≡ None
+      pub unfailed : faults_of seat.door ≡ 0
+      pub unserved : IfSome (sessions_of seat.door) (λ served. served ≡ [])
+      pub unread : IfSome (moments_of seat.clock) (λ given. given ≡ [])
+      pub tells : IfSome course (λ _. moments_of seat.clock ≡ Some [])
+      pub course_is : course_of seat.clock ≡ course
 
 -- What a worker leaves: a pass, a door that has failed where it ended so, and, where the door tells its sessions and
 -- memory wasn't wanting, these are the worker's by the whole history.

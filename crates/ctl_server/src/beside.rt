@@ -72,16 +72,19 @@ fn report<R: Wait, C: Clock + Drop>(
         mut daemons,
     } = reporter;
     let mut desk = locked_desk(rt, lock, pass);
-    turn_daemons(rt, alloc, &mut desk, &mut clock, rests, daemons.as_mut_slice());
+    turn_daemons(
+        rt,
+        alloc,
+        &mut desk,
+        &mut clock,
+        rests,
+        daemons.as_mut_slice(),
+    );
     desk.into_pass()
 }
 
 /// The planner's part and the daemons' part, each in a thread of its own where one can be made: the two passes.
-pub(crate) fn run_beside<
-    R: Threads + Wait + Sync,
-    C: Clock + Send + Drop,
-    G: Gate + Send + Drop,
->(
+pub(crate) fn run_beside<R: Threads + Wait + Sync, C: Clock + Send + Drop, G: Gate + Send + Drop>(
     rt: &R,
     alloc: Global,
     lock: &BookLock,

@@ -18,7 +18,10 @@ use std::sync::Wait;
 const SECONDS_A_REST: u64 = 30;
 
 /// The daemons of these nodes as they are when the server begins: they run nothing.
-pub(crate) fn start_daemons(alloc: Global, nodes: &[NodeRecord]) -> Result<Vec<DaemonState>, Memory> {
+pub(crate) fn start_daemons(
+    alloc: Global,
+    nodes: &[NodeRecord],
+) -> Result<Vec<DaemonState>, Memory> {
     let mut daemons = Vec::with_capacity(alloc, nodes.len())?;
     for node in nodes {
         daemons.push(DaemonState::new(alloc, &node.conf.name, 1)?)?;

@@ -99,12 +99,7 @@ fn open_doors<H: Host, K: Sink>(
 }
 
 // Runs the parts at these doors, and ends them.
-fn serve_doors<
-    R: Threads + Wait + Sync,
-    H: Host,
-    C: Clock + Send + Drop,
-    G: Gate + Send + Drop,
->(
+fn serve_doors<R: Threads + Wait + Sync, H: Host, C: Clock + Send + Drop, G: Gate + Send + Drop>(
     rt: &R,
     alloc: Global,
     prepared: Prepared<H::Door, C, G>,

@@ -58,7 +58,15 @@ fn work<R: Wait, A: Door, C: Clock + Drop, G: Gate + Drop>(
     doors_keep_what_was_served();
     moments_are_the_first_of_a_course();
     let mut desk = locked_desk(rt, lock, pass);
-    let end = worker(rt, alloc, &mut door, &mut desk, &mut clock, &mut gate, &mut start());
+    let end = worker(
+        rt,
+        alloc,
+        &mut door,
+        &mut desk,
+        &mut clock,
+        &mut gate,
+        &mut start(),
+    );
     let pass = desk.into_pass();
     Worked { door, pass, end }
 }

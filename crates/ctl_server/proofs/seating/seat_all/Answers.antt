@@ -24,11 +24,11 @@ loop-door-preserved g c =
       room = omega (arith, so_far.room, c.put.ensures.capacity);
       new = all_first IsNew c.pop.new.self.items (door ∷ []) all_new;
       ready = λ opening began. one_more
-      (IsReady c.args.lock.now g.A.Door.out g.A.Door.door_faults g.A.Door.sessions g.C.Clock.moments g.C.Clock.course
-      opening (g.C.Clock.course c.args.clock.now)) c.loop-door.seats.items c.put.new.others.items seat c.put.ensures.items
-      (so_far.ready opening began)
-      (seated c.args.lock.now g.A.Door.out g.A.Door.door_faults g.A.Door.sessions g.C.Clock.moments g.C.Clock.course
-      opening c.args.pass.now c.loop-door.pass c.args.clock.now seat c.requires.own so_far.still c.split-pass.ensures.new
-      began (last_one IsNew c.pop.new.self.items door all_new) c.twin-clock.ensures.moments c.twin-clock.ensures.tells
-      c.twin-clock.ensures.course);
+          (IsReady c.args.lock.now g.A.Door.out g.A.Door.door_faults g.A.Door.sessions g.C.Clock.moments g.C.Clock.course
+          opening (g.C.Clock.course c.args.clock.now)) c.loop-door.seats.items c.put.new.others.items seat c.put.ensures.items
+          (so_far.ready opening began)
+          (seated c.args.lock.now g.A.Door.out g.A.Door.door_faults g.A.Door.sessions g.C.Clock.moments g.C.Clock.course
+          opening c.args.pass.now c.loop-door.pass c.args.clock.now seat c.requires.own so_far.still c.split-pass.ensures.new
+          began (last_one IsNew c.pop.new.self.items door all_new) c.twin-clock.ensures.moments c.twin-clock.ensures.tells
+          c.twin-clock.ensures.course);
     }

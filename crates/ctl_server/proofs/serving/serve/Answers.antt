@@ -1,4 +1,4 @@
-use Rattle.std.proofs.Common.{◌≡◌, ℕ, refl, subst}
+use Rattle.std.proofs.Common.{ℕ, refl, subst}
 use Rattle.std.specs.Prelude.{vec_len}
 use Rattle.ctl_server.specs.Ends.{EndsServing}
 use Rattle.ctl_server.specs.Line.{serving_line}

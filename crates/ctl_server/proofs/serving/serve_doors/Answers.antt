@@ -1,7 +1,5 @@
-use Rattle.std.proofs.Common.{◌≡◌, ◌∙◌, ℕ, subst, arith}
+use Rattle.std.proofs.Common.{◌≡◌, ◌∙◌, ℕ, subst}
 use Rattle.std.specs.Prelude.{vec_len}
-use Rattle.std.specs.declared.vec.Vec.{Vec}
-use Rattle.ctl_server.specs.declared.workers.Worked.{Worked}
 use Rattle.ctl_server.specs.Ends.{EndsServing}
 use Rattle.ctl_server.specs.Parts.{AreLeft}
 use Rattle.ctl_server.proofs.Seated.{if_ok, split_began, still_began, still_twice}

@@ -21,6 +21,11 @@ loop-one-preserved g c =
           (sym (map_push (λ (one : Worked g.row.A.Denot). one.door) c.loop-one.yielded one))));
       end = ends_with c.loop-one.yielded one c.loop-one.end c.worse-end.result so_far.end c.worse-end.ensures;
       all = All-tail own one (into_iter_items c.next.new.self) (subst (All own) first so_far.all);
-      room = omega (arith, so_far.room, c.put.ensures.len, c.put.ensures.capacity,
-          ap (λ (ones : List (Worked g.row.A.Denot)). length ones) first);
+      room = omega (
+        arith,
+        so_far.room,
+        c.put.ensures.len,
+        c.put.ensures.capacity,
+        ap (λ (ones : List (Worked g.row.A.Denot)). length ones) first,
+      );
     }
