@@ -7,45 +7,36 @@ use std::thread::yield_now;
 /// How often a gate looks for what it waits for.
 const MOST_LOOKS: u32 = 10_000_000;
 
-/// What the parts tell one another, and whether a gate gave up.
-pub struct Events {
-    /// The event that is waited for has come.
-    pub came: AtomicBool,
-    /// A part stands at its gate, or has passed it.
-    pub waits: AtomicBool,
-    pub gave_up: AtomicBool,
-}
-
-impl Events {
-    pub fn new() -> Events {
-        Events {
-            came: AtomicBool::new(false),
-            waits: AtomicBool::new(false),
-            gave_up: AtomicBool::new(false),
-        }
-    }
-}
-
-/// What a gate does at a point.
-#[derive(Clone, Copy, Debug, PartialEq, Eq)]
-pub enum Role {
-    /// Waits there until the event has come.
-    Waits(Point),
-    /// Waits at the first point until somebody waits at a gate, and tells at the second that the event has come.
-    Brings { after: Point, at: Point },
-}
-
-/// A gate with a role.
+/// What a gate does.
 #[derive(Clone, Copy, Drop)]
-pub struct PartGate<'a> {
-    pub events: &'a Events,
-    pub role: Role,
+pub enum Act<'a> {
+    /// Tells that this has come.
+    Tells(&'a AtomicBool),
+    /// Waits until this has come.
+    Waits(&'a AtomicBool),
 }
 
-// Looks until this is so, and tells whether it became so.
-fn look_for(flag: &AtomicBool) -> bool {
+/// What a gate does when it is passed for this time, counted from 1.
+#[derive(Clone, Copy, Drop)]
+pub struct Step<'a> {
+    pub time: u32,
+    pub act: Act<'a>,
+}
+
+/// A gate that goes by these steps.
+#[derive(Drop)]
+pub struct StepGate<'a> {
+    pub steps: Vec<Step<'a>>,
+    /// How often it was passed.
+    pub passed: u32,
+    /// Whether some gate has given up waiting.
+    pub gave_up: &'a AtomicBool,
+}
+
+// Looks until this has come, and tells whether it has.
+fn look_for(event: &AtomicBool) -> bool {
     for _ in 0..MOST_LOOKS {
-        if flag.load(Ordering::SeqCst) {
+        if event.load(Ordering::SeqCst) {
             return true;
         }
         yield_now();
@@ -53,22 +44,25 @@ fn look_for(flag: &AtomicBool) -> bool {
     false
 }
 
-impl<'a> Gate for PartGate<'a> {
-    fn at(&mut self, point: Point) {
-        match self.role {
-            Role::Waits(here) if here == point => {
-                self.events.waits.store(true, Ordering::SeqCst);
-                if !look_for(&self.events.came) {
-                    self.events.gave_up.store(true, Ordering::SeqCst);
-                }
+// Does what a step says.
+fn act(act: Act, gave_up: &AtomicBool) {
+    match act {
+        Act::Tells(event) => event.store(true, Ordering::SeqCst),
+        Act::Waits(event) => {
+            if !look_for(event) {
+                gave_up.store(true, Ordering::SeqCst);
             }
-            Role::Brings { after, .. } if after == point => {
-                if !look_for(&self.events.waits) {
-                    self.events.gave_up.store(true, Ordering::SeqCst);
-                }
+        }
+    }
+}
+
+impl<'a> Gate for StepGate<'a> {
+    fn at(&mut self, _point: Point) {
+        self.passed = self.passed.saturating_add(1);
+        for step in self.steps.iter() {
+            if step.time == self.passed {
+                act(step.act, self.gave_up);
             }
-            Role::Brings { at, .. } if at == point => self.events.came.store(true, Ordering::SeqCst),
-            _ => {}
         }
     }
 }

@@ -1,15 +1,18 @@
-// Servers that are shut down over a connection, and parts that don't wait for one another.
-use crate::gates::{Events, PartGate, Role};
+// Servers that are shut down over a connection, and parts of one that don't wait for one another.
+use crate::gates::{Act, Step, StepGate};
 use crate::serving::{door_with, link_asking, serve_over};
 use ctl_server::ServeEnd;
-use slurm_net::{NoGate, Point};
+use slurm_net::NoGate;
+use slurm_text::plain::reply::Reply;
 use slurm_text::plain::request::Request;
-use std::sync::atomic::Ordering;
+use std::sync::atomic::{AtomicBool, Ordering};
 use std::test::Fail;
 
 const SHUTDOWN: &[u8] = b"\x00\x00\x00\x16root scontrol shutdown";
 
-const SUBMIT: &[u8] = b"\x00\x00\x00\x19u1 sbatch --run=5 --exit=0";
+const QUERY: &[u8] = b"\x00\x00\x00\x0broot squeue";
+
+const SUBMIT: &[u8] = b"\x00\x00\x00\x0eu1 sbatch -n 1";
 
 #[test]
 fn a_server_is_shut_down_over_a_connection(rt: HostRuntime) -> Result<(), Fail> {
@@ -32,27 +35,68 @@ fn a_server_is_shut_down_over_a_connection(rt: HostRuntime) -> Result<(), Fail> 
     Ok(())
 }
 
-// Two workers: one is asked for a job, the other for a shutdown.
+// The planner holds a plan until a job was submitted; the worker is asked for the shutdown once the planner goes on.
 #[test]
-fn a_plan_is_committed_beside_a_submission(rt: HostRuntime) -> Result<(), Fail> {
+fn a_plan_that_is_held_holds_no_submission(rt: HostRuntime) -> Result<(), Fail> {
     let alloc = rt.alloc();
-    let events = Events::new();
-    let first = door_with(alloc, vec![in alloc; Some(link_asking(alloc, SUBMIT)?)]?)?;
-    let second = door_with(alloc, vec![in alloc; Some(link_asking(alloc, SHUTDOWN)?)]?)?;
-    let gates = vec![in alloc;
-        PartGate { events: &events, role: Role::Brings { after: Point::BeforeAnswer, at: Point::AfterAnswer } },
-        PartGate { events: &events, role: Role::Follows(Point::BeforeAnswer) },
-        PartGate { events: &events, role: Role::Waits(Point::BeforeCommit) }
+    let planned = AtomicBool::new(false);
+    let submitted = AtomicBool::new(false);
+    let committed = AtomicBool::new(false);
+    let gave_up = AtomicBool::new(false);
+    let worker = vec![in alloc;
+        Step { time: 1, act: Act::Waits(&planned) },
+        Step { time: 2, act: Act::Tells(&submitted) },
+        Step { time: 3, act: Act::Waits(&committed) }
     ]?;
-    let Some(left) = serve_over(&rt, alloc, vec![in alloc; first, second]?, gates) else {
+    let planner = vec![in alloc;
+        Step { time: 2, act: Act::Tells(&planned) },
+        Step { time: 2, act: Act::Waits(&submitted) },
+        Step { time: 3, act: Act::Tells(&committed) }
+    ]?;
+    let links = vec![in alloc;
+        Some(link_asking(alloc, SUBMIT)?),
+        Some(link_asking(alloc, SHUTDOWN)?)
+    ]?;
+    let gates = vec![in alloc;
+        StepGate { steps: worker, passed: 0, gave_up: &gave_up },
+        StepGate { steps: planner, passed: 0, gave_up: &gave_up }
+    ]?;
+    let doors = vec![in alloc; door_with(alloc, links)?]?;
+    let Some(left) = serve_over(&rt, alloc, doors, gates) else {
         return Err("no book was made".into());
     };
-    assert!(rt; !events.gave_up.load(Ordering::SeqCst));
+    assert!(rt; !gave_up.load(Ordering::SeqCst));
     let ServeEnd::Shut(book) = &left.end else {
         return Err("the server wasn't shut down".into());
     };
-    let submitted = book.entries().iter().position(|entry| matches!(&entry.request, Request::Submit(_)));
-    let passed = book.entries().iter().position(|entry| matches!(&entry.request, Request::Pass));
-    assert!(rt; submitted.is_some() && submitted < passed);
+    let mut passes = book.entries().iter().filter(|entry| matches!(&entry.request, Request::Pass));
+    let started = passes.next().map(|entry| match &entry.reply {
+        Reply::Passed { started, .. } => *started,
+        _ => 0,
+    });
+    assert_eq!(rt; started, Some(1));
+    Ok(())
+}
+
+// The worker that is asked for the shutdown holds its answer until the other one has answered.
+#[test]
+fn a_session_that_is_held_holds_no_other(rt: HostRuntime) -> Result<(), Fail> {
+    let alloc = rt.alloc();
+    let answered = AtomicBool::new(false);
+    let gave_up = AtomicBool::new(false);
+    let first = vec![in alloc; Step { time: 1, act: Act::Waits(&answered) }]?;
+    let second = vec![in alloc; Step { time: 2, act: Act::Tells(&answered) }]?;
+    let gates = vec![in alloc;
+        StepGate { steps: first, passed: 0, gave_up: &gave_up },
+        StepGate { steps: second, passed: 0, gave_up: &gave_up },
+        StepGate { steps: Vec::new(alloc), passed: 0, gave_up: &gave_up }
+    ]?;
+    let shutdown = door_with(alloc, vec![in alloc; Some(link_asking(alloc, SHUTDOWN)?)]?)?;
+    let query = door_with(alloc, vec![in alloc; Some(link_asking(alloc, QUERY)?)]?)?;
+    let Some(left) = serve_over(&rt, alloc, vec![in alloc; shutdown, query]?, gates) else {
+        return Err("no book was made".into());
+    };
+    assert!(rt; matches!(&left.end, ServeEnd::Shut(_)));
+    assert!(rt; !gave_up.load(Ordering::SeqCst));
     Ok(())
 }
