@@ -10,7 +10,6 @@ use Rattle.slurm_text.specs.declared.plain.view.View.{View}
 use Rattle.ctl_state.specs.State.{State, last_moment}
 use Rattle.ctl_state.specs.Refusals.{refused_if, first_refusal, unless_refused}
 use Rattle.ctl_state.specs.Verdicts.{Verdict, Tells, reply_by, left_by}
-use Rattle.ctl_show.specs.Showing.{view_of}
 use Rattle.ctl_core.specs.Sizes.{has_room, size_of}
 use Rattle.ctl_core.specs.Step.{entered, is_entered, raised, refusals_of, reply_of, state_after, unless_full, verdict_of, worked}
 use Rattle.ctl_desk.specs.declared.entry.Entry.{Entry}
@@ -51,7 +50,7 @@ enters_none s now user Pass shut = closed_enters_none (nat_lt last_moment now) s
 enters_none s now user Shutdown shut = closed_enters_none (nat_lt last_moment now) s.is_shut (worked s (raised s now) user Shutdown) shut
 enters_none s now user (Show query) shut =
     shown_enters_none (nat_lt last_moment now) (has_room s (Show query))
-    (first_refusal (refusals_of s (raised s now) user (Show query))) (view_of s (raised s now) user query)
+    (first_refusal (refusals_of s (raised s now) user (Show query))) _
 
 if_not : {X : Type 0} (b : Bool) (x y : X) → b ≡ false → (if b then x else y) ≡ y
 if_not true x y is = absurd (true≢false is)

@@ -1,5 +1,5 @@
 -- What the workers of a server did, by the history of its book.
-use Rattle.std.specs.Prelude.{◌≡◌, ◌≢◌, ℕ, ◌-◌, ◌<◌, ◌^◌, List, length, Any, AllPairs, slice_get, Option, IfSome}
+use Rattle.std.specs.Prelude.{◌≡◌, ◌≢◌, ℕ, ◌-◌, ◌<◌, ◌^◌, List, Any, AllPairs, slice_get, Option, IfSome}
 use Rattle.std.specs.List.{AllZip}
 use Rattle.slurm_net.specs.Course.{Course, first_moments}
 use Rattle.slurm_net.specs.Session.{LinkSession}
