@@ -14,7 +14,7 @@ use ctl_server::{ServeEnd, serve};
 use program_words::FileNames;
 use server_call::CallEnd;
 use slurm_io::{Shelf, Sink};
-use slurm_net::{Clock, Host};
+use slurm_net::{Clock, Door, Host};
 use slurm_top::{End, end_unopened, tell};
 use std::alloc::Global;
 use std::sync::Wait;
@@ -47,6 +47,7 @@ fn serve_book<R: Threads + Wait + Sync, K: Sink, C: Clock + Send + Drop, H: Host
 ) -> Result<(), End>
 where
     H::Door: Send + Drop,
+    <H::Door as Door>::Link: Send,
     requires fresh { book.entries ≡ [] }
     requires workers { (1 ≤ words.now.workers) × (words.now.workers ≤ 64) }
     ensures { IsServing book.opening words.now.port words.now.workers (C.course clock.old) (H.closed host.new)
@@ -90,6 +91,7 @@ fn open_and_serve<R: Threads + Wait + Sync, Q: Shelf, K: Sink, C: Clock + Send +
 ) -> Result<(), End>
 where
     H::Door: Send + Drop,
+    <H::Door as Door>::Link: Send,
     ensures { IsRun (Q.files shelf.old) (named_by words.now.files) words.now.port words.now.workers
         (C.course clock.old) (H.closed host.new) (Q.shelf_faults shelf.old) (Q.shelf_faults shelf.new)
         (around (K.taken output.old) (K.write_faults output.old) (H.host_faults host.old))
@@ -128,6 +130,7 @@ pub fn run_server<
 ) -> u8
 where
     H::Door: Send + Drop,
+    <H::Door as Door>::Link: Send,
     ensures ran { (ran : Result (Unit {0}) AnEnd) × (result ≡ status_by ran)
         × Tells (E.taken errors.old) (E.taken errors.new) (E.write_faults errors.old) (E.write_faults errors.new)
         (line_by ran)
