@@ -5,7 +5,7 @@ use Rattle.assoc_reader.specs.declared.refusal.AssocKind.{AssocKind}
 use Rattle.conf_values.specs.declared.refusal.ConfKind.{ConfKind}
 use Rattle.conf_values.specs.Refusal.{kind_text}
 use Rattle.cluster_files.specs.declared.opening.OpenRefusal.{OpenRefusal}
-use Rattle.cluster_files.specs.declared.opening.OpenRefusal.TheVariants as open
+use Rattle.cluster_files.specs.declared.opening.OpenRefusal.TheVariants as refusal
 use Rattle.ctl_session.specs.declared.session.How.{How}
 use Rattle.ctl_session.specs.declared.session.How.TheVariants as how
 use Rattle.server_call.specs.Calls as calls
@@ -16,10 +16,10 @@ use Rattle.slurm_top.specs.declared.end.End.TheVariants.{Usage, NoFile, BadConf,
 
 -- the end of a run whose cluster wasn't opened
 abbrev pub unopened : OpenRefusal → End
-unopened open.NoFile = NoFile
-unopened (open.BadConf line kind) = BadConf line kind
-unopened (open.BadAssocs line kind) = BadAssocs line kind
-unopened open.Memory = Memory
+unopened refusal.NoFile = NoFile
+unopened (refusal.BadConf line kind) = BadConf line kind
+unopened (refusal.BadAssocs line kind) = BadAssocs line kind
+unopened refusal.Memory = Memory
 
 -- the status of a script's run
 abbrev pub script_status : How → ℕ
