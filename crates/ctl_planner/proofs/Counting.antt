@@ -1,5 +1,5 @@
 -- What a turn counts, and that a desk goes on through it.
-use Rattle.std.proofs.Common.{◌≡◌, ℕ, zero, ◌≤◌, Bool, true, List, [], ◌∷◌, ◌++◌, length, take, eqb, refl, sym, ap, ◌∙◌, subst, arith, append-nil, append_assoc, length-append}
+use Rattle.std.proofs.Common.{◌≡◌, ℕ, zero, ◌≤◌, Bool, true, List, [], ◌∷◌, ◌++◌, length, take, eqb, refl, sym, ap, ◌∙◌, subst, arith, Result, Ok, Err, OnErr, append-nil, append_assoc, length-append}
 use Rattle.std.proofs.Math.Seq.{take-append_seam, take-length}
 use Rattle.std.proofs.lemmas.List.{take_all}
 use Rattle.std.proofs.lemmas.List.Elements.{filter-append}
@@ -159,3 +159,8 @@ planned-beside-err law desk middle desk' now user outside outside' inside inside
     second history is counted
     (subst (λ (s : State). IsTickedUpTo (steps_of s now user) inside inside') end most)
     (subst (λ (s : State). IsHinted planned s now inside inside') end hinted)
+
+-- what holds in each case holds where the answer is an error
+pub on-err : {X E : Type 0} (result : Result X E) (P : Type 0) → P → OnErr result P
+on-err (Ok value) P holds = tt
+on-err (Err error) P holds = holds

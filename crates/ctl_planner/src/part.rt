@@ -61,7 +61,7 @@ fn turn_if_due<D: Desk, G: Gate>(
 /// The planner's part of a server: it makes a turn whenever `interval` seconds have passed since its last one, or the
 /// desk has seen entries come since then, and rests in between, until a shutdown was accepted. A turn for which memory
 /// was wanting is passed over. bf_interval in slurm.conf(5).
-#[tactic(auto, using(crate::proofs::Counting::goes_nowhere, crate::proofs::Counting::goes_further))]
+#[tactic(auto, using(crate::proofs::Counting::goes_nowhere))]
 pub fn planner_part<R: Wait, D: Desk, C: Clock, G: Gate>(
     rt: &R,
     alloc: Global,

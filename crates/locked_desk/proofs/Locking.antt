@@ -12,8 +12,7 @@ use Rattle.turn_lock.specs.Views.{StartsWith, bearing}
 use Rattle.turn_lock.specs.Passes.{HasTurn, Adds, SeesMore, IsKnown, seen_all}
 use Rattle.resource_profile.specs.Counts.{IsTickedUpTo}
 use Rattle.ctl_state.specs.State.{State}
-use Rattle.backfill_planner.specs.Plans.{PlannedView}
-use Rattle.ctl_core.specs.Step.{IsHinted, reply_of, is_entered, steps_of}
+use Rattle.ctl_core.specs.Step.{reply_of, is_entered, steps_of}
 use Rattle.ctl_desk.specs.declared.entry.Answer.{Answer}
 use Rattle.ctl_desk.specs.declared.entry.Entry.{Entry}
 use Rattle.ctl_desk.specs.Desk.{Sight, GoesOn, IsAnswered, seen, later, state_at, history_of}
@@ -316,11 +315,3 @@ turn_asked lock opening before len is_shut held pass turn after old new has is t
 -- a book as it was found adds nothing
 pub adds_none : (turn : BookView) (book : History) → book.entries ≡ turn.seen → Adds entries_of bearer turn book
 adds_none turn book whole = ([], whole ∙ sym (append-nil turn.seen), All-nil (λ (entry : Entry). entry.session ≡ turn.number))
-
--- where nothing was counted
-none_ticked : (most count : ℕ) → IsTickedUpTo most count count
-none_ticked most count = record { times = 0; few = omega arith; is = refl }
-
-pub not_hinted : (hint : Option PlannedView) (s : State) (now count : ℕ) → IfSome hint (λ old. IsHinted old s now count count)
-not_hinted None s now count = tt
-not_hinted (Some old) s now count = λ steady are. none_ticked _ count
