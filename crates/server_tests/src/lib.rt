@@ -3,6 +3,6 @@
 
 mod gates;
 mod opened;
-mod serving;
 #[cfg(test)]
 mod servers;
+mod serving;

@@ -44,22 +44,48 @@ fn a_plan_that_is_held_holds_no_submission(rt: HostRuntime) -> Result<(), Fail> 
     let committed = AtomicBool::new(false);
     let gave_up = AtomicBool::new(false);
     let worker = vec![in alloc;
-        Step { time: 1, act: Act::Waits(&planned) },
-        Step { time: 2, act: Act::Tells(&submitted) },
-        Step { time: 3, act: Act::Waits(&committed) }
+        Step {
+            time: 1,
+            act: Act::Waits(&planned)
+        },
+        Step {
+            time: 2,
+            act: Act::Tells(&submitted)
+        },
+        Step {
+            time: 3,
+            act: Act::Waits(&committed)
+        },
     ]?;
     let planner = vec![in alloc;
-        Step { time: 2, act: Act::Tells(&planned) },
-        Step { time: 2, act: Act::Waits(&submitted) },
-        Step { time: 3, act: Act::Tells(&committed) }
+        Step {
+            time: 2,
+            act: Act::Tells(&planned)
+        },
+        Step {
+            time: 2,
+            act: Act::Waits(&submitted)
+        },
+        Step {
+            time: 3,
+            act: Act::Tells(&committed)
+        },
     ]?;
     let links = vec![in alloc;
         Some(link_asking(alloc, SUBMIT)?),
-        Some(link_asking(alloc, SHUTDOWN)?)
+        Some(link_asking(alloc, SHUTDOWN)?),
     ]?;
     let gates = vec![in alloc;
-        StepGate { steps: worker, passed: 0, gave_up: &gave_up },
-        StepGate { steps: planner, passed: 0, gave_up: &gave_up }
+        StepGate {
+            steps: worker,
+            passed: 0,
+            gave_up: &gave_up
+        },
+        StepGate {
+            steps: planner,
+            passed: 0,
+            gave_up: &gave_up
+        },
     ]?;
     let doors = vec![in alloc; door_with(alloc, links)?]?;
     let Some(left) = serve_over(&rt, alloc, doors, gates) else {
@@ -69,7 +95,10 @@ fn a_plan_that_is_held_holds_no_submission(rt: HostRuntime) -> Result<(), Fail> 
     let ServeEnd::Shut(book) = &left.end else {
         return Err("the server wasn't shut down".into());
     };
-    let mut passes = book.entries().iter().filter(|entry| matches!(&entry.request, Request::Pass));
+    let mut passes = book
+        .entries()
+        .iter()
+        .filter(|entry| matches!(&entry.request, Request::Pass));
     let started = passes.next().map(|entry| match &entry.reply {
         Reply::Passed { started, .. } => *started,
         _ => 0,
@@ -84,12 +113,34 @@ fn a_session_that_is_held_holds_no_other(rt: HostRuntime) -> Result<(), Fail> {
     let alloc = rt.alloc();
     let answered = AtomicBool::new(false);
     let gave_up = AtomicBool::new(false);
-    let first = vec![in alloc; Step { time: 1, act: Act::Waits(&answered) }]?;
-    let second = vec![in alloc; Step { time: 2, act: Act::Tells(&answered) }]?;
+    let first = vec![in alloc;
+        Step {
+            time: 1,
+            act: Act::Waits(&answered)
+        },
+    ]?;
+    let second = vec![in alloc;
+        Step {
+            time: 2,
+            act: Act::Tells(&answered)
+        },
+    ]?;
     let gates = vec![in alloc;
-        StepGate { steps: first, passed: 0, gave_up: &gave_up },
-        StepGate { steps: second, passed: 0, gave_up: &gave_up },
-        StepGate { steps: Vec::new(alloc), passed: 0, gave_up: &gave_up }
+        StepGate {
+            steps: first,
+            passed: 0,
+            gave_up: &gave_up
+        },
+        StepGate {
+            steps: second,
+            passed: 0,
+            gave_up: &gave_up
+        },
+        StepGate {
+            steps: Vec::new(alloc),
+            passed: 0,
+            gave_up: &gave_up
+        },
     ]?;
     let shutdown = door_with(alloc, vec![in alloc; Some(link_asking(alloc, SHUTDOWN)?)]?)?;
     let query = door_with(alloc, vec![in alloc; Some(link_asking(alloc, QUERY)?)]?)?;

@@ -17,13 +17,7 @@ pub fn link_asking(alloc: Global, frames: &[u8]) -> Result<MemLink, AllocError>
     ensures { IfOk result IsUnused }
 {
     let bytes = Vec::from_slice(alloc, frames)?;
-    Ok(MemLink::new(
-        alloc,
-        bytes,
-        64,
-        Vec::new(alloc),
-        Vec::new(alloc),
-    ))
+    Ok(MemLink::new(alloc, bytes, 64, Vec::new(alloc), Vec::new(alloc)))
 }
 
 /// A door at which these links come.
@@ -68,9 +62,5 @@ pub fn serve_over<R: Threads + Wait + Sync, G: Gate + Send + Drop>(
         &mut clock,
         gates,
     );
-    Some(Left {
-        end,
-        output,
-        host,
-    })
+    Some(Left { end, output, host })
 }
