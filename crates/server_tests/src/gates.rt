@@ -45,7 +45,7 @@ fn look_for(event: &AtomicBool) -> bool {
 }
 
 // Does what a step says.
-fn act(act: Act, gave_up: &AtomicBool) {
+fn make(act: Act, gave_up: &AtomicBool) {
     match act {
         Act::Tells(event) => event.store(true, Ordering::SeqCst),
         Act::Waits(event) => {
@@ -61,7 +61,7 @@ impl<'a> Gate for StepGate<'a> {
         self.passed = self.passed.saturating_add(1);
         for step in self.steps.iter() {
             if step.time == self.passed {
-                act(step.act, self.gave_up);
+                make(step.act, self.gave_up);
             }
         }
     }

@@ -23,7 +23,10 @@ fn a_server_is_shut_down_over_a_connection(rt: HostRuntime) -> Result<(), Fail> 
         return Err("no book was made".into());
     };
     assert!(rt; matches!(&left.end, ServeEnd::Shut(_)));
-    assert_eq!(rt; left.output.taken(), b"slurmctld: serving on port 7777\n");
+    assert_eq!(rt;
+        left.output.taken(),
+        b"slurmctld: serving on port 7777\n".as_slice()
+    );
     let [door] = left.host.closed() else {
         return Err("there isn't one door".into());
     };

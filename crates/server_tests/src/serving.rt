@@ -29,6 +29,7 @@ pub fn door_with(alloc: Global, links: Vec<Option<MemLink>>) -> Result<MemDoor, 
 }
 
 /// What a server over these doors leaves: how it ended, its output, and its host.
+#[derive(Drop)]
 pub struct Left {
     pub end: ServeEnd,
     pub output: MemLink,
