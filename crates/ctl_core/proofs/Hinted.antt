@@ -29,6 +29,16 @@ own-hint law s now user before after sound counted hinted = elim (cases_Bool (na
       (subst (λ (n : ℕ). IsPassedOver (pass_input s (raised s n)) s (raised s now) before after) same hinted)
 ]
 
+-- where nothing was counted
+pub not-over : (kept : Option PlannedView) (s : State) (now count : ℕ)
+    → IfSome kept (λ old. IsPassedOver old s now count count)
+not-over None s now count = tt
+not-over (Some old) s now count = λ steady are. record { times = 0; few = omega arith; is = refl }
+
+pub not-hinted : (kept : Option PlannedView) (s : State) (now count : ℕ)
+    → IfSome kept (λ old. IsHinted old s now count count)
+not-hinted kept s now count = not-over kept s (raised s now) count
+
 -- what is counted at the raised moment
 pub hinted-raised : (kept : Option PlannedView) (s : State) (now moment before after : ℕ) → moment ≡ raised s now
     → IfSome kept (λ old. IsPassedOver old s moment before after)

@@ -1,5 +1,5 @@
 -- What a book of its own makes of a desk.
-use Rattle.std.proofs.Common.{◌≡◌, ℕ, Bool, true, false, ◌≤◌, List, [], ◌∷◌, ◌++◌, length, take, drop, refl, sym, ap, ◌∙◌, subst, arith, length-append, inl, inr, if◌then◌else◌, Ok, Err, Result, IfOk, OnOk, OnErr}
+use Rattle.std.proofs.Common.{◌≡◌, ℕ, Bool, true, false, ◌≤◌, List, [], ◌∷◌, ◌++◌, length, take, drop, refl, sym, ap, ◌∙◌, subst, arith, length-append, inl, inr, if◌then◌else◌, Ok, Err, Result, IfOk, OnOk, OnErr, Option, Some, None, IfSome}
 use Rattle.std.proofs.Math.Seq.{take-append_seam}
 use Rattle.std.proofs.lemmas.Bool.{cases_Bool, true≢false}
 use Rattle.std.proofs.lemmas.List.{append-nil, take_all, take-append-le, take-append-drop, drop-append-le}
@@ -7,7 +7,8 @@ use Rattle.slurm_text.specs.declared.plain.request.Request.{Request}
 use Rattle.ctl_state.specs.State.{State}
 use Rattle.resource_profile.specs.Counts.{ticked, IsTickedUpTo}
 use Rattle.slurm_text.specs.declared.plain.request.Request.TheVariants.{Pass}
-use Rattle.ctl_core.specs.Step.{reply_of, is_entered, steps_of}
+use Rattle.backfill_planner.specs.Plans.{PlannedView}
+use Rattle.ctl_core.specs.Step.{IsHinted, reply_of, is_entered, steps_of}
 use Rattle.ctl_desk.specs.declared.entry.Answer.{Answer}
 use Rattle.ctl_desk.specs.declared.entry.Entry.{Entry}
 use Rattle.ctl_desk.specs.Desk.{Sight, GoesOn, IsAnswered, seen, later, sight_of, history_of, state_at}
@@ -212,3 +213,12 @@ pub own_there_err : {E : Type 0} (P : State → Type 0) (result : Result Answer 
     → OnErr result (P (present (history_of (at_book before new))))
 own_there_err P (Ok answer) before old new stays holds = tt
 own_there_err P (Err e) before old new stays holds = subst P (sym (own_present before old new stays)) holds
+
+-- where nothing was counted
+none-ticked : (most count : ℕ) → IsTickedUpTo most count count
+none-ticked most count = record { times = 0; few = omega arith; is = refl }
+
+pub not-hinted : (hint : Option PlannedView) (s : State) (now count : ℕ)
+    → IfSome hint (λ old. IsHinted old s now count count)
+not-hinted None s now count = tt
+not-hinted (Some old) s now count = λ steady are. none-ticked _ count

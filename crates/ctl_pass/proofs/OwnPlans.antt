@@ -80,6 +80,12 @@ counts-nothing first keeps stays s now before after sound stepped =
     let up_to = stepped (λ place. true) (are-steady first (base_of (ready s now) now) jobs now apart) in
     not-ticked up_to.times before after (rw (no-others (length jobs)) at up_to.few) up_to.is
 
+-- where nothing was counted
+pub not-over : (kept : Option PlannedView) (s : State) (now count : ℕ)
+    → IfSome kept (λ old. IsSteppedOver old s now count count)
+not-over None s now count = tt
+not-over (Some old) s now count = λ steady are. record { times = 0; few = omega arith; is = refl }
+
 -- what a plan counts over an older one, where it is that of a pass
 pub over-input : (kept : Option PlannedView) (s : State) (now before after : ℕ) (input : PlannedView)
     → input ≡ input_of s now

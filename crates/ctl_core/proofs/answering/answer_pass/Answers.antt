@@ -6,7 +6,7 @@ use Rattle.ctl_state.specs.State.{state_of, last_moment}
 use Rattle.ctl_core.specs.Sizes.{has_room, size_of}
 use Rattle.ctl_core.specs.Step.{raised}
 use Rattle.resource_profile.specs.Counts.{IsTickedUpTo}
-use Rattle.ctl_core.proofs.Hinted.{hinted-raised}
+use Rattle.ctl_core.proofs.Hinted.{hinted-raised, not-hinted}
 use Rattle.ctl_core.proofs.Stamping.{reply-worked, size-asked, state-worked, steps-worked}
 use Rattle.ctl_core.proofs.answering.answer_pass.Goals as goal
 
