@@ -32,6 +32,7 @@ later-twice desk one two =
     ∙ ap (λ (es : List Entry). desk.mine ++ es)
     (sym (filter-append (λ (entry : Entry). eqb entry.session n) one two)) in
     λ i. record {
+      lock = desk.lock;
       opening = desk.opening;
       number = n;
       before = desk.before;
