@@ -26,7 +26,8 @@ use Rattle.server_call.specs.Outside.{Outside, Hosting, Beside}
 use Rattle.server_call.specs.Calls as calls
 use Rattle.server_call.specs.declared.end.CallEnd.{CallEnd}
 use Rattle.server_call.specs.declared.end.CallEnd.TheVariants as call_end
-use Rattle.slurm_top.specs.Run.{Opens, IsEndOn, IsEndWriting, IsEndSimulating, IsEndCalling, IsEndServing, IsEndAsked, IsEndOff, IsEnd, IsNotDone, IsCallKnown, Finds, IsWholeScript, files_asked, opened_by}
+use Rattle.cluster_files.specs.Files.{Opens}
+use Rattle.slurm_top.specs.Run.{IsEndOn, IsEndWriting, IsEndSimulating, IsEndCalling, IsEndServing, IsEndAsked, IsEndOff, IsEnd, IsNotDone, IsCallKnown, Finds, IsWholeScript, files_asked, opened_by}
 use Rattle.slurm_top.specs.Script.{IsScript}
 use Rattle.slurm_top.specs.SimulatedCluster.{simulation_of}
 
@@ -291,6 +292,7 @@ call_isnt_off old new host host' call_end.DoorFault decided e = omega arith
 
 script_isnt_off : (end : How) → status_of (Script end) ≡ 2 → ⊥
 script_isnt_off how.Closed e = omega arith
+script_isnt_off how.Shut e = omega arith
 script_isnt_off how.ReadFault e = omega arith
 script_isnt_off how.WriteFault e = omega arith
 script_isnt_off (how.Truncated place) e = omega arith

@@ -9,7 +9,7 @@ use Rattle.ctl_state.specs.State.{State}
 use Rattle.simulation.specs.Simulation.{Simulated, simulated, summary}
 use Rattle.cluster_files.specs.declared.cluster.ClusterRefusal.{ClusterRefusal}
 use Rattle.slurm_top.specs.declared.end.End.{End}
-use Rattle.slurm_top.specs.declared.end.End.TheVariants.{Usage, NoFile, BadConf, BadAssocs, Memory, Script, Generated, WriteFault, Spent}
+use Rattle.slurm_top.specs.declared.end.End.TheVariants.{Usage, NoFile, BadConf, BadAssocs, Memory, Script, Generated, WriteFault, Spent, Serving, Called}
 use Rattle.cluster_files.specs.Cluster.{opening_in}
 use Rattle.slurm_top.specs.Run.{IsEndSimulating, IsEndWriting}
 use Rattle.slurm_top.specs.SimulatedCluster.{simulated_assocs, simulated_conf, simulation_of}
@@ -60,6 +60,8 @@ written_line number line old new (BadConf at kind) line_is ended = absurd ended
 written_line number line old new (BadAssocs at kind) line_is ended = absurd ended
 written_line number line old new (Script how) line_is ended = absurd ended
 written_line number line old new Spent line_is ended = absurd ended
+written_line number line old new Serving line_is ended = absurd ended
+written_line number line old new (Called call) line_is ended = absurd ended
 
 pub written : (number : ℕ) (s : State) (desk : Seat) (line : List ℕ) (old new : Wire) (end : End)
     → opening_in simulated_conf simulated_assocs ≡ Ok s → IsFresh s desk

@@ -7,6 +7,6 @@ returns-in-Ok g c =
     record {
       opening = c.in-Ok.desk.opening;
       opens = opened.0;
-      script = c.in-Ok-run_script.ensures;
+      script = c.run_script.ensures;
       alone = rw (c.in-Ok.ensures.kept, opened.2) refl;
     }

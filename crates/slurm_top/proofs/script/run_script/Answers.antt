@@ -11,5 +11,5 @@ returns g c =
       joins = c.spellings_join.ensures Plain;
       empty = c.nothing_is_partial.ensures Plain;
     } in
-    script_at_seat _ _ _ _ _ _ _ _ c.raised_moments_decide_alike.ensures.state c.passes_are_free.ensures laws c.requires.fresh
+    script_at_seat c.args.desk.opening _ _ _ _ _ _ _ c.raised_moments_decide_alike.ensures.state c.passes_are_free.ensures laws c.requires.fresh
     c.serve_link-ended.ensures
