@@ -16,7 +16,7 @@ use std::alloc::Global;
 /// Answers the blocks of a link at a desk of its own, at which no one has asked anything.
 pub(crate) fn run_script<L: Link>(alloc: Global, desk: OwnDesk, link: &mut L) -> How
     requires fresh { desk ≡ record { opening = desk.opening; before = []; since = [] } }
-    ensures ran { IsScript desk.opening (L.wire link.old) (L.wire link.new) result }
+    ensures { IsScript desk.opening (L.wire link.old) (L.wire link.new) result }
 {
     raised_moments_decide_alike();
     passes_are_free();
