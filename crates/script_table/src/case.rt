@@ -24,6 +24,11 @@ pub struct Case<'a> {
     pub failing_reads: &'a str,
     /// The numbers of the writes that fail, counted from 1.
     pub failing_writes: &'a str,
+    /// The numbers of the dials that fail, counted from 1.
+    pub failing_dials: &'a str,
+    /// The numbers of the reads and of the writes of the dialled link that fail, counted from 1.
+    pub failing_link_reads: &'a str,
+    pub failing_link_writes: &'a str,
     /// How many lines of the output are shown at most.
     pub shown: u32,
     /// The file slurm.conf(5), where the case has one of its own.
@@ -32,6 +37,8 @@ pub struct Case<'a> {
     pub assocs: Option<Vec<u8>>,
     /// The bytes that the program reads.
     pub input: Vec<u8>,
+    /// The bytes that the dialled link has.
+    pub reply: Vec<u8>,
 }
 
 impl<'a> Case<'a> {
@@ -43,10 +50,14 @@ impl<'a> Case<'a> {
             failing_files: "",
             failing_reads: "",
             failing_writes: "",
+            failing_dials: "",
+            failing_link_reads: "",
+            failing_link_writes: "",
             shown: u32::MAX,
             conf: None,
             assocs: None,
             input: Vec::new(alloc),
+            reply: Vec::new(alloc),
         }
     }
 
@@ -75,8 +86,12 @@ impl<'a> Case<'a> {
             "files" => self.failing_files = text,
             "reads" => self.failing_reads = text,
             "writes" => self.failing_writes = text,
+            "dials" => self.failing_dials = text,
+            "link-reads" => self.failing_link_reads = text,
+            "link-writes" => self.failing_link_writes = text,
             "shown" => self.shown = text.parse::<u32>().unwrap_or(u32::MAX),
             "<" | "<!" | "<*" => push_text(&mut self.input, key, text)?,
+            "+" | "+!" | "+*" => push_text(&mut self.reply, key, text)?,
             "=" | "=!" | "=*" => push_to(alloc, &mut self.conf, key, text)?,
             "@" | "@!" | "@*" => push_to(alloc, &mut self.assocs, key, text)?,
             _ => return Ok(false),

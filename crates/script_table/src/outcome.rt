@@ -13,6 +13,8 @@ pub struct Outcome {
     pub status: u8,
     pub output: Vec<u8>,
     pub errors: Vec<u8>,
+    /// What the dialled link had taken when it was hung up.
+    pub sent: Vec<u8>,
 }
 
 impl Outcome {
@@ -21,6 +23,7 @@ impl Outcome {
         self.status == other.status
             && self.output.as_slice() == other.output.as_slice()
             && self.errors.as_slice() == other.errors.as_slice()
+            && self.sent.as_slice() == other.sent.as_slice()
     }
 }
 
@@ -54,6 +57,27 @@ fn shelf_of(alloc: Global, case: &Case<'_>) -> Result<MemShelf, AllocError> {
     Ok(MemShelf::new(files, failing))
 }
 
+// A host with the one link of the case.
+fn host_of(alloc: Global, case: &Case<'_>, most: u32) -> Result<MemHost, AllocError>
+    requires { 0 < most }
+{
+    let bytes = Vec::from_slice(alloc, case.reply.as_slice())?;
+    let reads = numbers_of(alloc, case.failing_link_reads)?;
+    let writes = numbers_of(alloc, case.failing_link_writes)?;
+    let dials = numbers_of(alloc, case.failing_dials)?;
+    let link = MemLink::new(alloc, bytes, most, reads, writes);
+    let links = vec![in alloc; link]?;
+    Ok(MemHost::new(alloc, Vec::new(alloc), links, dials))
+}
+
+// What the link that was hung up last had taken.
+fn sent_by(alloc: Global, host: &MemHost) -> Result<Vec<u8>, AllocError> {
+    match host.last() {
+        Some(link) => Vec::from_slice(alloc, link.taken()),
+        None => Ok(Vec::new(alloc)),
+    }
+}
+
 /// Runs the case with at most so many bytes a call.
 pub fn outcome_of(alloc: Global, case: &Case<'_>, most: u32) -> Result<Outcome, AllocError>
     requires { 0 < most }
@@ -67,7 +91,7 @@ pub fn outcome_of(alloc: Global, case: &Case<'_>, most: u32) -> Result<Outcome, 
     let output = MemLink::new(alloc, Vec::new(alloc), most, Vec::new(alloc), writes);
     let mut link = Pair::new(input, output);
     let mut errors = MemLink::new(alloc, Vec::new(alloc), 64, Vec::new(alloc), Vec::new(alloc));
-    let mut host = MemHost::new(alloc, Vec::new(alloc), Vec::new(alloc), Vec::new(alloc));
+    let mut host = host_of(alloc, case, most)?;
     let status = run(
         alloc,
         words.as_slice(),
@@ -80,5 +104,6 @@ pub fn outcome_of(alloc: Global, case: &Case<'_>, most: u32) -> Result<Outcome, 
         status,
         output: Vec::from_slice(alloc, link.sink.taken())?,
         errors: Vec::from_slice(alloc, errors.taken())?,
+        sent: sent_by(alloc, &host)?,
     })
 }

@@ -37,10 +37,11 @@ fn push_lines(out: &mut String, mark: &str, text: &[u8], most: u32) -> Result<()
     Ok(())
 }
 
-/// The output behind `>`, so many lines at the most, the errors behind `*`, and the status.
+/// The output behind `>`, so many lines at the most, the errors behind `*`, what was sent behind `^`, and the status.
 pub fn push_outcome(out: &mut String, outcome: &Outcome, shown: u32) -> Result<(), AllocError> {
     push_lines(out, ">", outcome.output.as_slice(), shown)?;
     push_lines(out, "*", outcome.errors.as_slice(), u32::MAX)?;
+    push_lines(out, "^", outcome.sent.as_slice(), u32::MAX)?;
     let status = outcome.status;
     writeln!(out, "status {status}")
 }

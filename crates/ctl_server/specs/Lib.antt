@@ -1,0 +1,5 @@
+pub mod Ends
+pub mod Line
+pub mod Numbered
+pub mod Parts
+pub mod Prepared

@@ -1,0 +1,95 @@
+//! The turns of the nodes' daemons, round after round.
+
+ghost use Rattle.std.specs.Prelude.{◌≡◌, true, false};
+ghost use Rattle.std.specs.Bool.{OnFalse, OnTrue};
+ghost use Rattle.ctl_desk.specs.Desk.{GoesOn, history_of};
+ghost use Rattle.ctl_desk.specs.History.{present};
+
+use ctl_desk::desk::Desk;
+use node_daemon::daemon::DaemonState;
+use node_daemon::daemon_turn;
+use node_state::record::NodeRecord;
+use slurm_net::Clock;
+use slurm_text::memory_error::Memory;
+use std::alloc::Global;
+use std::sync::Wait;
+
+/// For so many seconds of SlurmdTimeout a round is followed by one rest (own).
+const SECONDS_A_REST: u64 = 30;
+
+/// The daemons of these nodes as they are when the server begins: they run nothing.
+pub(crate) fn start_daemons(
+    alloc: Global,
+    nodes: &[NodeRecord],
+) -> Result<Vec<DaemonState>, Memory> {
+    let mut daemons = Vec::with_capacity(alloc, nodes.len())?;
+    for node in nodes {
+        daemons.push(DaemonState::new(alloc, &node.conf.name, 1)?)?;
+    }
+    Ok(daemons)
+}
+
+// One daemon's turn. A daemon that has no numbers for reports left is passed over, and one for whose turn memory is
+// wanting.
+fn turn<D: Desk>(alloc: Global, desk: &mut D, now: u64, daemon: &mut DaemonState)
+    ensures { GoesOn (D.sight desk.old) (D.sight desk.new) }
+{
+    if daemon.can_report() {
+        let _ = daemon_turn(alloc, desk, now, daemon);
+    }
+}
+
+// Each daemon's turn, one after the other.
+fn turn_all<D: Desk>(alloc: Global, desk: &mut D, now: u64, daemons: &mut [DaemonState])
+    ensures { GoesOn (D.sight desk.old) (D.sight desk.new) }
+{
+    for daemon in daemons.iter_mut() {
+        turn(alloc, desk, now, daemon);
+    }
+}
+
+// Rests so often; ends at once where a shutdown was accepted, and says whether one was.
+fn rest<D: Desk, C: Clock>(desk: &mut D, clock: &mut C, rests: u64) -> bool
+    ensures goes_on { GoesOn (D.sight desk.old) (D.sight desk.new) }
+    ensures shut { OnTrue result ((present (history_of (D.sight desk.new))).is_shut ≡ true) }
+{
+    for _ in 0..rests {
+        clock.rest();
+        if desk.refresh() {
+            return true;
+        }
+    }
+    false
+}
+
+/// How often the daemons' part rests between two rounds, where nodes fall silent after so many seconds: once for each
+/// half a minute of these, and at least once.
+pub(crate) fn rests_for(slurmd_timeout: u64) -> u64 {
+    (slurmd_timeout / SECONDS_A_REST).max(1)
+}
+
+/// Rounds of turns, until a shutdown was accepted. Between two rounds it rests so often, and looks at the history each
+/// time.
+pub(crate) fn turn_daemons<R: Wait, D: Desk, C: Clock>(
+    rt: &R,
+    alloc: Global,
+    desk: &mut D,
+    clock: &mut C,
+    rests: u64,
+    daemons: &mut [DaemonState],
+)
+    ensures goes_on { GoesOn (D.sight desk.old) (D.sight desk.new) }
+    ensures shut { (present (history_of (D.sight desk.new))).is_shut ≡ true }
+{
+    for _ in rt.forever() {
+        if desk.refresh() {
+            return;
+        }
+        let now = clock.now();
+        turn_all(alloc, desk, now, daemons);
+        if rest(desk, clock, rests) {
+            return;
+        }
+    }
+    unreachable!()
+}
