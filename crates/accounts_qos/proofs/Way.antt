@@ -6,8 +6,8 @@ use Rattle.std.proofs.lemmas.List.Elements.{All-nil, All-cons}
 use Rattle.std.proofs.lemmas.List.Kept.{AllPairs-cons}
 use Rattle.std.proofs.lemmas.List.Sums.{sum_by-cons}
 use Rattle.std.specs.Prelude.{count_by}
-use Rattle.slurm_text.specs.Assocs.{way_up, greatest_depth, is_same_place, StandsUnder}
-use Rattle.slurm_text.specs.declared.plain.assoc.AssocConf.{AssocConf}
+use Rattle.plain_data.specs.Assocs.{way_up, greatest_depth, is_same_place, StandsUnder}
+use Rattle.plain_data.specs.declared.assoc.AssocConf.{AssocConf}
 use Rattle.accounts_qos.specs.declared.record.AssocRecord.{AssocRecord}
 use Rattle.accounts_qos.specs.Accounts.{AreFew, AreRooted, above, opened}
 

@@ -1,11 +1,11 @@
 -- Accounts, their users and qualities of service: what names mean, and the way up from a user to root.
 use Rattle.std.specs.Prelude.{ℕ, ◌<◌, ◌≤◌, count_by, IfSome, Bool, false, ◌&&◌, if◌then◌else◌, nat_eq, unwrap_or, List, map, filter_map, position, slice_get, bytes_eq, codes, Option, Some, None, option_map, option_and_then}
 use Rattle.std.specs.Option.{option_or}
-use Rattle.slurm_text.specs.Assocs.{greatest_depth, is_same_place, way_up}
-use Rattle.slurm_text.specs.declared.plain.assoc.AssocConf.{AssocConf}
-use Rattle.slurm_text.specs.declared.plain.assoc.AssocLimits.{AssocLimits}
-use Rattle.slurm_text.specs.declared.plain.assoc.QosConf.{QosConf}
-use Rattle.slurm_text.specs.declared.plain.assoc.QosLimits.{QosLimits}
+use Rattle.plain_data.specs.Assocs.{greatest_depth, is_same_place, way_up}
+use Rattle.plain_data.specs.declared.assoc.AssocConf.{AssocConf}
+use Rattle.plain_data.specs.declared.assoc.AssocLimits.{AssocLimits}
+use Rattle.plain_data.specs.declared.assoc.QosConf.{QosConf}
+use Rattle.plain_data.specs.declared.assoc.QosLimits.{QosLimits}
 use Rattle.accounts_qos.specs.declared.record.AssocRecord.{AssocRecord}
 use Rattle.accounts_qos.specs.declared.record.QosRecord.{QosRecord}
 

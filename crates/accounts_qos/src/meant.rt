@@ -5,7 +5,7 @@ ghost use Rattle.accounts_qos.specs.declared.record.QosRecord.{QosRecord as Qual
 ghost use Rattle.accounts_qos.specs.Accounts as spec;
 
 use crate::record::{AssocRecord, QosRecord};
-use slurm_text::name::Name;
+use small_texts::name::Name;
 
 // The name of the account that users directly below root belong to.
 const ROOT: &str = "root";

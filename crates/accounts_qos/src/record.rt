@@ -1,6 +1,6 @@
 //! What is kept of associations and qualities of service.
 
-use slurm_text::plain::assoc::{AssocConf, QosConf};
+use plain_data::assoc::{AssocConf, QosConf};
 
 /// An association: an account, or a user of it.
 #[derive(Drop)]

@@ -3,8 +3,8 @@ use Rattle.std.proofs.Common.{ℕ, zero, suc, ◌≡◌, ◌+◌, ◌-◌, ◌<�
 use Rattle.std.specs.List.{slice_get}
 use Rattle.std.proofs.lemmas.Bool.{cases_order}
 use Rattle.std.proofs.lemmas.Option.{slice_get-map}
-use Rattle.slurm_text.specs.Assocs.{way_up, parents_in}
-use Rattle.slurm_text.specs.declared.plain.assoc.AssocConf.{AssocConf}
+use Rattle.plain_data.specs.Assocs.{way_up, parents_in}
+use Rattle.plain_data.specs.declared.assoc.AssocConf.{AssocConf}
 use Rattle.assoc_reader.proofs.ListLemmas.{slice_get-before, slice_get-last, slice_get-behind}
 
 -- each parent stands before its child

@@ -5,8 +5,8 @@ use Rattle.std.specs.Option.{option_eq}
 use Rattle.std.proofs.lemmas.List.{length_push}
 use Rattle.std.proofs.lemmas.List.Sums.{sum_by_push}
 use Rattle.std.proofs.lemmas.Slice.Eq.{bytes_eq-Decides}
-use Rattle.slurm_text.specs.Assocs.{is_same_place}
-use Rattle.slurm_text.specs.declared.plain.assoc.AssocConf.{AssocConf}
+use Rattle.plain_data.specs.Assocs.{is_same_place}
+use Rattle.plain_data.specs.declared.assoc.AssocConf.{AssocConf}
 use Rattle.assoc_reader.specs.Index.{is_same_user, kept_for, IsCount}
 use Rattle.assoc_reader.specs.Tree.{is_account, is_user_of, account_place}
 use Rattle.assoc_reader.specs.declared.counts.Counts.{Counts}

@@ -6,8 +6,8 @@ use Rattle.std.proofs.lemmas.List.{length_push, length-map, map-append, get_or_p
 use Rattle.std.proofs.lemmas.List.Folds.{Any-from_list_any}
 use Rattle.std.proofs.lemmas.List.Quantifiers.{all_pairs_push}
 use Rattle.std.proofs.lemmas.Slice.Eq.{bytes_eq-Decides}
-use Rattle.slurm_text.specs.Hosts.{has}
-use Rattle.slurm_text.specs.declared.plain.assoc.QosConf.{QosConf}
+use Rattle.host_lists.specs.Hosts.{has}
+use Rattle.plain_data.specs.declared.assoc.QosConf.{QosConf}
 use Rattle.assoc_values.specs.Words.{no_qos_words}
 use Rattle.assoc_values.specs.declared.qos_words.QosWords.{QosWords}
 use Rattle.assoc_values.specs.declared.refusal.AssocKind.TheVariants.{TwiceNamed, OverLimit}

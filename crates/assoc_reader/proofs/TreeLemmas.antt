@@ -9,8 +9,8 @@ use Rattle.std.proofs.lemmas.List.Sums.{sum_by_push}
 use Rattle.std.proofs.lemmas.List.Quantifiers.{all_pairs_push, position-Some}
 use Rattle.std.proofs.lemmas.Option.{slice_get-map, slice_get-get_or}
 use Rattle.std.proofs.lemmas.Slice.Eq.{bytes_eq-Decides}
-use Rattle.slurm_text.specs.Assocs.{StandsUnder, AreNamedApart, is_same_place, parents_in, greatest_depth}
-use Rattle.slurm_text.specs.declared.plain.assoc.AssocConf.{AssocConf}
+use Rattle.plain_data.specs.Assocs.{StandsUnder, AreNamedApart, is_same_place, parents_in, greatest_depth}
+use Rattle.plain_data.specs.declared.assoc.AssocConf.{AssocConf}
 use Rattle.assoc_values.specs.declared.assoc_words.AssocWords.{AssocWords}
 use Rattle.assoc_values.specs.declared.refusal.AssocKind.TheVariants.{TwiceNamed, OverLimit}
 use Rattle.assoc_reader.specs.Tree.{TreeView, is_root, is_account, is_user_of, account_place, parent_named, is_named, users_in, children_of, depth_of, is_full, name_fault, assoc_conf, with_assoc, IsAccountAt, IsTree}

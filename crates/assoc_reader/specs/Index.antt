@@ -4,7 +4,7 @@ use Rattle.std.specs.HashMap.{get}
 use Rattle.std.specs.HashSet.{contains}
 use Rattle.std.specs.List.{list_any}
 use Rattle.std.specs.Option.{option_eq}
-use Rattle.slurm_text.specs.declared.plain.assoc.AssocConf.{AssocConf}
+use Rattle.plain_data.specs.declared.assoc.AssocConf.{AssocConf}
 use Rattle.assoc_reader.specs.Tree.{account_place, is_user_of, users_in, children_of}
 use Rattle.assoc_reader.specs.declared.counts.Counts.{Counts}
 use Rattle.assoc_reader.specs.declared.name_index.NameIndex.{NameIndex}

@@ -2,8 +2,8 @@
 use Rattle.std.specs.Prelude.{ℕ, Bool, true, ◌==◌, nat_lt, if◌then◌else◌, List, [], ◌∷◌, Option, Some, None}
 use Rattle.std.specs.List.{list_all}
 use Rattle.std.specs.Str.{byte}
-use Rattle.slurm_text.specs.Name.{is_name}
-use Rattle.slurm_text.specs.Options.{◌>>=◌}
+use Rattle.small_texts.specs.Name.{is_name}
+use Rattle.small_texts.specs.Options.{◌>>=◌}
 use Rattle.assoc_values.specs.Cuts.{cut_at}
 use Rattle.assoc_values.specs.Keys.{line_kind}
 use Rattle.assoc_values.specs.declared.keys.LineKind.{LineKind}

@@ -1,7 +1,7 @@
 -- The qualities of service that the lines of a file give.
 use Rattle.std.specs.Prelude.{◌≢◌, ℕ, ◌+◌, ◌≤◌, nat_lt, if◌then◌else◌, List, [], ◌∷◌, ◌++◌, length, map, codes, AllPairs, Option, Some, None}
-use Rattle.slurm_text.specs.Hosts.{has}
-use Rattle.slurm_text.specs.declared.plain.assoc.QosConf.{QosConf}
+use Rattle.host_lists.specs.Hosts.{has}
+use Rattle.plain_data.specs.declared.assoc.QosConf.{QosConf}
 use Rattle.assoc_values.specs.Words.{no_qos_words}
 use Rattle.assoc_values.specs.declared.qos_words.QosWords.{QosWords}
 use Rattle.assoc_values.specs.declared.refusal.AssocKind.{AssocKind}

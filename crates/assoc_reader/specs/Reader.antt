@@ -1,8 +1,8 @@
 -- What a file says: its lines one after the other.
 use Rattle.std.specs.Prelude.{ℕ, ◌+◌, nat_lt, Bool, true, false, if◌then◌else◌, List, [], ◌∷◌, ◌++◌, length, Option, Some, None, Result, Ok, Err, ok_or}
 use Rattle.std.specs.Str.{byte}
-use Rattle.slurm_text.specs.Assocs.{AssocView}
-use Rattle.slurm_text.specs.Fields.{fields}
+use Rattle.plain_data.specs.Assocs.{AssocView}
+use Rattle.small_texts.specs.Fields.{fields}
 use Rattle.conf_values.specs.Refusal.{◌>>=◌}
 use Rattle.assoc_values.specs.Words.{assoc_said, qos_said}
 use Rattle.assoc_values.specs.declared.keys.LineKind.{LineKind}

@@ -1,8 +1,8 @@
 -- The associations that the lines of a file make, and the account under which the next ones stand.
 use Rattle.std.specs.Prelude.{◌≡◌, ◌≢◌, ℕ, suc, ◌<◌, ◌≤◌, Bool, false, not, ◌&&◌, ◌||◌, nat_le, if◌then◌else◌, List, [], ◌∷◌, ◌++◌, length, count_by, position, slice_get, codes, bytes_eq, AllPairs, All, IfSome, Option, Some, None, option_map, is_some}
 use Rattle.std.specs.List.{list_any}
-use Rattle.slurm_text.specs.Assocs.{StandsUnder, AreNamedApart, is_same_place, parents_in, way_up, greatest_depth}
-use Rattle.slurm_text.specs.declared.plain.assoc.AssocConf.{AssocConf}
+use Rattle.plain_data.specs.Assocs.{StandsUnder, AreNamedApart, is_same_place, parents_in, way_up, greatest_depth}
+use Rattle.plain_data.specs.declared.assoc.AssocConf.{AssocConf}
 use Rattle.assoc_values.specs.declared.assoc_words.AssocWords.{AssocWords}
 use Rattle.assoc_values.specs.declared.refusal.AssocKind.{AssocKind}
 use Rattle.assoc_values.specs.declared.refusal.AssocKind.TheVariants.{TwiceNamed, OverLimit}

@@ -1,17 +1,17 @@
 //! The associations, as far as they are read, with indexes of their names.
 
 ghost use Rattle.std.specs.Prelude.{◌≡◌, ◌<◌, ◌^◌, slice_get, option_copied};
-ghost use Rattle.slurm_text.specs.Assocs.{greatest_depth};
+ghost use Rattle.plain_data.specs.Assocs.{greatest_depth};
 ghost use Rattle.assoc_reader.specs.Tree.{is_root, depth_of};
 
 use crate::counts::Counts;
 use crate::name_index::NameIndex;
 use assoc_values::assoc_words::AssocWords;
 use assoc_values::refusal::AssocKind;
-use slurm_text::items::Items;
-use slurm_text::memory_error::Memory;
-use slurm_text::name::Name;
-use slurm_text::plain::assoc::AssocConf;
+use plain_data::items::Items;
+use small_texts::memory_error::Memory;
+use small_texts::name::Name;
+use plain_data::assoc::AssocConf;
 use std::alloc::Global;
 use std::marker::Model;
 

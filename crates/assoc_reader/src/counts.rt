@@ -1,6 +1,6 @@
 //! How many users there are, and how many associations belong to each account.
 
-use slurm_text::memory_error::Memory;
+use small_texts::memory_error::Memory;
 use std::alloc::Global;
 
 /// The numbers of users and of children.
@@ -15,8 +15,8 @@ pub(crate) struct Counts {
 
 impl Counts {
     ghost use Rattle.std.specs.Prelude.{ℕ, ◌≡◌, ◌≢◌, ◌+◌, ◌<◌, ◌≤◌, ◌^◌, ◌∷◌, ◌++◌, [], List, Option, length, if◌then◌else◌, OnOk, OnErr, IfSome};
-    ghost use Rattle.slurm_text.specs.Assocs.{is_same_place};
-    ghost use Rattle.slurm_text.specs.declared.plain.assoc.AssocConf.{AssocConf};
+    ghost use Rattle.plain_data.specs.Assocs.{is_same_place};
+    ghost use Rattle.plain_data.specs.declared.assoc.AssocConf.{AssocConf};
     ghost use Rattle.assoc_reader.specs.Index.{IsCount, kept_for};
 
     /// None.

@@ -9,8 +9,8 @@ use assoc_values::assoc_words::read_assoc_words;
 use assoc_values::keys::LineKind;
 use assoc_values::qos_words::read_qos_words;
 use assoc_values::refusal::{AssocKind, Fault};
-use slurm_text::memory_error::Memory;
-use slurm_text::name::Name;
+use small_texts::memory_error::Memory;
+use small_texts::name::Name;
 use std::alloc::Global;
 
 /// What lines say.

@@ -1,12 +1,12 @@
 //! The form of a line: a word, a dash, and a name in single quotes.
 
 ghost use Rattle.std.specs.Prelude.{◌≡◌, option_map};
-ghost use Rattle.slurm_text.specs.Name.{is_name};
+ghost use Rattle.small_texts.specs.Name.{is_name};
 ghost use Rattle.assoc_reader.specs.Lines.{is_skipped, is_ascii, form_in, form_of};
 
 use assoc_values::cuts::cut_at;
 use assoc_values::keys::{LineKind, line_kind};
-use slurm_text::name::is_name;
+use small_texts::name::is_name;
 
 /// A line of one of the forms, cut behind its name.
 #[derive(Clone, Copy)]

@@ -1,8 +1,8 @@
 //! The names of associations: a look-up costs the same however many there are.
 
-use slurm_text::memory_error::Memory;
-use slurm_text::name::Name;
-use slurm_text::plain::assoc::AssocConf;
+use small_texts::memory_error::Memory;
+use small_texts::name::Name;
+use plain_data::assoc::AssocConf;
 use std::alloc::Global;
 use std::collections::{HashMap, HashSet};
 
@@ -19,7 +19,7 @@ impl NameIndex {
     ghost use Rattle.std.specs.Prelude.{ℕ, ◌≡◌, ◌∷◌, ◌++◌, [], List, length, bytes_eq, false, None, OnOk, OnErr, IfOk};
     ghost use Rattle.std.specs.HashMap.{get};
     ghost use Rattle.std.specs.HashSet.{contains};
-    ghost use Rattle.slurm_text.specs.declared.plain.assoc.AssocConf.{AssocConf};
+    ghost use Rattle.plain_data.specs.declared.assoc.AssocConf.{AssocConf};
     ghost use Rattle.assoc_reader.specs.Index.{Indexes, is_same_user};
     ghost use Rattle.assoc_reader.specs.Tree.{account_place};
 

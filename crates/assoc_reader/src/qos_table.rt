@@ -1,15 +1,15 @@
 //! The qualities of service, as far as they are read.
 
 ghost use Rattle.std.specs.Prelude.{◌≡◌, codes, bytes_eq};
-ghost use Rattle.slurm_text.specs.Hosts.{has};
+ghost use Rattle.host_lists.specs.Hosts.{has};
 ghost use Rattle.assoc_reader.specs.Qos.{qos_names, qos_conf};
 
 use assoc_values::qos_words::QosWords;
 use assoc_values::refusal::AssocKind;
-use slurm_text::items::Items;
-use slurm_text::memory_error::Memory;
-use slurm_text::name::Name;
-use slurm_text::plain::assoc::QosConf;
+use plain_data::items::Items;
+use small_texts::memory_error::Memory;
+use small_texts::name::Name;
+use plain_data::assoc::QosConf;
 use std::alloc::Global;
 use std::marker::Model;
 
@@ -26,7 +26,7 @@ pub(crate) struct QosTable {
 
 impl Model for QosTable {
     ghost use Rattle.std.specs.Prelude.{List};
-    ghost use Rattle.slurm_text.specs.declared.plain.assoc.QosConf.{QosConf};
+    ghost use Rattle.plain_data.specs.declared.assoc.QosConf.{QosConf};
 
     ghost Value = { List QosConf };
 

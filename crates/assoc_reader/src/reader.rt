@@ -2,14 +2,14 @@
 
 ghost use Rattle.std.specs.Prelude.{ℕ, ◌≡◌, ◌≤◌, length, IfOk, IsErrOf, Ok, Err};
 ghost use Rattle.std.specs.Str.{byte};
-ghost use Rattle.slurm_text.specs.Fields.{fields};
+ghost use Rattle.small_texts.specs.Fields.{fields};
 ghost use Rattle.assoc_values.specs.declared.refusal.AssocKind.{AssocKind};
 ghost use Rattle.assoc_reader.specs.Reader.{after_lines, nothing_said, whole_file, assocs_in};
 
 use crate::draft::Draft;
 use assoc_values::refusal::{AssocKind, AssocRefusal, Fault};
-use slurm_text::fields::first_field;
-use slurm_text::plain::assoc::AssocFile;
+use small_texts::fields::first_field;
+use plain_data::assoc::AssocFile;
 use std::alloc::Global;
 
 const LONGEST_FILE: usize = 4_194_304;

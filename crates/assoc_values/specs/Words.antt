@@ -2,7 +2,7 @@
 use Rattle.std.specs.Prelude.{ℕ, Bool, if◌then◌else◌, List, [], ◌∷◌, bytes_eq, codes, Option, Some, None, option_map, Result}
 use Rattle.std.specs.Str.{byte}
 use Rattle.slurm_num.specs.Limits.{limit_of}
-use Rattle.slurm_text.specs.Fields.{fields}
+use Rattle.small_texts.specs.Fields.{fields}
 use Rattle.conf_values.specs.Values.{name_in, number_in, u32_in}
 use Rattle.assoc_values.specs.Keys.{assoc_key, qos_key}
 use Rattle.assoc_values.specs.Options.{with_option, said_by}

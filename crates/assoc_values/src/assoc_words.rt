@@ -10,9 +10,9 @@ use crate::refusal::{AssocKind, Fault};
 use crate::values::{read_cpus, read_limit};
 use conf_values::refusal::ValueRefusal;
 use conf_values::values::{read_name, read_number};
-use slurm_text::name::Name;
-use slurm_text::plain::assoc::AssocLimits;
-use slurm_text::ranged::Ranged;
+use small_texts::name::Name;
+use plain_data::assoc::AssocLimits;
+use plain_data::ranged::Ranged;
 use std::alloc::Global;
 
 /// What the options of an account or of a user say, sacctmgr(1).

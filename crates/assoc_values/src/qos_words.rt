@@ -10,7 +10,7 @@ use crate::refusal::{AssocKind, Fault};
 use crate::values::{read_cpus, read_limit};
 use conf_values::refusal::ValueRefusal;
 use conf_values::values::{read_limit as read_time, read_u32};
-use slurm_text::plain::assoc::QosLimits;
+use plain_data::assoc::QosLimits;
 use std::alloc::Global;
 
 /// What the options of a quality of service say (own).

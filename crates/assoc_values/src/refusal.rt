@@ -4,7 +4,7 @@ ghost use Rattle.std.specs.Prelude.{◌≡◌, ◌≤◌, length};
 ghost use Rattle.assoc_values.specs.Refusal.{kind_text};
 
 use conf_values::refusal::ValueRefusal;
-use slurm_text::memory_error;
+use small_texts::memory_error;
 use std::error::Error;
 use std::fmt;
 

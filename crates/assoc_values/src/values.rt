@@ -4,8 +4,8 @@ ghost use Rattle.std.specs.Prelude.{◌≡◌};
 ghost use Rattle.assoc_values.specs.Words.{limit_in, cpus_in};
 
 use conf_values::values::read_number;
-use slurm_text::fields::{UpToThree, up_to_three};
-use slurm_text::ranged::Ranged;
+use small_texts::fields::{UpToThree, up_to_three};
+use plain_data::ranged::Ranged;
 
 /// A limit: a number of at most ten digits.
 pub(crate) fn read_limit(text: &[u8]) -> Option<Ranged<0, 9999999999>>

@@ -14,8 +14,8 @@ use Rattle.backfill_planner.proofs.Windows.{over_lower, over_reached}
 use Rattle.backfill_planner.proofs.Barring.{barred-longer, unless-less}
 use Rattle.node_pick.specs.Sets.{capacity, Fits}
 use Rattle.node_pick.specs.Choosing.{numbers_from, chosen}
-use Rattle.slurm_text.specs.declared.plain.mem_ask.MemAsk.{MemAsk}
-use Rattle.slurm_text.specs.declared.plain.mem_ask.MemAsk.TheVariants.{All as AllMem, PerNode, PerCpu}
+use Rattle.plain_data.specs.declared.mem_ask.MemAsk.{MemAsk}
+use Rattle.plain_data.specs.declared.mem_ask.MemAsk.TheVariants.{All as AllMem, PerNode, PerCpu}
 use Rattle.backfill_planner.specs.LowerLaws.{LowerLaws}
 use Rattle.backfill_planner.specs.declared.Placed.{Placed}
 use Rattle.backfill_planner.specs.declared.job.PlanJob.{PlanJob}

@@ -3,8 +3,8 @@ use Rattle.std.specs.Prelude.{◌≡◌, ℕ, ◌≤◌, ◌<◌, List, None}
 use Rattle.resource_profile.specs.declared.NodeRoom.{NodeRoom}
 use Rattle.resource_profile.specs.declared.Hold.{Hold}
 use Rattle.node_pick.specs.Sets.{AsksNoMore}
-use Rattle.slurm_text.specs.declared.plain.mem_ask.MemAsk.{MemAsk}
-use Rattle.slurm_text.specs.declared.plain.mem_ask.MemAsk.TheVariants.{All, PerNode, PerCpu}
+use Rattle.plain_data.specs.declared.mem_ask.MemAsk.{MemAsk}
+use Rattle.plain_data.specs.declared.mem_ask.MemAsk.TheVariants.{All, PerNode, PerCpu}
 use Rattle.backfill_planner.specs.declared.job.PlanJob.{PlanJob}
 use Rattle.backfill_planner.specs.Giving.{window_end}
 use Rattle.backfill_planner.specs.Plans.{placement_at}

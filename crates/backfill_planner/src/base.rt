@@ -1,5 +1,5 @@
 use resource_profile::{Hold, NodeRoom};
-use slurm_text::items::Items;
+use plain_data::items::Items;
 use std::marker::Model;
 
 /// What a plan begins with: the nodes' rooms, what the running jobs hold of them, and the last second at which a start

@@ -16,7 +16,7 @@ ghost use Rattle.backfill_planner.specs.LowerLaws.{LowerLaws};
 
 use node_pick::laws::{chosen_is_first, lesser_needs_fit};
 use resource_profile::laws::free_amounts_fit;
-use slurm_text::plain::seconds::LAST_START;
+use plain_data::seconds::LAST_START;
 
 // What the crates below promise.
 pub(crate) fn lower_laws()

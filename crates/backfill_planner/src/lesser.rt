@@ -5,8 +5,8 @@ ghost use Rattle.backfill_planner.specs.Lesser.{IsNoMoreMem, IsLesser};
 
 use crate::job::{Barred, PlanJob};
 use node_pick::Need;
-use slurm_text::plain::mem_ask::MemAsk;
-use slurm_text::plain::seconds::FOREVER;
+use plain_data::mem_ask::MemAsk;
+use plain_data::seconds::FOREVER;
 
 // Whether one need asks no more than the other.
 fn asks_no_more(lesser: &Need, need: &Need) -> bool

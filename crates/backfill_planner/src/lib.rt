@@ -4,8 +4,8 @@
 
 ghost use Rattle.std.specs.Prelude.{◌≡◌, IfOk};
 
-use slurm_text::items::Items;
-use slurm_text::memory_error::Memory;
+use plain_data::items::Items;
+use small_texts::memory_error::Memory;
 use std::alloc::Global;
 
 mod barred_times;
@@ -24,7 +24,7 @@ pub use job::{Barred, BarredList, NodeList, PlanJob};
 pub use placing::place;
 pub use planned::{Planned, plan};
 pub use planning::Planning;
-pub use slurm_text::plain::mem_ask::MemAsk;
+pub use plain_data::mem_ask::MemAsk;
 
 /// A job's part on one node.
 #[derive(Clone, Copy, Debug, PartialEq, Eq)]

@@ -16,10 +16,10 @@ use crate::{Placed, Share};
 use node_pick::laws::fitting_sets_are_within;
 use node_pick::{Dealt, pick};
 use resource_profile::{NodeRoom, Profile, Steps};
-use slurm_text::items::Items;
-use slurm_text::memory_error::Memory;
-use slurm_text::plain::mem_ask::MemAsk;
-use slurm_text::plain::seconds::{FOREVER, LAST_START};
+use plain_data::items::Items;
+use small_texts::memory_error::Memory;
+use plain_data::mem_ask::MemAsk;
+use plain_data::seconds::{FOREVER, LAST_START};
 use std::alloc::Global;
 
 // Where the job's window ends that begins at `start`.

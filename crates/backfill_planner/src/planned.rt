@@ -12,7 +12,7 @@ use crate::base::Base;
 use crate::job::PlanJob;
 use crate::planning::Planning;
 use resource_profile::Steps;
-use slurm_text::memory_error::Memory;
+use small_texts::memory_error::Memory;
 use std::alloc::Global;
 use std::marker::Model;
 

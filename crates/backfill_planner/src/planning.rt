@@ -18,8 +18,8 @@ use crate::placing::{place, window_end};
 use crate::planned::Planned;
 use crate::seen::{Searches, Seen};
 use resource_profile::{Hold, Profile, Steps};
-use slurm_text::memory_error::Memory;
-use slurm_text::plain::seconds::LAST_START;
+use small_texts::memory_error::Memory;
+use plain_data::seconds::LAST_START;
 use std::alloc::Global;
 use std::marker::Model;
 

@@ -9,7 +9,7 @@ ghost use Rattle.backfill_planner.specs.declared.job.PlanJob.{PlanJob as AJob};
 use crate::job::PlanJob;
 use crate::laws::lower_laws;
 use crate::lesser::is_lesser;
-use slurm_text::memory_error::Memory;
+use small_texts::memory_error::Memory;
 use std::alloc::Global;
 
 // How many searches are kept in mind.

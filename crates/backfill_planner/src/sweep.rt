@@ -6,8 +6,8 @@ use crate::barred_times::{barred_until, next_begin};
 use crate::job::PlanJob;
 use crate::placing::{tasks_given, window_end};
 use resource_profile::{NodeRoom, Profile};
-use slurm_text::memory_error::Memory;
-use slurm_text::plain::seconds::LAST_START;
+use small_texts::memory_error::Memory;
+use plain_data::seconds::LAST_START;
 use std::alloc::Global;
 
 // What a node can give, and the second before which that holds.

@@ -10,7 +10,7 @@ use crate::looking::{Scan, Sight, look};
 use crate::parts::{attached_block, line_block};
 use crate::{Block, Form, Next};
 use bytes::BytesMut;
-use slurm_text::memory_error::Memory;
+use small_texts::memory_error::Memory;
 use std::alloc::Global;
 use std::marker::Model;
 

@@ -5,7 +5,7 @@ ghost use Rattle.block_frame.specs.Looking.{IsFrameSight};
 
 use crate::lines::line_len;
 use crate::{Block, Text};
-use slurm_text::memory_error::Memory;
+use small_texts::memory_error::Memory;
 use std::alloc::Global;
 
 /// How many bytes the length of a frame has.

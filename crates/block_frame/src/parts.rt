@@ -3,7 +3,7 @@ ghost use Rattle.std.specs.Prelude.{◌≡◌, ◌≤◌, ◌+◌, length, true,
 ghost use Rattle.block_frame.specs.Looking.{attached_block, line_block, undotted};
 
 use crate::{Block, Text};
-use slurm_text::memory_error::Memory;
+use small_texts::memory_error::Memory;
 use std::alloc::{AllocError, Global};
 
 // The lines of an attachment, without the dots that its spelling added.

@@ -3,7 +3,7 @@ ghost use Rattle.std.specs.Prelude.{◌≡◌, ◌≤◌, ℕ, List, length, IfO
 ghost use Rattle.block_frame.specs.Replies.{IsReply, framed_reply, place_said, reply_frame, too_long};
 
 use crate::framed::{LENGTH_SIZE, announced, byte_at};
-use slurm_text::memory_error::Memory;
+use small_texts::memory_error::Memory;
 use std::alloc::Global;
 
 /// How many bytes of a reply frame stand between its length and its text: a status, and a place of eight bytes.

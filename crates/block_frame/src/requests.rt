@@ -5,7 +5,7 @@ ghost use Rattle.block_frame.specs.Grammar.{spelled};
 ghost use Rattle.block_frame.specs.declared.form.Form.TheVariants.{Framed};
 
 use crate::framed::LENGTH_SIZE;
-use slurm_text::memory_error::Memory;
+use small_texts::memory_error::Memory;
 use std::alloc::{AllocError, Global};
 
 // How many bytes the content has of a request with this header and attachment.

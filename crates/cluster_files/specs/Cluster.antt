@@ -1,7 +1,7 @@
 -- The cluster of a run: what the file slurm.conf and the association file say.
 use Rattle.std.specs.Prelude.{ℕ, List, Result, Ok, Err}
-use Rattle.slurm_text.specs.Assocs.{AssocView}
-use Rattle.slurm_text.specs.Confs.{ConfView}
+use Rattle.plain_data.specs.Assocs.{AssocView}
+use Rattle.plain_data.specs.Confs.{ConfView}
 use Rattle.assoc_reader.specs.Reader.{assocs_in}
 use Rattle.assoc_reader.specs.declared.refusal.AssocRefusal.{AssocRefusal}
 use Rattle.assoc_reader.specs.declared.refusal.AssocRefusal.TheVariants as assoc_fault

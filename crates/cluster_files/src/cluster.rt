@@ -14,7 +14,7 @@ use conf_reader::refusal::{ConfKind, ConfRefusal};
 use ctl_core::controller::Ctl;
 use ctl_desk::book::Book;
 use ctl_desk::own_desk::{OwnDesk, own_desk};
-use slurm_text::memory_error;
+use small_texts::memory_error;
 use std::alloc::Global;
 
 /// Why the two files give no cluster.

@@ -8,9 +8,9 @@ use Rattle.operands.specs.Targets.{target_by}
 use Rattle.operands.specs.declared.bad_word.BadWord.{BadWord}
 use Rattle.option_words.specs.Arguments.{Part, Table, plain, bad as off, flag, valued, lacking, parts_left}
 use Rattle.option_words.specs.declared.refusal.WordKind.TheVariants.{MissingValue, MissingWord, StrayWord}
-use Rattle.slurm_text.specs.declared.plain.target.Target.{Target}
-use Rattle.slurm_text.specs.declared.plain.target.Targets.{Targets}
-use Rattle.slurm_text.specs.declared.plain.target.Targets.TheVariants.{List as Listed, User}
+use Rattle.request_data.specs.declared.target.Target.{Target}
+use Rattle.request_data.specs.declared.target.Targets.{Targets}
+use Rattle.request_data.specs.declared.target.Targets.TheVariants.{List as Listed, User}
 use Rattle.command_words.specs.declared.cancel.TheConstants.{SCANCEL_OPTIONS}
 use Rattle.command_words.specs.declared.cancel.CancelFlag.{CancelFlag}
 use Rattle.command_words.specs.declared.cancel.CancelOption.{CancelOption}

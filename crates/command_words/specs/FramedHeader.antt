@@ -1,8 +1,8 @@
 -- What the header of a framed block says, and what its caller asks at a moment.
 use Rattle.std.specs.Prelude.{ℕ, ◌||◌, Bool, false, nat_lt, if◌then◌else◌, List, drop, length, slice_get, Option, Some, None}
 use Rattle.std.specs.Option.{option_map_or}
-use Rattle.slurm_text.specs.Options.{◌>>=◌}
-use Rattle.slurm_text.specs.Words.{first_bad, words_in}
+use Rattle.small_texts.specs.Options.{◌>>=◌}
+use Rattle.line_words.specs.Words.{first_bad, words_in}
 use Rattle.operands.specs.Names.{name_by}
 use Rattle.command_words.specs.Header.{asked_by}
 use Rattle.command_words.specs.declared.framed.Caller.{Caller}

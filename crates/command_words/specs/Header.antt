@@ -1,8 +1,8 @@
 -- What a header and its attachment ask.
 use Rattle.std.specs.Prelude.{ℕ, List, drop, slice_get, Option, Some, None, Result, Ok, Err}
-use Rattle.slurm_text.specs.declared.plain.request.Request.{Request}
-use Rattle.slurm_text.specs.Options.{◌>>=◌}
-use Rattle.slurm_text.specs.Words.{first_bad, words_in}
+use Rattle.request_data.specs.declared.request.Request.{Request}
+use Rattle.small_texts.specs.Options.{◌>>=◌}
+use Rattle.line_words.specs.Words.{first_bad, words_in}
 use Rattle.command_words.specs.Command.{command_named}
 use Rattle.operands.specs.Names.{name_by, u64_by}
 use Rattle.command_words.specs.Wanted.{wanted_by}

@@ -8,7 +8,7 @@ use Rattle.operands.specs.Pairs.{pairs_say}
 use Rattle.operands.specs.declared.bad_word.BadWord.{BadWord}
 use Rattle.option_words.specs.declared.refusal.WordKind.{WordKind}
 use Rattle.option_words.specs.declared.refusal.WordKind.TheVariants.{UnknownOption}
-use Rattle.slurm_text.specs.declared.plain.report.Report.{Report}
+use Rattle.request_data.specs.declared.report.Report.{Report}
 use Rattle.operands.specs.Starts.{starts_by, dones_by}
 use Rattle.command_words.specs.declared.report.Named.{Named}
 

@@ -3,9 +3,9 @@ use Rattle.std.specs.Prelude.{ℕ, List, Option, Result, Ok, Err}
 use Rattle.sbatch_reader.specs.Job.{job_in}
 use Rattle.sbatch_reader.specs.declared.refusal.JobRefusal.{JobRefusal}
 use Rattle.sbatch_reader.specs.declared.refusal.JobRefusal.TheVariants.{BadWord, BadLine, Memory}
-use Rattle.slurm_text.specs.declared.plain.job.JobDesc.{JobDesc}
-use Rattle.slurm_text.specs.declared.plain.request.Request.{Request}
-use Rattle.slurm_text.specs.declared.plain.request.Request.TheVariants.{Submit}
+use Rattle.plain_data.specs.declared.job.JobDesc.{JobDesc}
+use Rattle.request_data.specs.declared.request.Request.{Request}
+use Rattle.request_data.specs.declared.request.Request.TheVariants.{Submit}
 use Rattle.option_words.specs.declared.refusal.WordKind.TheVariants.{MissingWord}
 use Rattle.command_words.specs.declared.fault.WordFault.{WordFault}
 use Rattle.command_words.specs.declared.fault.WordFault.TheVariants.{Word, Line}

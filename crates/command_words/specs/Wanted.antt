@@ -5,8 +5,8 @@ use Rattle.operands.specs.Operands.{closed_at}
 use Rattle.operands.specs.declared.bad_word.BadWord.{BadWord}
 use Rattle.option_words.specs.declared.refusal.WordKind.TheVariants.{StrayWord}
 use Rattle.scontrol_words.specs.Scontrol.{scontrol_by}
-use Rattle.slurm_text.specs.declared.plain.request.Request.{Request}
-use Rattle.slurm_text.specs.declared.plain.request.Request.TheVariants.{Cancel, Report, Pass, Show}
+use Rattle.request_data.specs.declared.request.Request.{Request}
+use Rattle.request_data.specs.declared.request.Request.TheVariants.{Cancel, Report, Pass, Show}
 use Rattle.command_words.specs.Cancel.{scancel_by}
 use Rattle.command_words.specs.Queries.{squeue_by, sinfo_by, sprio_by}
 use Rattle.command_words.specs.Report.{report_by}

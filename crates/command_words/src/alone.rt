@@ -10,9 +10,9 @@ use crate::report::read_report;
 use operands::bad_word::{BadWord, WordKind, fault_of};
 use operands::operand::closed_at;
 use scontrol_words::scontrol::read_scontrol;
-use slurm_text::memory_error::Memory;
-use slurm_text::plain::request::Request;
-use slurm_text::words::Words;
+use small_texts::memory_error::Memory;
+use request_data::request::Request;
+use line_words::words::Words;
 use std::alloc::Global;
 
 /// Reads the words of a command other than sbatch(1) at the moment `now`, the first of which is its name: what they ask

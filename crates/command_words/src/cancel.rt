@@ -9,11 +9,11 @@ use operands::names::read_name;
 use operands::targets::read_target;
 use option_words::arguments::Takes::{self, Value};
 use option_words::arguments::{Argument, Cursor, next_argument};
-use slurm_text::items::Items;
-use slurm_text::memory_error::Memory;
-use slurm_text::name::Name;
-use slurm_text::plain::target::{Target, Targets};
-use slurm_text::words::Words;
+use plain_data::items::Items;
+use small_texts::memory_error::Memory;
+use small_texts::name::Name;
+use request_data::target::{Target, Targets};
+use line_words::words::Words;
 use std::alloc::Global;
 
 /// There is no option that stands without a value.

@@ -6,9 +6,9 @@ ghost use Rattle.command_words.specs.FramedHeader.{asked_at, called_by, caller_i
 
 use crate::header::{Head, Meaning, read_asked};
 use operands::names::read_name;
-use slurm_text::memory_error::Memory;
-use slurm_text::name::Name;
-use slurm_text::words::{Words, WordsRefusal, split_words};
+use small_texts::memory_error::Memory;
+use small_texts::name::Name;
+use line_words::words::{Words, WordsRefusal, split_words};
 use std::alloc::Global;
 
 /// How many bytes a header has at the most. The frame may have more (own).

@@ -7,11 +7,11 @@ use crate::command::{Command, command_named};
 use crate::fault::WordFault;
 use crate::wanted::read_command;
 use operands::names::read_name;
-use slurm_text::digits::parse_number;
-use slurm_text::memory_error::Memory;
-use slurm_text::name::Name;
-use slurm_text::plain::request::Request;
-use slurm_text::words::{Words, WordsRefusal, split_words};
+use small_texts::digits::parse_number;
+use small_texts::memory_error::Memory;
+use small_texts::name::Name;
+use request_data::request::Request;
+use line_words::words::{Words, WordsRefusal, split_words};
 use std::alloc::Global;
 
 // A longer header isn't held.

@@ -10,12 +10,12 @@ use operands::names::read_name;
 use operands::targets::{read_states, read_targets};
 use option_words::arguments::Takes::{self, Nothing, Value};
 use option_words::arguments::{Argument, Cursor, next_argument};
-use slurm_text::items::Items;
-use slurm_text::memory_error::Memory;
-use slurm_text::name::Name;
-use slurm_text::plain::query::{JobQuery, Piece, Query, StateCode, Who};
-use slurm_text::plain::target::Target;
-use slurm_text::words::Words;
+use plain_data::items::Items;
+use small_texts::memory_error::Memory;
+use small_texts::name::Name;
+use request_data::query::{JobQuery, Piece, Query, StateCode, Who};
+use request_data::target::Target;
+use line_words::words::Words;
 use squeue_format::format::{FormatRefusal, read_format};
 use std::alloc::Global;
 

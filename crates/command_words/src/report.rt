@@ -11,12 +11,12 @@ use operands::members::read_all;
 use operands::names::read_name;
 use operands::operand::{good_at, word_at};
 use operands::pairs::{Pairs, read_pairs};
-use slurm_text::digits::parse_number;
-use slurm_text::items::Items;
-use slurm_text::memory_error::Memory;
-use slurm_text::name::Name;
-use slurm_text::plain::report::{Done, Report, Start};
-use slurm_text::words::Words;
+use small_texts::digits::parse_number;
+use plain_data::items::Items;
+use small_texts::memory_error::Memory;
+use small_texts::name::Name;
+use request_data::report::{Done, Report, Start};
+use line_words::words::Words;
 use std::alloc::Global;
 
 // The starts that a report's words name.

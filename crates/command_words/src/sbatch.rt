@@ -6,9 +6,9 @@ ghost use Rattle.command_words.specs.Sbatch.{sbatch_by};
 use crate::fault::WordFault;
 use sbatch_reader::reader::read_job;
 use sbatch_reader::refusal::JobRefusal;
-use slurm_text::memory_error::Memory;
-use slurm_text::plain::request::Request;
-use slurm_text::words::Words;
+use small_texts::memory_error::Memory;
+use request_data::request::Request;
+use line_words::words::Words;
 use std::alloc::Global;
 
 /// The job that the words and the script ask for at the moment `now`, or the first bad place.

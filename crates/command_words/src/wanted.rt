@@ -8,9 +8,9 @@ use crate::command::Command;
 use crate::fault::{WordFault, WordKind};
 use crate::sbatch::read_sbatch;
 use operands::bad_word::BadWord;
-use slurm_text::memory_error::Memory;
-use slurm_text::plain::request::Request;
-use slurm_text::words::Words;
+use small_texts::memory_error::Memory;
+use request_data::request::Request;
+use line_words::words::Words;
 use std::alloc::Global;
 
 /// Reads the words of a command, the first of which is its name, and its attachment at the moment `now`: what they ask

@@ -3,13 +3,13 @@ use Rattle.std.specs.Prelude.{ℕ, ◌+◌, ◌*◌, nat_lt, nat_le, Bool, true,
 use Rattle.std.specs.Prelude.{codes, Option, Some, None, option_map, unwrap_or, Result}
 use Rattle.std.specs.List.{list_any}
 use Rattle.std.specs.Option.{option_or}
-use Rattle.slurm_text.specs.Hosts.{has}
+use Rattle.host_lists.specs.Hosts.{has}
 use Rattle.conf_values.specs.Keys.{node_key}
 use Rattle.conf_values.specs.Refusal.{◌>>=◌}
 use Rattle.conf_values.specs.Values.{number_in, names_in, nodes_in, node_start}
 use Rattle.conf_entries.specs.Words.{entry_in, unless, said_by}
-use Rattle.slurm_text.specs.declared.plain.conf.NodeConf.{NodeConf}
-use Rattle.slurm_text.specs.declared.plain.conf.NodeStart.TheVariants.{Unknown}
+use Rattle.plain_data.specs.declared.conf.NodeConf.{NodeConf}
+use Rattle.plain_data.specs.declared.conf.NodeStart.TheVariants.{Unknown}
 use Rattle.conf_values.specs.declared.keys.NodeKey.{NodeKey}
 use Rattle.conf_values.specs.declared.keys.NodeKey.TheVariants as key
 use Rattle.conf_entries.specs.declared.node_lines.NodeNames.{NodeNames}

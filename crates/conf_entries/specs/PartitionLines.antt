@@ -3,15 +3,15 @@ use Rattle.std.specs.Prelude.{ℕ, nat_le, Bool, true, false, if◌then◌else�
 use Rattle.std.specs.Prelude.{Option, Some, None, option_map, unwrap_or, Result}
 use Rattle.std.specs.Option.{option_or}
 use Rattle.slurm_num.specs.Limits.{limit_of}
-use Rattle.slurm_text.specs.declared.plain.limit.Limit.TheVariants.{Unlimited}
+use Rattle.plain_data.specs.declared.limit.Limit.TheVariants.{Unlimited}
 use Rattle.conf_values.specs.Keys.{partition_key}
 use Rattle.conf_values.specs.Refusal.{◌>>=◌}
-use Rattle.slurm_text.specs.Hosts.{has}
+use Rattle.host_lists.specs.Hosts.{has}
 use Rattle.conf_values.specs.Values.{name_in, number_in, u32_in, nodes_in, is_word, part_state, yes_or_no, exclusive_in}
 use Rattle.conf_values.specs.Values.{allowed_in, most_nodes, mem_per_node, mem_per_cpu}
 use Rattle.conf_entries.specs.Words.{entry_in, unless, said_by}
-use Rattle.slurm_text.specs.declared.plain.conf.PartConf.{PartConf}
-use Rattle.slurm_text.specs.declared.plain.conf.PartState.TheVariants.{Up}
+use Rattle.plain_data.specs.declared.conf.PartConf.{PartConf}
+use Rattle.plain_data.specs.declared.conf.PartState.TheVariants.{Up}
 use Rattle.conf_values.specs.declared.keys.PartitionKey.{PartitionKey}
 use Rattle.conf_values.specs.declared.keys.PartitionKey.TheVariants as key
 use Rattle.conf_entries.specs.declared.partition_lines.PartName.{PartName}

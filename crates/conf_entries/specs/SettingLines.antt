@@ -3,14 +3,14 @@ use Rattle.std.specs.Prelude.{ℕ, ◌==◌, true, if◌then◌else◌, List, []
 use Rattle.std.specs.Prelude.{option_map, unwrap_or, Result}
 use Rattle.std.specs.List.{list_any}
 use Rattle.slurm_num.specs.Limits.{limit_of}
-use Rattle.slurm_text.specs.Options.{◌>>=◌}
-use Rattle.slurm_text.specs.declared.plain.limit.Limit.{Limit}
-use Rattle.slurm_text.specs.declared.plain.limit.Limit.TheVariants.{Minutes, Unlimited}
+use Rattle.small_texts.specs.Options.{◌>>=◌}
+use Rattle.plain_data.specs.declared.limit.Limit.{Limit}
+use Rattle.plain_data.specs.declared.limit.Limit.TheVariants.{Minutes, Unlimited}
 use Rattle.conf_values.specs.Keys.{setting_key}
 use Rattle.conf_values.specs.Values.{name_in, number_in, u32_in, mem_per_node, mem_per_cpu}
 use Rattle.conf_values.specs.Scheduler.{scheduler_in, no_items}
 use Rattle.conf_entries.specs.Words.{entry_in, said_by}
-use Rattle.slurm_text.specs.declared.plain.conf.Settings.{Settings}
+use Rattle.plain_data.specs.declared.conf.Settings.{Settings}
 use Rattle.conf_values.specs.declared.keys.SettingKey.{SettingKey}
 use Rattle.conf_values.specs.declared.keys.SettingKey.TheVariants as key
 use Rattle.conf_entries.specs.declared.setting_lines.SettingEntry.{SettingEntry}

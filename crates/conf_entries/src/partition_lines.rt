@@ -7,7 +7,7 @@ ghost use Rattle.conf_values.specs.Keys.{partition_key};
 ghost use Rattle.conf_values.specs.Values.{is_word};
 ghost use Rattle.conf_entries.specs.PartitionLines.{part_name, part_nodes, part_entry, partition_names, part_fault};
 ghost use Rattle.conf_entries.specs.PartitionLines.{part_word, part_line};
-ghost use Rattle.slurm_text.specs.Hosts.{has};
+ghost use Rattle.host_lists.specs.Hosts.{has};
 ghost use Rattle.conf_entries.specs.Words.{entry_in};
 ghost use Rattle.conf_values.specs.declared.refusal.ConfKind.{ConfKind};
 
@@ -20,14 +20,14 @@ use conf_values::values::{
     read_allowed, read_exclusive, read_limit, read_mem_per_cpu, read_mem_per_node, read_most_nodes,
     read_name, read_nodes, read_number, read_part_state, read_u32, read_yes_or_no,
 };
-use slurm_text::items::Items;
-use slurm_text::keywords::is_keyword;
-use slurm_text::memory_error::Memory;
-use slurm_text::name::Name;
-use slurm_text::plain::conf::{PartConf, PartState};
-use slurm_text::plain::limit::Limit;
-use slurm_text::plain::mem_ask::MemAsk;
-use slurm_text::ranged::Ranged;
+use plain_data::items::Items;
+use small_texts::keywords::is_keyword;
+use small_texts::memory_error::Memory;
+use small_texts::name::Name;
+use plain_data::conf::{PartConf, PartState};
+use plain_data::limit::Limit;
+use plain_data::mem_ask::MemAsk;
+use plain_data::ranged::Ranged;
 use std::alloc::Global;
 
 const MOST_PARTITIONS: usize = 64;

@@ -17,12 +17,12 @@ use conf_values::scheduler::{Scheduler, read_scheduler};
 use conf_values::values::{
     read_limit, read_mem_per_cpu, read_mem_per_node, read_name, read_number, read_u32,
 };
-use slurm_text::memory_error::Memory;
-use slurm_text::name::Name;
-use slurm_text::plain::conf::Settings;
-use slurm_text::plain::limit::Limit;
-use slurm_text::plain::mem_ask::MemAsk;
-use slurm_text::ranged::Ranged;
+use small_texts::memory_error::Memory;
+use small_texts::name::Name;
+use plain_data::conf::Settings;
+use plain_data::limit::Limit;
+use plain_data::mem_ask::MemAsk;
+use plain_data::ranged::Ranged;
 use std::alloc::Global;
 
 /// What one word of a line says.

@@ -2,7 +2,7 @@
 use Rattle.std.proofs.Common.{ℕ, ◌≡◌, ◌==◌, ◌+◌, ◌<◌, ◌++◌, List, [], ◌∷◌, length, Option, Some, None, true, false, refl, ap, sym, ◌∙◌, arith, append_assoc}
 use Rattle.std.proofs.lemmas.List.Splits.{length-slice_split, join_with_byte-slice_split}
 use Rattle.std.specs.List.{join_with_byte}
-use Rattle.slurm_text.specs.Fields.{fields, fields_of_rest}
+use Rattle.small_texts.specs.Fields.{fields, fields_of_rest}
 use Rattle.conf_lines.specs.Lines.{NumberedLine, ends_with, without_last, without_return, without_returns, joined, logical_from, lines_of_rest}
 
 more_lines : (line : List ℕ) (lines : List (List ℕ)) → 0 < length lines → without_returns (line ∷ lines) ≡ without_return line ∷ without_returns lines

@@ -1,7 +1,7 @@
 -- The logical lines of a configuration file.
 use Rattle.std.specs.Prelude.{ℕ, ◌+◌, ◌-◌, Bool, ◌==◌, if◌then◌else◌, List, [], ◌∷◌, ◌++◌, length, take, slice_index, Option, Some, None}
 use Rattle.std.specs.Str.{byte}
-use Rattle.slurm_text.specs.Fields.{fields_of_rest}
+use Rattle.small_texts.specs.Fields.{fields_of_rest}
 use Rattle.conf_lines.specs.declared.lines.LineText.{LineText}
 use Rattle.conf_lines.specs.declared.lines.LineText.TheVariants.{Whole, Joined}
 

@@ -3,11 +3,11 @@
 ghost use Rattle.std.specs.Prelude.{ℕ, ◌≡◌, ◌≤◌, ◌<◌, ◌+◌, ◌∷◌, ◌++◌, length, if◌then◌else◌, IfOk, IfSome, Some, option_map, option_copied, MatchOption};
 ghost use Rattle.std.specs.Option.{option_len};
 ghost use Rattle.std.specs.Str.{byte};
-ghost use Rattle.slurm_text.specs.Fields.{fields, fields_of_rest};
+ghost use Rattle.small_texts.specs.Fields.{fields, fields_of_rest};
 ghost use Rattle.conf_lines.specs.Lines.{ends_with, without_last, without_return, without_returns, joined, lines_of_rest, line_bytes, bytes_left};
 
-use slurm_text::fields::first_field;
-use slurm_text::memory_error::Memory;
+use small_texts::fields::first_field;
+use small_texts::memory_error::Memory;
 use std::alloc::Global;
 
 /// The text of a logical line.

@@ -5,9 +5,9 @@ use Rattle.std.proofs.Common.{ap, ◌∙◌, arith}
 use Rattle.std.proofs.lemmas.Bool.Decides.{nat_tests}
 use Rattle.std.proofs.lemmas.List.{map-append, length-append, length-map}
 use Rattle.std.specs.List.{list_any}
-use Rattle.slurm_text.specs.Confs.{node_names}
-use Rattle.slurm_text.specs.Hosts.{has}
-use Rattle.slurm_text.specs.declared.plain.conf.NodeConf.{NodeConf}
+use Rattle.plain_data.specs.Confs.{node_names}
+use Rattle.host_lists.specs.Hosts.{has}
+use Rattle.plain_data.specs.declared.conf.NodeConf.{NodeConf}
 use Rattle.conf_values.specs.Keys.{node_key}
 use Rattle.conf_values.specs.Values.{nodes_in}
 use Rattle.conf_values.specs.declared.keys.NodeKey.{NodeKey}

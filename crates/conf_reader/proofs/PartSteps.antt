@@ -4,7 +4,7 @@ use Rattle.std.proofs.Common.{Option, Some, None, option_map, IfSome, Ok, IfOk, 
 use Rattle.std.proofs.lemmas.Bool.Decides.{nat_tests}
 use Rattle.std.proofs.lemmas.List.{map-append, length-append, length-map}
 use Rattle.std.proofs.lemmas.List.Elements.{All-push}
-use Rattle.slurm_text.specs.Hosts.{has}
+use Rattle.host_lists.specs.Hosts.{has}
 use Rattle.conf_values.specs.Keys.{partition_key}
 use Rattle.conf_values.specs.Values.{nodes_in, is_word}
 use Rattle.conf_values.specs.declared.keys.PartitionKey.{PartitionKey}

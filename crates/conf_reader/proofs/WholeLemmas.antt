@@ -8,10 +8,10 @@ use Rattle.std.proofs.lemmas.List.Folds.{Any-from_list_any}
 use Rattle.std.proofs.lemmas.Slice.Eq.{bytes_eq-Decides}
 use Rattle.std.specs.List.{list_any}
 use Rattle.std.specs.Str.{bytes_eq}
-use Rattle.slurm_text.specs.Confs.{ConfView, node_names, IsOfNodes, IsConf}
-use Rattle.slurm_text.specs.Hosts.{has}
-use Rattle.slurm_text.specs.declared.plain.conf.NodeConf.{NodeConf}
-use Rattle.slurm_text.specs.declared.plain.conf.PartConf.{PartConf}
+use Rattle.plain_data.specs.Confs.{ConfView, node_names, IsOfNodes, IsConf}
+use Rattle.host_lists.specs.Hosts.{has}
+use Rattle.plain_data.specs.declared.conf.NodeConf.{NodeConf}
+use Rattle.plain_data.specs.declared.conf.PartConf.{PartConf}
 use Rattle.conf_entries.specs.PartitionLines.{partition_names}
 use Rattle.conf_reader.specs.Reader.{has_unknown, first_unknown, nodes_by, partitions_by, conf_of_lines, known_all}
 use Rattle.conf_reader.specs.Reader.{whole_file}

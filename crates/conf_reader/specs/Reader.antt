@@ -12,10 +12,10 @@ use Rattle.conf_entries.specs.PartitionLines.{part_line, partition_names, no_par
 use Rattle.conf_entries.specs.PartitionLines.{over as parts_over}
 use Rattle.conf_entries.specs.SettingLines.{setting_line, no_settings, settings_of}
 use Rattle.conf_values.specs.Refusal.{◌>>=◌}
-use Rattle.slurm_text.specs.Hosts.{has}
+use Rattle.host_lists.specs.Hosts.{has}
 use Rattle.conf_values.specs.Values.{is_word}
-use Rattle.slurm_text.specs.Confs.{ConfView, node_names}
-use Rattle.slurm_text.specs.declared.plain.conf.PartConf.{PartConf}
+use Rattle.plain_data.specs.Confs.{ConfView, node_names}
+use Rattle.plain_data.specs.declared.conf.PartConf.{PartConf}
 use Rattle.conf_reader.specs.declared.draft.Draft.{Draft}
 use Rattle.conf_reader.specs.declared.draft.LineKind.{LineKind}
 use Rattle.conf_reader.specs.declared.draft.LineKind.TheVariants.{Settings, Node, Partition}

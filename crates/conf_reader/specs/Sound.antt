@@ -1,6 +1,6 @@
 -- What is true of every draft: nodes and partitions are few and named once, and a partition's list names a node once.
 use Rattle.std.specs.Prelude.{◌≢◌, ℕ, ◌≤◌, List, length, All, AllPairs, IfSome}
-use Rattle.slurm_text.specs.Confs.{node_names}
+use Rattle.plain_data.specs.Confs.{node_names}
 use Rattle.conf_entries.specs.PartitionLines.{partition_names}
 use Rattle.conf_reader.specs.declared.draft.Draft.{Draft}
 use Rattle.conf_entries.specs.declared.partition_lines.PartNodes.{PartNodes}

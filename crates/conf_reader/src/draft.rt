@@ -14,9 +14,9 @@ use conf_lines::pairs::read_pair;
 use conf_lines::words::first_word;
 use conf_values::node_table::NodeTable;
 use conf_values::refusal::{ConfKind, Fault};
-use slurm_text::items::Items;
-use slurm_text::keywords::is_keyword;
-use slurm_text::plain::conf::NodeConf;
+use plain_data::items::Items;
+use small_texts::keywords::is_keyword;
+use plain_data::conf::NodeConf;
 use std::alloc::Global;
 
 /// What lines say.

@@ -1,7 +1,7 @@
 //! Partitions, in the order of their lines.
 
 use conf_entries::partition_lines::PartLine;
-use slurm_text::memory_error::Memory;
+use small_texts::memory_error::Memory;
 use std::alloc::Global;
 use std::marker::Model;
 

@@ -4,12 +4,12 @@ ghost use Rattle.std.specs.Prelude.{ℕ, ◌≡◌, ◌≤◌, ◌<◌, ◌^◌,
 ghost use Rattle.std.specs.Prelude.{Err, OnOk};
 ghost use Rattle.std.specs.List.{list_any};
 ghost use Rattle.conf_lines.specs.Lines.{logical_lines};
-ghost use Rattle.slurm_text.specs.Confs.{node_names, IsConf};
+ghost use Rattle.plain_data.specs.Confs.{node_names, IsConf};
 ghost use Rattle.conf_reader.specs.Reader.{after_lines, nothing_said, has_unknown, first_unknown, nodes_by};
 ghost use Rattle.conf_reader.specs.Reader.{partitions_by, conf_of_lines, whole_file, conf_in};
 ghost use Rattle.conf_entries.specs.SettingLines.{settings_of};
 ghost use Rattle.conf_reader.specs.Sound.{IsSound};
-ghost use Rattle.slurm_text.specs.Hosts.{has};
+ghost use Rattle.host_lists.specs.Hosts.{has};
 ghost use Rattle.conf_values.specs.declared.refusal.ConfKind.{ConfKind};
 
 use crate::draft::Draft;
@@ -18,10 +18,10 @@ use conf_entries::setting_lines::SettingWords;
 use conf_lines::lines::first_line;
 use conf_values::node_table::NodeTable;
 use conf_values::refusal::{ConfKind, ConfRefusal, Fault};
-use slurm_text::items::Items;
-use slurm_text::memory_error::Memory;
-use slurm_text::name::Name;
-use slurm_text::plain::conf::{Conf, NodeConf, PartConf};
+use plain_data::items::Items;
+use small_texts::memory_error::Memory;
+use small_texts::name::Name;
+use plain_data::conf::{Conf, NodeConf, PartConf};
 use std::alloc::Global;
 
 const LONGEST_FILE: usize = 1_048_576;

@@ -1,6 +1,6 @@
 -- The parameters of the scheduler, read from the left.
 use Rattle.std.proofs.Common.{ℕ, ◌≡◌, List, ◌∷◌, map, fold, Option, Some, None, option_map, refl}
-use Rattle.slurm_text.specs.Hosts.{all_some}
+use Rattle.host_lists.specs.Hosts.{all_some}
 use Rattle.conf_values.specs.Scheduler.{scheduler_item, with_item}
 use Rattle.conf_values.specs.declared.scheduler.Scheduler.{Scheduler}
 use Rattle.conf_values.specs.declared.scheduler.SchedulerItem.{SchedulerItem}

@@ -1,7 +1,7 @@
 -- Lists of names, read from the left.
 use Rattle.std.proofs.Common.{ℕ, ◌≡◌, List, [], ◌∷◌, ◌++◌, map, Option, Some, None, option_map, refl, ap, sym, append_assoc}
 use Rattle.std.proofs.lemmas.List.{append-nil}
-use Rattle.slurm_text.specs.Hosts.{all_some}
+use Rattle.host_lists.specs.Hosts.{all_some}
 use Rattle.conf_values.specs.Values.{name_in}
 
 abbrev pub behind : List (List ℕ) → Option (List (List ℕ)) → Option (List (List ℕ))

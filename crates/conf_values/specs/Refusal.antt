@@ -1,7 +1,7 @@
 -- Why a file was refused.
 use Rattle.std.specs.Prelude.{ℕ, List, ◌++◌, codes, decimal, Result, Ok, Err}
-use Rattle.slurm_text.specs.declared.name.NameRefusal.{NameRefusal}
-use Rattle.slurm_text.specs.declared.name.NameRefusal.TheVariants.{BadName, Memory as NameMemory}
+use Rattle.small_texts.specs.declared.name.NameRefusal.{NameRefusal}
+use Rattle.small_texts.specs.declared.name.NameRefusal.TheVariants.{BadName, Memory as NameMemory}
 use Rattle.conf_values.specs.declared.refusal.ConfKind.{ConfKind}
 use Rattle.conf_values.specs.declared.refusal.ConfKind.TheVariants.{NotUtf8, BadPair, UnknownKey, BadValue, TwiceNamed, UnknownNode, NoPartition, OverLimit}
 use Rattle.conf_values.specs.declared.refusal.ConfRefusal.{ConfRefusal}

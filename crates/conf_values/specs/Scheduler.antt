@@ -1,8 +1,8 @@
 -- The parameters of the scheduler.
 use Rattle.std.specs.Prelude.{ℕ, if◌then◌else◌, List, [], ◌∷◌, map, fold, bytes_eq, codes, Option, Some, None, option_map}
 use Rattle.std.specs.Str.{byte}
-use Rattle.slurm_text.specs.Fields.{fields}
-use Rattle.slurm_text.specs.Hosts.{all_some}
+use Rattle.small_texts.specs.Fields.{fields}
+use Rattle.host_lists.specs.Hosts.{all_some}
 use Rattle.conf_values.specs.Values.{number_in}
 use Rattle.conf_values.specs.declared.scheduler.Scheduler.{Scheduler}
 use Rattle.conf_values.specs.declared.scheduler.SchedulerItem.{SchedulerItem}

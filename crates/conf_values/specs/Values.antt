@@ -1,17 +1,17 @@
 -- The values of keys.
 use Rattle.std.specs.Prelude.{ℕ, ◌==◌, Bool, true, false, nat_le, if◌then◌else◌, List, map, codes, bytes_eq, Option, Some, None, is_some, option_map}
 use Rattle.std.specs.Str.{str_eq_ignore_ascii_case, byte}
-use Rattle.slurm_text.specs.Digits.{number_within}
-use Rattle.slurm_text.specs.Fields.{fields}
-use Rattle.slurm_text.specs.Hosts.{all_some, hosts_in, first_bad_item}
-use Rattle.slurm_text.specs.Name.{is_name}
-use Rattle.slurm_text.specs.Options.{◌>>=◌}
-use Rattle.slurm_text.specs.declared.plain.mem_ask.MemAsk.{MemAsk}
-use Rattle.slurm_text.specs.declared.plain.mem_ask.MemAsk.TheVariants.{All, PerNode, PerCpu}
-use Rattle.slurm_text.specs.declared.plain.conf.NodeStart.{NodeStart}
-use Rattle.slurm_text.specs.declared.plain.conf.NodeStart.TheVariants.{Unknown, Down, Drain}
-use Rattle.slurm_text.specs.declared.plain.conf.PartState.{PartState}
-use Rattle.slurm_text.specs.declared.plain.conf.PartState.TheVariants as part
+use Rattle.small_texts.specs.Digits.{number_within}
+use Rattle.small_texts.specs.Fields.{fields}
+use Rattle.host_lists.specs.Hosts.{all_some, hosts_in, first_bad_item}
+use Rattle.small_texts.specs.Name.{is_name}
+use Rattle.small_texts.specs.Options.{◌>>=◌}
+use Rattle.plain_data.specs.declared.mem_ask.MemAsk.{MemAsk}
+use Rattle.plain_data.specs.declared.mem_ask.MemAsk.TheVariants.{All, PerNode, PerCpu}
+use Rattle.plain_data.specs.declared.conf.NodeStart.{NodeStart}
+use Rattle.plain_data.specs.declared.conf.NodeStart.TheVariants.{Unknown, Down, Drain}
+use Rattle.plain_data.specs.declared.conf.PartState.{PartState}
+use Rattle.plain_data.specs.declared.conf.PartState.TheVariants as part
 
 -- a number of at most ten digits, from `least` to `most`
 unfoldable pub number_in : ℕ → ℕ → List ℕ → Option ℕ

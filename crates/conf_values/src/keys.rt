@@ -3,7 +3,7 @@
 ghost use Rattle.std.specs.Prelude.{◌≡◌, map};
 ghost use Rattle.conf_values.specs.Keys.{key_named, setting_key, node_key, partition_key};
 
-use slurm_text::keywords::is_keyword;
+use small_texts::keywords::is_keyword;
 
 /// What a key of a line of settings says.
 #[derive(Clone, Copy)]

@@ -1,9 +1,9 @@
 //! Nodes, with an index of their names.
 
-use slurm_text::items::Items;
-use slurm_text::memory_error::Memory;
-use slurm_text::name::Name;
-use slurm_text::plain::conf::NodeConf;
+use plain_data::items::Items;
+use small_texts::memory_error::Memory;
+use small_texts::name::Name;
+use plain_data::conf::NodeConf;
 use std::alloc::Global;
 use std::collections::HashSet;
 use std::marker::Model;
@@ -18,9 +18,9 @@ pub struct NodeTable {
 impl Model for NodeTable {
     ghost use Rattle.std.specs.Prelude.{List, ℕ, ◌≡◌, bytes_eq};
     ghost use Rattle.std.specs.HashSet.{contains};
-    ghost use Rattle.slurm_text.specs.Hosts.{has};
-    ghost use Rattle.slurm_text.specs.Confs.{node_names};
-    ghost use Rattle.slurm_text.specs.declared.plain.conf.NodeConf.{NodeConf};
+    ghost use Rattle.host_lists.specs.Hosts.{has};
+    ghost use Rattle.plain_data.specs.Confs.{node_names};
+    ghost use Rattle.plain_data.specs.declared.conf.NodeConf.{NodeConf};
 
     ghost Value = { List NodeConf };
 
@@ -32,8 +32,8 @@ impl Model for NodeTable {
 
 impl NodeTable {
     ghost use Rattle.std.specs.Prelude.{◌≡◌, [], ◌∷◌, ◌++◌, length, OnOk, OnErr};
-    ghost use Rattle.slurm_text.specs.Confs.{node_names};
-    ghost use Rattle.slurm_text.specs.Hosts.{has};
+    ghost use Rattle.plain_data.specs.Confs.{node_names};
+    ghost use Rattle.host_lists.specs.Hosts.{has};
 
     /// A table of no nodes.
     pub fn new(alloc: Global) -> NodeTable

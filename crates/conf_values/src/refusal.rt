@@ -3,8 +3,8 @@
 ghost use Rattle.std.specs.Prelude.{◌≡◌, ◌≤◌, length};
 ghost use Rattle.conf_values.specs.Refusal.{kind_text};
 
-use slurm_text::memory_error;
-use slurm_text::name::NameRefusal;
+use small_texts::memory_error;
+use small_texts::name::NameRefusal;
 use std::alloc::AllocError;
 use std::error::Error;
 use std::fmt;

@@ -6,16 +6,16 @@ ghost use Rattle.slurm_num.specs.Limits.{limit_of};
 
 use crate::refusal::ValueRefusal;
 use slurm_num::parse_limit;
-use slurm_text::digits::parse_number;
-use slurm_text::fields::first_field;
-use slurm_text::hosts::{HostRefusal, expand_hosts};
-use slurm_text::items::Items;
-use slurm_text::keywords::is_keyword;
-use slurm_text::name::Name;
-use slurm_text::plain::conf::{NodeStart, PartState};
-use slurm_text::plain::limit::Limit;
-use slurm_text::plain::mem_ask::MemAsk;
-use slurm_text::ranged::Ranged;
+use small_texts::digits::parse_number;
+use small_texts::fields::first_field;
+use host_lists::hosts::{HostRefusal, expand_hosts};
+use plain_data::items::Items;
+use small_texts::keywords::is_keyword;
+use small_texts::name::Name;
+use plain_data::conf::{NodeStart, PartState};
+use plain_data::limit::Limit;
+use plain_data::mem_ask::MemAsk;
+use plain_data::ranged::Ranged;
 use std::alloc::Global;
 
 /// A number of at most ten digits within its range.

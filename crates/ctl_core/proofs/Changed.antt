@@ -7,15 +7,15 @@ use Rattle.std.specs.List.{list_any}
 use Rattle.std.proofs.lemmas.Bool.{cases_Bool, both_ways, cond_both}
 use Rattle.std.proofs.lemmas.Bool.Decides.{nat_tests}
 use Rattle.std.proofs.lemmas.List.Quantifiers.{position-Some}
-use Rattle.slurm_text.specs.declared.plain.job.JobDesc.{JobDesc}
-use Rattle.slurm_text.specs.declared.plain.refusal.Refusal.{Refusal}
-use Rattle.slurm_text.specs.declared.plain.refusal.Refusal.TheVariants.{AccessDenied, InvalidReservation, UnknownNode, MomentTooLarge, ShuttingDown}
-use Rattle.slurm_text.specs.declared.plain.reply.Reply.{Reply}
-use Rattle.slurm_text.specs.declared.plain.reply.Reply.TheVariants.{Done, Idle}
-use Rattle.slurm_text.specs.declared.plain.report.Report.{Report as Told}
-use Rattle.slurm_text.specs.declared.plain.request.Request.{Request}
-use Rattle.slurm_text.specs.declared.plain.request.Request.TheVariants.{Submit, Cancel, Hold, Release, Requeue, UpdateJob, UpdateNode, UpdatePartition, CreateReservation, DeleteReservation, Report, Pass, Shutdown, Show}
-use Rattle.slurm_text.specs.declared.plain.conf.PartState.{PartState}
+use Rattle.plain_data.specs.declared.job.JobDesc.{JobDesc}
+use Rattle.reply_data.specs.declared.refusal.Refusal.{Refusal}
+use Rattle.reply_data.specs.declared.refusal.Refusal.TheVariants.{AccessDenied, InvalidReservation, UnknownNode, MomentTooLarge, ShuttingDown}
+use Rattle.reply_data.specs.declared.reply.Reply.{Reply}
+use Rattle.reply_data.specs.declared.reply.Reply.TheVariants.{Done, Idle}
+use Rattle.request_data.specs.declared.report.Report.{Report as Told}
+use Rattle.request_data.specs.declared.request.Request.{Request}
+use Rattle.request_data.specs.declared.request.Request.TheVariants.{Submit, Cancel, Hold, Release, Requeue, UpdateJob, UpdateNode, UpdatePartition, CreateReservation, DeleteReservation, Report, Pass, Shutdown, Show}
+use Rattle.plain_data.specs.declared.conf.PartState.{PartState}
 use Rattle.partitions.specs.Partitions.{place_meant}
 use Rattle.job_table.specs.declared.record.JobRecord.{JobRecord}
 use Rattle.node_state.specs.declared.record.NodeRecord.{NodeRecord}
@@ -32,9 +32,9 @@ use Rattle.ctl_submit.specs.Submission.{made_under, submit_made, terms_of}
 use Rattle.ctl_jobs.specs.declared.action.Action.{Action}
 use Rattle.ctl_jobs.specs.declared.action.Action.TheVariants as act
 use Rattle.ctl_jobs.specs.Changing.{are_meant, are_naming, change_after, change_made, goes}
-use Rattle.slurm_text.specs.declared.plain.request.NodeOrder.{NodeOrder}
+use Rattle.request_data.specs.declared.request.NodeOrder.{NodeOrder}
 use Rattle.ctl_nodes.specs.Updating.{changes_any, update_after, update_made}
-use Rattle.slurm_text.specs.declared.plain.reservation.ReservationDesc.{ReservationDesc}
+use Rattle.request_data.specs.declared.reservation.ReservationDesc.{ReservationDesc}
 use Rattle.reservations.specs.Reservations.{reservation_named}
 use Rattle.ctl_reservations.specs.Reserving.{created, deleted}
 use Rattle.ctl_core.specs.Operating.{is_in_state, partition_after, partition_made, shut}

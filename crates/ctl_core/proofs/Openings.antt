@@ -1,6 +1,6 @@
 -- The opening state keeps what every state keeps.
 use Rattle.std.proofs.Common.{◌≡◌, ℕ, ◌<◌, ◌≤◌, List, [], ◌∷◌, map, length, All, refl, ap, arith}
-use Rattle.slurm_text.specs.declared.plain.conf.NodeConf.{NodeConf}
+use Rattle.plain_data.specs.declared.conf.NodeConf.{NodeConf}
 use Rattle.resource_profile.specs.declared.NodeRoom.{NodeRoom}
 use Rattle.job_table.specs.declared.record.JobRecord.{JobRecord}
 use Rattle.node_state.specs.declared.record.Held.{Held}
@@ -8,7 +8,7 @@ use Rattle.node_state.specs.declared.record.NodeRecord.{NodeRecord}
 use Rattle.node_state.specs.Held.{HoldsNothing}
 use Rattle.node_state.specs.Nodes.{opened}
 use Rattle.partitions.specs.Partitions.{IsOnNodes}
-use Rattle.slurm_text.specs.Confs.{node_names}
+use Rattle.plain_data.specs.Confs.{node_names}
 use Rattle.ctl_state.specs.State.{State, last_job_id}
 use Rattle.ctl_state.specs.Holding.{times_held, mem_held, parts_of, IsHeldOnce}
 use Rattle.ctl_state.specs.Index.{ShowsParts}

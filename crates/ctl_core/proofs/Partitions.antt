@@ -1,8 +1,8 @@
 -- A partition that is in a state already is as it was in that state, and no other is.
 use Rattle.std.proofs.Common.{◌≡◌, ℕ, zero, suc, Bool, true, List, [], ◌∷◌, drop, get_or, refl, sym, ap}
 use Rattle.std.specs.Prelude.{slice_get}
-use Rattle.slurm_text.specs.declared.plain.conf.PartState.{PartState}
-use Rattle.slurm_text.specs.declared.plain.conf.PartState.TheVariants.{Up, Down, Drain, Inactive}
+use Rattle.plain_data.specs.declared.conf.PartState.{PartState}
+use Rattle.plain_data.specs.declared.conf.PartState.TheVariants.{Up, Down, Drain, Inactive}
 use Rattle.partitions.specs.declared.record.PartRecord.{PartRecord}
 use Rattle.partitions.specs.Partitions.{in_state_at}
 use Rattle.ctl_core.specs.Operating.{is_in_state, same_state}

@@ -3,10 +3,10 @@ use Rattle.std.proofs.Common.{◌≡◌, Bool, true, false, Option, Some, None, 
 use Rattle.std.specs.List.{list_any}
 use Rattle.std.specs.Prelude.{slice_get}
 use Rattle.std.proofs.lemmas.Bool.{cond_both}
-use Rattle.slurm_text.specs.declared.plain.refusal.Refusal.{Refusal}
-use Rattle.slurm_text.specs.declared.plain.request.Request.{Request}
-use Rattle.slurm_text.specs.declared.plain.report.Report.{Report as Told}
-use Rattle.slurm_text.specs.declared.plain.request.Request.TheVariants.{Submit, Cancel, Hold, Release, Requeue, UpdateJob, UpdateNode, UpdatePartition, CreateReservation, DeleteReservation, Report, Pass, Shutdown, Show}
+use Rattle.reply_data.specs.declared.refusal.Refusal.{Refusal}
+use Rattle.request_data.specs.declared.request.Request.{Request}
+use Rattle.request_data.specs.declared.report.Report.{Report as Told}
+use Rattle.request_data.specs.declared.request.Request.TheVariants.{Submit, Cancel, Hold, Release, Requeue, UpdateJob, UpdateNode, UpdatePartition, CreateReservation, DeleteReservation, Report, Pass, Shutdown, Show}
 use Rattle.ctl_state.specs.State.{State}
 use Rattle.ctl_state.specs.Refusals.{first_refusal, unless_refused}
 use Rattle.ctl_state.specs.Verdicts.{Verdict, Refuses, Tells, Stays, Makes, reply_by, left_by}

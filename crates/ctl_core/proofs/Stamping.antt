@@ -2,7 +2,7 @@
 use Rattle.std.proofs.Common.{◌≡◌, ◌∙◌, ℕ, ◌+◌, ◌≤◌, ◌<◌, ◌^◌, Bool, true, false, List, Option, Some, None, ap, sym, subst, arith, refl, inl, inr, if◌then◌else◌}
 use Rattle.std.specs.Prelude.{nat_lt, is_some, unwrap_or, IfSome}
 use Rattle.std.proofs.lemmas.Bool.{cases_Bool}
-use Rattle.slurm_text.specs.declared.plain.request.Request.{Request}
+use Rattle.request_data.specs.declared.request.Request.{Request}
 use Rattle.ctl_state.specs.Refusals.{is_privileged}
 use Rattle.ctl_state.specs.State.{State, last_moment, last_size, shutdown_size}
 use Rattle.ctl_state.specs.Verdicts.{Verdict, reply_by, left_by}

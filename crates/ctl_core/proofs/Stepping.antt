@@ -3,16 +3,16 @@ use Rattle.std.proofs.Common.{◌≡◌, ℕ, ◌+◌, ◌≤◌, Bool, true, fa
 use Rattle.std.specs.Prelude.{nat_le, nat_lt, slice_get, IfSome}
 use Rattle.std.specs.List.{list_any}
 use Rattle.std.proofs.lemmas.Bool.{cases_Bool, cond_both, leb-true, ltb-false}
-use Rattle.slurm_text.specs.declared.memory_error.Memory.{Memory}
-use Rattle.slurm_text.specs.declared.plain.job.JobDesc.{JobDesc}
-use Rattle.slurm_text.specs.declared.plain.refusal.Refusal.{Refusal}
-use Rattle.slurm_text.specs.declared.plain.refusal.Refusal.TheVariants.{MomentTooLarge, ShuttingDown}
-use Rattle.slurm_text.specs.declared.plain.reply.Reply.{Reply}
-use Rattle.slurm_text.specs.declared.plain.report.Report.{Report as Told}
-use Rattle.slurm_text.specs.declared.plain.request.Request.{Request}
-use Rattle.slurm_text.specs.declared.plain.request.Request.TheVariants.{Submit, Cancel, Hold, Release, Requeue, UpdateJob, UpdateNode, UpdatePartition, CreateReservation, DeleteReservation, Report, Pass, Shutdown, Show}
-use Rattle.slurm_text.specs.declared.plain.conf.PartState.{PartState}
-use Rattle.slurm_text.specs.declared.plain.reply.Reply.TheVariants.{Done}
+use Rattle.small_texts.specs.declared.memory_error.Memory.{Memory}
+use Rattle.plain_data.specs.declared.job.JobDesc.{JobDesc}
+use Rattle.reply_data.specs.declared.refusal.Refusal.{Refusal}
+use Rattle.reply_data.specs.declared.refusal.Refusal.TheVariants.{MomentTooLarge, ShuttingDown}
+use Rattle.reply_data.specs.declared.reply.Reply.{Reply}
+use Rattle.request_data.specs.declared.report.Report.{Report as Told}
+use Rattle.request_data.specs.declared.request.Request.{Request}
+use Rattle.request_data.specs.declared.request.Request.TheVariants.{Submit, Cancel, Hold, Release, Requeue, UpdateJob, UpdateNode, UpdatePartition, CreateReservation, DeleteReservation, Report, Pass, Shutdown, Show}
+use Rattle.plain_data.specs.declared.conf.PartState.{PartState}
+use Rattle.reply_data.specs.declared.reply.Reply.TheVariants.{Done}
 use Rattle.partitions.specs.Partitions.{place_meant}
 use Rattle.job_table.specs.declared.record.JobRecord.{JobRecord}
 use Rattle.ctl_state.specs.State.{State, last_moment, last_size, shutdown_size}
@@ -28,9 +28,9 @@ use Rattle.ctl_submit.specs.Submission.{submit_refusals, submit_made}
 use Rattle.ctl_jobs.specs.declared.action.Action.{Action}
 use Rattle.ctl_jobs.specs.declared.action.Action.TheVariants as act
 use Rattle.ctl_jobs.specs.Changing.{IsAction, are_meant, are_naming, change_after, change_made, goes}
-use Rattle.slurm_text.specs.declared.plain.request.NodeOrder.{NodeOrder}
+use Rattle.request_data.specs.declared.request.NodeOrder.{NodeOrder}
 use Rattle.ctl_nodes.specs.Updating.{changes_any, update_after}
-use Rattle.slurm_text.specs.declared.plain.reservation.ReservationDesc.{ReservationDesc}
+use Rattle.request_data.specs.declared.reservation.ReservationDesc.{ReservationDesc}
 use Rattle.ctl_reservations.specs.Reserving.{create_refusals, created, deleted}
 use Rattle.ctl_core.specs.Operating.{is_in_state, partition_made, shut, shutdown_refusals}
 use Rattle.ctl_core.specs.declared.reply.Decided.{Decided}

@@ -1,10 +1,10 @@
 -- What operators ask of partitions, and of the controller itself.
 use Rattle.std.specs.Prelude.{ℕ, Bool, true, false, not, is_none, if◌then◌else◌, List, [], ◌∷◌, slice_get, Option, Some, None}
-use Rattle.slurm_text.specs.declared.plain.conf.PartState.{PartState}
-use Rattle.slurm_text.specs.declared.plain.conf.PartState.TheVariants.{Up, Down, Drain, Inactive}
-use Rattle.slurm_text.specs.declared.plain.refusal.Refusal.{Refusal}
-use Rattle.slurm_text.specs.declared.plain.refusal.Refusal.TheVariants.{AccessDenied, InvalidPartition}
-use Rattle.slurm_text.specs.declared.plain.reply.Reply.TheVariants.{Done}
+use Rattle.plain_data.specs.declared.conf.PartState.{PartState}
+use Rattle.plain_data.specs.declared.conf.PartState.TheVariants.{Up, Down, Drain, Inactive}
+use Rattle.reply_data.specs.declared.refusal.Refusal.{Refusal}
+use Rattle.reply_data.specs.declared.refusal.Refusal.TheVariants.{AccessDenied, InvalidPartition}
+use Rattle.reply_data.specs.declared.reply.Reply.TheVariants.{Done}
 use Rattle.partitions.specs.declared.record.PartRecord.{PartRecord}
 use Rattle.partitions.specs.Partitions.{in_state_at, place_meant}
 use Rattle.ctl_state.specs.State.{State}

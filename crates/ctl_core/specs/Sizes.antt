@@ -1,10 +1,10 @@
 -- How much a request takes of the history's room.
 use Rattle.std.specs.Prelude.{ℕ, ◌+◌, ◌*◌, Bool, true, false, ◌||◌, nat_le, List, length}
-use Rattle.slurm_text.specs.declared.plain.request.Request.{Request}
-use Rattle.slurm_text.specs.declared.plain.request.Request.TheVariants.{Submit, Cancel, Hold, Release, Requeue, UpdateJob, UpdateNode, UpdatePartition, CreateReservation, DeleteReservation, Report, Pass, Shutdown, Show}
-use Rattle.slurm_text.specs.declared.plain.reservation.ReservationDesc.{ReservationDesc}
-use Rattle.slurm_text.specs.declared.plain.target.Targets.{Targets}
-use Rattle.slurm_text.specs.declared.plain.target.Targets.TheVariants.{List as Listed, User}
+use Rattle.request_data.specs.declared.request.Request.{Request}
+use Rattle.request_data.specs.declared.request.Request.TheVariants.{Submit, Cancel, Hold, Release, Requeue, UpdateJob, UpdateNode, UpdatePartition, CreateReservation, DeleteReservation, Report, Pass, Shutdown, Show}
+use Rattle.request_data.specs.declared.reservation.ReservationDesc.{ReservationDesc}
+use Rattle.request_data.specs.declared.target.Targets.{Targets}
+use Rattle.request_data.specs.declared.target.Targets.TheVariants.{List as Listed, User}
 use Rattle.ctl_state.specs.State.{State, last_size, shutdown_size}
 
 -- what is listed counts 32 each

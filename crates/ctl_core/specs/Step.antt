@@ -1,11 +1,11 @@
 -- One step of the controller: the reply to a request, and the state after it.
 use Rattle.std.specs.Prelude.{◌≡◌, ℕ, ◌+◌, Bool, true, false, ◌&&◌, not, if◌then◌else◌, nat_lt, max, min, List, [], ◌∷◌, Option, Some, IfSome}
-use Rattle.slurm_text.specs.declared.plain.request.Request.{Request}
-use Rattle.slurm_text.specs.declared.plain.request.Request.TheVariants.{Submit, Cancel, Hold, Release, Requeue, UpdateJob, UpdateNode, UpdatePartition, CreateReservation, DeleteReservation, Report, Pass, Shutdown, Show}
-use Rattle.slurm_text.specs.declared.plain.refusal.Refusal.{Refusal}
-use Rattle.slurm_text.specs.declared.plain.refusal.Refusal.TheVariants.{HistoryFull, MomentTooLarge, ShuttingDown}
-use Rattle.slurm_text.specs.declared.plain.reply.Reply.{Reply}
-use Rattle.slurm_text.specs.declared.plain.reply.Reply.TheVariants.{Submitted, Done, Passed, Orders, Idle, Shown, Refused}
+use Rattle.request_data.specs.declared.request.Request.{Request}
+use Rattle.request_data.specs.declared.request.Request.TheVariants.{Submit, Cancel, Hold, Release, Requeue, UpdateJob, UpdateNode, UpdatePartition, CreateReservation, DeleteReservation, Report, Pass, Shutdown, Show}
+use Rattle.reply_data.specs.declared.refusal.Refusal.{Refusal}
+use Rattle.reply_data.specs.declared.refusal.Refusal.TheVariants.{HistoryFull, MomentTooLarge, ShuttingDown}
+use Rattle.reply_data.specs.declared.reply.Reply.{Reply}
+use Rattle.reply_data.specs.declared.reply.Reply.TheVariants.{Submitted, Done, Passed, Orders, Idle, Shown, Refused}
 use Rattle.backfill_planner.specs.Plans.{PlannedView}
 use Rattle.partitions.specs.Partitions.{place_meant}
 use Rattle.ctl_state.specs.State.{State, last_moment}

@@ -1,7 +1,7 @@
 //! One step: a request is judged, and where it is accepted the cluster changes and bears its moment.
 
 ghost use Rattle.std.specs.Prelude.{◌≡◌, ◌+◌, ◌^◌, ◌<◌, ◌≤◌, IfOk, IfSome, OnOk, OnErr, if◌then◌else◌, Some, None};
-ghost use Rattle.slurm_text.specs.declared.plain.request.Request.TheVariants.{Pass};
+ghost use Rattle.request_data.specs.declared.request.Request.TheVariants.{Pass};
 ghost use Rattle.resource_profile.specs.Counts.{IsTickedUpTo};
 ghost use Rattle.ctl_state.specs.State.{state_of, last_moment};
 ghost use Rattle.ctl_state.specs.Index.{IsIndexed};
@@ -25,11 +25,11 @@ use backfill_planner::Planned;
 use ctl_jobs::Action;
 use ctl_state::cluster::Cluster;
 use resource_profile::{Steps, start};
-use slurm_text::memory_error::Memory;
-use slurm_text::name::Name;
-use slurm_text::plain::refusal::Refusal;
-use slurm_text::plain::reply::Reply;
-use slurm_text::plain::request::Request;
+use small_texts::memory_error::Memory;
+use small_texts::name::Name;
+use reply_data::refusal::Refusal;
+use reply_data::reply::Reply;
+use request_data::request::Request;
 use std::alloc::Global;
 
 pub(crate) const LAST_MOMENT: u64 = 250_000_000_000;

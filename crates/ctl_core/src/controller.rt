@@ -1,7 +1,7 @@
 //! The controller.
 
 ghost use Rattle.std.specs.Prelude.{◌≡◌, IfOk, IfSome, OnOk, OnErr, if◌then◌else◌, Some, None, map, All};
-ghost use Rattle.slurm_text.specs.declared.plain.request.Request.TheVariants.{Pass};
+ghost use Rattle.request_data.specs.declared.request.Request.TheVariants.{Pass};
 ghost use Rattle.resource_profile.specs.Counts.{IsTickedUpTo};
 ghost use Rattle.ctl_state.specs.State.{opening, state_of};
 ghost use Rattle.ctl_state.specs.Soundness.{IsSound, IsLimit, IsNode, HasLimits, HasRanges};
@@ -21,12 +21,12 @@ use partitions::partitions::Partitions;
 use partitions::record::PartRecord;
 use reservations::reservations::Reservations;
 use resource_profile::Steps;
-use slurm_text::memory_error::Memory;
-use slurm_text::name::Name;
-use slurm_text::plain::assoc::AssocFile;
-use slurm_text::plain::conf::{Conf, Settings};
-use slurm_text::plain::limit::Limit;
-use slurm_text::plain::request::Request;
+use small_texts::memory_error::Memory;
+use small_texts::name::Name;
+use plain_data::assoc::AssocFile;
+use plain_data::conf::{Conf, Settings};
+use plain_data::limit::Limit;
+use request_data::request::Request;
 use std::alloc::Global;
 use std::marker::Model;
 

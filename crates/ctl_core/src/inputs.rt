@@ -11,7 +11,7 @@ use backfill_planner::Planned;
 use ctl_node_side::input;
 use ctl_pass::PlanInput;
 use ctl_state::cluster::Cluster;
-use slurm_text::memory_error::Memory;
+use small_texts::memory_error::Memory;
 use std::alloc::Global;
 
 /// What a pass at a moment would make its plan of, with the plan that is kept, of which none stays.

@@ -1,12 +1,12 @@
 //! What holds of every step. A law is the contract of a function that does nothing.
 
 ghost use Rattle.std.specs.Prelude.{◌≡◌, ◌≢◌, ℕ, Bool, List, Some};
-ghost use Rattle.slurm_text.specs.declared.plain.request.Request.{Request};
-ghost use Rattle.slurm_text.specs.declared.plain.request.Request.TheVariants.{Pass};
-ghost use Rattle.slurm_text.specs.declared.plain.request.NodeOrder.{NodeOrder};
-ghost use Rattle.slurm_text.specs.declared.plain.reply.Reply.{Reply};
-ghost use Rattle.slurm_text.specs.declared.plain.reply.Reply.TheVariants.{Idle};
-ghost use Rattle.slurm_text.specs.declared.plain.conf.PartState.{PartState};
+ghost use Rattle.request_data.specs.declared.request.Request.{Request};
+ghost use Rattle.request_data.specs.declared.request.Request.TheVariants.{Pass};
+ghost use Rattle.request_data.specs.declared.request.NodeOrder.{NodeOrder};
+ghost use Rattle.reply_data.specs.declared.reply.Reply.{Reply};
+ghost use Rattle.reply_data.specs.declared.reply.Reply.TheVariants.{Idle};
+ghost use Rattle.plain_data.specs.declared.conf.PartState.{PartState};
 ghost use Rattle.job_table.specs.declared.record.JobRecord.{JobRecord};
 ghost use Rattle.resource_profile.specs.Counts.{IsTickedUpTo};
 ghost use Rattle.ctl_state.specs.State.{State};

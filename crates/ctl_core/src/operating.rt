@@ -6,7 +6,7 @@ ghost use Rattle.ctl_state.specs.Index.{IsIndexed};
 ghost use Rattle.ctl_state.specs.Soundness.{IsSound};
 ghost use Rattle.ctl_state.specs.Refusals.{first_refusal, unless_refused};
 ghost use Rattle.ctl_state.specs.Verdicts.{Makes};
-ghost use Rattle.slurm_text.specs.declared.plain.reply.Reply.TheVariants.{Done};
+ghost use Rattle.reply_data.specs.declared.reply.Reply.TheVariants.{Done};
 ghost use Rattle.ctl_nodes.specs.Updating;
 ghost use Rattle.ctl_core.specs.Answering.{Answers};
 ghost use Rattle.ctl_core.specs.Operating;
@@ -18,11 +18,11 @@ use crate::reply::Answered;
 use ctl_nodes::{changes_any, refusal_of, update};
 use ctl_state::cluster::Cluster;
 use partitions::partitions::Partitions;
-use slurm_text::items::Items;
-use slurm_text::name::Name;
-use slurm_text::plain::conf::PartState;
-use slurm_text::plain::refusal::Refusal;
-use slurm_text::plain::request::NodeOrder;
+use plain_data::items::Items;
+use small_texts::name::Name;
+use plain_data::conf::PartState;
+use reply_data::refusal::Refusal;
+use request_data::request::NodeOrder;
 
 fn same_state(one: PartState, other: PartState) -> bool
     ensures { result ≡ Operating.same_state one other }

@@ -18,10 +18,10 @@ use ctl_node_side::PassOutcome;
 use ctl_pass::refusal_of;
 use ctl_state::cluster::Cluster;
 use resource_profile::Steps;
-use slurm_text::memory_error::Memory;
-use slurm_text::name::Name;
-use slurm_text::plain::refusal::Refusal;
-use slurm_text::plain::reply::Reply;
+use small_texts::memory_error::Memory;
+use small_texts::name::Name;
+use reply_data::refusal::Refusal;
+use reply_data::reply::Reply;
 use std::alloc::Global;
 
 fn passed(ended: u32, started: u32, planned: u32) -> Answered

@@ -4,9 +4,9 @@ ghost use Rattle.std.specs.Prelude.{IfSome};
 ghost use Rattle.ctl_state.specs.Soundness.{IsAsked, IsLimit};
 ghost use Rattle.ctl_core.specs.Step.{IsInRange};
 
-use slurm_text::plain::job::JobDesc;
-use slurm_text::plain::limit::Limit;
-use slurm_text::plain::request::Request;
+use plain_data::job::JobDesc;
+use plain_data::limit::Limit;
+use request_data::request::Request;
 
 fn is_asked(desc: &JobDesc)
     ensures { IsAsked desc.now }

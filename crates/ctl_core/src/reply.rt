@@ -1,6 +1,6 @@
 //! What the controller decides.
 
-use slurm_text::plain::reply::Reply;
+use reply_data::reply::Reply;
 
 /// What was decided on a request.
 #[derive(Drop)]

@@ -15,11 +15,11 @@ use crate::reply::Answered;
 use ctl_node_side::{accept, orders};
 use ctl_report::{node_of, refusal_of};
 use ctl_state::cluster::Cluster;
-use slurm_text::memory_error::Memory;
-use slurm_text::name::Name;
-use slurm_text::plain::refusal::Refusal;
-use slurm_text::plain::reply::Reply;
-use slurm_text::plain::report::Report;
+use small_texts::memory_error::Memory;
+use small_texts::name::Name;
+use reply_data::refusal::Refusal;
+use reply_data::reply::Reply;
+use request_data::report::Report;
 use std::alloc::Global;
 
 /// A report at its raised moment, where the history has room for it or not.

@@ -13,10 +13,10 @@ use crate::answering::{done, refused};
 use crate::reply::Answered;
 use ctl_reservations::{create, delete, refusal_of_creation, refusal_of_deletion};
 use ctl_state::cluster::Cluster;
-use slurm_text::memory_error::Memory;
-use slurm_text::name::Name;
-use slurm_text::plain::refusal::Refusal;
-use slurm_text::plain::reservation::ReservationDesc;
+use small_texts::memory_error::Memory;
+use small_texts::name::Name;
+use reply_data::refusal::Refusal;
+use request_data::reservation::ReservationDesc;
 
 /// A reservation more, at its raised moment, where the history has room for it or not. Linear in the names of its nodes,
 /// in the reservations, and in the jobs and their parts.

@@ -5,13 +5,13 @@ ghost use Rattle.ctl_state.specs.State.{state_of, last_size, shutdown_size};
 ghost use Rattle.ctl_core.specs.Sizes;
 
 use ctl_state::cluster::Cluster;
-use slurm_text::items::Items;
-use slurm_text::name::Name;
-use slurm_text::plain::job::JobDesc;
-use slurm_text::plain::report::Report;
-use slurm_text::plain::request::Request;
-use slurm_text::plain::reservation::ReservationDesc;
-use slurm_text::plain::target::{Target, Targets};
+use plain_data::items::Items;
+use small_texts::name::Name;
+use plain_data::job::JobDesc;
+use request_data::report::Report;
+use request_data::request::Request;
+use request_data::reservation::ReservationDesc;
+use request_data::target::{Target, Targets};
 
 // The greatest sum of the sizes of accepted requests.
 const LAST_SIZE: u128 = 1_073_741_824;

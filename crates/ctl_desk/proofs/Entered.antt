@@ -1,7 +1,7 @@
 -- The entries behind one more, by what its parts are.
 use Rattle.std.proofs.Common.{◌≡◌, ◌∙◌, ℕ, List, [], ◌∷◌, ◌++◌, ap, sym, if◌then◌else◌}
-use Rattle.slurm_text.specs.declared.plain.reply.Reply.{Reply}
-use Rattle.slurm_text.specs.declared.plain.request.Request.{Request}
+use Rattle.reply_data.specs.declared.reply.Reply.{Reply}
+use Rattle.request_data.specs.declared.request.Request.{Request}
 use Rattle.ctl_core.specs.Step.{is_entered}
 use Rattle.ctl_desk.specs.declared.entry.Entry.{Entry}
 

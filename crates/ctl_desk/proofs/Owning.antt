@@ -3,10 +3,10 @@ use Rattle.std.proofs.Common.{◌≡◌, ℕ, Bool, true, false, ◌≤◌, List
 use Rattle.std.proofs.Math.Seq.{take-append_seam}
 use Rattle.std.proofs.lemmas.Bool.{cases_Bool, true≢false}
 use Rattle.std.proofs.lemmas.List.{append-nil, take_all, take-append-le, take-append-drop, drop-append-le}
-use Rattle.slurm_text.specs.declared.plain.request.Request.{Request}
+use Rattle.request_data.specs.declared.request.Request.{Request}
 use Rattle.ctl_state.specs.State.{State}
 use Rattle.resource_profile.specs.Counts.{ticked, IsTickedUpTo}
-use Rattle.slurm_text.specs.declared.plain.request.Request.TheVariants.{Pass}
+use Rattle.request_data.specs.declared.request.Request.TheVariants.{Pass}
 use Rattle.backfill_planner.specs.Plans.{PlannedView}
 use Rattle.ctl_core.specs.Step.{IsHinted, reply_of, is_entered, steps_of}
 use Rattle.ctl_desk.specs.declared.entry.Answer.{Answer}

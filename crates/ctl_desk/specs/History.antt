@@ -1,7 +1,7 @@
 -- The history: the accepted requests, in order.
 use Rattle.std.specs.Prelude.{◌≡◌, ℕ, ◌≤◌, true, ◌==◌, List, [], ◌∷◌, take, filter, slice_get, IfSome}
-use Rattle.slurm_text.specs.declared.plain.request.Request.{Request}
-use Rattle.slurm_text.specs.declared.plain.request.Request.TheVariants.{Pass}
+use Rattle.request_data.specs.declared.request.Request.{Request}
+use Rattle.request_data.specs.declared.request.Request.TheVariants.{Pass}
 use Rattle.ctl_state.specs.State.{State}
 use Rattle.ctl_state.specs.Soundness.{IsSound}
 use Rattle.ctl_node_side.specs.Passes.{PassIsFree}

@@ -1,7 +1,7 @@
 //! The book: the controller with its history.
 
 ghost use Rattle.std.specs.Prelude.{◌≡◌, ◌<◌, ◌++◌, ◌∷◌, [], IfOk, IfSome, OnOk, OnErr, if◌then◌else◌, length, Some, None, vec_len, vec_capacity};
-ghost use Rattle.slurm_text.specs.declared.plain.request.Request.TheVariants.{Pass};
+ghost use Rattle.request_data.specs.declared.request.Request.TheVariants.{Pass};
 ghost use Rattle.resource_profile.specs.Counts.{IsTickedUpTo};
 ghost use Rattle.ctl_state.specs.Soundness.{IsSound};
 ghost use Rattle.ctl_core.specs.Step.{IsHinted, input_at, reply_of, is_entered, steps_of};
@@ -15,9 +15,9 @@ use ctl_core::reply::Decided;
 use ctl_node_side::laws::passes_are_free;
 use ctl_pass::PlanInput;
 use resource_profile::Steps;
-use slurm_text::memory_error::Memory;
-use slurm_text::name::Name;
-use slurm_text::plain::request::Request;
+use small_texts::memory_error::Memory;
+use small_texts::name::Name;
+use request_data::request::Request;
 use std::alloc::Global;
 use std::marker::Model;
 

@@ -1,7 +1,7 @@
 //! What a session asks at.
 
 ghost use Rattle.std.specs.Prelude.{◌≡◌, length, IfOk, IfSome, OnErr};
-ghost use Rattle.slurm_text.specs.declared.plain.request.Request.TheVariants.{Pass};
+ghost use Rattle.request_data.specs.declared.request.Request.TheVariants.{Pass};
 ghost use Rattle.resource_profile.specs.Counts.{IsTickedUpTo};
 ghost use Rattle.ctl_core.specs.Step.{IsHinted, input_at, steps_of};
 ghost use Rattle.ctl_desk.specs.Desk.{Sight, GoesOn, IsAnswered, seen, history_of, state_at};
@@ -11,9 +11,9 @@ use crate::entry::Answer;
 use backfill_planner::Planned;
 use ctl_pass::PlanInput;
 use resource_profile::{Plain, Steps};
-use slurm_text::memory_error::Memory;
-use slurm_text::name::Name;
-use slurm_text::plain::request::Request;
+use small_texts::memory_error::Memory;
+use small_texts::name::Name;
+use request_data::request::Request;
 
 /// Where one session asks the controller. The history may have entries of other sessions, and more of them at each
 /// call.

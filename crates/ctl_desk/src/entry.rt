@@ -1,8 +1,8 @@
 //! What the history keeps of an accepted request, and what a session is told.
 
-use slurm_text::name::Name;
-use slurm_text::plain::reply::Reply;
-use slurm_text::plain::request::Request;
+use small_texts::name::Name;
+use reply_data::reply::Reply;
+use request_data::request::Request;
 
 /// An accepted request.
 #[derive(Drop)]

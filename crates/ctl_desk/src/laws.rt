@@ -1,7 +1,7 @@
 //! What holds of every history. Each law is the contract of a function that does nothing.
 
 ghost use Rattle.std.specs.Prelude.{◌≡◌, ◌++◌, ℕ, List, take, true};
-ghost use Rattle.slurm_text.specs.declared.plain.request.Request.{Request};
+ghost use Rattle.request_data.specs.declared.request.Request.{Request};
 ghost use Rattle.ctl_core.specs.Step.{reply_of, state_after};
 ghost use Rattle.ctl_desk.specs.declared.entry.Answer.{Answer};
 ghost use Rattle.ctl_desk.specs.Desk.{GoesOn, IsAnswered, Seat, history_of, sight_of, state_of};

@@ -6,13 +6,13 @@ use Rattle.std.proofs.lemmas.Bool.{and_right, cases_Bool, cond-false, cond_both}
 use Rattle.std.proofs.lemmas.Bool.Decides.{nat_tests}
 use Rattle.std.proofs.lemmas.List.{drop_more, get_or_default, get_or-map, length-map}
 use Rattle.std.proofs.lemmas.List.Elements.{All-map, All-weaker, at_read}
-use Rattle.slurm_text.specs.declared.plain.array.ArraySpec.{ArraySpec}
-use Rattle.slurm_text.specs.declared.plain.limit.Limit.{Limit}
-use Rattle.slurm_text.specs.declared.plain.nice.Nice.{Nice}
-use Rattle.slurm_text.specs.declared.plain.state.HeldBy.{HeldBy}
-use Rattle.slurm_text.specs.declared.plain.state.HeldBy.TheVariants as held
-use Rattle.slurm_text.specs.declared.plain.state.JobState.{JobState}
-use Rattle.slurm_text.specs.declared.plain.target.Target.{Target}
+use Rattle.plain_data.specs.declared.array.ArraySpec.{ArraySpec}
+use Rattle.plain_data.specs.declared.limit.Limit.{Limit}
+use Rattle.plain_data.specs.declared.nice.Nice.{Nice}
+use Rattle.request_data.specs.declared.state.HeldBy.{HeldBy}
+use Rattle.request_data.specs.declared.state.HeldBy.TheVariants as held
+use Rattle.request_data.specs.declared.state.JobState.{JobState}
+use Rattle.request_data.specs.declared.target.Target.{Target}
 use Rattle.job_table.specs.declared.record.Part.{Part}
 use Rattle.job_table.specs.declared.record.JobRecord.{JobRecord}
 use Rattle.job_table.specs.declared.change.Change.{Change}

@@ -3,12 +3,12 @@ use Rattle.std.proofs.Common.{ℕ, zero, suc, ◌≡◌, ◌<◌, ◌≤◌, Boo
 use Rattle.std.specs.List.{All, Contains, filter, list_any}
 use Rattle.std.proofs.lemmas.Bool.{and_parts, cases_Bool, cond_both, eqb-false, eqb-true, or_parts}
 use Rattle.std.proofs.lemmas.List.Elements.{All-head, All-tail, Contains-append_cases}
-use Rattle.slurm_text.specs.declared.plain.limit.Limit.{Limit}
-use Rattle.slurm_text.specs.declared.plain.nice.Nice.{Nice}
-use Rattle.slurm_text.specs.declared.plain.state.Final.TheVariants as final
-use Rattle.slurm_text.specs.declared.plain.state.HeldBy.TheVariants as held
-use Rattle.slurm_text.specs.declared.plain.state.JobState.{JobState}
-use Rattle.slurm_text.specs.declared.plain.state.JobState.TheVariants.{Pending, Running, Completing, Ended}
+use Rattle.plain_data.specs.declared.limit.Limit.{Limit}
+use Rattle.plain_data.specs.declared.nice.Nice.{Nice}
+use Rattle.request_data.specs.declared.state.Final.TheVariants as final
+use Rattle.request_data.specs.declared.state.HeldBy.TheVariants as held
+use Rattle.request_data.specs.declared.state.JobState.{JobState}
+use Rattle.request_data.specs.declared.state.JobState.TheVariants.{Pending, Running, Completing, Ended}
 use Rattle.backfill_planner.specs.declared.Placed.{Placed}
 use Rattle.job_table.specs.declared.record.JobRecord.{JobRecord}
 use Rattle.job_table.specs.declared.change.Change.TheVariants.{CancelPending, CancelRequeue, Leave, SetHold, SetLimit, SetNice}

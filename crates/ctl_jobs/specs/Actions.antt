@@ -1,16 +1,16 @@
 -- What users do to jobs: why one may not be done, and what becomes of a job.
 use Rattle.std.specs.Prelude.{ℕ, Bool, true, false, ◌&&◌, ◌||◌, not, is_some, nat_eq, if◌then◌else◌, unwrap_or, List, [], ◌∷◌, bytes_eq, Option, Some, None}
-use Rattle.slurm_text.specs.declared.plain.limit.Limit.{Limit}
-use Rattle.slurm_text.specs.declared.plain.limit.Limit.TheVariants.{Minutes, Unlimited}
-use Rattle.slurm_text.specs.declared.plain.nice.Nice.{Nice}
-use Rattle.slurm_text.specs.declared.plain.nice.Nice.TheVariants.{Lower, Raise}
-use Rattle.slurm_text.specs.declared.plain.refusal.Refusal.{Refusal}
-use Rattle.slurm_text.specs.declared.plain.refusal.Refusal.TheVariants.{AccessDenied, AlreadyDone, WrongState, NotRequeueable}
-use Rattle.slurm_text.specs.declared.plain.state.Final.TheVariants as final
-use Rattle.slurm_text.specs.declared.plain.state.HeldBy.{HeldBy}
-use Rattle.slurm_text.specs.declared.plain.state.HeldBy.TheVariants as held
-use Rattle.slurm_text.specs.declared.plain.state.JobState.{JobState}
-use Rattle.slurm_text.specs.declared.plain.state.JobState.TheVariants.{Pending, Running, Completing, Ended}
+use Rattle.plain_data.specs.declared.limit.Limit.{Limit}
+use Rattle.plain_data.specs.declared.limit.Limit.TheVariants.{Minutes, Unlimited}
+use Rattle.plain_data.specs.declared.nice.Nice.{Nice}
+use Rattle.plain_data.specs.declared.nice.Nice.TheVariants.{Lower, Raise}
+use Rattle.reply_data.specs.declared.refusal.Refusal.{Refusal}
+use Rattle.reply_data.specs.declared.refusal.Refusal.TheVariants.{AccessDenied, AlreadyDone, WrongState, NotRequeueable}
+use Rattle.request_data.specs.declared.state.Final.TheVariants as final
+use Rattle.request_data.specs.declared.state.HeldBy.{HeldBy}
+use Rattle.request_data.specs.declared.state.HeldBy.TheVariants as held
+use Rattle.request_data.specs.declared.state.JobState.{JobState}
+use Rattle.request_data.specs.declared.state.JobState.TheVariants.{Pending, Running, Completing, Ended}
 use Rattle.job_table.specs.declared.record.JobRecord.{JobRecord}
 use Rattle.job_table.specs.declared.change.Change.TheVariants.{Leave, CancelPending, CancelRequeue, SetHold, SetLimit, SetNice}
 use Rattle.job_table.specs.Changes.{changed}

@@ -1,12 +1,12 @@
 -- What a user does to all jobs that are named: why it is refused, and the state after it.
 use Rattle.std.specs.Prelude.{ℕ, Bool, ◌&&◌, not, is_none, IfSome, if◌then◌else◌, List, [], ◌∷◌, map, filter, bytes_eq, Option, Some, None}
 use Rattle.std.specs.List.{list_any}
-use Rattle.slurm_text.specs.declared.plain.refusal.Refusal.{Refusal}
-use Rattle.slurm_text.specs.declared.plain.refusal.Refusal.TheVariants.{InvalidJobId, AccessDenied}
-use Rattle.slurm_text.specs.declared.plain.reply.Reply.TheVariants.{Done}
-use Rattle.slurm_text.specs.declared.plain.target.Target.{Target}
-use Rattle.slurm_text.specs.declared.plain.target.Targets.{Targets}
-use Rattle.slurm_text.specs.declared.plain.target.Targets.TheVariants.{List as Listed, User}
+use Rattle.reply_data.specs.declared.refusal.Refusal.{Refusal}
+use Rattle.reply_data.specs.declared.refusal.Refusal.TheVariants.{InvalidJobId, AccessDenied}
+use Rattle.reply_data.specs.declared.reply.Reply.TheVariants.{Done}
+use Rattle.request_data.specs.declared.target.Target.{Target}
+use Rattle.request_data.specs.declared.target.Targets.{Targets}
+use Rattle.request_data.specs.declared.target.Targets.TheVariants.{List as Listed, User}
 use Rattle.job_table.specs.declared.record.JobRecord.{JobRecord}
 use Rattle.job_table.specs.Targets.{is_named}
 use Rattle.ctl_state.specs.Events.{become, plan_left}

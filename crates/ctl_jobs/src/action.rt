@@ -1,7 +1,7 @@
 //! What users do to jobs.
 
-use slurm_text::plain::limit::Limit;
-use slurm_text::plain::nice::Nice;
+use plain_data::limit::Limit;
+use plain_data::nice::Nice;
 
 /// What a user does to jobs. scancel(1), and "hold", "release", "requeue" and "update" in scontrol(1).
 #[derive(Clone, Copy, Debug)]

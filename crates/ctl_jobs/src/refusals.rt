@@ -15,12 +15,12 @@ use ctl_state::cluster::Cluster;
 use ctl_state::limits::exceeds;
 use job_table::record::JobRecord;
 use job_table::targets::{is_named, places_of};
-use slurm_text::name::Name;
-use slurm_text::plain::limit::Limit;
-use slurm_text::plain::nice::Nice;
-use slurm_text::plain::refusal::Refusal;
-use slurm_text::plain::state::{Final, HeldBy, JobState};
-use slurm_text::plain::target::Target;
+use small_texts::name::Name;
+use plain_data::limit::Limit;
+use plain_data::nice::Nice;
+use reply_data::refusal::Refusal;
+use request_data::state::{Final, HeldBy, JobState};
+use request_data::target::Target;
 
 /// Why the user may not do this to what the targets name, if it is refused: the first target's that is. Logarithmic in
 /// the jobs for each target, and linear in the tasks of arrays.

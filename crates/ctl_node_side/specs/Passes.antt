@@ -1,6 +1,6 @@
 -- A whole pass: it sees to the nodes that fall silent first, and then does all that it does where none does.
 use Rattle.std.specs.Prelude.{ℕ, ◌+◌, Bool, ◌&&◌, not, if◌then◌else◌, length, count_by}
-use Rattle.slurm_text.specs.declared.plain.reply.Reply.TheVariants.{Passed}
+use Rattle.reply_data.specs.declared.reply.Reply.TheVariants.{Passed}
 use Rattle.ctl_state.specs.State.{State}
 use Rattle.ctl_state.specs.Verdicts.{Verdict, Stays, Makes}
 use Rattle.backfill_planner.specs.Plans.{PlannedView}

@@ -1,8 +1,8 @@
 -- What comes of a node's report, also where its daemon was restarted.
 use Rattle.std.specs.Prelude.{ℕ, nat_eq, if◌then◌else◌, Option, Some, None}
-use Rattle.slurm_text.specs.declared.plain.report.Report.{Report}
-use Rattle.slurm_text.specs.declared.plain.refusal.Refusal.TheVariants.{UnknownNode}
-use Rattle.slurm_text.specs.declared.plain.reply.Reply.TheVariants.{Orders}
+use Rattle.request_data.specs.declared.report.Report.{Report}
+use Rattle.reply_data.specs.declared.refusal.Refusal.TheVariants.{UnknownNode}
+use Rattle.reply_data.specs.declared.reply.Reply.TheVariants.{Orders}
 use Rattle.ctl_state.specs.State.{State}
 use Rattle.ctl_state.specs.Verdicts.{Verdict, Refuses, Makes, stamped}
 use Rattle.ctl_nodes.specs.Failing.{lost_after}

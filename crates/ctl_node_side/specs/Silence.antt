@@ -1,7 +1,7 @@
 -- Nodes that weren't heard for too long. SlurmdTimeout in slurm.conf(5).
 use Rattle.std.specs.Prelude.{ℕ, ◌+◌, Bool, false, ◌&&◌, not, nat_eq, nat_le, if◌then◌else◌, List, map, count_by, Option, Some, None}
 use Rattle.std.specs.List.{list_any}
-use Rattle.slurm_text.specs.declared.plain.report.Heard.{Heard}
+use Rattle.request_data.specs.declared.report.Heard.{Heard}
 use Rattle.node_state.specs.declared.record.NodeRecord.{NodeRecord}
 use Rattle.node_state.specs.declared.record.NodeChange.TheVariants.{Silent}
 use Rattle.node_state.specs.Nodes.{is_up}

@@ -15,7 +15,7 @@ use backfill_planner::Planned;
 use cpu_ids::CpuIds;
 use ctl_pass::{PlanInput, plan_input};
 use ctl_state::cluster::Cluster;
-use slurm_text::memory_error::Memory;
+use small_texts::memory_error::Memory;
 use std::alloc::Global;
 
 // What a pass plans at a moment at which no node falls silent.

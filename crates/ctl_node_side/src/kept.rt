@@ -11,7 +11,7 @@ use ctl_state::cluster::Cluster;
 use job_table::jobs::Jobs;
 use job_table::record::JobRecord;
 use node_state::nodes::Nodes;
-use slurm_text::memory_error::Memory;
+use small_texts::memory_error::Memory;
 use std::alloc::Global;
 
 /// What is kept of a cluster while nodes fall silent (own).

@@ -2,7 +2,7 @@
 //! laws it rests on.
 
 ghost use Rattle.std.specs.Prelude.{◌≡◌, ◌⊎◌, ℕ, ◌≤◌, Bool, true, List, All, Any, Contains, filter, map};
-ghost use Rattle.slurm_text.specs.declared.plain.report.Report.{Report};
+ghost use Rattle.request_data.specs.declared.report.Report.{Report};
 ghost use Rattle.backfill_planner.specs.declared.Placed.{Placed};
 ghost use Rattle.job_table.specs.declared.record.JobRecord.{JobRecord};
 ghost use Rattle.job_table.specs.JobStates.{is_running};

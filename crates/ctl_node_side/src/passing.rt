@@ -20,7 +20,7 @@ use ctl_pass::laws::{few_start_or_stay, there_are_few_jobs};
 use ctl_pass::{Decided, act, decide, is_idle};
 use ctl_state::cluster::Cluster;
 use resource_profile::Steps;
-use slurm_text::memory_error::Memory;
+use small_texts::memory_error::Memory;
 use std::alloc::Global;
 
 /// What comes of a pass that isn't refused for who asks it.

@@ -17,9 +17,9 @@ use ctl_report::is_restarted;
 use ctl_report::laws::a_node_without_jobs_is_ordered_alike;
 use ctl_state::cluster::Cluster;
 use job_table::record::JobRecord;
-use slurm_text::memory_error::Memory;
-use slurm_text::plain::orders::Orders;
-use slurm_text::plain::report::Report;
+use small_texts::memory_error::Memory;
+use reply_data::orders::Orders;
+use request_data::report::Report;
 use std::alloc::Global;
 
 // The jobs by which a report is answered: none, where its daemon was restarted.

@@ -16,8 +16,8 @@ use ctl_nodes::{change_places, lose, loses};
 use ctl_state::cluster::Cluster;
 use job_table::record::JobRecord;
 use node_state::record::{DownBy, NodeChange, NodeRecord};
-use slurm_text::plain::report::Heard;
-use slurm_text::plain::state::JobState;
+use request_data::report::Heard;
+use request_data::state::JobState;
 
 // Whether so many seconds have passed since the last accepted report.
 fn is_late(timeout: u64, now: u64, heard: Option<Heard>) -> bool

@@ -8,7 +8,7 @@ use Rattle.std.proofs.lemmas.List.{at_drop_more}
 use Rattle.std.proofs.lemmas.List.Folds.{list_any_at, list_any_more}
 use Rattle.std.proofs.lemmas.Option.{get_or_from_slice_get, slice_get_within}
 use Rattle.std.proofs.lemmas.Slice.Eq.{bytes_eq-Decides}
-use Rattle.slurm_text.specs.declared.plain.request.NodeOrder.{NodeOrder}
+use Rattle.request_data.specs.declared.request.NodeOrder.{NodeOrder}
 use Rattle.node_state.specs.declared.record.NodeRecord.{NodeRecord}
 use Rattle.node_state.specs.declared.record.NodeChange.{NodeChange}
 use Rattle.node_state.specs.Laws.{NamesLeadToPlaces, PlacesAreNamed}

@@ -1,11 +1,11 @@
 -- What operators say of nodes: why it is refused, and what it makes.
 use Rattle.std.specs.Prelude.{ℕ, Bool, true, false, ◌&&◌, ◌||◌, not, is_none, if◌then◌else◌, List, [], ◌∷◌, map, Option}
 use Rattle.std.specs.List.{list_any}
-use Rattle.slurm_text.specs.declared.plain.refusal.Refusal.{Refusal}
-use Rattle.slurm_text.specs.declared.plain.refusal.Refusal.TheVariants.{AccessDenied, UnknownNode}
-use Rattle.slurm_text.specs.declared.plain.reply.Reply.TheVariants.{Done}
-use Rattle.slurm_text.specs.declared.plain.request.NodeOrder.{NodeOrder}
-use Rattle.slurm_text.specs.declared.plain.request.NodeOrder.TheVariants as order
+use Rattle.reply_data.specs.declared.refusal.Refusal.{Refusal}
+use Rattle.reply_data.specs.declared.refusal.Refusal.TheVariants.{AccessDenied, UnknownNode}
+use Rattle.reply_data.specs.declared.reply.Reply.TheVariants.{Done}
+use Rattle.request_data.specs.declared.request.NodeOrder.{NodeOrder}
+use Rattle.request_data.specs.declared.request.NodeOrder.TheVariants as order
 use Rattle.node_state.specs.declared.record.DownBy.{DownBy}
 use Rattle.node_state.specs.declared.record.DownBy.TheVariants as down
 use Rattle.node_state.specs.declared.record.NodeRecord.{NodeRecord}

@@ -22,7 +22,7 @@ use job_table::jobs::Jobs;
 use job_table::laws::{a_change_is_of_its_place, a_walk_changes_all, who_leaves_is_charged};
 use job_table::record::{JobRecord, Part};
 use node_state::nodes::Nodes;
-use slurm_text::plain::state::{Final, JobState};
+use request_data::state::{Final, JobState};
 
 // How a job ends that fails with its node: it starts again where it may be requeued.
 fn failing(job: &JobRecord) -> Final

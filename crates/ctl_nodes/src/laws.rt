@@ -2,7 +2,7 @@
 //! laws it rests on.
 
 ghost use Rattle.std.specs.Prelude.{◌≡◌, ℕ, ◌≤◌, Bool, List, map, All, false};
-ghost use Rattle.slurm_text.specs.declared.plain.request.NodeOrder.{NodeOrder};
+ghost use Rattle.request_data.specs.declared.request.NodeOrder.{NodeOrder};
 ghost use Rattle.job_table.specs.declared.record.JobRecord.{JobRecord};
 ghost use Rattle.job_table.specs.declared.record.Part.{Part};
 ghost use Rattle.ctl_state.specs.Holding.{parts_of};

@@ -13,7 +13,7 @@ use job_table::laws::{a_change_is_of_its_place, a_walk_changes_all};
 use node_state::laws::names_lead_to_places;
 use node_state::nodes::Nodes;
 use node_state::record::{NodeChange, NodeRecord};
-use slurm_text::name::Name;
+use small_texts::name::Name;
 
 /// The places of the nodes with these names. Linear in the names; it takes no memory.
 pub fn places_of(nodes: &Nodes, names: &[Name]) -> CpuIds

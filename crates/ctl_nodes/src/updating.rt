@@ -16,10 +16,10 @@ use crate::names::{change_named, places_of};
 use ctl_state::cluster::Cluster;
 use job_table::laws::who_leaves_is_charged;
 use node_state::record::{DownBy, NodeChange, NodeRecord};
-use slurm_text::items::Items;
-use slurm_text::name::Name;
-use slurm_text::plain::refusal::Refusal;
-use slurm_text::plain::request::NodeOrder;
+use plain_data::items::Items;
+use small_texts::name::Name;
+use reply_data::refusal::Refusal;
+use request_data::request::NodeOrder;
 
 fn change_by(state: NodeOrder) -> NodeChange
     ensures { result ≡ Updating.change_by state }

@@ -9,17 +9,17 @@ use Rattle.std.proofs.lemmas.List.Elements.{All-contains, All-contains_itself, A
 use Rattle.resource_profile.specs.declared.Hold.{Hold}
 use Rattle.resource_profile.specs.Free.{covers}
 use Rattle.resource_profile.specs.Profiles.{AreWithin}
-use Rattle.slurm_text.specs.declared.plain.limit.Limit.{Limit}
-use Rattle.slurm_text.specs.declared.plain.limit.Limit.TheVariants.{Minutes, Unlimited}
-use Rattle.slurm_text.specs.declared.plain.state.Reason.{Reason}
-use Rattle.slurm_text.specs.declared.plain.state.Reason.TheVariants.{BeginTime, QosMaxWallDurationPerJobLimit, ReqNodeNotAvail, Reservation as Unreserved}
+use Rattle.plain_data.specs.declared.limit.Limit.{Limit}
+use Rattle.plain_data.specs.declared.limit.Limit.TheVariants.{Minutes, Unlimited}
+use Rattle.request_data.specs.declared.state.Reason.{Reason}
+use Rattle.request_data.specs.declared.state.Reason.TheVariants.{BeginTime, QosMaxWallDurationPerJobLimit, ReqNodeNotAvail, Reservation as Unreserved}
 use Rattle.backfill_planner.specs.declared.Placed.{Placed}
 use Rattle.backfill_planner.specs.declared.job.PlanJob.{PlanJob}
 use Rattle.backfill_planner.specs.Bases.{BaseView}
 use Rattle.backfill_planner.specs.Placements.{IsPlannable, IsOnRooms, AreParts, StartsFit}
 use Rattle.backfill_planner.specs.Plans.{plan_of, PlannedView}
 use Rattle.partitions.specs.Partitions.{IsOnNodes, bounds_of}
-use Rattle.slurm_text.specs.Options.{◌>>=◌}
+use Rattle.small_texts.specs.Options.{◌>>=◌}
 use Rattle.reservations.specs.declared.record.Reservation.{Reservation}
 use Rattle.reservations.specs.Laws.{LastingTwice}
 use Rattle.reservations.specs.Reservations.{lasting, reservation_named}

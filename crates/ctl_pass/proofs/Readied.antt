@@ -7,9 +7,9 @@ use Rattle.std.proofs.lemmas.List.{take_more, map-append, append-nil, length-map
 use Rattle.std.proofs.lemmas.List.Concat.{flat_map-append}
 use Rattle.std.proofs.lemmas.List.Elements.{All-head, All-tail, All-weaker, All-nil, filter-append}
 use Rattle.std.proofs.lemmas.List.Sums.{length-filter, count_by-le-length}
-use Rattle.slurm_text.specs.declared.plain.state.JobState.{JobState}
-use Rattle.slurm_text.specs.declared.plain.state.JobState.TheVariants.{Completing}
-use Rattle.slurm_text.specs.declared.plain.state.Final.TheVariants.{Timeout}
+use Rattle.request_data.specs.declared.state.JobState.{JobState}
+use Rattle.request_data.specs.declared.state.JobState.TheVariants.{Completing}
+use Rattle.request_data.specs.declared.state.Final.TheVariants.{Timeout}
 use Rattle.backfill_planner.specs.declared.Placed.{Placed}
 use Rattle.job_table.specs.declared.record.JobRecord.{JobRecord}
 use Rattle.job_table.specs.declared.change.Change.TheVariants.{Leave}

@@ -1,6 +1,6 @@
 -- When jobs reach their limits, and when their records go.
 use Rattle.std.specs.Prelude.{ℕ, Bool, ◌&&◌, nat_le, if◌then◌else◌, None}
-use Rattle.slurm_text.specs.declared.plain.state.Final.TheVariants.{Timeout}
+use Rattle.request_data.specs.declared.state.Final.TheVariants.{Timeout}
 use Rattle.job_table.specs.declared.record.JobRecord.{JobRecord}
 use Rattle.job_table.specs.declared.change.Change.TheVariants.{Leave}
 use Rattle.job_table.specs.Changes.{changed}

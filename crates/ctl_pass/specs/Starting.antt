@@ -1,7 +1,7 @@
 -- What comes of a plan: the jobs that are planned at once start, the other placements stay.
 use Rattle.std.specs.Prelude.{◌≡◌, ℕ, ◌≤◌, Bool, false, ◌&&◌, nat_eq, is_none, if◌then◌else◌, List, [], ◌∷◌, map, fold, take, length, Option, Some, None, Contains}
 use Rattle.std.specs.List.{AllZip}
-use Rattle.slurm_text.specs.declared.plain.state.JobState.TheVariants.{Running}
+use Rattle.request_data.specs.declared.state.JobState.TheVariants.{Running}
 use Rattle.resource_profile.specs.declared.NodeRoom.{NodeRoom}
 use Rattle.backfill_planner.specs.declared.Share.{Share}
 use Rattle.backfill_planner.specs.declared.Placed.{Placed}

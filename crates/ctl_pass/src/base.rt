@@ -20,8 +20,8 @@ use job_table::jobs::has_gone;
 use job_table::laws::who_is_awaited_stays;
 use job_table::record::JobRecord;
 use resource_profile::Hold;
-use slurm_text::items::Items;
-use slurm_text::memory_error::Memory;
+use plain_data::items::Items;
+use small_texts::memory_error::Memory;
 use std::alloc::Global;
 
 fn count_of(cpus: &CpuIds) -> u32

@@ -20,7 +20,7 @@ use job_table::change::Change;
 use job_table::jobs::Jobs;
 use job_table::record::Part;
 use node_state::nodes::Nodes;
-use slurm_text::items::Items;
+use plain_data::items::Items;
 
 // The part that a share becomes, which is held from then on.
 fn take_part(nodes: &mut Nodes, share: &Share) -> Part

@@ -23,7 +23,7 @@ use job_table::awaited::Awaited;
 use plan_keeper::replan;
 use resource_profile::Steps;
 use run_limits::tally::Tally;
-use slurm_text::memory_error::Memory;
+use small_texts::memory_error::Memory;
 use std::alloc::Global;
 use std::marker::Model;
 

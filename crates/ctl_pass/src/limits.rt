@@ -12,9 +12,9 @@ use job_table::change::Change;
 use job_table::jobs::{Jobs, has_gone};
 use job_table::laws::{a_change_is_of_its_place, a_walk_changes_all, who_leaves_is_charged};
 use job_table::record::JobRecord;
-use slurm_text::plain::limit::Limit;
-use slurm_text::plain::seconds::FOREVER;
-use slurm_text::plain::state::{Final, JobState};
+use plain_data::limit::Limit;
+use plain_data::seconds::FOREVER;
+use request_data::state::{Final, JobState};
 
 /// Whether the job runs and has reached its limit.
 pub(crate) fn is_over(now: u64, job: &JobRecord) -> bool

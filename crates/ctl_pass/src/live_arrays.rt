@@ -11,7 +11,7 @@ ghost use Rattle.ctl_pass.specs.Passing.{HasArrays};
 use job_table::awaited::Awaited;
 use job_table::jobs::has_gone;
 use job_table::record::JobRecord;
-use slurm_text::memory_error::Memory;
+use small_texts::memory_error::Memory;
 use std::alloc::Global;
 use std::collections::HashSet;
 

@@ -36,9 +36,9 @@ use job_table::laws::who_is_awaited_stays;
 use reservations::record::Reservation;
 use resource_profile::Steps;
 use run_limits::tally::Tally;
-use slurm_text::memory_error::Memory;
-use slurm_text::name::Name;
-use slurm_text::plain::refusal::Refusal;
+use small_texts::memory_error::Memory;
+use small_texts::name::Name;
+use reply_data::refusal::Refusal;
 use std::alloc::Global;
 
 /// What a pass decides before it changes anything: its memory is taken by then.

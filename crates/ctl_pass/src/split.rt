@@ -26,7 +26,7 @@ use job_table::laws::who_is_awaited_stays;
 use job_table::record::JobRecord;
 use run_limits::laws::sums_decide_what_is_shown;
 use run_limits::tally::Tally;
-use slurm_text::memory_error::Memory;
+use small_texts::memory_error::Memory;
 use std::alloc::Global;
 
 // Whether a placement begins now.

@@ -7,9 +7,9 @@ ghost use Rattle.ctl_pass.specs.Awaiting;
 use backfill_planner::{Placed, Share};
 use job_table::record::Part;
 use node_state::record::NodeRecord;
-use slurm_text::items::Items;
-use slurm_text::memory_error::Memory;
-use slurm_text::name::Name;
+use plain_data::items::Items;
+use small_texts::memory_error::Memory;
+use small_texts::name::Name;
 use std::alloc::Global;
 
 /// A placement that is due, and what its start needs besides processors (own).

@@ -3,7 +3,7 @@ use Rattle.std.proofs.Common.{◌≡◌, ℕ, zero, ◌≤◌, Bool, true, List,
 use Rattle.std.proofs.Math.Seq.{take-append_seam, take-length}
 use Rattle.std.proofs.lemmas.List.{take_all}
 use Rattle.std.proofs.lemmas.List.Elements.{filter-append}
-use Rattle.slurm_text.specs.declared.plain.request.Request.{Request}
+use Rattle.request_data.specs.declared.request.Request.{Request}
 use Rattle.resource_profile.specs.Counts.{IsTickedUpTo}
 use Rattle.backfill_planner.specs.Plans.{PlannedView}
 use Rattle.ctl_state.specs.Soundness.{IsSound}

@@ -1,7 +1,7 @@
 //! A turn of the planner.
 
 ghost use Rattle.std.specs.Prelude.{◌≡◌, length, IfOk, OnOk, OnErr};
-ghost use Rattle.slurm_text.specs.declared.plain.request.Request.TheVariants.{Pass};
+ghost use Rattle.request_data.specs.declared.request.Request.TheVariants.{Pass};
 ghost use Rattle.resource_profile.specs.Counts.{IsTickedUpTo};
 ghost use Rattle.ctl_desk.specs.Desk.{GoesOn, IsAnswered, history_of, seen};
 ghost use Rattle.ctl_desk.specs.History.{IsHistory};
@@ -15,7 +15,7 @@ use ctl_desk::entry::Answer;
 use node_daemon::root;
 use resource_profile::{Plain, Steps};
 use slurm_net::{Gate, Point};
-use slurm_text::memory_error::Memory;
+use small_texts::memory_error::Memory;
 use std::alloc::Global;
 
 // Takes an input, and makes its plan while the book is at home.

@@ -5,7 +5,7 @@ use Rattle.std.proofs.lemmas.Bool.Decides.{nat_tests}
 use Rattle.std.proofs.lemmas.List.{length-map}
 use Rattle.std.proofs.lemmas.List.Sums.{sum_by-cons}
 use Rattle.std.proofs.lemmas.Option.{slice_get-map}
-use Rattle.slurm_text.specs.Assocs.{is_same_place as is_same_parent}
+use Rattle.plain_data.specs.Assocs.{is_same_place as is_same_parent}
 use Rattle.accounts_qos.specs.declared.record.AssocRecord.{AssocRecord}
 use Rattle.accounts_qos.specs.Accounts.{AreFew, AreRooted}
 use Rattle.fair_tree.specs.declared.tree.TreeNode.{TreeNode}

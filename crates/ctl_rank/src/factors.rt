@@ -7,7 +7,7 @@ ghost use Rattle.ctl_rank.specs.Measured.{IsMeasured};
 use crate::greatest::{all_cpus, greatest_factor, greatest_qos};
 use crate::ranks::{count_users, ranks_at};
 use ctl_state::cluster::Cluster;
-use slurm_text::memory_error::Memory;
+use small_texts::memory_error::Memory;
 use std::alloc::Global;
 
 /// What the priorities of all jobs at a moment rest on (own).

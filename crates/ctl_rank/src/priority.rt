@@ -14,7 +14,7 @@ use accounts_qos::record::QosRecord;
 use ctl_state::cluster::Cluster;
 use job_table::record::JobRecord;
 use multifactor::{PriorityInput, Term, priority};
-use slurm_text::plain::priority::PriorityParts;
+use reply_data::priority::PriorityParts;
 
 // How long the job has waited at a moment, as far as that counts.
 fn age_term(cluster: &Cluster, moment: u64, job: &JobRecord) -> Term

@@ -11,7 +11,7 @@ use crate::usage::usage_of;
 use accounts_qos::record::AssocRecord;
 use ctl_state::cluster::Cluster;
 use fair_tree::ranks;
-use slurm_text::memory_error::Memory;
+use small_texts::memory_error::Memory;
 use std::alloc::Global;
 
 // What stands at a place, 0 behind the end.

@@ -7,7 +7,7 @@ ghost use Rattle.ctl_rank.specs.FairShare as spec;
 
 use accounts_qos::record::AssocRecord;
 use fair_tree::TreeNode;
-use slurm_text::memory_error::Memory;
+use small_texts::memory_error::Memory;
 use std::alloc::Global;
 
 fn node_of(assoc: &AssocRecord) -> TreeNode

@@ -7,8 +7,8 @@ ghost use Rattle.ctl_rank.specs.Usage as spec;
 use ctl_state::cluster::Cluster;
 use job_table::record::JobRecord;
 use job_table::usage::{GREATEST_USAGE, used_by};
-use slurm_text::memory_error::Memory;
-use slurm_text::plain::state::JobState;
+use small_texts::memory_error::Memory;
+use request_data::state::JobState;
 use std::alloc::Global;
 
 // What the job has used since its start, while it runs. The number stands still at its type's end.

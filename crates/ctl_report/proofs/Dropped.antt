@@ -9,10 +9,10 @@ use Rattle.std.proofs.lemmas.List.Concat.{get_or-flat_map}
 use Rattle.std.proofs.lemmas.List.Elements.{All-head, All-tail}
 use Rattle.std.proofs.lemmas.List.Folds.{length-flat_map-take}
 use Rattle.std.proofs.lemmas.List.Sums.{sum_by-append, sum_by-cons}
-use Rattle.slurm_text.specs.declared.plain.report.Done.{Done}
-use Rattle.slurm_text.specs.declared.plain.state.Final.{Final}
-use Rattle.slurm_text.specs.declared.plain.state.JobState.{JobState}
-use Rattle.slurm_text.specs.declared.plain.state.JobState.TheVariants.{Pending, Running, Completing, Ended}
+use Rattle.request_data.specs.declared.report.Done.{Done}
+use Rattle.request_data.specs.declared.state.Final.{Final}
+use Rattle.request_data.specs.declared.state.JobState.{JobState}
+use Rattle.request_data.specs.declared.state.JobState.TheVariants.{Pending, Running, Completing, Ended}
 use Rattle.node_state.specs.declared.record.Held.{Held}
 use Rattle.node_state.specs.Held.{GivesBack, held_mem, holds_cpu}
 use Rattle.job_table.specs.declared.record.Part.{Part}

@@ -13,8 +13,8 @@ use Rattle.std.proofs.lemmas.List.Kept.{Contains-dedup, Contains-from_dedup, IsS
 use Rattle.std.proofs.lemmas.List.Sorted.{list_any-IsPermutation}
 use Rattle.std.proofs.lemmas.Map.Keys.{Less-from_sorted}
 use Rattle.std.proofs.lemmas.Map.Views.{Contains-from_any, list_any-from_Contains}
-use Rattle.slurm_text.specs.declared.plain.report.Start.{Start}
-use Rattle.slurm_text.specs.Starts.{is_before, InOrder}
+use Rattle.request_data.specs.declared.report.Start.{Start}
+use Rattle.reply_data.specs.Starts.{is_before, InOrder}
 use Rattle.ctl_report.specs.Ordering.{is_same, with_start, in_order}
 
 -- the order of the starts

@@ -4,10 +4,10 @@ use Rattle.std.specs.List.{AllZip, list_any, filter, Contains}
 use Rattle.std.proofs.lemmas.Bool.{cases_Bool, both_ways, cond_both}
 use Rattle.std.proofs.lemmas.Bool.Decides.{nat_tests}
 use Rattle.std.proofs.lemmas.List.Elements.{Contains-append_left, Contains-append_right, Contains-append_cases, filter_agree}
-use Rattle.slurm_text.specs.declared.plain.report.Done.{Done}
-use Rattle.slurm_text.specs.declared.plain.report.Start.{Start}
-use Rattle.slurm_text.specs.declared.plain.report.Report.{Report}
-use Rattle.slurm_text.specs.declared.plain.state.JobState.{JobState}
+use Rattle.request_data.specs.declared.report.Done.{Done}
+use Rattle.request_data.specs.declared.report.Start.{Start}
+use Rattle.request_data.specs.declared.report.Report.{Report}
+use Rattle.request_data.specs.declared.state.JobState.{JobState}
 use Rattle.node_state.specs.declared.record.NodeRecord.{NodeRecord}
 use Rattle.node_state.specs.Laws.{ConfsStay, ReportsSetNoneDown}
 use Rattle.node_state.specs.Nodes.{is_up}

@@ -1,9 +1,9 @@
 -- Which node reports, and why its report may be refused.
 use Rattle.std.specs.Prelude.{ℕ, Bool, false, not, nat_lt, is_none, unwrap_or, List, [], ◌∷◌, Option, Some, None, option_map, option_and_then}
-use Rattle.slurm_text.specs.declared.plain.report.Report.{Report}
-use Rattle.slurm_text.specs.declared.plain.refusal.Refusal.{Refusal}
-use Rattle.slurm_text.specs.declared.plain.refusal.Refusal.TheVariants.{AccessDenied, UnknownNode, StaleReport}
-use Rattle.slurm_text.specs.declared.plain.report.Heard.{Heard}
+use Rattle.request_data.specs.declared.report.Report.{Report}
+use Rattle.reply_data.specs.declared.refusal.Refusal.{Refusal}
+use Rattle.reply_data.specs.declared.refusal.Refusal.TheVariants.{AccessDenied, UnknownNode, StaleReport}
+use Rattle.request_data.specs.declared.report.Heard.{Heard}
 use Rattle.ctl_state.specs.State.{State}
 use Rattle.ctl_state.specs.Refusals.{refused_if, is_privileged}
 use Rattle.node_state.specs.Nodes.{place_named}

@@ -14,8 +14,8 @@ use job_table::jobs::Jobs;
 use job_table::laws::{a_change_is_of_its_place, a_walk_changes_all, who_leaves_is_charged};
 use job_table::record::{JobRecord, Part};
 use node_state::nodes::Nodes;
-use slurm_text::plain::report::{Done, Report, Start};
-use slurm_text::plain::state::Final;
+use request_data::report::{Done, Report, Start};
+use request_data::state::Final;
 
 /// Whether the start is the job's last one.
 pub(crate) fn is_last_start(job: &JobRecord, start: &Start) -> bool

@@ -1,8 +1,8 @@
 //! What holds of every report. A law is the contract of a function that does nothing but call the laws it rests on.
 
 ghost use Rattle.std.specs.Prelude.{◌≡◌, ◌↔◌, ℕ, ◌≤◌, nat_eq, false, List, [], All, Contains};
-ghost use Rattle.slurm_text.specs.declared.plain.report.Report.{Report};
-ghost use Rattle.slurm_text.specs.declared.plain.report.Start.{Start};
+ghost use Rattle.request_data.specs.declared.report.Report.{Report};
+ghost use Rattle.request_data.specs.declared.report.Start.{Start};
 ghost use Rattle.job_table.specs.declared.record.JobRecord.{JobRecord};
 ghost use Rattle.job_table.specs.declared.record.Part.{Part};
 ghost use Rattle.ctl_state.specs.Holding.{parts_of};
@@ -10,7 +10,7 @@ ghost use Rattle.ctl_state.specs.State.{State, last_moment};
 ghost use Rattle.ctl_state.specs.Soundness.{IsSound};
 ghost use Rattle.ctl_state.specs.Verdicts.{stamped};
 ghost use Rattle.ctl_report.specs.Reporting.{report_after};
-ghost use Rattle.slurm_text.specs.Starts.{InOrder};
+ghost use Rattle.reply_data.specs.Starts.{InOrder};
 ghost use Rattle.ctl_report.specs.Ordering.{in_order, orders_of};
 
 use ctl_state::laws::{

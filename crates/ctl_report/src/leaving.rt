@@ -16,7 +16,7 @@ use job_table::change::Change;
 use job_table::jobs::Jobs;
 use job_table::record::{JobRecord, Part};
 use node_state::nodes::Nodes;
-use slurm_text::plain::state::JobState;
+use request_data::state::JobState;
 
 // The part that the job drops when it leaves the node.
 fn part_dropped(node: u32, job: &JobRecord) -> Option<&Part>

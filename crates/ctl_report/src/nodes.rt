@@ -5,7 +5,7 @@ ghost use Rattle.ctl_report.specs.Reporting.{heard_of, is_after, heard_nodes};
 
 use node_state::nodes::Nodes;
 use node_state::record::NodeChange;
-use slurm_text::plain::report::{Heard, Report};
+use request_data::report::{Heard, Report};
 
 /// The last accepted report of the node at a place.
 pub(crate) fn heard_of(nodes: &Nodes, place: u32) -> Option<Heard>

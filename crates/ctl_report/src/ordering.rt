@@ -9,10 +9,10 @@ ghost use Rattle.ctl_report.specs.Ordering.{in_order, is_same, killed, launch_of
 use crate::jobs::{done_of, is_at, is_batch_host, is_listed, part_on};
 use crate::starts::in_order;
 use job_table::record::{JobRecord, Part};
-use slurm_text::memory_error::Memory;
-use slurm_text::plain::orders::{Launch, Launches, Starts};
-use slurm_text::plain::report::{Done, Report, Start};
-use slurm_text::plain::state::JobState;
+use small_texts::memory_error::Memory;
+use reply_data::orders::{Launch, Launches, Starts};
+use request_data::report::{Done, Report, Start};
+use request_data::state::JobState;
 use std::alloc::Global;
 
 /// The starts that the report tells to run and that won't run on the node any more once it is accepted, whatever its

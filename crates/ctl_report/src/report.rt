@@ -15,11 +15,11 @@ use crate::nodes::{hear, heard_of, is_after};
 use crate::ordering::{forgets, kills, launches};
 use ctl_state::cluster::Cluster;
 use job_table::record::JobRecord;
-use slurm_text::memory_error::Memory;
-use slurm_text::name::Name;
-use slurm_text::plain::orders::Orders;
-use slurm_text::plain::refusal::Refusal;
-use slurm_text::plain::report::{Heard, Report};
+use small_texts::memory_error::Memory;
+use small_texts::name::Name;
+use reply_data::orders::Orders;
+use reply_data::refusal::Refusal;
+use request_data::report::{Heard, Report};
 use std::alloc::Global;
 
 /// The place of the node that reports, in constant time.

@@ -3,8 +3,8 @@
 ghost use Rattle.std.specs.Prelude.{◌≡◌};
 ghost use Rattle.ctl_report.specs.Ordering.{in_order};
 
-use slurm_text::plain::orders::Starts;
-use slurm_text::plain::report::Start;
+use reply_data::orders::Starts;
+use request_data::report::Start;
 
 /// The starts by job and number. It takes no memory, and n log n steps.
 pub(crate) fn in_order(starts: Vec<Start>) -> Starts

@@ -4,9 +4,9 @@ use Rattle.std.specs.Prelude.{is_none, is_some, nat_le}
 use Rattle.std.specs.List.{filter, find, list_any}
 use Rattle.std.proofs.lemmas.Bool.{leb-false, or_parts}
 use Rattle.std.proofs.lemmas.List.{length-append}
-use Rattle.slurm_text.specs.declared.plain.refusal.Refusal.{Refusal}
-use Rattle.slurm_text.specs.declared.plain.refusal.Refusal.TheVariants.{AccessDenied, InvalidReservation, ReservationOverlap, UnknownNode}
-use Rattle.slurm_text.specs.declared.plain.reservation.ReservationDesc.{ReservationDesc}
+use Rattle.reply_data.specs.declared.refusal.Refusal.{Refusal}
+use Rattle.reply_data.specs.declared.refusal.Refusal.TheVariants.{AccessDenied, InvalidReservation, ReservationOverlap, UnknownNode}
+use Rattle.request_data.specs.declared.reservation.ReservationDesc.{ReservationDesc}
 use Rattle.node_state.specs.Nodes.{place_named}
 use Rattle.reservations.specs.declared.record.Reservation.{Reservation}
 use Rattle.reservations.specs.Laws.{Fewer, OneMore}

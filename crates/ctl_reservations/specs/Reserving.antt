@@ -1,10 +1,10 @@
 -- What operators say of reservations: why it is refused, and what it makes.
 use Rattle.std.specs.Prelude.{ℕ, Bool, ◌&&◌, ◌||◌, not, is_none, nat_lt, List, [], ◌∷◌, ◌++◌, length, filter, Option}
 use Rattle.std.specs.List.{list_any, range_with_len}
-use Rattle.slurm_text.specs.declared.plain.refusal.Refusal.{Refusal}
-use Rattle.slurm_text.specs.declared.plain.refusal.Refusal.TheVariants.{AccessDenied, InvalidReservation, ReservationOverlap, UnknownNode}
-use Rattle.slurm_text.specs.declared.plain.reply.Reply.TheVariants.{Done}
-use Rattle.slurm_text.specs.declared.plain.reservation.ReservationDesc.{ReservationDesc}
+use Rattle.reply_data.specs.declared.refusal.Refusal.{Refusal}
+use Rattle.reply_data.specs.declared.refusal.Refusal.TheVariants.{AccessDenied, InvalidReservation, ReservationOverlap, UnknownNode}
+use Rattle.reply_data.specs.declared.reply.Reply.TheVariants.{Done}
+use Rattle.request_data.specs.declared.reservation.ReservationDesc.{ReservationDesc}
 use Rattle.cpu_ids.specs.Rows.{has_id}
 use Rattle.node_state.specs.declared.record.NodeRecord.{NodeRecord}
 use Rattle.node_state.specs.Nodes.{place_named}

@@ -2,7 +2,7 @@
 //! the laws it rests on.
 
 ghost use Rattle.std.specs.Prelude.{◌≡◌, ◌≢◌, ℕ, false, is_none, List, None};
-ghost use Rattle.slurm_text.specs.declared.plain.reservation.ReservationDesc.{ReservationDesc};
+ghost use Rattle.request_data.specs.declared.reservation.ReservationDesc.{ReservationDesc};
 ghost use Rattle.reservations.specs.Reservations.{reservation_named};
 ghost use Rattle.ctl_state.specs.Refusals.{first_refusal};
 ghost use Rattle.ctl_state.specs.Soundness.{IsSound};

@@ -6,7 +6,7 @@ ghost use Rattle.ctl_reservations.specs.Reserving;
 use cpu_ids::CpuIds;
 use ctl_nodes::places_of;
 use node_state::nodes::Nodes;
-use slurm_text::name::Name;
+use small_texts::name::Name;
 
 /// The places of the nodes with these names. Linear in the names; it takes no memory.
 pub(crate) fn places_among(nodes: &Nodes, names: &[Name]) -> CpuIds

@@ -16,11 +16,11 @@ use crate::places::places_among;
 use ctl_state::cluster::Cluster;
 use node_state::nodes::Nodes;
 use reservations::record::Reservation;
-use slurm_text::items::Items;
-use slurm_text::memory_error::Memory;
-use slurm_text::name::Name;
-use slurm_text::plain::refusal::Refusal;
-use slurm_text::plain::reservation::ReservationDesc;
+use plain_data::items::Items;
+use small_texts::memory_error::Memory;
+use small_texts::name::Name;
+use reply_data::refusal::Refusal;
+use request_data::reservation::ReservationDesc;
 
 // Whether one of the names is no node's.
 fn has_stranger(nodes: &Nodes, names: &Items<Name>) -> bool

@@ -10,7 +10,7 @@ use node_daemon::daemon::DaemonState;
 use node_daemon::daemon_turn;
 use node_state::record::NodeRecord;
 use slurm_net::Clock;
-use slurm_text::memory_error::Memory;
+use small_texts::memory_error::Memory;
 use std::alloc::Global;
 use std::sync::Wait;
 

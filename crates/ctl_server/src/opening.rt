@@ -3,7 +3,7 @@
 use crate::daemons::{rests_for, start_daemons};
 use ctl_desk::book::Book;
 use node_daemon::daemon::DaemonState;
-use slurm_text::memory_error::Memory;
+use small_texts::memory_error::Memory;
 use std::alloc::Global;
 
 /// What the parts beside the workers take of the settings.

@@ -8,7 +8,7 @@ use crate::beside::{Planner, Reporter, run_beside};
 use crate::workers::{Seat, Worked, work_all};
 use locked_desk::{BookLock, BookPass};
 use slurm_net::{Clock, Door, Gate};
-use slurm_text::memory_error::Memory;
+use small_texts::memory_error::Memory;
 use std::alloc::Global;
 use std::sync::Wait;
 use std::thread::{Threads, join};

@@ -25,7 +25,7 @@ use ctl_desk::book::Book;
 use locked_desk::{BookLock, BookPass};
 use slurm_io::{Failed, Sink, write_all};
 use slurm_net::{Clock, Door, Gate, Host, ListenRefusal};
-use slurm_text::memory_error::Memory;
+use small_texts::memory_error::Memory;
 use std::alloc::Global;
 use std::sync::Wait;
 use std::thread::Threads;

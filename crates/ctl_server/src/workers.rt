@@ -13,7 +13,7 @@ use ctl_worker::{WorkerEnd, worker};
 use locked_desk::{BookLock, BookPass, locked_desk};
 use resource_profile::start;
 use slurm_net::{Clock, Door, Gate};
-use slurm_text::memory_error::Memory;
+use small_texts::memory_error::Memory;
 use std::alloc::Global;
 use std::sync::Wait;
 use std::thread::{Threads, map_vec};

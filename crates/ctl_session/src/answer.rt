@@ -18,9 +18,9 @@ use slurm_io::{Failed, Link};
 use slurm_net::Clock;
 use slurm_print::malformed::{bad_header, bad_words, malformed, unknown_command};
 use slurm_print::text::text;
-use slurm_text::memory_error::Memory;
-use slurm_text::plain::reply::Reply;
-use slurm_text::plain::request::Request;
+use small_texts::memory_error::Memory;
+use reply_data::reply::Reply;
+use request_data::request::Request;
 use std::alloc::Global;
 
 /// Asks what a header asked. After want of memory nothing of it is entered.

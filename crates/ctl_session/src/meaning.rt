@@ -10,7 +10,7 @@ use block_frame::{Block, Form};
 use command_words::framed::{FramedHead, read_called, read_framed_head};
 use command_words::header::{Meaning, read_header};
 use slurm_net::Clock;
-use slurm_text::memory_error::Memory;
+use small_texts::memory_error::Memory;
 use std::alloc::Global;
 
 fn attachment(block: &Block) -> Option<&[u8]>

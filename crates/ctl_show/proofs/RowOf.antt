@@ -1,11 +1,11 @@
 -- A row from what is found for each of its columns.
 use Rattle.std.proofs.Common.{◌≡◌, ℕ, ◌-◌, Bool, false, List, Option, refl}
 use Rattle.std.specs.Prelude.{unwrap_or, codes}
-use Rattle.slurm_text.specs.declared.plain.dependency.DepSpec.{DepSpec}
-use Rattle.slurm_text.specs.declared.plain.state.Reason.{Reason}
-use Rattle.slurm_text.specs.declared.plain.view.EndAt.{EndAt}
-use Rattle.slurm_text.specs.declared.plain.view.JobRow.{JobRow}
-use Rattle.slurm_text.specs.declared.plain.view.NamedPart.{NamedPart}
+use Rattle.plain_data.specs.declared.dependency.DepSpec.{DepSpec}
+use Rattle.request_data.specs.declared.state.Reason.{Reason}
+use Rattle.reply_data.specs.declared.view.EndAt.{EndAt}
+use Rattle.reply_data.specs.declared.view.JobRow.{JobRow}
+use Rattle.reply_data.specs.declared.view.NamedPart.{NamedPart}
 use Rattle.job_table.specs.declared.record.JobRecord.{JobRecord}
 use Rattle.job_table.specs.Targets.{index_of}
 use Rattle.ctl_state.specs.State.{State}

@@ -17,7 +17,7 @@ use Rattle.job_table.specs.declared.record.JobRecord.{JobRecord}
 use Rattle.job_table.specs.Changes.{is_on}
 use Rattle.ctl_state.specs.Holding.{parts_of}
 use Rattle.ctl_state.specs.State.{State}
-use Rattle.slurm_text.specs.declared.plain.view.NodeGroup.{NodeGroup}
+use Rattle.reply_data.specs.declared.view.NodeGroup.{NodeGroup}
 use Rattle.ctl_show.proofs.Gathered.{capped}
 use Rattle.ctl_show.specs.Found.{CountsParts, GroupsNodes, last_count}
 use Rattle.ctl_show.specs.Standing.{cpus_in, cpus_held, names_standing, group_by, group_at}

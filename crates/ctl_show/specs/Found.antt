@@ -1,7 +1,7 @@
 -- What a query finds once for all rows that it shows. Of the proof alone: no public call speaks of it.
 use Rattle.std.specs.Prelude.{◌≡◌, ℕ, ◌^◌, ◌-◌, ◌<◌, min, nat_eq, List, length, sum_by, slice_index, slice_get}
 use Rattle.std.specs.HashMap.{get}
-use Rattle.slurm_text.specs.declared.plain.view.NodeGroup.{NodeGroup}
+use Rattle.reply_data.specs.declared.view.NodeGroup.{NodeGroup}
 use Rattle.job_table.specs.declared.record.Part.{Part}
 use Rattle.run_limits.specs.Tallies.{Shows}
 use Rattle.ctl_state.specs.Counted.{holding}

@@ -1,11 +1,11 @@
 -- What is shown of nodes, of partitions and of reservations, each by itself.
 use Rattle.std.specs.Prelude.{ℕ, Bool, true, List, map, filter, filter_map, sum_by, slice_get, unwrap_or, bytes_eq, Option, Some, None, option_map}
 use Rattle.std.specs.List.{enumerate_from}
-use Rattle.slurm_text.specs.declared.plain.view.NodeRow.{NodeRow}
-use Rattle.slurm_text.specs.declared.plain.view.PartRow.{PartRow}
-use Rattle.slurm_text.specs.declared.plain.view.ResRow.{ResRow}
-use Rattle.slurm_text.specs.declared.plain.view.Row.{Row}
-use Rattle.slurm_text.specs.declared.plain.view.Row.TheVariants as shown
+use Rattle.reply_data.specs.declared.view.NodeRow.{NodeRow}
+use Rattle.reply_data.specs.declared.view.PartRow.{PartRow}
+use Rattle.reply_data.specs.declared.view.ResRow.{ResRow}
+use Rattle.reply_data.specs.declared.view.Row.{Row}
+use Rattle.reply_data.specs.declared.view.Row.TheVariants as shown
 use Rattle.node_state.specs.declared.record.NodeRecord.{NodeRecord}
 use Rattle.partitions.specs.declared.record.PartRecord.{PartRecord}
 use Rattle.reservations.specs.declared.record.Reservation.{Reservation}

@@ -1,31 +1,31 @@
 -- What is shown of the state.
 use Rattle.std.specs.Prelude.{ℕ, ◌+◌, ◌-◌, ◌*◌, ◌^◌, min, Bool, true, false, ◌&&◌, ◌||◌, not, nat_eq, is_none, if◌then◌else◌, unwrap_or, List, [], ◌∷◌, map, length, filter, filter_map, sum_by, find, slice_get, bytes_eq, codes, Option, Some, None, option_map}
 use Rattle.std.specs.List.{list_any}
-use Rattle.slurm_text.specs.declared.plain.limit.Limit.{Limit}
-use Rattle.slurm_text.specs.declared.plain.limit.Limit.TheVariants.{Minutes, Unlimited}
-use Rattle.slurm_text.specs.declared.plain.query.JobQuery.{JobQuery}
-use Rattle.slurm_text.specs.declared.plain.query.Query.{Query}
-use Rattle.slurm_text.specs.declared.plain.query.Query.TheVariants.{Squeue, Sinfo, Sprio, ShowJob, ShowNode, ShowPartition, ShowReservation}
-use Rattle.slurm_text.specs.declared.plain.query.StateCode.{StateCode}
-use Rattle.slurm_text.specs.declared.plain.query.StateCode.TheVariants as code
-use Rattle.slurm_text.specs.declared.plain.query.Who.{Who}
-use Rattle.slurm_text.specs.declared.plain.query.Who.TheVariants.{Anyone, Asker, User}
-use Rattle.slurm_text.specs.declared.plain.refusal.Refusal.{Refusal}
-use Rattle.slurm_text.specs.declared.plain.refusal.Refusal.TheVariants.{InvalidPartition, InvalidJobId, InvalidReservation, UnknownNode}
-use Rattle.slurm_text.specs.declared.plain.state.Final.TheVariants.{Completed, Cancelled, Failed, Timeout, NodeFail}
-use Rattle.slurm_text.specs.declared.plain.state.JobState.{JobState}
-use Rattle.slurm_text.specs.declared.plain.state.JobState.TheVariants.{Ended}
-use Rattle.slurm_text.specs.declared.plain.state.Reason.{Reason}
-use Rattle.slurm_text.specs.declared.plain.state.Reason.TheVariants as reason
-use Rattle.slurm_text.specs.declared.plain.target.Target.{Target}
-use Rattle.slurm_text.specs.declared.plain.priority.PriorityRow.{PriorityRow}
-use Rattle.slurm_text.specs.declared.plain.view.EndAt.{EndAt}
-use Rattle.slurm_text.specs.declared.plain.view.EndAt.TheVariants.{Nothing, Unknown, At}
-use Rattle.slurm_text.specs.declared.plain.view.JobRow.{JobRow}
-use Rattle.slurm_text.specs.declared.plain.view.NamedPart.{NamedPart}
-use Rattle.slurm_text.specs.declared.plain.view.Row.{Row}
-use Rattle.slurm_text.specs.declared.plain.view.Row.TheVariants.{Job, Priority}
-use Rattle.slurm_text.specs.declared.plain.view.View.{View}
+use Rattle.plain_data.specs.declared.limit.Limit.{Limit}
+use Rattle.plain_data.specs.declared.limit.Limit.TheVariants.{Minutes, Unlimited}
+use Rattle.request_data.specs.declared.query.JobQuery.{JobQuery}
+use Rattle.request_data.specs.declared.query.Query.{Query}
+use Rattle.request_data.specs.declared.query.Query.TheVariants.{Squeue, Sinfo, Sprio, ShowJob, ShowNode, ShowPartition, ShowReservation}
+use Rattle.request_data.specs.declared.query.StateCode.{StateCode}
+use Rattle.request_data.specs.declared.query.StateCode.TheVariants as code
+use Rattle.request_data.specs.declared.query.Who.{Who}
+use Rattle.request_data.specs.declared.query.Who.TheVariants.{Anyone, Asker, User}
+use Rattle.reply_data.specs.declared.refusal.Refusal.{Refusal}
+use Rattle.reply_data.specs.declared.refusal.Refusal.TheVariants.{InvalidPartition, InvalidJobId, InvalidReservation, UnknownNode}
+use Rattle.request_data.specs.declared.state.Final.TheVariants.{Completed, Cancelled, Failed, Timeout, NodeFail}
+use Rattle.request_data.specs.declared.state.JobState.{JobState}
+use Rattle.request_data.specs.declared.state.JobState.TheVariants.{Ended}
+use Rattle.request_data.specs.declared.state.Reason.{Reason}
+use Rattle.request_data.specs.declared.state.Reason.TheVariants as reason
+use Rattle.request_data.specs.declared.target.Target.{Target}
+use Rattle.reply_data.specs.declared.priority.PriorityRow.{PriorityRow}
+use Rattle.reply_data.specs.declared.view.EndAt.{EndAt}
+use Rattle.reply_data.specs.declared.view.EndAt.TheVariants.{Nothing, Unknown, At}
+use Rattle.reply_data.specs.declared.view.JobRow.{JobRow}
+use Rattle.reply_data.specs.declared.view.NamedPart.{NamedPart}
+use Rattle.reply_data.specs.declared.view.Row.{Row}
+use Rattle.reply_data.specs.declared.view.Row.TheVariants.{Job, Priority}
+use Rattle.reply_data.specs.declared.view.View.{View}
 use Rattle.backfill_planner.specs.declared.Placed.{Placed}
 use Rattle.node_state.specs.declared.record.NodeRecord.{NodeRecord}
 use Rattle.node_state.specs.Nodes.{place_named}

@@ -1,9 +1,9 @@
 -- How the nodes of partitions stand.
 use Rattle.std.specs.Prelude.{ℕ, Bool, true, false, ◌&&◌, not, nat_eq, nat_lt, if◌then◌else◌, List, [], ◌∷◌, length, filter, filter_map, flat_map, sum_by, slice_get, bytes_eq, Option, Some, None, option_map}
-use Rattle.slurm_text.specs.declared.plain.view.NodeGroup.{NodeGroup}
-use Rattle.slurm_text.specs.declared.plain.view.NodeGroup.TheVariants.{Down, Draining, Drained, Allocated, Mixed, Idle}
-use Rattle.slurm_text.specs.declared.plain.view.Row.{Row}
-use Rattle.slurm_text.specs.declared.plain.view.Row.TheVariants.{States}
+use Rattle.reply_data.specs.declared.view.NodeGroup.{NodeGroup}
+use Rattle.reply_data.specs.declared.view.NodeGroup.TheVariants.{Down, Draining, Drained, Allocated, Mixed, Idle}
+use Rattle.reply_data.specs.declared.view.Row.{Row}
+use Rattle.reply_data.specs.declared.view.Row.TheVariants.{States}
 use Rattle.node_state.specs.declared.record.NodeRecord.{NodeRecord}
 use Rattle.node_state.specs.Nodes.{is_up}
 use Rattle.partitions.specs.declared.record.PartRecord.{PartRecord}

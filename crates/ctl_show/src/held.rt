@@ -10,7 +10,7 @@ ghost use Rattle.ctl_show.specs.Standing.{cpus_in};
 
 use ctl_state::cluster::Cluster;
 use job_table::record::{JobRecord, Part};
-use slurm_text::memory_error::Memory;
+use small_texts::memory_error::Memory;
 use std::alloc::Global;
 
 // Adds to the counts of the nodes the processors that the parts hold of them. A count stands still at its type's end.

@@ -12,11 +12,11 @@ use ctl_state::cluster::Cluster;
 use ctl_state::jobs::is_pending;
 use job_table::record::JobRecord;
 use job_table::targets::{is_named, places_of};
-use slurm_text::items::Items;
-use slurm_text::name::Name;
-use slurm_text::plain::query::{JobQuery, StateCode, Who};
-use slurm_text::plain::state::{Final, JobState};
-use slurm_text::plain::target::Target;
+use plain_data::items::Items;
+use small_texts::name::Name;
+use request_data::query::{JobQuery, StateCode, Who};
+use request_data::state::{Final, JobState};
+use request_data::target::Target;
 
 // Whether a job in this state has the code.
 fn has_code(code: StateCode, state: JobState) -> bool

@@ -14,9 +14,9 @@ use ctl_state::cluster::Cluster;
 use ctl_state::counting::count_holding;
 use ctl_waiting::highest;
 use run_limits::tally::Tally;
-use slurm_text::memory_error::Memory;
-use slurm_text::plain::seconds::LAST_START;
-use slurm_text::ranged::Ranged;
+use small_texts::memory_error::Memory;
+use plain_data::seconds::LAST_START;
+use plain_data::ranged::Ranged;
 use std::alloc::Global;
 use std::collections::HashMap;
 

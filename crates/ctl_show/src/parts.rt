@@ -5,9 +5,9 @@ ghost use Rattle.ctl_show.specs.Showing;
 
 use job_table::record::Part;
 use node_state::record::NodeRecord;
-use slurm_text::items::Items;
-use slurm_text::memory_error::Memory;
-use slurm_text::plain::view::NamedPart;
+use plain_data::items::Items;
+use small_texts::memory_error::Memory;
+use reply_data::view::NamedPart;
 use std::alloc::Global;
 
 // What the part holds of the node.

@@ -12,13 +12,13 @@ use ctl_rank::{Factors, measure, priority_of};
 use ctl_state::cluster::Cluster;
 use job_table::record::JobRecord;
 use job_table::targets::index_of;
-use slurm_text::items::Items;
-use slurm_text::memory_error::Memory;
-use slurm_text::name::Name;
-use slurm_text::plain::priority::PriorityRow;
-use slurm_text::plain::query::Who;
-use slurm_text::plain::target::Target;
-use slurm_text::plain::view::Row;
+use plain_data::items::Items;
+use small_texts::memory_error::Memory;
+use small_texts::name::Name;
+use reply_data::priority::PriorityRow;
+use request_data::query::Who;
+use request_data::target::Target;
+use reply_data::view::Row;
 use std::alloc::Global;
 
 // What is shown of the job's priority.

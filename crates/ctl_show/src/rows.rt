@@ -18,16 +18,16 @@ use ctl_waiting::hindrance;
 use job_table::record::JobRecord;
 use job_table::targets::index_of;
 use job_table::usage::cpus_in;
-use slurm_text::items::Items;
-use slurm_text::memory_error::Memory;
-use slurm_text::name::Name;
-use slurm_text::plain::Plain;
-use slurm_text::plain::limit::Limit;
-use slurm_text::plain::query::JobQuery;
-use slurm_text::plain::seconds::FOREVER;
-use slurm_text::plain::state::{JobState, Reason};
-use slurm_text::plain::view::{EndAt, JobRow, Row};
-use slurm_text::ranged::Ranged;
+use plain_data::items::Items;
+use small_texts::memory_error::Memory;
+use small_texts::name::Name;
+use plain_data::Plain;
+use plain_data::limit::Limit;
+use request_data::query::JobQuery;
+use plain_data::seconds::FOREVER;
+use request_data::state::{JobState, Reason};
+use reply_data::view::{EndAt, JobRow, Row};
+use plain_data::ranged::Ranged;
 use std::alloc::Global;
 
 // How long a job runs or ran, in seconds.

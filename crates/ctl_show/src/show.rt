@@ -15,13 +15,13 @@ use crate::shown_partitions::partition_rows;
 use crate::shown_reservations::reservation_rows;
 use crate::standing::state_rows;
 use ctl_state::cluster::Cluster;
-use slurm_text::items::Items;
-use slurm_text::memory_error::Memory;
-use slurm_text::name::Name;
-use slurm_text::plain::query::{JobQuery, Query};
-use slurm_text::plain::refusal::Refusal;
-use slurm_text::plain::target::Target;
-use slurm_text::plain::view::{Row, View};
+use plain_data::items::Items;
+use small_texts::memory_error::Memory;
+use small_texts::name::Name;
+use request_data::query::{JobQuery, Query};
+use reply_data::refusal::Refusal;
+use request_data::target::Target;
+use reply_data::view::{Row, View};
 use std::alloc::Global;
 
 // Why a query is refused that asks for this partition.

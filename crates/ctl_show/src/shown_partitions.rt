@@ -10,10 +10,10 @@ use crate::standing::is_asked;
 use ctl_state::cluster::Cluster;
 use node_state::record::NodeRecord;
 use partitions::record::PartRecord;
-use slurm_text::items::Items;
-use slurm_text::memory_error::Memory;
-use slurm_text::name::Name;
-use slurm_text::plain::view::{PartRow, Row};
+use plain_data::items::Items;
+use small_texts::memory_error::Memory;
+use small_texts::name::Name;
+use reply_data::view::{PartRow, Row};
 use std::alloc::Global;
 
 /// The names of the nodes at places. Linear in these.

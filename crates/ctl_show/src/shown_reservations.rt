@@ -8,11 +8,11 @@ use crate::shown_partitions::names_at;
 use ctl_state::cluster::Cluster;
 use node_state::record::NodeRecord;
 use reservations::record::Reservation;
-use slurm_text::items::Items;
-use slurm_text::memory_error::Memory;
-use slurm_text::name::Name;
-use slurm_text::plain::view::{ResRow, Row};
-use slurm_text::ranged::Ranged;
+use plain_data::items::Items;
+use small_texts::memory_error::Memory;
+use small_texts::name::Name;
+use reply_data::view::{ResRow, Row};
+use plain_data::ranged::Ranged;
 use std::alloc::Global;
 
 // Whether the reservation is the one that is asked for, if one is.

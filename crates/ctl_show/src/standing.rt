@@ -11,10 +11,10 @@ use ctl_state::cluster::Cluster;
 use node_state::record::NodeRecord;
 use node_state::standing::is_up;
 use partitions::record::PartRecord;
-use slurm_text::items::Items;
-use slurm_text::memory_error::Memory;
-use slurm_text::name::Name;
-use slurm_text::plain::view::{NodeGroup, Row, StateRow};
+use plain_data::items::Items;
+use small_texts::memory_error::Memory;
+use small_texts::name::Name;
+use reply_data::view::{NodeGroup, Row, StateRow};
 use std::alloc::Global;
 
 // The ways in which a node may stand, in the order of the lines.

@@ -8,7 +8,7 @@ use Rattle.job_table.specs.declared.record.Part.{Part}
 use Rattle.node_state.specs.declared.record.NodeRecord.{NodeRecord}
 use Rattle.partitions.specs.declared.record.PartRecord.{PartRecord}
 use Rattle.partitions.specs.Partitions.{IsOnNodes, in_state_at}
-use Rattle.slurm_text.specs.declared.plain.conf.PartState.{PartState}
+use Rattle.plain_data.specs.declared.conf.PartState.{PartState}
 use Rattle.job_table.specs.declared.record.JobRecord.{JobRecord}
 use Rattle.job_table.specs.declared.change.Change.{Change}
 use Rattle.reservations.specs.declared.record.Reservation.{Reservation}

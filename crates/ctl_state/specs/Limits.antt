@@ -1,7 +1,7 @@
 -- Limits of jobs, compared.
 use Rattle.std.specs.Prelude.{Bool, true, false, nat_lt}
-use Rattle.slurm_text.specs.declared.plain.limit.Limit.{Limit}
-use Rattle.slurm_text.specs.declared.plain.limit.Limit.TheVariants.{Minutes, Unlimited}
+use Rattle.plain_data.specs.declared.limit.Limit.{Limit}
+use Rattle.plain_data.specs.declared.limit.Limit.TheVariants.{Minutes, Unlimited}
 
 -- the limit is above the longest one; none is above every number
 abbrev pub exceeds : Limit → Limit → Bool

@@ -1,11 +1,11 @@
 -- What the planner is told of nodes and jobs.
 use Rattle.std.specs.Prelude.{ℕ, ◌*◌, Bool, true, false, ◌&&◌, ◌||◌, not, nat_eq, nat_lt, if◌then◌else◌, unwrap_or, List, [], ◌∷◌, ◌++◌, length, filter, filter_map, flat_map, slice_get, Option, Some, None, option_map}
 use Rattle.std.specs.List.{list_all, list_any}
-use Rattle.slurm_text.specs.declared.plain.limit.Limit.{Limit}
-use Rattle.slurm_text.specs.declared.plain.limit.Limit.TheVariants.{Minutes, Unlimited}
-use Rattle.slurm_text.specs.declared.plain.mem_ask.MemAsk.TheVariants.{All}
-use Rattle.slurm_text.specs.declared.plain.features.FeatureExpr.{FeatureExpr}
-use Rattle.slurm_text.specs.declared.plain.job.JobDesc.{JobDesc}
+use Rattle.plain_data.specs.declared.limit.Limit.{Limit}
+use Rattle.plain_data.specs.declared.limit.Limit.TheVariants.{Minutes, Unlimited}
+use Rattle.plain_data.specs.declared.mem_ask.MemAsk.TheVariants.{All}
+use Rattle.plain_data.specs.declared.features.FeatureExpr.{FeatureExpr}
+use Rattle.plain_data.specs.declared.job.JobDesc.{JobDesc}
 use Rattle.resource_profile.specs.declared.NodeRoom.{NodeRoom}
 use Rattle.backfill_planner.specs.declared.job.Barred.{Barred}
 use Rattle.backfill_planner.specs.declared.job.PlanJob.{PlanJob}

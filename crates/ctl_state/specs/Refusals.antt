@@ -1,7 +1,7 @@
 -- Why a request is refused: the first of its refusals that stands.
 use Rattle.std.specs.Prelude.{ℕ, Bool, ◌||◌, if◌then◌else◌, List, Option, Some, None, codes}
 use Rattle.std.specs.Str.{bytes_eq}
-use Rattle.slurm_text.specs.declared.plain.refusal.Refusal.{Refusal}
+use Rattle.reply_data.specs.declared.refusal.Refusal.{Refusal}
 use Rattle.ctl_state.specs.State.{State}
 use Rattle.ctl_state.specs.Verdicts.{Verdict, Refuses}
 pub use Rattle.run_limits.specs.Submitting.{first_refusal}

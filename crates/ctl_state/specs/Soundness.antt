@@ -1,11 +1,11 @@
 -- What every state keeps.
 use Rattle.std.specs.Prelude.{◌≡◌, ◌≢◌, ℕ, ◌+◌, ◌<◌, ◌≤◌, Bool, true, false, ◌||◌, is_some, IfSome, unwrap_or, List, length, map, filter, slice_get, All, AllPairs, Contains, Some, option_map}
-use Rattle.slurm_text.specs.declared.plain.limit.Limit.{Limit}
-use Rattle.slurm_text.specs.declared.plain.limit.Limit.TheVariants.{Minutes, Unlimited}
-use Rattle.slurm_text.specs.declared.plain.conf.Settings.{Settings}
-use Rattle.slurm_text.specs.declared.plain.job.JobDesc.{JobDesc}
-use Rattle.slurm_text.specs.declared.plain.state.JobState.TheVariants.{Ended}
-use Rattle.slurm_text.specs.declared.plain.state.Final.TheVariants.{Requeue}
+use Rattle.plain_data.specs.declared.limit.Limit.{Limit}
+use Rattle.plain_data.specs.declared.limit.Limit.TheVariants.{Minutes, Unlimited}
+use Rattle.plain_data.specs.declared.conf.Settings.{Settings}
+use Rattle.plain_data.specs.declared.job.JobDesc.{JobDesc}
+use Rattle.request_data.specs.declared.state.JobState.TheVariants.{Ended}
+use Rattle.request_data.specs.declared.state.Final.TheVariants.{Requeue}
 use Rattle.backfill_planner.specs.declared.Placed.{Placed}
 use Rattle.node_state.specs.declared.record.NodeRecord.{NodeRecord}
 use Rattle.node_state.specs.Nodes.{AreNamedOnce, is_up}

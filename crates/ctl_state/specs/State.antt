@@ -1,8 +1,8 @@
 -- The state of the cluster, as plain lists.
 use Rattle.std.specs.Prelude.{ℕ, Bool, false, List, [], length, map, replicate, slice_get, Option}
-use Rattle.slurm_text.specs.declared.plain.conf.Settings.{Settings}
-use Rattle.slurm_text.specs.Confs.{ConfView}
-use Rattle.slurm_text.specs.Assocs.{AssocView}
+use Rattle.plain_data.specs.declared.conf.Settings.{Settings}
+use Rattle.plain_data.specs.Confs.{ConfView}
+use Rattle.plain_data.specs.Assocs.{AssocView}
 use Rattle.backfill_planner.specs.declared.Placed.{Placed}
 use Rattle.node_state.specs.declared.record.NodeRecord.{NodeRecord}
 use Rattle.node_state.specs.Nodes.{opened}

@@ -1,9 +1,9 @@
 -- What comes of a request.
 use Rattle.std.specs.Prelude.{ℕ}
-use Rattle.slurm_text.specs.declared.plain.refusal.Refusal.{Refusal}
-use Rattle.slurm_text.specs.declared.plain.view.View.{View}
-use Rattle.slurm_text.specs.declared.plain.reply.Reply.{Reply}
-use Rattle.slurm_text.specs.declared.plain.reply.Reply.TheVariants.{Idle, Shown, Refused}
+use Rattle.reply_data.specs.declared.refusal.Refusal.{Refusal}
+use Rattle.reply_data.specs.declared.view.View.{View}
+use Rattle.reply_data.specs.declared.reply.Reply.{Reply}
+use Rattle.reply_data.specs.declared.reply.Reply.TheVariants.{Idle, Shown, Refused}
 use Rattle.ctl_state.specs.State.{State}
 
 -- It is refused, tells something, changes nothing but the moment, or makes a reply and a state.

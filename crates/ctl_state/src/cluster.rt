@@ -11,8 +11,8 @@ use job_table::jobs::Jobs;
 use node_state::nodes::Nodes;
 use partitions::partitions::Partitions;
 use reservations::reservations::Reservations;
-use slurm_text::name::Name;
-use slurm_text::plain::conf::Settings;
+use small_texts::name::Name;
+use plain_data::conf::Settings;
 
 /// The cluster as the controller knows it (own). The controller's type keeps what is true of it; here it is plain data.
 #[derive(Drop)]

@@ -9,7 +9,7 @@ use accounts_qos::assocs::Assocs;
 use job_table::record::JobRecord;
 use run_limits::counted::Counted;
 use run_limits::tally::Tally;
-use slurm_text::memory_error::Memory;
+use small_texts::memory_error::Memory;
 use std::alloc::Global;
 
 /// What the job counts as. An exclusive job counts the processors of its tasks alone (own).

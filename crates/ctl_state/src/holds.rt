@@ -5,9 +5,9 @@ ghost use Rattle.ctl_state.specs.Holds;
 ghost use Rattle.ctl_state.specs.State.{last_moment};
 
 use job_table::record::JobRecord;
-use slurm_text::plain::limit::Limit;
-use slurm_text::plain::seconds::FOREVER;
-use slurm_text::plain::state::JobState;
+use plain_data::limit::Limit;
+use plain_data::seconds::FOREVER;
+use request_data::state::JobState;
 
 // How many seconds a job keeps its parts once it is to end.
 const KILL_WAIT: u64 = 30;

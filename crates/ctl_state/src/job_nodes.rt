@@ -9,10 +9,10 @@ ghost use Rattle.ctl_state.specs.Planning.{are_there, is_at, may_run, must_have,
 use backfill_planner::NodeList;
 use node_state::record::NodeRecord;
 use node_state::standing::has_features;
-use slurm_text::items::Items;
-use slurm_text::memory_error::Memory;
-use slurm_text::name::Name;
-use slurm_text::plain::job::JobDesc;
+use plain_data::items::Items;
+use small_texts::memory_error::Memory;
+use small_texts::name::Name;
+use plain_data::job::JobDesc;
 use std::alloc::Global;
 
 // Whether the name is among the names.

@@ -8,7 +8,7 @@ ghost use Rattle.ctl_state.specs.Events;
 use backfill_planner::Placed;
 use job_table::jobs::Jobs;
 use job_table::record::JobRecord;
-use slurm_text::plain::state::JobState;
+use request_data::state::JobState;
 
 /// Whether the job waits for a start.
 pub fn is_pending(job: &JobRecord) -> bool

@@ -3,7 +3,7 @@
 ghost use Rattle.std.specs.Prelude.{◌≡◌};
 ghost use Rattle.ctl_state.specs.Limits;
 
-use slurm_text::plain::limit::Limit;
+use plain_data::limit::Limit;
 
 /// Whether the limit is above the longest one.
 pub fn exceeds(limit: &Limit, longest: &Limit) -> bool

@@ -12,12 +12,12 @@ use node_state::record::NodeRecord;
 use node_state::standing::is_available;
 use partitions::record::PartRecord;
 use resource_profile::NodeRoom;
-use slurm_text::memory_error::Memory;
-use slurm_text::name::Name;
-use slurm_text::plain::job::JobDesc;
-use slurm_text::plain::limit::Limit;
-use slurm_text::plain::mem_ask::MemAsk;
-use slurm_text::ranged::Ranged;
+use small_texts::memory_error::Memory;
+use small_texts::name::Name;
+use plain_data::job::JobDesc;
+use plain_data::limit::Limit;
+use plain_data::mem_ask::MemAsk;
+use plain_data::ranged::Ranged;
 use std::alloc::Global;
 
 /// What the nodes have in all, as a plan may use it.

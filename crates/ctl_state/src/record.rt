@@ -1,6 +1,6 @@
 //! What the state keeps of arrays.
 
-use slurm_text::plain::array::Indices;
+use plain_data::array::Indices;
 
 /// An array of jobs of which there are tasks: its indices are kept once for all of these (own).
 #[derive(Drop)]

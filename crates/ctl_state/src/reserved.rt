@@ -9,9 +9,9 @@ ghost use Rattle.ctl_state.specs.Planning;
 use backfill_planner::{Barred, BarredList, NodeList};
 use reservations::record::Reservation;
 use reservations::reservations::Reservations;
-use slurm_text::memory_error::Memory;
-use slurm_text::name::Name;
-use slurm_text::plain::seconds::FOREVER;
+use small_texts::memory_error::Memory;
+use small_texts::name::Name;
+use plain_data::seconds::FOREVER;
 use std::alloc::Global;
 
 // The first reservation that has this name and isn't over at the moment.

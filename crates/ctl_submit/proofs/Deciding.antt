@@ -2,11 +2,11 @@
 use Rattle.std.proofs.Common.{◌≡◌, ℕ, ◌<◌, ◌≤◌, ◌∙◌, false, List, [], ◌∷◌, All, IfOk, Option, Some, None, Result, Ok, Err, refl, sym, ap, subst, arith}
 use Rattle.std.specs.Prelude.{is_none, option_and_then, slice_get}
 use Rattle.std.proofs.lemmas.Option.{get_or_from_slice_get, slice_get_within}
-use Rattle.slurm_text.specs.declared.memory_error.Memory.{Memory}
-use Rattle.slurm_text.specs.declared.plain.job.JobDesc.{JobDesc}
-use Rattle.slurm_text.specs.declared.plain.refusal.Refusal.{Refusal}
-use Rattle.slurm_text.specs.declared.plain.refusal.Refusal.TheVariants.{InvalidAccount, InvalidPartition, InvalidQos, PartitionClosed}
-use Rattle.slurm_text.specs.declared.plain.reply.Reply.TheVariants.{Submitted}
+use Rattle.small_texts.specs.declared.memory_error.Memory.{Memory}
+use Rattle.plain_data.specs.declared.job.JobDesc.{JobDesc}
+use Rattle.reply_data.specs.declared.refusal.Refusal.{Refusal}
+use Rattle.reply_data.specs.declared.refusal.Refusal.TheVariants.{InvalidAccount, InvalidPartition, InvalidQos, PartitionClosed}
+use Rattle.reply_data.specs.declared.reply.Reply.TheVariants.{Submitted}
 use Rattle.partitions.specs.declared.record.PartRecord.{PartRecord}
 use Rattle.job_table.specs.declared.record.JobRecord.{JobRecord}
 use Rattle.ctl_state.specs.State.{State}

@@ -3,11 +3,11 @@ use Rattle.std.proofs.Common.{◌≡◌, ◌≢◌, ℕ, ◌+◌, ◌<◌, ◌�
 use Rattle.std.specs.Prelude.{IfSome, is_none, option_and_then, option_map, slice_get, unwrap_or}
 use Rattle.std.specs.Option.{option_or}
 use Rattle.std.proofs.lemmas.Option.{slice_get_within}
-use Rattle.slurm_text.specs.declared.plain.array.ArraySpec.{ArraySpec}
-use Rattle.slurm_text.specs.declared.plain.job.JobDesc.{JobDesc}
-use Rattle.slurm_text.specs.declared.plain.limit.Limit.{Limit}
-use Rattle.slurm_text.specs.declared.plain.refusal.Refusal.TheVariants.{InvalidAccount, InvalidPartition, InvalidQos, PartitionClosed}
-use Rattle.slurm_text.specs.declared.plain.reply.Reply.{Reply}
+use Rattle.plain_data.specs.declared.array.ArraySpec.{ArraySpec}
+use Rattle.plain_data.specs.declared.job.JobDesc.{JobDesc}
+use Rattle.plain_data.specs.declared.limit.Limit.{Limit}
+use Rattle.reply_data.specs.declared.refusal.Refusal.TheVariants.{InvalidAccount, InvalidPartition, InvalidQos, PartitionClosed}
+use Rattle.reply_data.specs.declared.reply.Reply.{Reply}
 use Rattle.partitions.specs.declared.record.PartRecord.{PartRecord}
 use Rattle.accounts_qos.specs.Accounts.{is_of_user}
 use Rattle.job_table.specs.declared.record.JobRecord.{JobRecord}

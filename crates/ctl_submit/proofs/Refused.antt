@@ -3,9 +3,9 @@ use Rattle.std.proofs.Common.{◌≡◌, ℕ, ◌+◌, ◌≤◌, Bool, true, fa
 use Rattle.std.specs.Prelude.{nat_lt, not}
 use Rattle.std.specs.Option.{option_or}
 use Rattle.std.proofs.lemmas.Bool.{ltb-false}
-use Rattle.slurm_text.specs.declared.plain.job.JobDesc.{JobDesc}
-use Rattle.slurm_text.specs.declared.plain.refusal.Refusal.{Refusal}
-use Rattle.slurm_text.specs.declared.plain.refusal.Refusal.TheVariants.{AccessDenied, NodesNotAvailable, NotAllowedHere, JobTableFull, ArrayTooLarge, UnknownNode, BadDependency, InvalidReservation, JobIdsSpent}
+use Rattle.plain_data.specs.declared.job.JobDesc.{JobDesc}
+use Rattle.reply_data.specs.declared.refusal.Refusal.{Refusal}
+use Rattle.reply_data.specs.declared.refusal.Refusal.TheVariants.{AccessDenied, NodesNotAvailable, NotAllowedHere, JobTableFull, ArrayTooLarge, UnknownNode, BadDependency, InvalidReservation, JobIdsSpent}
 use Rattle.run_limits.specs.Submitting.{submit_limits}
 use Rattle.ctl_state.specs.Counted.{counted_of}
 use Rattle.ctl_state.specs.State.{State, last_job_id}

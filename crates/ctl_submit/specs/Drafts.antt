@@ -1,8 +1,8 @@
 -- A submission with its terms, and what is decided of it under these.
 use Rattle.std.specs.Prelude.{◌≡◌, ℕ, List, Option, Some, None, Result, Ok, Err}
 use Rattle.std.specs.Option.{option_to_list}
-use Rattle.slurm_text.specs.declared.plain.array.ArraySpec.{ArraySpec}
-use Rattle.slurm_text.specs.declared.plain.refusal.Refusal.{Refusal}
+use Rattle.plain_data.specs.declared.array.ArraySpec.{ArraySpec}
+use Rattle.reply_data.specs.declared.refusal.Refusal.{Refusal}
 use Rattle.job_table.specs.declared.record.JobRecord.{JobRecord}
 use Rattle.ctl_state.specs.Refusals.{first_refusal}
 use Rattle.ctl_state.specs.State.{State}

@@ -2,26 +2,26 @@
 use Rattle.std.specs.Prelude.{◌≡◌, ◌≤◌, ℕ, ◌+◌, min, max, Bool, true, false, ◌&&◌, ◌||◌, not, nat_eq, is_none, is_some, nat_le, nat_lt, if◌then◌else◌, unwrap_or, List, [], ◌∷◌, ◌++◌, length, map, filter, count_by, slice_get, bytes_eq, codes, All, Option, Some, None, option_map, option_and_then, Result, Ok, Err}
 use Rattle.std.specs.List.{list_any, enumerate_from}
 use Rattle.std.specs.Option.{option_or, option_to_list}
-use Rattle.slurm_text.specs.declared.plain.array.ArraySpec.{ArraySpec}
-use Rattle.slurm_text.specs.declared.plain.conf.PartState.{PartState}
-use Rattle.slurm_text.specs.declared.plain.conf.PartState.TheVariants.{Up, Down, Drain, Inactive}
-use Rattle.slurm_text.specs.declared.plain.dependency.DepId.{DepId}
-use Rattle.slurm_text.specs.declared.plain.dependency.DepItem.{DepItem}
-use Rattle.slurm_text.specs.declared.plain.dependency.DepKind.{DepKind}
-use Rattle.slurm_text.specs.declared.plain.dependency.DepKind.TheVariants as kind
-use Rattle.slurm_text.specs.declared.plain.dependency.DepSpec.{DepSpec}
-use Rattle.slurm_text.specs.declared.plain.job.JobDesc.{JobDesc}
-use Rattle.slurm_text.specs.declared.plain.limit.Limit.{Limit}
-use Rattle.slurm_text.specs.declared.plain.mem_ask.MemAsk.{MemAsk}
-use Rattle.slurm_text.specs.declared.plain.mem_ask.MemAsk.TheVariants as memory
-use Rattle.slurm_text.specs.declared.plain.nice.Nice.{Nice}
-use Rattle.slurm_text.specs.declared.plain.nice.Nice.TheVariants.{Lower, Raise}
-use Rattle.slurm_text.specs.declared.plain.state.HeldBy.{HeldBy}
-use Rattle.slurm_text.specs.declared.plain.state.HeldBy.TheVariants.{Nobody, User}
-use Rattle.slurm_text.specs.declared.plain.state.JobState.TheVariants.{Pending}
-use Rattle.slurm_text.specs.declared.plain.refusal.Refusal.{Refusal}
-use Rattle.slurm_text.specs.declared.plain.refusal.Refusal.TheVariants.{AccessDenied, PartitionClosed, InvalidAccount, InvalidPartition, InvalidQos, NodesNotAvailable, NotAllowedHere, JobTableFull, ArrayTooLarge, UnknownNode, BadDependency, InvalidReservation, JobIdsSpent}
-use Rattle.slurm_text.specs.declared.plain.reply.Reply.TheVariants.{Submitted}
+use Rattle.plain_data.specs.declared.array.ArraySpec.{ArraySpec}
+use Rattle.plain_data.specs.declared.conf.PartState.{PartState}
+use Rattle.plain_data.specs.declared.conf.PartState.TheVariants.{Up, Down, Drain, Inactive}
+use Rattle.plain_data.specs.declared.dependency.DepId.{DepId}
+use Rattle.plain_data.specs.declared.dependency.DepItem.{DepItem}
+use Rattle.plain_data.specs.declared.dependency.DepKind.{DepKind}
+use Rattle.plain_data.specs.declared.dependency.DepKind.TheVariants as kind
+use Rattle.plain_data.specs.declared.dependency.DepSpec.{DepSpec}
+use Rattle.plain_data.specs.declared.job.JobDesc.{JobDesc}
+use Rattle.plain_data.specs.declared.limit.Limit.{Limit}
+use Rattle.plain_data.specs.declared.mem_ask.MemAsk.{MemAsk}
+use Rattle.plain_data.specs.declared.mem_ask.MemAsk.TheVariants as memory
+use Rattle.plain_data.specs.declared.nice.Nice.{Nice}
+use Rattle.plain_data.specs.declared.nice.Nice.TheVariants.{Lower, Raise}
+use Rattle.request_data.specs.declared.state.HeldBy.{HeldBy}
+use Rattle.request_data.specs.declared.state.HeldBy.TheVariants.{Nobody, User}
+use Rattle.request_data.specs.declared.state.JobState.TheVariants.{Pending}
+use Rattle.reply_data.specs.declared.refusal.Refusal.{Refusal}
+use Rattle.reply_data.specs.declared.refusal.Refusal.TheVariants.{AccessDenied, PartitionClosed, InvalidAccount, InvalidPartition, InvalidQos, NodesNotAvailable, NotAllowedHere, JobTableFull, ArrayTooLarge, UnknownNode, BadDependency, InvalidReservation, JobIdsSpent}
+use Rattle.reply_data.specs.declared.reply.Reply.TheVariants.{Submitted}
 use Rattle.backfill_planner.specs.Plans.{placed_of}
 use Rattle.node_state.specs.Nodes.{place_named}
 use Rattle.partitions.specs.declared.record.PartRecord.{PartRecord}

@@ -8,10 +8,10 @@ ghost use Rattle.ctl_submit.specs.Submission;
 use accounts_qos::assocs::Assocs;
 use ctl_state::cluster::Cluster;
 use partitions::record::PartRecord;
-use slurm_text::items::Items;
-use slurm_text::memory_error::Memory;
-use slurm_text::name::Name;
-use slurm_text::plain::job::JobDesc;
+use plain_data::items::Items;
+use small_texts::memory_error::Memory;
+use small_texts::name::Name;
+use plain_data::job::JobDesc;
 use std::alloc::Global;
 
 /// The place of the association that a submission counts for. Linear in the associations.

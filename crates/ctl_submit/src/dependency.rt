@@ -4,7 +4,7 @@ ghost use Rattle.std.specs.Prelude.{◌≡◌};
 ghost use Rattle.std.specs.List.{list_any};
 ghost use Rattle.job_table.specs.Targets as spec;
 ghost use Rattle.job_table.specs.Targets.{AreTogether, is_named_by};
-ghost use Rattle.slurm_text.specs.declared.plain.dependency.DepItem.{DepItem as OneItem};
+ghost use Rattle.plain_data.specs.declared.dependency.DepItem.{DepItem as OneItem};
 ghost use Rattle.ctl_state.specs.State.{state_of};
 ghost use Rattle.ctl_submit.specs.Submission;
 
@@ -13,9 +13,9 @@ use ctl_state::record::ArrayRecord;
 use job_table::jobs::Jobs;
 use job_table::record::JobRecord;
 use job_table::targets::{is_named, span_of};
-use slurm_text::plain::array::{ArraySpec, Indices};
-use slurm_text::plain::dependency::{DepId, DepItem, DepKind, DepSpec};
-use slurm_text::plain::target::Target;
+use plain_data::array::{ArraySpec, Indices};
+use plain_data::dependency::{DepId, DepItem, DepKind, DepSpec};
+use request_data::target::Target;
 
 // Whether the target names one of the jobs.
 fn any_named(jobs: &[JobRecord], target: &Target) -> bool

@@ -1,8 +1,8 @@
 //! A submission with its terms.
 
 use partitions::record::PartRecord;
-use slurm_text::name::Name;
-use slurm_text::plain::job::JobDesc;
+use small_texts::name::Name;
+use plain_data::job::JobDesc;
 
 /// What a user hands in at a moment, with its terms: what it counts for, and its partition (own).
 #[derive(Drop)]

@@ -1,8 +1,8 @@
 //! What holds of every submission. A law is the contract of a function that does nothing but call the laws it rests on.
 
 ghost use Rattle.std.specs.Prelude.{◌≡◌, ◌≢◌, ℕ, ◌≤◌, List, IfSome, None};
-ghost use Rattle.slurm_text.specs.declared.plain.job.JobDesc.{JobDesc};
-ghost use Rattle.slurm_text.specs.declared.plain.reply.Reply.{Reply};
+ghost use Rattle.plain_data.specs.declared.job.JobDesc.{JobDesc};
+ghost use Rattle.reply_data.specs.declared.reply.Reply.{Reply};
 ghost use Rattle.ctl_state.specs.State.{State, last_moment};
 ghost use Rattle.ctl_state.specs.Soundness.{IsSound, IsAsked, IsLimit};
 ghost use Rattle.ctl_state.specs.Refusals.{first_refusal};

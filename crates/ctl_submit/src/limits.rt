@@ -16,8 +16,8 @@ use job_table::record::JobRecord;
 use run_limits::counted::Group;
 use run_limits::groups::is_in;
 use run_limits::submitting::{CountsJobs, submit_limit};
-use slurm_text::plain::refusal::Refusal;
-use slurm_text::plain::state::JobState;
+use reply_data::refusal::Refusal;
+use request_data::state::JobState;
 
 // The jobs, of which those are counted that haven't ended.
 #[derive(Drop)]

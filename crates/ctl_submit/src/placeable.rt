@@ -15,9 +15,9 @@ use ctl_state::reserved::places_in;
 use job_table::record::JobRecord;
 use partitions::record::PartRecord;
 use resource_profile::{Profile, start};
-use slurm_text::items::Items;
-use slurm_text::memory_error::Memory;
-use slurm_text::plain::job::JobDesc;
+use plain_data::items::Items;
+use small_texts::memory_error::Memory;
+use plain_data::job::JobDesc;
 use std::alloc::Global;
 
 // How many nodes a submission may have by itself, at least and at most. `--nodes` in sbatch(1).

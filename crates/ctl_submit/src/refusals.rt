@@ -18,13 +18,13 @@ use crate::placeable::is_placeable;
 use ctl_state::cluster::Cluster;
 use job_table::record::JobRecord;
 use reservations::record::may_use;
-use slurm_text::memory_error::Memory;
-use slurm_text::name::Name;
-use slurm_text::plain::array::ArraySpec;
-use slurm_text::plain::conf::PartState;
-use slurm_text::plain::job::JobDesc;
-use slurm_text::plain::nice::Nice;
-use slurm_text::plain::refusal::Refusal;
+use small_texts::memory_error::Memory;
+use small_texts::name::Name;
+use plain_data::array::ArraySpec;
+use plain_data::conf::PartState;
+use plain_data::job::JobDesc;
+use plain_data::nice::Nice;
+use reply_data::refusal::Refusal;
 use std::alloc::Global;
 
 // The last number that a job can have. `MaxJobId` in slurm.conf(5).

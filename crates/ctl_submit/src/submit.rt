@@ -17,10 +17,10 @@ use crate::refusals::{is_closed, refusal_of};
 use crate::tasks::{hand_in, lone_job};
 use ctl_state::cluster::Cluster;
 use ctl_state::laws::parts_stay;
-use slurm_text::memory_error::Memory;
-use slurm_text::name::Name;
-use slurm_text::plain::job::JobDesc;
-use slurm_text::plain::refusal::Refusal;
+use small_texts::memory_error::Memory;
+use small_texts::name::Name;
+use plain_data::job::JobDesc;
+use reply_data::refusal::Refusal;
 use std::alloc::Global;
 
 // Why the draft is refused, or what it makes.

@@ -12,12 +12,12 @@ use crate::settled::{limit_in, settled};
 use ctl_state::cluster::Cluster;
 use ctl_state::record::ArrayRecord;
 use job_table::record::JobRecord;
-use slurm_text::items::Items;
-use slurm_text::memory_error::Memory;
-use slurm_text::plain::array::{ArraySpec, Indices};
-use slurm_text::plain::job::JobDesc;
-use slurm_text::plain::state::{HeldBy, JobState};
-use slurm_text::ranged::Ranged;
+use plain_data::items::Items;
+use small_texts::memory_error::Memory;
+use plain_data::array::{ArraySpec, Indices};
+use plain_data::job::JobDesc;
+use request_data::state::{HeldBy, JobState};
+use plain_data::ranged::Ranged;
 use std::alloc::Global;
 
 // Who holds a job back that is handed in. `--hold` in sbatch(1).

@@ -1,7 +1,7 @@
 -- What hinders a job: the first of several reasons, one list of them after another.
 use Rattle.std.proofs.Common.{◌≡◌, List, [], ◌∷◌, ◌++◌, Option, Some, None, refl}
 use Rattle.std.specs.Option.{MatchOption, option_or}
-use Rattle.slurm_text.specs.declared.plain.state.Reason.{Reason}
+use Rattle.request_data.specs.declared.state.Reason.{Reason}
 use Rattle.run_limits.specs.Limits.{first_reason}
 
 -- what stands where the first doesn't, where this follows from what is known then

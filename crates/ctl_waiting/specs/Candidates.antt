@@ -1,6 +1,6 @@
 -- The pending jobs that can be planned, highest in rank first, and what they need.
 use Rattle.std.specs.Prelude.{ℕ, Bool, ◌&&◌, is_none, List, filter, filter_map, Option, Some}
-use Rattle.slurm_text.specs.Options.{◌>>=◌}
+use Rattle.small_texts.specs.Options.{◌>>=◌}
 use Rattle.backfill_planner.specs.declared.job.PlanJob.{PlanJob}
 use Rattle.partitions.specs.declared.record.PartRecord.{PartRecord}
 use Rattle.partitions.specs.Partitions.{bounds_of}

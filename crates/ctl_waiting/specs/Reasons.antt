@@ -1,14 +1,14 @@
 -- Why a pending job can't be planned.
 use Rattle.std.specs.Prelude.{ℕ, Bool, true, false, not, nat_lt, is_none, unwrap_or, List, [], ◌∷◌, ◌++◌, max, nat_le, Option, Some, None, option_map, option_and_then}
 use Rattle.std.specs.List.{list_any}
-use Rattle.slurm_text.specs.declared.plain.array.ArraySpec.{ArraySpec}
-use Rattle.slurm_text.specs.declared.plain.conf.PartState.{PartState}
-use Rattle.slurm_text.specs.declared.plain.conf.PartState.TheVariants.{Up, Down, Drain, Inactive}
-use Rattle.slurm_text.specs.declared.plain.limit.Limit.{Limit}
-use Rattle.slurm_text.specs.declared.plain.state.Reason.{Reason}
-use Rattle.slurm_text.specs.declared.plain.state.Reason.TheVariants.{JobHeldAdmin, JobHeldUser, DependencyNeverSatisfied, Dependency, BeginTime, PartitionInactive, PartitionDown, PartitionTimeLimit, PartitionNodeLimit, QosMaxWallDurationPerJobLimit, Reservation, ReqNodeNotAvail}
-use Rattle.slurm_text.specs.declared.plain.state.HeldBy.{HeldBy}
-use Rattle.slurm_text.specs.declared.plain.state.HeldBy.TheVariants as held
+use Rattle.plain_data.specs.declared.array.ArraySpec.{ArraySpec}
+use Rattle.plain_data.specs.declared.conf.PartState.{PartState}
+use Rattle.plain_data.specs.declared.conf.PartState.TheVariants.{Up, Down, Drain, Inactive}
+use Rattle.plain_data.specs.declared.limit.Limit.{Limit}
+use Rattle.request_data.specs.declared.state.Reason.{Reason}
+use Rattle.request_data.specs.declared.state.Reason.TheVariants.{JobHeldAdmin, JobHeldUser, DependencyNeverSatisfied, Dependency, BeginTime, PartitionInactive, PartitionDown, PartitionTimeLimit, PartitionNodeLimit, QosMaxWallDurationPerJobLimit, Reservation, ReqNodeNotAvail}
+use Rattle.request_data.specs.declared.state.HeldBy.{HeldBy}
+use Rattle.request_data.specs.declared.state.HeldBy.TheVariants as held
 use Rattle.partitions.specs.declared.record.PartRecord.{PartRecord}
 use Rattle.partitions.specs.Partitions.{bounds_of}
 use Rattle.job_table.specs.declared.record.JobRecord.{JobRecord}

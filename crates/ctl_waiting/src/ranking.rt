@@ -31,7 +31,7 @@ use node_state::record::NodeRecord;
 use partitions::bounds::bounds_of;
 use partitions::record::PartRecord;
 use run_limits::tally::Tally;
-use slurm_text::memory_error::Memory;
+use small_texts::memory_error::Memory;
 use std::alloc::Global;
 use std::cmp::Ordering;
 

@@ -22,11 +22,11 @@ use partitions::record::PartRecord;
 use reservations::record::Reservation;
 use run_limits::reasons::limit_reached as first_limit_reached;
 use run_limits::tally::Tally;
-use slurm_text::name::Name;
-use slurm_text::plain::conf::PartState;
-use slurm_text::plain::limit::Limit;
-use slurm_text::plain::seconds::FOREVER;
-use slurm_text::plain::state::{HeldBy, Reason};
+use small_texts::name::Name;
+use plain_data::conf::PartState;
+use plain_data::limit::Limit;
+use plain_data::seconds::FOREVER;
+use request_data::state::{HeldBy, Reason};
 
 // Who holds the job back.
 fn held_reason(held_by: HeldBy) -> Option<Reason>

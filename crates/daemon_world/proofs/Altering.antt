@@ -4,7 +4,7 @@ use Rattle.std.specs.Prelude.{nat_lt}
 use Rattle.std.specs.List.{prefix_len}
 use Rattle.std.proofs.lemmas.Bool.{and_from, and_parts, both_ways, cases_Bool, cond_both, cond-false, or_cases}
 use Rattle.std.proofs.lemmas.List.{length-map}
-use Rattle.slurm_text.specs.declared.plain.report.Heard.{Heard}
+use Rattle.request_data.specs.declared.report.Heard.{Heard}
 use Rattle.node_state.specs.declared.record.DownBy.{DownBy}
 use Rattle.node_state.specs.declared.record.DownBy.TheVariants as down
 use Rattle.node_state.specs.declared.record.NodeChange.{NodeChange}

@@ -3,8 +3,8 @@ use Rattle.std.proofs.Common.{ℕ, ◌≡◌, ◌≤◌, ◌+◌, ◌∙◌, Boo
 use Rattle.std.specs.List.{list_any}
 use Rattle.std.proofs.lemmas.Bool.{and_from, and_parts, eq-eqb, eqb-true, or_left, or_right}
 use Rattle.std.proofs.lemmas.List.Elements.{All-cons, All-nil, All-weaker}
-use Rattle.slurm_text.specs.declared.plain.report.Start.{Start}
-use Rattle.slurm_text.specs.declared.plain.report.Done.{Done}
+use Rattle.request_data.specs.declared.report.Start.{Start}
+use Rattle.request_data.specs.declared.report.Done.{Done}
 use Rattle.ctl_state.specs.State.{State}
 use Rattle.node_daemon.specs.Daemon.{is_among, is_same}
 use Rattle.daemon_world.specs.Claims.{Claim, IsHeldAt, times_claiming, times_over}

@@ -1,7 +1,7 @@
 -- What a report makes of the nodes: of the one that reports, and of the others.
 use Rattle.std.proofs.Common.{ℕ, zero, suc, ◌≡◌, ◌<◌, Bool, true, false, ◌&&◌, ◌||◌, List, [], ◌∷◌, length, Some, slice_get, refl, ap, arith, inl, inr, ◌⊎◌}
 use Rattle.std.proofs.lemmas.Bool.{and_parts, both_ways, or_cases}
-use Rattle.slurm_text.specs.declared.plain.report.Heard.{Heard}
+use Rattle.request_data.specs.declared.report.Heard.{Heard}
 use Rattle.node_state.specs.declared.record.DownBy.{DownBy}
 use Rattle.node_state.specs.declared.record.DownBy.TheVariants as down
 use Rattle.node_state.specs.declared.record.NodeChange.{NodeChange}

@@ -2,8 +2,8 @@
 use Rattle.std.proofs.Common.{ℕ, ◌≡◌, ◌<◌, ◌+◌, true, false, not, List, Option, Some, None, sym, arith, bytes_eq, nat_eq}
 use Rattle.std.proofs.lemmas.Bool.{and_parts, both_ways, eqb-true, not-true}
 use Rattle.std.proofs.lemmas.Slice.Eq.{bytes_eq-Decides}
-use Rattle.slurm_text.specs.declared.plain.report.Heard.{Heard}
-use Rattle.slurm_text.specs.declared.plain.orders.Orders.{Orders}
+use Rattle.request_data.specs.declared.report.Heard.{Heard}
+use Rattle.reply_data.specs.declared.orders.Orders.{Orders}
 use Rattle.node_daemon.specs.Daemon.{Daemon, are_due}
 use Rattle.daemon_world.specs.Together.{HeardBefore, HeardNoLife, HeardSince, HeardUpTo, IsAfter, IsUpTo}
 

@@ -1,7 +1,7 @@
 -- A report leaves the side of every other node as it is.
 use Rattle.std.proofs.Common.{ℕ, ◌≡◌, ◌<◌, ◌∙◌, Bool, false, List, [], ◌∷◌, length, HoldsAt, slice_get, arith, Some, None, Option, refl, sym, ap, inl, nat_eq, option_and_then, option_map, unwrap_or}
 use Rattle.std.proofs.lemmas.Bool.{cond_both, ne_eqb}
-use Rattle.slurm_text.specs.declared.plain.report.Report.{Report}
+use Rattle.request_data.specs.declared.report.Report.{Report}
 use Rattle.node_state.specs.declared.record.NodeChange.TheVariants.{Heard as HeardFrom}
 use Rattle.node_state.specs.declared.record.NodeRecord.{NodeRecord}
 use Rattle.node_state.specs.Nodes.{is_up, place_named}

@@ -3,10 +3,10 @@ use Rattle.std.proofs.Common.{ℕ, ◌≡◌, ◌≤◌, ◌<◌, ◌+◌, ◌�
 use Rattle.std.specs.List.{cons_option}
 use Rattle.std.proofs.lemmas.Bool.{cases_Bool, both_ways, or_left, or_right}
 use Rattle.std.proofs.lemmas.List.Elements.{All-append, All-cons, All-filter, All-head, All-map, All-nil, All-tail, All-weaker}
-use Rattle.slurm_text.specs.declared.plain.orders.Orders.{Orders}
-use Rattle.slurm_text.specs.declared.plain.report.Done.{Done}
-use Rattle.slurm_text.specs.declared.plain.report.Report.{Report}
-use Rattle.slurm_text.specs.declared.plain.report.Start.{Start}
+use Rattle.reply_data.specs.declared.orders.Orders.{Orders}
+use Rattle.request_data.specs.declared.report.Done.{Done}
+use Rattle.request_data.specs.declared.report.Report.{Report}
+use Rattle.request_data.specs.declared.report.Start.{Start}
 use Rattle.ctl_state.specs.State.{State}
 use Rattle.node_daemon.specs.Daemon.{Daemon, are_due, done_with, is_among, is_over, is_same, polled, reported, started, still_running, told_over}
 use Rattle.node_daemon.specs.declared.running.Running.{Running}

@@ -1,8 +1,8 @@
 -- What other daemons send, and what is sent to them, is nothing to a daemon.
 use Rattle.std.proofs.Common.{ℕ, ◌≡◌, ◌∙◌, true, false, List, [], ◌∷◌, ◌++◌, All, sym}
 use Rattle.std.proofs.lemmas.List.Elements.{All-cons}
-use Rattle.slurm_text.specs.declared.plain.orders.Orders.{Orders}
-use Rattle.slurm_text.specs.declared.plain.report.Report.{Report}
+use Rattle.reply_data.specs.declared.orders.Orders.{Orders}
+use Rattle.request_data.specs.declared.report.Report.{Report}
 use Rattle.ctl_state.specs.State.{State}
 use Rattle.node_daemon.specs.Daemon.{Daemon, are_due}
 use Rattle.daemon_world.specs.Claims.{claims_of, claims_ordered}

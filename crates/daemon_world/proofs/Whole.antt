@@ -2,13 +2,13 @@
 use Rattle.std.proofs.Common.{ℕ, zero, suc, ◌≡◌, ◌<◌, ◌∙◌, true, List, [], ◌∷◌, ◌++◌, Contains, Some, None, Option, option_and_then, bytes_eq, map, refl, sym, subst, arith}
 use Rattle.std.proofs.lemmas.Bool.{cond_both}
 use Rattle.std.proofs.lemmas.List.Elements.{All-contains}
-use Rattle.slurm_text.specs.Assocs.{AssocView}
-use Rattle.slurm_text.specs.Confs.{ConfView}
-use Rattle.slurm_text.specs.declared.plain.conf.NodeConf.{NodeConf}
-use Rattle.slurm_text.specs.declared.plain.orders.Orders.{Orders}
-use Rattle.slurm_text.specs.declared.plain.report.Report.{Report}
-use Rattle.slurm_text.specs.declared.plain.request.Request.{Request}
-use Rattle.slurm_text.specs.declared.plain.request.Request.TheVariants.{Report as Reports}
+use Rattle.plain_data.specs.Assocs.{AssocView}
+use Rattle.plain_data.specs.Confs.{ConfView}
+use Rattle.plain_data.specs.declared.conf.NodeConf.{NodeConf}
+use Rattle.reply_data.specs.declared.orders.Orders.{Orders}
+use Rattle.request_data.specs.declared.report.Report.{Report}
+use Rattle.request_data.specs.declared.request.Request.{Request}
+use Rattle.request_data.specs.declared.request.Request.TheVariants.{Report as Reports}
 use Rattle.node_state.specs.Nodes.{opened, place_named}
 use Rattle.ctl_state.specs.Soundness.{IsSound}
 use Rattle.ctl_state.specs.State.{State, opening}

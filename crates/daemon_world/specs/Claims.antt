@@ -1,10 +1,10 @@
 -- What a daemon runs or may launch, and what the controller holds for it.
 use Rattle.std.specs.Prelude.{◌≡◌, ◌≤◌, ℕ, true, List, map, count_by, All, Any, Some}
 use Rattle.cpu_ids.specs.Rows.{has_id}
-use Rattle.slurm_text.specs.declared.plain.report.Start.{Start}
-use Rattle.slurm_text.specs.declared.plain.report.Done.{Done}
-use Rattle.slurm_text.specs.declared.plain.orders.Launch.{Launch}
-use Rattle.slurm_text.specs.declared.plain.orders.Orders.{Orders}
+use Rattle.request_data.specs.declared.report.Start.{Start}
+use Rattle.request_data.specs.declared.report.Done.{Done}
+use Rattle.reply_data.specs.declared.orders.Launch.{Launch}
+use Rattle.reply_data.specs.declared.orders.Orders.{Orders}
 use Rattle.node_state.specs.Nodes.{place_named}
 use Rattle.job_table.specs.declared.record.Part.{Part}
 use Rattle.job_table.specs.declared.record.JobRecord.{JobRecord}

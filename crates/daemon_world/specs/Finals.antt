@@ -1,9 +1,9 @@
 -- How a start of a job ends: it leaves Running once, and then it is settled how.
 use Rattle.std.specs.Prelude.{◌≡◌, ◌⊎◌, IfSome, All, Option, Some, None}
-use Rattle.slurm_text.specs.declared.plain.state.Final.{Final}
-use Rattle.slurm_text.specs.declared.plain.state.Final.TheVariants.{Cancelled, Requeue}
-use Rattle.slurm_text.specs.declared.plain.state.JobState.{JobState}
-use Rattle.slurm_text.specs.declared.plain.state.JobState.TheVariants.{Pending, Running, Completing, Ended}
+use Rattle.request_data.specs.declared.state.Final.{Final}
+use Rattle.request_data.specs.declared.state.Final.TheVariants.{Cancelled, Requeue}
+use Rattle.request_data.specs.declared.state.JobState.{JobState}
+use Rattle.request_data.specs.declared.state.JobState.TheVariants.{Pending, Running, Completing, Ended}
 use Rattle.job_table.specs.declared.record.JobRecord.{JobRecord}
 use Rattle.ctl_state.specs.State.{State}
 

@@ -1,10 +1,10 @@
 -- What holds the controller and a daemon together, whatever happens.
 use Rattle.std.specs.Prelude.{◌≡◌, ◌<◌, ◌≤◌, ℕ, ◌+◌, Bool, true, false, ◌&&◌, ◌||◌, List, [], ◌++◌, map, All, Option, Some, None, option_and_then}
-use Rattle.slurm_text.specs.declared.plain.report.Start.{Start}
-use Rattle.slurm_text.specs.declared.plain.report.Done.{Done}
-use Rattle.slurm_text.specs.declared.plain.report.Heard.{Heard}
-use Rattle.slurm_text.specs.declared.plain.report.Report.{Report}
-use Rattle.slurm_text.specs.declared.plain.orders.Orders.{Orders}
+use Rattle.request_data.specs.declared.report.Start.{Start}
+use Rattle.request_data.specs.declared.report.Done.{Done}
+use Rattle.request_data.specs.declared.report.Heard.{Heard}
+use Rattle.request_data.specs.declared.report.Report.{Report}
+use Rattle.reply_data.specs.declared.orders.Orders.{Orders}
 use Rattle.node_state.specs.declared.record.NodeRecord.{NodeRecord}
 use Rattle.node_state.specs.Nodes.{place_named}
 use Rattle.ctl_state.specs.Planning.{is_at}

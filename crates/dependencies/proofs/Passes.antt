@@ -5,13 +5,13 @@ use Rattle.std.specs.List.{Contains, filter, list_any}
 use Rattle.std.proofs.lemmas.Bool.{and_right, false_from_ne_true}
 use Rattle.std.proofs.lemmas.List.Elements.{All-head, All-tail}
 use Rattle.std.proofs.lemmas.List.Folds.{list_any_at}
-use Rattle.slurm_text.specs.declared.plain.dependency.DepKind.{DepKind}
-use Rattle.slurm_text.specs.declared.plain.dependency.DepKind.TheVariants as kinds
-use Rattle.slurm_text.specs.declared.plain.dependency.DepId.{DepId}
-use Rattle.slurm_text.specs.declared.plain.dependency.DepSpec.{DepSpec}
-use Rattle.slurm_text.specs.declared.plain.state.Final.{Final}
-use Rattle.slurm_text.specs.declared.plain.state.JobState.{JobState}
-use Rattle.slurm_text.specs.declared.plain.state.JobState.TheVariants.{Pending, Running, Completing, Ended}
+use Rattle.plain_data.specs.declared.dependency.DepKind.{DepKind}
+use Rattle.plain_data.specs.declared.dependency.DepKind.TheVariants as kinds
+use Rattle.plain_data.specs.declared.dependency.DepId.{DepId}
+use Rattle.plain_data.specs.declared.dependency.DepSpec.{DepSpec}
+use Rattle.request_data.specs.declared.state.Final.{Final}
+use Rattle.request_data.specs.declared.state.JobState.{JobState}
+use Rattle.request_data.specs.declared.state.JobState.TheVariants.{Pending, Running, Completing, Ended}
 use Rattle.job_table.specs.declared.record.JobRecord.{JobRecord}
 use Rattle.job_table.specs.Awaiting.{awaits, is_awaited, names_by, names_in, names_job}
 use Rattle.job_table.specs.JobStates.{is_ended, is_pending}

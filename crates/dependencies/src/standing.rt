@@ -11,9 +11,9 @@ ghost use Rattle.dependencies.specs.Standing.{all_of, one_of};
 use job_table::jobs::Jobs;
 use job_table::record::JobRecord;
 use job_table::targets::{index_of, is_named, span_of};
-use slurm_text::plain::dependency::{DepId, DepItem, DepKind, DepSpec};
-use slurm_text::plain::state::{Final, JobState};
-use slurm_text::plain::target::Target;
+use plain_data::dependency::{DepId, DepItem, DepKind, DepSpec};
+use request_data::state::{Final, JobState};
+use request_data::target::Target;
 
 /// How it stands with what a job waits for.
 #[derive(Clone, Copy, PartialEq, Eq, Debug)]

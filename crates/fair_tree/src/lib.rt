@@ -7,7 +7,7 @@ ghost use Rattle.fair_tree.specs.declared.tree.TreeNode.{TreeNode};
 ghost use Rattle.fair_tree.specs.Tree.{IsTree};
 ghost use Rattle.fair_tree.specs.Ranks.{ranks_of};
 
-use slurm_text::memory_error::Memory;
+use small_texts::memory_error::Memory;
 use std::alloc::Global;
 
 mod level;

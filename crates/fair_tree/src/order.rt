@@ -10,7 +10,7 @@ ghost use Rattle.fair_tree.specs.Paths.{seen, path_in, walk_cmp, comes_first, Ar
 use crate::level::LevelFs;
 use crate::paths::{Paths, Span, levels_of};
 use slurm_num::compare;
-use slurm_text::memory_error::Memory;
+use small_texts::memory_error::Memory;
 use std::alloc::Global;
 use std::cmp::Ordering;
 

@@ -10,7 +10,7 @@ use crate::level::{Fraction, LevelFs};
 use crate::sums::Sums;
 use crate::tree::TreeNode;
 use slurm_num::Ratio;
-use slurm_text::memory_error::Memory;
+use small_texts::memory_error::Memory;
 use std::alloc::Global;
 
 // A user, counted from 0, and where the levels of his path lie.

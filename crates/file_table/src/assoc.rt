@@ -4,8 +4,8 @@
 use crate::repeats::expand;
 use crate::shown::{show_limit, show_name, show_numbers};
 use assoc_reader::read_assocs;
-use slurm_text::plain::assoc::{AssocConf, AssocFile, AssocLimits, QosConf, QosLimits};
-use slurm_text::ranged::Ranged;
+use plain_data::assoc::{AssocConf, AssocFile, AssocLimits, QosConf, QosLimits};
+use plain_data::ranged::Ranged;
 use std::alloc::Global;
 use std::io;
 

@@ -2,11 +2,11 @@
 
 use crate::shown::{show_limit, show_name, show_numbers};
 use conf_reader::read_conf;
-use slurm_text::items::Items;
-use slurm_text::name::Name;
-use slurm_text::plain::conf::{Conf, NodeConf, NodeStart, PartConf, PartState, Settings};
-use slurm_text::plain::limit::Limit;
-use slurm_text::plain::mem_ask::MemAsk;
+use plain_data::items::Items;
+use small_texts::name::Name;
+use plain_data::conf::{Conf, NodeConf, NodeStart, PartConf, PartState, Settings};
+use plain_data::limit::Limit;
+use plain_data::mem_ask::MemAsk;
 use std::alloc::Global;
 use std::io;
 

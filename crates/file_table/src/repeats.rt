@@ -1,8 +1,8 @@
 //! Lines of a table that stand for many: `@ FROM TO TEXT` is TEXT for each number from FROM to TO, which takes the
 //! place of `%`; `|` in it ends a line.
 
-use slurm_text::digits::parse_number;
-use slurm_text::fields::first_field;
+use small_texts::digits::parse_number;
+use small_texts::fields::first_field;
 use std::alloc::{AllocError, Global};
 
 const MOST_DIGITS: usize = 9;

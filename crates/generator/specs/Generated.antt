@@ -1,7 +1,7 @@
 -- The script that a number stands for: jobs that are drawn from it, handed in one after another, and passes.
 use Rattle.std.specs.Prelude.{ℕ, zero, suc, ◌+◌, ◌*◌, ◌/◌, ◌%◌, ◌==◌, if◌then◌else◌, Option, List, [], ◌∷◌, ◌++◌, map, flat_map, codes, decimal}
 use Rattle.std.specs.List.{enumerate_from}
-use Rattle.slurm_text.specs.Digits.{number_within}
+use Rattle.small_texts.specs.Digits.{number_within}
 use Rattle.generator.specs.declared.job.Job.{Job}
 
 -- the number that a word names: it has 1 to 10 digits, and is below 2,147,483,648

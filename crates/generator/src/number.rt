@@ -3,7 +3,7 @@
 ghost use Rattle.std.specs.Prelude.{◌≡◌};
 ghost use Rattle.generator.specs.Generated.{number_of};
 
-use slurm_text::digits::parse_number;
+use small_texts::digits::parse_number;
 
 // The greatest that follows another.
 const GREATEST: u64 = 2_147_483_647;

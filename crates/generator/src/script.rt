@@ -4,8 +4,8 @@ ghost use Rattle.std.specs.Prelude.{◌≡◌, ◌++◌, IfOk, OnOk};
 ghost use Rattle.generator.specs.Generated.{next_number, header_line, run_line, block_text, pass_line, job_text, script_from, jobs_drawn, generated};
 
 use crate::job::Job;
-use slurm_text::memory_error::Memory;
-use slurm_text::pieces::{push_labelled, push_number, push_text};
+use small_texts::memory_error::Memory;
+use small_texts::pieces::{push_labelled, push_number, push_text};
 use std::alloc::Global;
 
 // How many jobs a script has.

@@ -6,10 +6,10 @@ use Rattle.std.proofs.lemmas.Bool.Decides.{nat_tests}
 use Rattle.std.proofs.lemmas.List.{append-nil, take-append-drop, take_all}
 use Rattle.std.proofs.lemmas.List.Elements.{All-head, All-tail, filter-append}
 use Rattle.std.proofs.lemmas.List.Folds.{drop_split, list_any_more}
-use Rattle.slurm_text.specs.declared.plain.dependency.DepSpec.{DepSpec}
-use Rattle.slurm_text.specs.declared.plain.state.JobState.{JobState}
-use Rattle.slurm_text.specs.declared.plain.state.JobState.TheVariants.{Pending, Running, Completing, Ended}
-use Rattle.slurm_text.specs.declared.plain.state.Final.TheVariants as finals
+use Rattle.plain_data.specs.declared.dependency.DepSpec.{DepSpec}
+use Rattle.request_data.specs.declared.state.JobState.{JobState}
+use Rattle.request_data.specs.declared.state.JobState.TheVariants.{Pending, Running, Completing, Ended}
+use Rattle.request_data.specs.declared.state.Final.TheVariants as finals
 use Rattle.job_table.specs.declared.awaited.Awaited.{Awaited}
 use Rattle.job_table.specs.declared.record.JobRecord.{JobRecord}
 use Rattle.job_table.specs.declared.record.Part.{Part}

@@ -6,7 +6,7 @@ use Rattle.std.specs.List.Sorted.{IsPartitionedBy}
 use Rattle.std.proofs.lemmas.Bool.{cases_lt}
 use Rattle.std.proofs.lemmas.Bool.Decides.{nat_tests}
 use Rattle.std.proofs.lemmas.List.{get_or-drop, get_or-take, length-drop, length-take-le}
-use Rattle.slurm_text.specs.declared.plain.target.Target.{Target}
+use Rattle.request_data.specs.declared.target.Target.{Target}
 use Rattle.job_table.specs.declared.record.JobRecord.{JobRecord}
 use Rattle.job_table.specs.Table.{HaveRisingIds}
 use Rattle.job_table.specs.Targets.{AreTogether, is_named, is_named_by, is_number, is_task_of}

@@ -4,9 +4,9 @@ use Rattle.std.proofs.lemmas.Bool.Decides.{nat_tests}
 use Rattle.std.proofs.lemmas.List.{get_or-map, get_or_append_left, get_or_at, length-append, length-map}
 use Rattle.std.proofs.lemmas.List.Elements.{All-append, All-head, All-tail}
 use Rattle.std.proofs.lemmas.List.Kept.{AllPairs-cons}
-use Rattle.slurm_text.specs.declared.plain.state.JobState.{JobState}
-use Rattle.slurm_text.specs.declared.plain.state.JobState.TheVariants.{Pending, Running, Completing, Ended}
-use Rattle.slurm_text.specs.declared.plain.state.Final.TheVariants as finals
+use Rattle.request_data.specs.declared.state.JobState.{JobState}
+use Rattle.request_data.specs.declared.state.JobState.TheVariants.{Pending, Running, Completing, Ended}
+use Rattle.request_data.specs.declared.state.Final.TheVariants as finals
 use Rattle.job_table.specs.declared.record.JobRecord.{JobRecord}
 use Rattle.job_table.specs.declared.record.Part.{Part}
 use Rattle.job_table.specs.declared.change.Change.{Change}

@@ -2,11 +2,11 @@
 use Rattle.std.specs.Prelude.{◌≡◌, ℕ, Bool, true, ◌&&◌, ◌||◌, not, nat_eq, unwrap_or, false, List, filter, All, Option, None, option_map}
 use Rattle.std.specs.List.{list_any}
 use Rattle.std.specs.HashSet.{contains}
-use Rattle.slurm_text.specs.declared.plain.dependency.DepKind.{DepKind}
-use Rattle.slurm_text.specs.declared.plain.dependency.DepKind.TheVariants as kinds
-use Rattle.slurm_text.specs.declared.plain.dependency.DepId.{DepId}
-use Rattle.slurm_text.specs.declared.plain.dependency.DepItem.{DepItem}
-use Rattle.slurm_text.specs.declared.plain.dependency.DepSpec.{DepSpec}
+use Rattle.plain_data.specs.declared.dependency.DepKind.{DepKind}
+use Rattle.plain_data.specs.declared.dependency.DepKind.TheVariants as kinds
+use Rattle.plain_data.specs.declared.dependency.DepId.{DepId}
+use Rattle.plain_data.specs.declared.dependency.DepItem.{DepItem}
+use Rattle.plain_data.specs.declared.dependency.DepSpec.{DepSpec}
 use Rattle.job_table.specs.declared.record.JobRecord.{JobRecord}
 use Rattle.job_table.specs.declared.change.Change.{Change}
 use Rattle.job_table.specs.declared.awaited.Awaited.{Awaited}

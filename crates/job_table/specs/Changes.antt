@@ -1,9 +1,9 @@
 -- What may happen to a job.
 use Rattle.std.specs.Prelude.{ℕ, ◌+◌, ◌-◌, ◌^◌, min, Bool, not, nat_eq, if◌then◌else◌, List, [], ◌∷◌, filter, Option, Some, None}
-use Rattle.slurm_text.specs.declared.plain.state.JobState.{JobState}
-use Rattle.slurm_text.specs.declared.plain.state.JobState.TheVariants.{Pending, Running, Completing, Ended}
-use Rattle.slurm_text.specs.declared.plain.state.Final.{Final}
-use Rattle.slurm_text.specs.declared.plain.state.Final.TheVariants.{Cancelled, Requeue}
+use Rattle.request_data.specs.declared.state.JobState.{JobState}
+use Rattle.request_data.specs.declared.state.JobState.TheVariants.{Pending, Running, Completing, Ended}
+use Rattle.request_data.specs.declared.state.Final.{Final}
+use Rattle.request_data.specs.declared.state.Final.TheVariants.{Cancelled, Requeue}
 use Rattle.job_table.specs.declared.record.Part.{Part}
 use Rattle.job_table.specs.declared.record.JobRecord.{JobRecord}
 use Rattle.job_table.specs.declared.change.Change.{Change}

@@ -1,9 +1,9 @@
 -- The states of a job.
 use Rattle.std.specs.Prelude.{Bool, true, false}
-use Rattle.slurm_text.specs.declared.plain.state.JobState.{JobState}
-use Rattle.slurm_text.specs.declared.plain.state.JobState.TheVariants.{Pending, Running, Completing, Ended}
-use Rattle.slurm_text.specs.declared.plain.state.Final.{Final}
-use Rattle.slurm_text.specs.declared.plain.state.Final.TheVariants.{Requeue}
+use Rattle.request_data.specs.declared.state.JobState.{JobState}
+use Rattle.request_data.specs.declared.state.JobState.TheVariants.{Pending, Running, Completing, Ended}
+use Rattle.request_data.specs.declared.state.Final.{Final}
+use Rattle.request_data.specs.declared.state.Final.TheVariants.{Requeue}
 
 abbrev pub is_pending : JobState → Bool
 is_pending Pending = true

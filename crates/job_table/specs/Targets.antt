@@ -1,7 +1,7 @@
 -- Which jobs a target names.
 use Rattle.std.specs.Prelude.{◌≡◌, ℕ, ◌≤◌, Bool, false, ◌&&◌, ◌||◌, nat_eq, List, slice_get, All, AllPairs, IfSome, Option, Some, None, option_and_then}
-use Rattle.slurm_text.specs.declared.plain.array.ArraySpec.{ArraySpec}
-use Rattle.slurm_text.specs.declared.plain.target.Target.{Target}
+use Rattle.plain_data.specs.declared.array.ArraySpec.{ArraySpec}
+use Rattle.request_data.specs.declared.target.Target.{Target}
 use Rattle.job_table.specs.declared.record.JobRecord.{JobRecord}
 
 abbrev pub is_number : ℕ → Option ℕ → Bool

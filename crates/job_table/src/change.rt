@@ -4,11 +4,11 @@ ghost use Rattle.std.specs.Prelude.{◌≡◌};
 ghost use Rattle.job_table.specs.Changes.{changed, not_again, off_node, parts_off, with_left};
 
 use crate::record::{JobRecord, Part};
-use slurm_text::items::Items;
-use slurm_text::name::Name;
-use slurm_text::plain::limit::Limit;
-use slurm_text::plain::nice::Nice;
-use slurm_text::plain::state::{Final, HeldBy, JobState};
+use plain_data::items::Items;
+use small_texts::name::Name;
+use plain_data::limit::Limit;
+use plain_data::nice::Nice;
+use request_data::state::{Final, HeldBy, JobState};
 use std::alloc::Global;
 use std::mem;
 

@@ -14,7 +14,7 @@ use crate::change::{Change, apply};
 use crate::record::JobRecord;
 use crate::usage::charge;
 use indexmap::IndexMap;
-use slurm_text::plain::state::JobState;
+use request_data::state::JobState;
 use std::alloc::{AllocError, AllocFailed, Global};
 use std::error::Error;
 use std::fmt;

@@ -3,12 +3,12 @@
 ghost use Rattle.std.specs.Prelude.{◌≡◌, IfOk};
 
 use cpu_ids::CpuIds;
-use slurm_text::items::Items;
-use slurm_text::memory_error::Memory;
-use slurm_text::name::Name;
-use slurm_text::plain::job::JobDesc;
-use slurm_text::plain::limit::Limit;
-use slurm_text::plain::state::{HeldBy, JobState};
+use plain_data::items::Items;
+use small_texts::memory_error::Memory;
+use small_texts::name::Name;
+use plain_data::job::JobDesc;
+use plain_data::limit::Limit;
+use request_data::state::{HeldBy, JobState};
 use std::alloc::Global;
 
 /// What a job holds of one node.

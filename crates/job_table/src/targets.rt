@@ -8,7 +8,7 @@ ghost use Rattle.job_table.specs.Targets as spec;
 ghost use Rattle.job_table.specs.Targets.{AreTogether};
 
 use crate::record::JobRecord;
-use slurm_text::plain::target::Target;
+use request_data::target::Target;
 
 /// Places in the list of jobs, from the first on, before the end.
 #[derive(Clone, Copy, PartialEq, Eq, Debug)]

@@ -7,7 +7,7 @@ ghost use Rattle.job_table.specs.Walks.{map_at};
 
 use crate::change::Change;
 use crate::record::{JobRecord, Part};
-use slurm_text::plain::state::JobState;
+use request_data::state::JobState;
 
 /// The greatest usage, in seconds of one processor, that is told apart from more (own).
 pub const GREATEST_USAGE: u64 = 4_294_967_295;

@@ -5,8 +5,8 @@ use Rattle.std.proofs.lemmas.Bool.{false_from_ne_true, false≢true}
 use Rattle.std.proofs.lemmas.List.{length-map}
 use Rattle.std.proofs.lemmas.List.Splits.{length-slice_split}
 use Rattle.std.proofs.lemmas.List.Sums.{length-filter}
-use Rattle.slurm_text.specs.Fields.{fields}
-use Rattle.slurm_text.specs.declared.plain.dependency.DepItem.{DepItem}
+use Rattle.small_texts.specs.Fields.{fields}
+use Rattle.plain_data.specs.declared.dependency.DepItem.{DepItem}
 use Rattle.job_texts.specs.Dependency.{item_of, item_naming, item_in, is_any, items_in}
 use Rattle.job_texts.specs.Parts.{parts_in}
 use Rattle.job_texts.proofs.PartLemmas.{length-all_some}

@@ -1,7 +1,7 @@
 -- The parts of a text, read from the left.
 use Rattle.std.proofs.Common.{ℕ, suc, length, arith, ◌≡◌, List, [], ◌∷◌, ◌++◌, map, Option, Some, None, option_map, refl, ap, sym, append_assoc}
 use Rattle.std.proofs.lemmas.List.{append-nil}
-use Rattle.slurm_text.specs.Hosts.{all_some}
+use Rattle.host_lists.specs.Hosts.{all_some}
 
 -- what the texts give, behind what was read before
 abbrev pub behind : {X : Type 0} → (List ℕ → Option X) → List X → List (List ℕ) → Option (List X)

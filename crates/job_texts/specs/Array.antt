@@ -3,10 +3,10 @@ use Rattle.std.specs.Prelude.{ℕ, ◌-◌, ◌%◌, ◌==◌, nat_le, Bool, ◌
 use Rattle.std.specs.Int.{is_in_range}
 use Rattle.std.specs.List.{list_any, range_with_len}
 use Rattle.std.specs.Str.{byte}
-use Rattle.slurm_text.specs.Digits.{number_within}
-use Rattle.slurm_text.specs.Fields.{fields}
-use Rattle.slurm_text.specs.Options.{◌>>=◌}
-use Rattle.slurm_text.specs.declared.plain.array.ArraySpec.{ArraySpec}
+use Rattle.small_texts.specs.Digits.{number_within}
+use Rattle.small_texts.specs.Fields.{fields}
+use Rattle.small_texts.specs.Options.{◌>>=◌}
+use Rattle.plain_data.specs.declared.array.ArraySpec.{ArraySpec}
 use Rattle.job_texts.specs.Parts.{parts_in}
 use Rattle.job_texts.specs.declared.array.Stretch.{Stretch}
 

@@ -2,15 +2,15 @@
 use Rattle.std.specs.Prelude.{ℕ, ◌==◌, nat_le, Bool, if◌then◌else◌, Option, Some, None, List, [], ◌∷◌, length, map, sum_by, bytes_eq, codes}
 use Rattle.std.specs.List.{list_any}
 use Rattle.std.specs.Str.{byte}
-use Rattle.slurm_text.specs.Digits.{number_within}
-use Rattle.slurm_text.specs.Fields.{fields}
-use Rattle.slurm_text.specs.Hosts.{all_some}
-use Rattle.slurm_text.specs.Options.{◌>>=◌}
-use Rattle.slurm_text.specs.declared.plain.dependency.DepKind.{DepKind}
-use Rattle.slurm_text.specs.declared.plain.dependency.DepKind.TheVariants.{After, AfterAny, AfterOk, AfterNotOk, AfterCorr, Singleton}
-use Rattle.slurm_text.specs.declared.plain.dependency.DepId.{DepId}
-use Rattle.slurm_text.specs.declared.plain.dependency.DepItem.{DepItem}
-use Rattle.slurm_text.specs.declared.plain.dependency.DepSpec.{DepSpec}
+use Rattle.small_texts.specs.Digits.{number_within}
+use Rattle.small_texts.specs.Fields.{fields}
+use Rattle.host_lists.specs.Hosts.{all_some}
+use Rattle.small_texts.specs.Options.{◌>>=◌}
+use Rattle.plain_data.specs.declared.dependency.DepKind.{DepKind}
+use Rattle.plain_data.specs.declared.dependency.DepKind.TheVariants.{After, AfterAny, AfterOk, AfterNotOk, AfterCorr, Singleton}
+use Rattle.plain_data.specs.declared.dependency.DepId.{DepId}
+use Rattle.plain_data.specs.declared.dependency.DepItem.{DepItem}
+use Rattle.plain_data.specs.declared.dependency.DepSpec.{DepSpec}
 use Rattle.job_texts.specs.Parts.{parts_in}
 
 -- 1 to 10 digits, as far as 32 bits hold

@@ -1,8 +1,8 @@
 -- Which features a text asks for.
 use Rattle.std.specs.Prelude.{ℕ, if◌then◌else◌, Option, Some, None, option_map, List}
 use Rattle.std.specs.Str.{byte}
-use Rattle.slurm_text.specs.Name.{is_name}
-use Rattle.slurm_text.specs.declared.plain.features.FeatureExpr.{FeatureExpr}
+use Rattle.small_texts.specs.Name.{is_name}
+use Rattle.plain_data.specs.declared.features.FeatureExpr.{FeatureExpr}
 use Rattle.job_texts.specs.Parts.{parts_in}
 
 abbrev pub name_in : List ℕ → Option (List ℕ)

@@ -1,7 +1,7 @@
 -- Texts whose parts stand between separators.
 use Rattle.std.specs.Prelude.{ℕ, Option, List, map}
-use Rattle.slurm_text.specs.Fields.{fields}
-use Rattle.slurm_text.specs.Hosts.{all_some}
+use Rattle.small_texts.specs.Fields.{fields}
+use Rattle.host_lists.specs.Hosts.{all_some}
 
 -- what the parts of a text mean, where each means something
 abbrev pub parts_in : {X : Type 0} → (List ℕ → Option X) → ℕ → List ℕ → Option (List X)

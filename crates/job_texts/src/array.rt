@@ -7,12 +7,12 @@ ghost use Rattle.job_texts.specs.declared.array.Stretch.{Stretch};
 ghost use Rattle.job_texts.specs.Marks.{IsLong, marked};
 
 use crate::parts::{Part, read_parts};
-use slurm_text::digits::parse_number;
-use slurm_text::fields::{UpToThree, up_to_three};
-use slurm_text::memory_error;
-use slurm_text::memory_error::Memory;
-use slurm_text::plain::array::{ArraySpec, Indices};
-use slurm_text::ranged::Ranged;
+use small_texts::digits::parse_number;
+use small_texts::fields::{UpToThree, up_to_three};
+use small_texts::memory_error;
+use small_texts::memory_error::Memory;
+use plain_data::array::{ArraySpec, Indices};
+use plain_data::ranged::Ranged;
 use std::alloc::Global;
 use std::error::Error;
 use std::fmt;

@@ -2,16 +2,16 @@
 
 ghost use Rattle.std.specs.Prelude.{◌≡◌, ◌≤◌, nat_le, [], ◌∷◌, length, IsFalse, IfOk, IsErrOf, Some, None};
 ghost use Rattle.std.specs.Str.{byte};
-ghost use Rattle.slurm_text.specs.Fields.{fields};
+ghost use Rattle.small_texts.specs.Fields.{fields};
 ghost use Rattle.job_texts.specs.Dependency.{u32_in, kind_in, id_in, item_naming, item_of, item_in, count_ids, dependency_in};
 
 use crate::parts::{Part, read_parts};
-use slurm_text::digits::parse_number;
-use slurm_text::fields::{UpToThree, first_field, up_to_three};
-use slurm_text::items::Items;
-use slurm_text::memory_error;
-use slurm_text::memory_error::Memory;
-use slurm_text::plain::dependency::{DepId, DepItem, DepKind, DepSpec};
+use small_texts::digits::parse_number;
+use small_texts::fields::{UpToThree, first_field, up_to_three};
+use plain_data::items::Items;
+use small_texts::memory_error;
+use small_texts::memory_error::Memory;
+use plain_data::dependency::{DepId, DepItem, DepKind, DepSpec};
 use std::alloc::Global;
 use std::error::Error;
 use std::fmt;

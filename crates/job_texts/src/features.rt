@@ -4,11 +4,11 @@ ghost use Rattle.std.specs.Prelude.{◌≡◌, IfOk, IsErrOf, Some, None};
 ghost use Rattle.job_texts.specs.Features.{name_in, names_in, features_in};
 
 use crate::parts::{Part, read_parts};
-use slurm_text::items::Items;
-use slurm_text::memory_error;
-use slurm_text::memory_error::Memory;
-use slurm_text::name::{Name, NameRefusal};
-use slurm_text::plain::features::FeatureExpr;
+use plain_data::items::Items;
+use small_texts::memory_error;
+use small_texts::memory_error::Memory;
+use small_texts::name::{Name, NameRefusal};
+use plain_data::features::FeatureExpr;
 use std::alloc::Global;
 use std::error::Error;
 use std::fmt;

@@ -3,9 +3,9 @@
 ghost use Rattle.std.specs.Prelude.{◌≡◌, ℕ, List, Option, IfOk};
 ghost use Rattle.job_texts.specs.Parts.{parts_in};
 
-use slurm_text::fields::first_field;
-use slurm_text::items::Items;
-use slurm_text::memory_error::Memory;
+use small_texts::fields::first_field;
+use plain_data::items::Items;
+use small_texts::memory_error::Memory;
 use std::alloc::Global;
 
 /// What a part of a text can mean.

@@ -1,6 +1,6 @@
 -- Desks at the book of a lock.
 use Rattle.std.specs.Prelude.{◌≡◌, ℕ, ◌<◌, ◌≤◌, ◌^◌, Bool, if◌then◌else◌, List, [], ◌∷◌, ◌++◌, length, take, drop, Option, Some, None, Result, IfSome, IfOk, OnErr}
-use Rattle.slurm_text.specs.declared.plain.request.Request.{Request}
+use Rattle.request_data.specs.declared.request.Request.{Request}
 use Rattle.atomic_table.specs.Seated.{TableId}
 use Rattle.turn_lock.specs.Passes.{PassView, IsKnown}
 use Rattle.ctl_state.specs.State.{State}

@@ -1,7 +1,7 @@
 //! Requests worked by who has the turn at the book.
 
 ghost use Rattle.std.specs.Prelude.{◌≡◌, ◌<◌, ◌^◌, IfSome, length};
-ghost use Rattle.slurm_text.specs.declared.plain.request.Request.TheVariants.{Pass};
+ghost use Rattle.request_data.specs.declared.request.Request.TheVariants.{Pass};
 ghost use Rattle.resource_profile.specs.Counts.{IsTickedUpTo};
 ghost use Rattle.ctl_core.specs.Step.{IsHinted, steps_of};
 ghost use Rattle.ctl_desk.specs.History.{present};
@@ -11,9 +11,9 @@ use backfill_planner::Planned;
 use ctl_desk::book::Book;
 use ctl_desk::entry::Answer;
 use resource_profile::{Plain, Steps};
-use slurm_text::memory_error::Memory;
-use slurm_text::name::Name;
-use slurm_text::plain::request::Request;
+use small_texts::memory_error::Memory;
+use small_texts::name::Name;
+use request_data::request::Request;
 
 /// How many entries a lock's value may have, less one (own). No history comes near it.
 const MOST_ENTRIES: u64 = 4_611_686_018_427_387_903;

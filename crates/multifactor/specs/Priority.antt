@@ -1,10 +1,10 @@
 -- A job's priority, and what it is made of.
 use Rattle.std.specs.Prelude.{ℕ, ◌+◌, ◌-◌, min, max, List, [], ◌∷◌}
 use Rattle.slurm_num.specs.Ratios.{share_of}
-use Rattle.slurm_text.specs.declared.plain.nice.Nice.{Nice}
-use Rattle.slurm_text.specs.declared.plain.nice.Nice.TheVariants.{Lower, Raise}
+use Rattle.plain_data.specs.declared.nice.Nice.{Nice}
+use Rattle.plain_data.specs.declared.nice.Nice.TheVariants.{Lower, Raise}
 use Rattle.multifactor.specs.declared.terms.Term.{Term}
-use Rattle.slurm_text.specs.declared.plain.priority.PriorityParts.{PriorityParts}
+use Rattle.reply_data.specs.declared.priority.PriorityParts.{PriorityParts}
 
 -- what a term adds: its weight's part, rounded down, and nothing of no denominator
 abbrev pub value_of : Term → ℕ

@@ -5,8 +5,8 @@ ghost use Rattle.std.specs.Prelude.{◌≡◌, ◌<◌, ◌^◌, map, sum};
 ghost use Rattle.multifactor.specs.Priority.{terms_of, priority_of, value_of};
 
 use slurm_num::scaled;
-use slurm_text::plain::nice::Nice;
-use slurm_text::plain::priority::PriorityParts;
+use plain_data::nice::Nice;
+use reply_data::priority::PriorityParts;
 
 mod terms;
 

@@ -2,7 +2,7 @@
 
 ghost use Rattle.std.specs.Prelude.{◌≤◌};
 
-use slurm_text::plain::nice::Nice;
+use plain_data::nice::Nice;
 
 /// A factor from 0 to 1, `num` of `den`, and the greatest number that it can add to a priority. Without a denominator
 /// it adds nothing (own).

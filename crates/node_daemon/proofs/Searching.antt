@@ -5,8 +5,8 @@ use Rattle.std.specs.Ordering.{nat_cmp, ordering_index, ordering_then}
 use Rattle.std.proofs.lemmas.Bool.{cases_lt}
 use Rattle.std.proofs.lemmas.Bool.Decides.{nat_tests}
 use Rattle.std.proofs.lemmas.List.Folds.{list_any_at, list_any_none}
-use Rattle.slurm_text.specs.declared.plain.report.Start.{Start}
-use Rattle.slurm_text.specs.Starts.{is_before, InOrder}
+use Rattle.request_data.specs.declared.report.Start.{Start}
+use Rattle.reply_data.specs.Starts.{is_before, InOrder}
 use Rattle.node_daemon.specs.Daemon.{is_among, is_same}
 
 -- the order of the starts

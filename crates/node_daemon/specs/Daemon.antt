@@ -2,11 +2,11 @@
 use Rattle.std.specs.Prelude.{ℕ, ◌+◌, Bool, true, false, ◌&&◌, not, nat_eq, nat_le, if◌then◌else◌, unwrap_or, List, [], ◌++◌, map, filter, filter_map, Option, option_map}
 use Rattle.std.specs.List.{list_any}
 use Rattle.std.specs.Str.{bytes_eq}
-use Rattle.slurm_text.specs.declared.plain.report.Start.{Start}
-use Rattle.slurm_text.specs.declared.plain.report.Done.{Done}
-use Rattle.slurm_text.specs.declared.plain.report.Report.{Report}
-use Rattle.slurm_text.specs.declared.plain.orders.Launch.{Launch}
-use Rattle.slurm_text.specs.declared.plain.orders.Orders.{Orders}
+use Rattle.request_data.specs.declared.report.Start.{Start}
+use Rattle.request_data.specs.declared.report.Done.{Done}
+use Rattle.request_data.specs.declared.report.Report.{Report}
+use Rattle.reply_data.specs.declared.orders.Launch.{Launch}
+use Rattle.reply_data.specs.declared.orders.Orders.{Orders}
 use Rattle.node_daemon.specs.declared.running.Running.{Running}
 use Rattle.node_daemon.specs.declared.running.Script.{Script}
 

@@ -1,8 +1,8 @@
 //! What holds of the controller's orders. A law is the contract of a function that does nothing.
 
 ghost use Rattle.std.specs.Prelude.{◌≡◌, ℕ, List, true};
-ghost use Rattle.slurm_text.specs.declared.plain.orders.Orders.{Orders};
-ghost use Rattle.slurm_text.specs.declared.plain.reply.Reply.TheVariants.{Orders as Ordered};
+ghost use Rattle.reply_data.specs.declared.orders.Orders.{Orders};
+ghost use Rattle.reply_data.specs.declared.reply.Reply.TheVariants.{Orders as Ordered};
 ghost use Rattle.ctl_state.specs.State.{State};
 ghost use Rattle.ctl_core.specs.Step.{reply_of};
 ghost use Rattle.node_daemon.specs.Daemon.{Daemon, are_due, polled};

@@ -3,8 +3,8 @@
 ghost use Rattle.std.specs.Prelude.{◌≡◌};
 ghost use Rattle.node_daemon.specs.Daemon.{is_among};
 
-use slurm_text::plain::orders::Starts;
-use slurm_text::plain::report::Start;
+use reply_data::orders::Starts;
+use request_data::report::Start;
 
 /// Whether the start is among these. Logarithmic in them.
 pub(crate) fn is_among(starts: &Starts, start: &Start) -> bool

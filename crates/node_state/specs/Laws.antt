@@ -1,7 +1,7 @@
 -- What stays true of the nodes, whatever happens to one. Each is proved as the contract of a law.
 use Rattle.std.specs.Prelude.{◌≡◌, ℕ, ◌<◌, Bool, true, List, length, map, Some}
 use Rattle.std.specs.List.{AllZip, HoldsAt}
-use Rattle.slurm_text.specs.declared.plain.report.Heard.{Heard}
+use Rattle.request_data.specs.declared.report.Heard.{Heard}
 use Rattle.node_state.specs.declared.record.NodeRecord.{NodeRecord}
 use Rattle.node_state.specs.declared.record.NodeChange.{NodeChange}
 use Rattle.node_state.specs.declared.record.NodeChange.TheVariants as change

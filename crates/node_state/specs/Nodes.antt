@@ -1,10 +1,10 @@
 -- Nodes, how each stands, and what may happen to one.
 use Rattle.std.specs.Prelude.{◌≢◌, ◌≤◌, ℕ, zero, suc, Bool, true, false, ◌&&◌, ◌||◌, not, is_none, if◌then◌else◌, List, [], ◌∷◌, length, position, bytes_eq, AllPairs, Option, Some, None}
 use Rattle.std.specs.List.{list_all, list_any}
-use Rattle.slurm_text.specs.declared.plain.conf.NodeConf.{NodeConf}
-use Rattle.slurm_text.specs.declared.plain.conf.NodeStart.{NodeStart}
-use Rattle.slurm_text.specs.declared.plain.conf.NodeStart.TheVariants as start
-use Rattle.slurm_text.specs.declared.plain.features.FeatureExpr.{FeatureExpr}
+use Rattle.plain_data.specs.declared.conf.NodeConf.{NodeConf}
+use Rattle.plain_data.specs.declared.conf.NodeStart.{NodeStart}
+use Rattle.plain_data.specs.declared.conf.NodeStart.TheVariants as start
+use Rattle.plain_data.specs.declared.features.FeatureExpr.{FeatureExpr}
 use Rattle.node_state.specs.declared.record.DownBy.{DownBy}
 use Rattle.node_state.specs.declared.record.DownBy.TheVariants as down
 use Rattle.node_state.specs.declared.record.NodeRecord.{NodeRecord}

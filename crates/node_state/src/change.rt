@@ -4,7 +4,7 @@ ghost use Rattle.std.specs.Prelude.{◌≡◌, ◌↔◌, IsFalse};
 ghost use Rattle.node_state.specs.Nodes;
 
 use crate::record::{DownBy, NodeChange, NodeRecord};
-use slurm_text::plain::report::Heard;
+use request_data::report::Heard;
 
 // What may change of a node.
 #[derive(Clone, Copy, PartialEq)]

@@ -5,10 +5,10 @@ ghost use Rattle.std.specs.List.{list_all, list_any};
 ghost use Rattle.node_state.specs.Nodes;
 
 use crate::record::{DownBy, NodeRecord};
-use slurm_text::items::Items;
-use slurm_text::name::Name;
-use slurm_text::plain::conf::{NodeConf, NodeStart};
-use slurm_text::plain::features::FeatureExpr;
+use plain_data::items::Items;
+use small_texts::name::Name;
+use plain_data::conf::{NodeConf, NodeStart};
+use plain_data::features::FeatureExpr;
 
 /// A node of slurm.conf(5) before anything was heard of it.
 pub fn opened(conf: NodeConf) -> NodeRecord

@@ -2,7 +2,7 @@
 use Rattle.std.proofs.Common.{ℕ, ◌≡◌, ◌+◌, ◌<◌, map, List, [], ◌∷◌, ◌++◌, length, get_or, drop, Option, Some, None, refl, append_assoc}
 use Rattle.std.specs.Option.{option_map}
 use Rattle.std.proofs.lemmas.List.{drop-map, drop_more}
-use Rattle.slurm_text.specs.Hosts.{all_some}
+use Rattle.host_lists.specs.Hosts.{all_some}
 
 -- what the texts from a place on give, behind what was read before
 abbrev pub behind : {B : Type 0} → (List ℕ → Option B) → List B → List (List ℕ) → Option (List B)

@@ -1,7 +1,7 @@
 -- Words that are names or numbers.
 use Rattle.std.specs.Prelude.{ℕ, if◌then◌else◌, List, Option, Some, None}
-use Rattle.slurm_text.specs.Digits.{number_within}
-use Rattle.slurm_text.specs.Name.{is_name}
+use Rattle.small_texts.specs.Digits.{number_within}
+use Rattle.small_texts.specs.Name.{is_name}
 
 abbrev pub name_by : List ℕ → Option (List ℕ)
 name_by word = if is_name word then Some word else None

@@ -2,11 +2,11 @@
 use Rattle.std.specs.Prelude.{ℕ, List, [], ◌∷◌, Option, Some, None, map}
 use Rattle.std.specs.Str.{byte}
 use Rattle.operands.specs.Names.{u32_by}
-use Rattle.slurm_text.specs.Fields.{fields}
-use Rattle.slurm_text.specs.Hosts.{all_some}
-use Rattle.slurm_text.specs.Options.{◌>>=◌}
-use Rattle.slurm_text.specs.declared.plain.report.Start.{Start}
-use Rattle.slurm_text.specs.declared.plain.report.Done.{Done}
+use Rattle.small_texts.specs.Fields.{fields}
+use Rattle.host_lists.specs.Hosts.{all_some}
+use Rattle.small_texts.specs.Options.{◌>>=◌}
+use Rattle.request_data.specs.declared.report.Start.{Start}
+use Rattle.request_data.specs.declared.report.Done.{Done}
 
 -- `ID.START`, by its fields at a dot
 unfoldable pub start_of : List (List ℕ) → Option Start

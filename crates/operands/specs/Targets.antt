@@ -2,12 +2,12 @@
 use Rattle.std.specs.Prelude.{ℕ, nat_le, if◌then◌else◌, List, [], ◌∷◌, length, map, codes, bytes_eq, Option, Some, None, option_map}
 use Rattle.std.specs.Borrow.{Bor}
 use Rattle.std.specs.Str.{byte}
-use Rattle.slurm_text.specs.Fields.{fields}
-use Rattle.slurm_text.specs.Hosts.{all_some}
-use Rattle.slurm_text.specs.Options.{◌>>=◌}
-use Rattle.slurm_text.specs.declared.plain.query.StateCode.{StateCode}
-use Rattle.slurm_text.specs.declared.plain.query.StateCode.TheVariants.{Pending, Running, Completing, Completed, Cancelled, Failed, Timeout, NodeFail}
-use Rattle.slurm_text.specs.declared.plain.target.Target.{Target}
+use Rattle.small_texts.specs.Fields.{fields}
+use Rattle.host_lists.specs.Hosts.{all_some}
+use Rattle.small_texts.specs.Options.{◌>>=◌}
+use Rattle.request_data.specs.declared.query.StateCode.{StateCode}
+use Rattle.request_data.specs.declared.query.StateCode.TheVariants.{Pending, Running, Completing, Completed, Cancelled, Failed, Timeout, NodeFail}
+use Rattle.request_data.specs.declared.target.Target.{Target}
 use Rattle.operands.specs.Names.{u32_by}
 
 -- `ID` or `ID_INDEX`, by its fields at an underscore

@@ -1,10 +1,10 @@
 //! A text cut at a byte.
 
 ghost use Rattle.std.specs.Prelude.{◌≡◌, IfOk};
-ghost use Rattle.slurm_text.specs.Fields.{fields};
+ghost use Rattle.small_texts.specs.Fields.{fields};
 ghost use Rattle.operands.specs.Cut.{texts_of};
 
-use slurm_text::memory_error::Memory;
+use small_texts::memory_error::Memory;
 use std::alloc::Global;
 
 /// What stands between the separators, one more than there are of these.

@@ -2,14 +2,14 @@
 
 ghost use Rattle.std.specs.Prelude.{◌≡◌, ℕ, List, Option, map, IfOk};
 ghost use Rattle.std.specs.Str.{byte};
-ghost use Rattle.slurm_text.specs.Fields.{fields};
-ghost use Rattle.slurm_text.specs.Hosts.{all_some};
+ghost use Rattle.small_texts.specs.Fields.{fields};
+ghost use Rattle.host_lists.specs.Hosts.{all_some};
 ghost use Rattle.operands.specs.Cut.{texts_of};
 ghost use Rattle.operands.specs.Targets.{few};
 
 use crate::cut::cut_at;
-use slurm_text::items::Items;
-use slurm_text::memory_error::Memory;
+use plain_data::items::Items;
+use small_texts::memory_error::Memory;
 use std::alloc::Global;
 
 // A longer list isn't taken where few members are wanted.

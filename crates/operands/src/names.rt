@@ -3,9 +3,9 @@
 ghost use Rattle.std.specs.Prelude.{◌≡◌, IfOk};
 ghost use Rattle.operands.specs.Names.{name_by, u32_by};
 
-use slurm_text::digits::parse_number;
-use slurm_text::memory_error::Memory;
-use slurm_text::name::{Name, NameRefusal};
+use small_texts::digits::parse_number;
+use small_texts::memory_error::Memory;
+use small_texts::name::{Name, NameRefusal};
 use std::alloc::Global;
 
 /// A word that is a name.

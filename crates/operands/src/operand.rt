@@ -5,7 +5,7 @@ ghost use Rattle.operands.specs.BadWord.{at_word, good};
 ghost use Rattle.operands.specs.Operands.{word_at, closed_at, word_read};
 
 use crate::bad_word::{BadWord, WordKind, fault_at};
-use slurm_text::words::Words;
+use line_words::words::Words;
 
 /// The word at a place, counted from 0, which must be there.
 #[tactic(auto, unfolding(crate::specs::Operands::word_at))]

@@ -6,8 +6,8 @@ ghost use Rattle.operands.specs.Pairs.{pair_of, pair_added, pairs_say, now_said}
 
 use crate::bad_word::{BadWord, WordKind, fault_at};
 use option_words::arguments::equals_place;
-use slurm_text::memory_error::Memory;
-use slurm_text::words::Words;
+use small_texts::memory_error::Memory;
+use line_words::words::Words;
 use std::alloc::Global;
 
 /// What pairs of keys and values say together.

@@ -5,11 +5,11 @@ ghost use Rattle.operands.specs.Targets.{rows, state_among, state_by, states, st
 
 use crate::members::{Member, read_few};
 use crate::names::read_u32;
-use slurm_text::fields::{UpToThree, up_to_three};
-use slurm_text::items::Items;
-use slurm_text::memory_error::Memory;
-use slurm_text::plain::query::StateCode;
-use slurm_text::plain::target::Target;
+use small_texts::fields::{UpToThree, up_to_three};
+use plain_data::items::Items;
+use small_texts::memory_error::Memory;
+use request_data::query::StateCode;
+use request_data::target::Target;
 use std::alloc::Global;
 
 // The states and their codes. "JOB STATE CODES" in squeue(1).

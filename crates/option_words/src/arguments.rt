@@ -7,7 +7,7 @@ ghost use Rattle.option_words.specs.Arguments.{Table, named, lettered, is_dashed
 ghost use Rattle.option_words.specs.declared.arguments.Takes.{Takes};
 
 use crate::refusal::WordKind;
-use slurm_text::words::Words;
+use line_words::words::Words;
 
 /// What an option takes.
 #[derive(Clone, Copy)]

@@ -6,9 +6,9 @@ use Rattle.std.proofs.lemmas.Bool.Decides.{nat_tests}
 use Rattle.std.proofs.lemmas.List.{append-nil, get_or_append_left, get_or_at, map-append}
 use Rattle.std.proofs.lemmas.Option.{slice_get-get_or}
 use Rattle.std.proofs.lemmas.List.Elements.{All-append, filter_map-append}
-use Rattle.slurm_text.specs.Starts.{is_before}
-use Rattle.slurm_text.specs.declared.plain.orders.Launch.{Launch}
-use Rattle.slurm_text.specs.declared.plain.report.Start.{Start}
+use Rattle.reply_data.specs.Starts.{is_before}
+use Rattle.reply_data.specs.declared.orders.Launch.{Launch}
+use Rattle.request_data.specs.declared.report.Start.{Start}
 use Rattle.orders_text.specs.Drafts.{Adds, comes_behind, last_of}
 use Rattle.orders_text.specs.Fields.{FitsStart}
 use Rattle.orders_text.specs.Orders.{AreOrders, FitsLaunch, Listed, orders_in}

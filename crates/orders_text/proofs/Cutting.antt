@@ -12,7 +12,7 @@ use Rattle.std.proofs.lemmas.List.{append_cancel_left, get_or_append_left, get_o
 use Rattle.std.proofs.lemmas.List.Folds.{list_all-append}
 use Rattle.std.proofs.lemmas.List.Sums.{AllPass-from_list_all, list_all-from_AllPass, fails_before_first, position_or_len_is, passes_at_first, split_at_first}
 use Rattle.std.proofs.lemmas.Str.Parse.{IsNumeralModel, numerals_by_value, tells_all_ascii_digits}
-use Rattle.slurm_text.specs.Digits.{number_within}
+use Rattle.small_texts.specs.Digits.{number_within}
 use Rattle.orders_text.specs.Fields.{IsCut, IsField, lacks}
 
 -- tests

@@ -7,8 +7,8 @@ use Rattle.std.proofs.lemmas.Grind.{flat_map-append}
 use Rattle.std.proofs.lemmas.List.{append-nil, take_at, take_all, take-append-drop, length-take}
 use Rattle.std.proofs.lemmas.List.Elements.{filter-append}
 use Rattle.std.proofs.lemmas.List.Folds.{flat_map-map}
-use Rattle.slurm_text.specs.Name.{is_name, is_name_byte}
-use Rattle.slurm_text.specs.declared.plain.orders.Orders.{Orders}
+use Rattle.small_texts.specs.Name.{is_name, is_name_byte}
+use Rattle.reply_data.specs.declared.orders.Orders.{Orders}
 use Rattle.slurm_print.specs.Orders.{launch_line, orders_text, start_line}
 use Rattle.orders_text.specs.Drafts.{IsTaken, TakesLine, nothing}
 use Rattle.orders_text.specs.Fields.{lacks}

@@ -1,7 +1,7 @@
 -- A launch and the parts of its line.
 use Rattle.std.proofs.Common.{◌≡◌, ℕ, List, [], ◌∷◌, ◌++◌, decimal, codes, sym, ap, ◌∙◌, arith, append_assoc}
-use Rattle.slurm_text.specs.declared.plain.orders.Launch.{Launch}
-use Rattle.slurm_text.specs.declared.plain.report.Start.{Start}
+use Rattle.reply_data.specs.declared.orders.Launch.{Launch}
+use Rattle.request_data.specs.declared.report.Start.{Start}
 use Rattle.orders_text.specs.Amounts.{FitsAmounts, amounts_text}
 use Rattle.slurm_print.specs.Orders.{launch_line, number_or_dash, start_text}
 use Rattle.record_texts.specs.Ranges.{ranges_text}

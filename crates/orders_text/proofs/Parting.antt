@@ -3,8 +3,8 @@ use Rattle.std.specs.Prelude.{flat_map, All, IfSome}
 use Rattle.std.proofs.Common.{◌≡◌, ◌⊎◌, inl, inr, ℕ, zero, suc, ◌+◌, ◌^◌, ◌<◌, Bool, true, false, List, [], ◌∷◌, ◌++◌, length, get_or, map, decimal, codes, Option, Some, None, refl, sym, ap, ◌∙◌, subst, arith, append_assoc, length-append}
 use Rattle.std.proofs.lemmas.List.{append-nil, get_or_at}
 use Rattle.std.proofs.lemmas.List.Elements.{All-append, All-map}
-use Rattle.slurm_text.specs.declared.plain.orders.Launch.{Launch}
-use Rattle.slurm_text.specs.declared.plain.report.Start.{Start}
+use Rattle.reply_data.specs.declared.orders.Launch.{Launch}
+use Rattle.request_data.specs.declared.report.Start.{Start}
 use Rattle.slurm_print.specs.Orders.{launch_line, number_or_dash, start_line, start_text}
 use Rattle.record_texts.specs.Ranges.{ranges_text}
 use Rattle.orders_text.specs.Fields.{AreCpus, FitsStart, IsCut, lacks}

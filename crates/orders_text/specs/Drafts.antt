@@ -1,7 +1,7 @@
 -- Orders in the making, a line after the other.
 use Rattle.std.specs.Prelude.{◌≡◌, Bool, true, false, List, [], ◌∷◌, ◌++◌, ◌-◌, flat_map, length, slice_get, ℕ, Option, Some, None}
-use Rattle.slurm_text.specs.Starts.{is_before}
-use Rattle.slurm_text.specs.declared.plain.report.Start.{Start}
+use Rattle.reply_data.specs.Starts.{is_before}
+use Rattle.request_data.specs.declared.report.Start.{Start}
 use Rattle.orders_text.specs.Lines.{IsFirstLine}
 use Rattle.orders_text.specs.Orders.{AreOrders, FitsOrder, Listed, order_line, orders_in}
 use Rattle.orders_text.specs.declared.order.Order.{Order}

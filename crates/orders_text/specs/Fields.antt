@@ -1,7 +1,7 @@
 -- The fields of a line, each ended by a byte.
 use Rattle.std.specs.Prelude.{◌≡◌, ℕ, ◌^◌, ◌<◌, Bool, true, not, nat_eq, List, ◌∷◌, ◌++◌, AllPairs, All}
 use Rattle.std.specs.List.{list_all}
-use Rattle.slurm_text.specs.declared.plain.report.Start.{Start}
+use Rattle.request_data.specs.declared.report.Start.{Start}
 
 -- no such byte is in a text
 abbrev pub lacks : ℕ → List ℕ → Bool

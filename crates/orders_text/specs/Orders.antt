@@ -1,9 +1,9 @@
 -- Orders as their type keeps them, and their lines.
 use Rattle.std.specs.Prelude.{◌≡◌, ℕ, ◌^◌, ◌<◌, List, ◌++◌, map, flat_map, codes, is_some, IfSome, All}
-use Rattle.slurm_text.specs.Starts.{InOrder, LaunchesInOrder}
-use Rattle.slurm_text.specs.declared.plain.orders.Launch.{Launch}
-use Rattle.slurm_text.specs.declared.plain.orders.Orders.{Orders}
-use Rattle.slurm_text.specs.declared.plain.report.Start.{Start}
+use Rattle.reply_data.specs.Starts.{InOrder, LaunchesInOrder}
+use Rattle.reply_data.specs.declared.orders.Launch.{Launch}
+use Rattle.reply_data.specs.declared.orders.Orders.{Orders}
+use Rattle.request_data.specs.declared.report.Start.{Start}
 use Rattle.slurm_print.specs.Orders.{launch_line, orders_text, start_line}
 use Rattle.orders_text.specs.Fields.{AreCpus, FitsStart}
 use Rattle.orders_text.specs.declared.order.Order.{Order}

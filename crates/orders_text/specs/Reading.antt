@@ -1,6 +1,6 @@
 -- Where a text is no text of orders.
 use Rattle.std.specs.Prelude.{◌≡◌, ◌⊎◌, ℕ, ◌+◌, List, [], ◌++◌, Result, Ok, Err}
-use Rattle.slurm_text.specs.declared.plain.orders.Orders.{Orders}
+use Rattle.reply_data.specs.declared.orders.Orders.{Orders}
 use Rattle.orders_text.specs.Lines.{IsFirstLine, count_lines}
 use Rattle.orders_text.specs.Orders.{AreOrdersOf, AreOrders, Listed, lines_text}
 use Rattle.orders_text.specs.declared.reading.OrdersRefusal.{OrdersRefusal}

@@ -9,7 +9,7 @@ ghost use Rattle.orders_text.specs.Fields.{AreCpus, IsCut, lacks};
 use crate::fields::{cut, read_number};
 use cpu_ids::CpuIds;
 use record_texts::ranges::push_cpus;
-use slurm_text::memory_error::Memory;
+use small_texts::memory_error::Memory;
 use std::alloc::Global;
 
 const GREATEST_CPU: u64 = 1023;

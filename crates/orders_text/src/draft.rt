@@ -1,18 +1,18 @@
 //! Orders in the making.
 
 ghost use Rattle.std.specs.Prelude.{◌≡◌, ◌<◌, ◌++◌, ◌∷◌, [], IfOk, length, option_map};
-ghost use Rattle.slurm_text.specs.Starts.{is_before};
-ghost use Rattle.slurm_text.specs.declared.plain.orders.Launch.{Launch};
+ghost use Rattle.reply_data.specs.Starts.{is_before};
+ghost use Rattle.reply_data.specs.declared.orders.Launch.{Launch};
 ghost use Rattle.orders_text.specs.Drafts.{Adds, TakesLine, comes_behind, last_of, nothing};
 ghost use Rattle.orders_text.specs.Fields.{FitsStart};
 ghost use Rattle.orders_text.specs.Orders.{AreOrders, FitsLaunch, FitsOrder, listed};
 ghost use Rattle.orders_text.specs.declared.order.Order.TheVariants as order;
 
 use crate::order::{Order, read_order};
-use slurm_text::memory_error::Memory;
-use slurm_text::name::Name;
-use slurm_text::plain::orders::{Launch, Launches, Orders, Starts};
-use slurm_text::plain::report::Start;
+use small_texts::memory_error::Memory;
+use small_texts::name::Name;
+use reply_data::orders::{Launch, Launches, Orders, Starts};
+use request_data::report::Start;
 use std::alloc::Global;
 use std::marker::Model;
 

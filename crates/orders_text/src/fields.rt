@@ -4,7 +4,7 @@ ghost use Rattle.std.specs.Prelude.{◌≡◌, ◌<◌, ◌≤◌, ◌==◌, ◌
 ghost use Rattle.orders_text.specs.Fields.{IsCut, IsField, lacks};
 
 use itoa::Buffer;
-use slurm_text::digits::parse_number;
+use small_texts::digits::parse_number;
 
 // Where the first byte of this value stands.
 fn place_of(text: &[u8], mark: u8) -> Option<usize>

@@ -11,9 +11,9 @@ ghost use Rattle.orders_text.specs.declared.order.Order.{Order};
 use crate::cpus::read_cpus;
 use crate::fields::{number_before, read_number, value_before};
 use cpu_ids::CpuIds;
-use slurm_text::memory_error::Memory;
-use slurm_text::plain::orders::Launch;
-use slurm_text::plain::report::Start;
+use small_texts::memory_error::Memory;
+use reply_data::orders::Launch;
+use request_data::report::Start;
 use std::alloc::Global;
 
 const GREATEST: u64 = 4_294_967_295;

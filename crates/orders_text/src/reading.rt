@@ -2,7 +2,7 @@
 
 ghost use Rattle.std.specs.Prelude.{◌≡◌, ◌<◌, ◌+◌, ◌^◌, ℕ, Some, true, IfSome, length};
 ghost use Rattle.std.specs.Str.{byte};
-ghost use Rattle.slurm_text.specs.declared.plain.orders.Orders.{Orders};
+ghost use Rattle.reply_data.specs.declared.orders.Orders.{Orders};
 ghost use Rattle.orders_text.specs.Fields.{lacks};
 ghost use Rattle.orders_text.specs.Heads.{FitsHead, head_text};
 ghost use Rattle.orders_text.specs.Orders.{AreOrders, AreOrdersOf, Listed, lines_text};
@@ -11,10 +11,10 @@ ghost use Rattle.orders_text.specs.Reading.{AreLinesRead, IsRead, Reads, ReadsLi
 use crate::draft::Draft;
 use crate::fields::{number_before, value_before};
 use crate::lines::first_line;
-use slurm_text::memory_error;
-use slurm_text::memory_error::Memory;
-use slurm_text::name::Name;
-use slurm_text::plain::orders::Orders;
+use small_texts::memory_error;
+use small_texts::memory_error::Memory;
+use small_texts::name::Name;
+use reply_data::orders::Orders;
 use std::alloc::Global;
 
 /// Why a text gave no orders.

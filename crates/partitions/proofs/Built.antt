@@ -7,8 +7,8 @@ use Rattle.std.proofs.lemmas.List.Elements.{All-nil, All-cons, All-head, All-tai
 use Rattle.std.proofs.lemmas.List.Kept.{AllPairs-cons}
 use Rattle.std.proofs.lemmas.List.Quantifiers.{position-Some}
 use Rattle.std.proofs.lemmas.Slice.Eq.{bytes_eq-Decides}
-use Rattle.slurm_text.specs.declared.plain.conf.PartConf.{PartConf}
-use Rattle.slurm_text.specs.Confs.{IsOfNodes}
+use Rattle.plain_data.specs.declared.conf.PartConf.{PartConf}
+use Rattle.plain_data.specs.Confs.{IsOfNodes}
 use Rattle.node_state.specs.declared.record.NodeRecord.{NodeRecord}
 use Rattle.node_state.specs.Nodes.{is_named, place_named}
 use Rattle.partitions.specs.declared.record.PartRecord.{PartRecord}

@@ -2,7 +2,7 @@
 use Rattle.std.proofs.Common.{◌≡◌, ℕ, zero, suc, ◌+◌, ◌<◌, Bool, cond, not, List, [], ◌∷◌, length, get_or, set, Option, Some, None, refl, ap, arith}
 use Rattle.std.specs.List.{position_or_len}
 use Rattle.std.proofs.lemmas.List.{length-map}
-use Rattle.slurm_text.specs.declared.plain.conf.PartState.{PartState}
+use Rattle.plain_data.specs.declared.conf.PartState.{PartState}
 use Rattle.partitions.specs.declared.record.PartRecord.{PartRecord}
 use Rattle.partitions.specs.Partitions.{in_state, in_state_at, is_meant, IsOnNodes}
 use Rattle.partitions.specs.Laws.{ConfsStay, NodesStay, OnNodesStays, PlacesStay}

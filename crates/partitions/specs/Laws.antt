@@ -1,6 +1,6 @@
 -- What stays true of the partitions, whatever state one is set to. Each is proved as the contract of a law.
 use Rattle.std.specs.Prelude.{◌≡◌, ℕ, List, map, All, Option}
-use Rattle.slurm_text.specs.declared.plain.conf.PartState.{PartState}
+use Rattle.plain_data.specs.declared.conf.PartState.{PartState}
 use Rattle.partitions.specs.declared.record.PartRecord.{PartRecord}
 use Rattle.partitions.specs.Partitions.{in_state_at, place_meant, IsOnNodes}
 

@@ -1,8 +1,8 @@
 -- Partitions, and what they allow.
 use Rattle.std.specs.Prelude.{◌≡◌, ◌≢◌, ◌≤◌, ◌<◌, ℕ, zero, suc, min, max, Bool, true, false, nat_le, if◌then◌else◌, unwrap_or, List, [], ◌∷◌, length, filter_map, position, bytes_eq, All, AllPairs, Option, Some, None}
-use Rattle.slurm_text.specs.declared.plain.conf.PartConf.{PartConf}
-use Rattle.slurm_text.specs.declared.plain.conf.PartState.{PartState}
-use Rattle.slurm_text.specs.declared.plain.job.JobDesc.{JobDesc}
+use Rattle.plain_data.specs.declared.conf.PartConf.{PartConf}
+use Rattle.plain_data.specs.declared.conf.PartState.{PartState}
+use Rattle.plain_data.specs.declared.job.JobDesc.{JobDesc}
 use Rattle.node_state.specs.declared.record.NodeRecord.{NodeRecord}
 use Rattle.node_state.specs.Nodes.{place_named}
 use Rattle.partitions.specs.declared.record.PartRecord.{PartRecord}

@@ -4,7 +4,7 @@ ghost use Rattle.std.specs.Prelude.{◌≡◌};
 ghost use Rattle.partitions.specs.Partitions;
 
 use crate::record::PartRecord;
-use slurm_text::plain::job::JobDesc;
+use plain_data::job::JobDesc;
 
 /// How many nodes the job may have in the partition, at least and at most: None where no number will do. `--nodes` in
 /// sbatch(1), `MinNodes` and `MaxNodes` in slurm.conf(5).

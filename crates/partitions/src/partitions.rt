@@ -6,11 +6,11 @@ ghost use Rattle.partitions.specs.Partitions as spec;
 use crate::bounds::bounds_of;
 use crate::record::PartRecord;
 use node_state::nodes::Nodes;
-use slurm_text::items::Items;
-use slurm_text::memory_error::Memory;
-use slurm_text::name::Name;
-use slurm_text::plain::conf::{PartConf, PartState};
-use slurm_text::plain::job::JobDesc;
+use plain_data::items::Items;
+use small_texts::memory_error::Memory;
+use small_texts::name::Name;
+use plain_data::conf::{PartConf, PartState};
+use plain_data::job::JobDesc;
 use std::alloc::Global;
 use std::marker::Model;
 
@@ -82,7 +82,7 @@ fn place_meant(records: &[PartRecord], name: Option<&Name>) -> Option<usize>
 impl Partitions {
     ghost use Rattle.std.specs.Prelude.{◌≡◌, ◌≢◌, ◌↔◌, ◌<◌, ◌≤◌, true, false, map, length, All, AllPairs, IfOk, IfSome, IsFalse, slice_get, option_copied};
     ghost use Rattle.std.specs.List.{HoldsAt};
-    ghost use Rattle.slurm_text.specs.Confs.{IsOfNodes};
+    ghost use Rattle.plain_data.specs.Confs.{IsOfNodes};
     ghost use Rattle.partitions.specs.Partitions.{ArePartitions, IsOnNodes};
 
     /// The partitions of slurm.conf(5) with these nodes. Linear in the names of nodes.

@@ -1,7 +1,7 @@
 //! What is kept of a partition.
 
-use slurm_text::items::Items;
-use slurm_text::plain::conf::{PartConf, PartState};
+use plain_data::items::Items;
+use plain_data::conf::{PartConf, PartState};
 
 /// A partition and how it stands.
 #[derive(Drop)]

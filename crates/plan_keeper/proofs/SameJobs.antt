@@ -1,7 +1,7 @@
 -- A job is what its fields are.
 use Rattle.std.proofs.Common.{◌≡◌, ℕ, List, Option, Bool, ap, ◌∙◌}
 use Rattle.node_pick.specs.declared.Need.{Need}
-use Rattle.slurm_text.specs.declared.plain.mem_ask.MemAsk.{MemAsk}
+use Rattle.plain_data.specs.declared.mem_ask.MemAsk.{MemAsk}
 use Rattle.backfill_planner.specs.declared.job.Barred.{Barred}
 use Rattle.backfill_planner.specs.declared.job.PlanJob.{PlanJob}
 

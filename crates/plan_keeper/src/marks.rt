@@ -9,7 +9,7 @@ ghost use Rattle.plan_keeper.specs.Marks.{Counts, Fits, IsListed, Without};
 use crate::old_list::{OldList, add_nodes, sum_of};
 use crate::same_job::is_same_job;
 use backfill_planner::PlanJob;
-use slurm_text::memory_error::Memory;
+use small_texts::memory_error::Memory;
 
 /// What is marked once the jobs above one of the new list are planned.
 #[derive(Drop)]

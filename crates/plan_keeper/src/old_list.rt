@@ -6,7 +6,7 @@ ghost use Rattle.backfill_planner.specs.declared.job.PlanJob.{PlanJob as AJob};
 ghost use Rattle.plan_keeper.specs.Marks.{FindsId, IsListed, depth, times};
 
 use backfill_planner::PlanJob;
-use slurm_text::memory_error::Memory;
+use small_texts::memory_error::Memory;
 use std::alloc::Global;
 use std::collections::HashMap;
 

@@ -20,7 +20,7 @@ use crate::same_job::tell_ends_in_time;
 use crate::same_nodes::same_nodes;
 use backfill_planner::{Base, Placed, PlanJob, Planned, Planning, plan};
 use resource_profile::{Profile, Steps};
-use slurm_text::memory_error::Memory;
+use small_texts::memory_error::Memory;
 use std::alloc::Global;
 
 // A job's placement, and its place in the old list where it is the same as then.

@@ -6,7 +6,7 @@ use crate::barring::barred_list;
 use crate::numbers::narrow_row;
 use backfill_planner::{BarredList, MemAsk, NodeList, PlanJob};
 use node_pick::Need;
-use slurm_text::ranged::Ranged;
+use plain_data::ranged::Ranged;
 use std::alloc::Global;
 use table_lines::answer::Unanswered;
 use table_lines::fields::{narrow_numbers, number, parts};

@@ -9,8 +9,8 @@ use backfill_planner::{BarredList, Base, MemAsk, NodeList, Placed, PlanJob, Plan
 use node_pick::Need;
 use plan_keeper::replan as replan_jobs;
 use resource_profile::{NodeRoom, start};
-use slurm_text::items::Items;
-use slurm_text::ranged::Ranged;
+use plain_data::items::Items;
+use plain_data::ranged::Ranged;
 use std::alloc::Global;
 use table_lines::answer::{Unanswered, taken};
 use table_lines::fields::{narrow_number, number};

@@ -2,7 +2,7 @@
 use Rattle.std.proofs.Common.{◌≡◌, ℕ, ◌<◌, ◌≤◌, Bool, true, false, ◌&&◌, Some, List, [], ◌∷◌, ◌++◌, length, refl, arith, length-append}
 use Rattle.std.specs.Prelude.{nat_le, flat_map}
 use Rattle.std.proofs.lemmas.Bool.Decides.{nat_tests}
-use Rattle.slurm_text.specs.Words.{first_bad_word, quoted, quoted_words}
+use Rattle.line_words.specs.Words.{first_bad_word, quoted, quoted_words}
 use Rattle.slurm_client.specs.Requests.{header_of}
 use Rattle.program_words.specs.Asked.{go_through}
 

@@ -8,8 +8,8 @@ use Rattle.std.proofs.lemmas.Bool.{eqb-true}
 use Rattle.std.proofs.lemmas.Bool.Decides.{nat_tests}
 use Rattle.std.proofs.lemmas.List.{get_or_append_left, get_or_at, take_at, drop_at}
 use Rattle.std.proofs.lemmas.List.Sums.{AllPass-from_list_all, position_or_len_is, passes_at_first, split_at_first}
-use Rattle.slurm_text.specs.Digits.{number_within}
-use Rattle.slurm_text.specs.Name.{is_name, is_name_byte}
+use Rattle.small_texts.specs.Digits.{number_within}
+use Rattle.small_texts.specs.Name.{is_name, is_name_byte}
 use Rattle.slurm_client.specs.Address.{IsAddress, is_sign}
 use Rattle.program_words.specs.Calling.{address_of}
 use Rattle.program_words.specs.Server.{positive, with_user, parts_at, user_and_port, server_in}

@@ -1,8 +1,8 @@
 -- What the program's words ask.
 use Rattle.std.specs.Prelude.{ℕ, ◌==◌, Bool, not, ◌&&◌, ◌||◌, if◌then◌else◌, List, [], ◌∷◌, length, nat_le, codes, bytes_eq, Option, Some, None, is_some, is_none}
-use Rattle.slurm_text.specs.Digits.{number_within}
-use Rattle.slurm_text.specs.Options.{◌>>=◌}
-use Rattle.slurm_text.specs.Words.{first_bad_word}
+use Rattle.small_texts.specs.Digits.{number_within}
+use Rattle.small_texts.specs.Options.{◌>>=◌}
+use Rattle.line_words.specs.Words.{first_bad_word}
 use Rattle.command_words.specs.Command.{command_named}
 use Rattle.command_words.specs.declared.command.Command.{Command}
 use Rattle.command_words.specs.declared.command.Command.TheVariants.{Report, Pass}

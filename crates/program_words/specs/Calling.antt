@@ -1,7 +1,7 @@
 -- The words of a request, as they are taken.
 use Rattle.std.specs.Prelude.{◌≡◌, ℕ, false, List, Option, Some, None}
 use Rattle.std.specs.Borrow.{Bor}
-use Rattle.slurm_text.specs.Words.{first_bad_word}
+use Rattle.line_words.specs.Words.{first_bad_word}
 use Rattle.program_words.specs.Asked.{go_through}
 
 -- a user and a port

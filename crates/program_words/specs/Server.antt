@@ -1,8 +1,8 @@
 -- The word that names a server, read.
 use Rattle.std.specs.Prelude.{ℕ, ◌+◌, ◌==◌, List, take, drop, codes, nat_eq, position, if◌then◌else◌, Option, Some, None, option_and_then}
 use Rattle.std.specs.List.{starts_with}
-use Rattle.slurm_text.specs.Digits.{number_within}
-use Rattle.slurm_text.specs.Name.{is_name}
+use Rattle.small_texts.specs.Digits.{number_within}
+use Rattle.small_texts.specs.Name.{is_name}
 use Rattle.slurm_client.specs.Address.{is_sign}
 
 -- a number from 1 on

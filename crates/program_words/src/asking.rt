@@ -8,7 +8,7 @@ use crate::asked::Asked;
 use crate::calling::call_in;
 use crate::controller::said_in;
 use crate::said::asked_by;
-use slurm_text::memory_error::Memory;
+use small_texts::memory_error::Memory;
 use std::alloc::Global;
 
 // What words behind slurmctld(8) ask, it among them.

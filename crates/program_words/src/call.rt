@@ -1,8 +1,8 @@
 //! A call of a server, as words ask it.
 
 use command_words::command::Command;
-use slurm_text::name::Name;
-use slurm_text::words::Words;
+use small_texts::name::Name;
+use line_words::words::Words;
 
 /// A call of a server (own).
 #[derive(Drop)]

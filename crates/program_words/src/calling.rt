@@ -1,8 +1,8 @@
 //! The words of commands that call a server.
 
 ghost use Rattle.std.specs.Prelude.{◌≡◌, ◌∷◌, None, map, string_bytes, option_map, IsTrue, IfOk, IfSome};
-ghost use Rattle.slurm_text.specs.Name.{is_name};
-ghost use Rattle.slurm_text.specs.Words.{first_bad_word};
+ghost use Rattle.small_texts.specs.Name.{is_name};
+ghost use Rattle.line_words.specs.Words.{first_bad_word};
 ghost use Rattle.slurm_client.specs.Requests.{FitsRequest};
 ghost use Rattle.program_words.specs.Asked.{calling, call_in, call_by};
 ghost use Rattle.program_words.specs.Server.{server_in};
@@ -12,9 +12,9 @@ ghost use Rattle.command_words.specs.Command.{command_named};
 use crate::Call;
 use command_words::command::{Command, command_named};
 use slurm_client::{fits_request, read_address};
-use slurm_text::memory_error::Memory;
-use slurm_text::name::{Name, NameRefusal};
-use slurm_text::words::{Words, WordsRefusal, words_of};
+use small_texts::memory_error::Memory;
+use small_texts::name::{Name, NameRefusal};
+use line_words::words::{Words, WordsRefusal, words_of};
 use std::alloc::{AllocError, Global};
 
 /// A header has fewer words than this.

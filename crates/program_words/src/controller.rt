@@ -11,7 +11,7 @@ ghost use Rattle.program_words.specs.Words.{said_of, text_of};
 use crate::said::Said;
 use clap::error::ErrorKind;
 use clap::{Arg, ArgAction, ArgMatches, Command};
-use slurm_text::memory_error::Memory;
+use small_texts::memory_error::Memory;
 use std::alloc::{AllocError, Global};
 
 // The command before its options.

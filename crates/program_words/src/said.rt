@@ -6,7 +6,7 @@ ghost use Rattle.program_words.specs.Words.{said_of, named_by, asked_of, text_of
 
 use crate::asked::{Asked, FileNames};
 use generator::read_number;
-use slurm_text::digits::parse_number;
+use small_texts::digits::parse_number;
 
 /// The port of a server that names none, as of Slurm's own slurmctld(8).
 const USUAL_PORT: u16 = 6817;

@@ -1,10 +1,10 @@
 -- The text of what a job waits for: `--dependency` in sbatch(1).
 use Rattle.std.specs.Prelude.{ℕ, Bool, if◌then◌else◌, List, [], ◌∷◌, ◌++◌, flat_map, Option, Some, None, codes, decimal}
-use Rattle.slurm_text.specs.declared.plain.dependency.DepId.{DepId}
-use Rattle.slurm_text.specs.declared.plain.dependency.DepItem.{DepItem}
-use Rattle.slurm_text.specs.declared.plain.dependency.DepKind.{DepKind}
-use Rattle.slurm_text.specs.declared.plain.dependency.DepKind.TheVariants.{After, AfterAny, AfterOk, AfterNotOk, AfterCorr, Singleton}
-use Rattle.slurm_text.specs.declared.plain.dependency.DepSpec.{DepSpec}
+use Rattle.plain_data.specs.declared.dependency.DepId.{DepId}
+use Rattle.plain_data.specs.declared.dependency.DepItem.{DepItem}
+use Rattle.plain_data.specs.declared.dependency.DepKind.{DepKind}
+use Rattle.plain_data.specs.declared.dependency.DepKind.TheVariants.{After, AfterAny, AfterOk, AfterNotOk, AfterCorr, Singleton}
+use Rattle.plain_data.specs.declared.dependency.DepSpec.{DepSpec}
 use Rattle.record_texts.specs.Values.{null}
 
 abbrev pub kind_word : DepKind → List ℕ

@@ -1,6 +1,6 @@
 -- Numbers that rise, in runs of neighbours.
 use Rattle.std.specs.Prelude.{ℕ, ◌+◌, ◌==◌, if◌then◌else◌, List, [], ◌∷◌, ◌++◌, map, codes, decimal}
-use Rattle.slurm_text.specs.Folding.{with_commas}
+use Rattle.host_lists.specs.Folding.{with_commas}
 
 -- a first and a last number, with the runs behind them: one run where the next number is the neighbour
 abbrev pub continued : ℕ → ℕ → List (ℕ × ℕ) → List (ℕ × ℕ)

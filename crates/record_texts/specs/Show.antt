@@ -1,8 +1,8 @@
 -- The lines of scontrol: one for each record, of pairs with a blank between two.
 use Rattle.std.specs.Prelude.{ℕ, List, [], flat_map}
-use Rattle.slurm_text.specs.declared.plain.view.Row.{Row}
-use Rattle.slurm_text.specs.declared.plain.view.Row.TheVariants as shown
-use Rattle.slurm_text.specs.declared.plain.view.View.{View}
+use Rattle.reply_data.specs.declared.view.Row.{Row}
+use Rattle.reply_data.specs.declared.view.Row.TheVariants as shown
+use Rattle.reply_data.specs.declared.view.View.{View}
 use Rattle.record_texts.specs.ShowJob.{job_line}
 use Rattle.record_texts.specs.ShowNode.{node_line}
 use Rattle.record_texts.specs.ShowPartition.{partition_line}

@@ -1,12 +1,12 @@
 -- The line of a job: "show job" in scontrol(1).
 use Rattle.std.specs.Prelude.{ℕ, Bool, if◌then◌else◌, List, [], ◌∷◌, ◌++◌, flat_map, Option, Some, None, codes, decimal}
 use Rattle.slurm_num.specs.Elapsed.{elapsed_text}
-use Rattle.slurm_text.specs.Moment.{moment_text}
-use Rattle.slurm_text.specs.declared.plain.state.Reason.{Reason}
-use Rattle.slurm_text.specs.declared.plain.view.EndAt.{EndAt}
-use Rattle.slurm_text.specs.declared.plain.view.EndAt.TheVariants.{Nothing, Unknown, At}
-use Rattle.slurm_text.specs.declared.plain.view.JobRow.{JobRow}
-use Rattle.slurm_text.specs.declared.plain.view.NamedPart.{NamedPart}
+use Rattle.small_texts.specs.Moment.{moment_text}
+use Rattle.request_data.specs.declared.state.Reason.{Reason}
+use Rattle.reply_data.specs.declared.view.EndAt.{EndAt}
+use Rattle.reply_data.specs.declared.view.EndAt.TheVariants.{Nothing, Unknown, At}
+use Rattle.reply_data.specs.declared.view.JobRow.{JobRow}
+use Rattle.reply_data.specs.declared.view.NamedPart.{NamedPart}
 use Rattle.record_texts.specs.Dependency.{dependency_text}
 use Rattle.record_texts.specs.Ranges.{ranges_text}
 use Rattle.table_texts.specs.Sprio.{nice_text}

@@ -1,9 +1,9 @@
 -- The line of a node: "show node" in scontrol(1).
 use Rattle.std.specs.Prelude.{ℕ, List, ◌++◌, Option, Some, None, codes, decimal}
-use Rattle.slurm_text.specs.declared.plain.report.Heard.{Heard}
-use Rattle.slurm_text.specs.declared.plain.view.NodeGroup.{NodeGroup}
-use Rattle.slurm_text.specs.declared.plain.view.NodeGroup.TheVariants.{Down, Draining, Drained, Allocated, Mixed, Idle}
-use Rattle.slurm_text.specs.declared.plain.view.NodeRow.{NodeRow}
+use Rattle.request_data.specs.declared.report.Heard.{Heard}
+use Rattle.reply_data.specs.declared.view.NodeGroup.{NodeGroup}
+use Rattle.reply_data.specs.declared.view.NodeGroup.TheVariants.{Down, Draining, Drained, Allocated, Mixed, Idle}
+use Rattle.reply_data.specs.declared.view.NodeRow.{NodeRow}
 use Rattle.record_texts.specs.Values.{null, names_or_null}
 
 -- "NODE STATE CODES" in sinfo(1)

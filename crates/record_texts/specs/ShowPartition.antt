@@ -1,9 +1,9 @@
 -- The line of a partition: "show partition" in scontrol(1).
 use Rattle.std.specs.Prelude.{ℕ, Bool, if◌then◌else◌, List, ◌++◌, Option, Some, None, codes, decimal}
-use Rattle.slurm_text.specs.declared.plain.conf.PartState.{PartState}
-use Rattle.slurm_text.specs.declared.plain.conf.PartState.TheVariants.{Up, Down, Drain, Inactive}
-use Rattle.slurm_text.specs.declared.plain.limit.Limit.{Limit}
-use Rattle.slurm_text.specs.declared.plain.view.PartRow.{PartRow}
+use Rattle.plain_data.specs.declared.conf.PartState.{PartState}
+use Rattle.plain_data.specs.declared.conf.PartState.TheVariants.{Up, Down, Drain, Inactive}
+use Rattle.plain_data.specs.declared.limit.Limit.{Limit}
+use Rattle.reply_data.specs.declared.view.PartRow.{PartRow}
 use Rattle.table_texts.specs.Squeue.{limit_of}
 use Rattle.record_texts.specs.Values.{null, hosts_or_null}
 

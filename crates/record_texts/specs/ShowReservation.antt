@@ -1,7 +1,7 @@
 -- The line of a reservation: "show reservation" in scontrol(1).
 use Rattle.std.specs.Prelude.{ℕ, List, ◌++◌, codes}
-use Rattle.slurm_text.specs.Moment.{moment_text}
-use Rattle.slurm_text.specs.declared.plain.view.ResRow.{ResRow}
+use Rattle.small_texts.specs.Moment.{moment_text}
+use Rattle.reply_data.specs.declared.view.ResRow.{ResRow}
 use Rattle.record_texts.specs.Values.{hosts_or_null, names_or_null}
 
 -- which reservation it is, and from when to when it lasts

@@ -1,7 +1,7 @@
 -- Values of single pairs of scontrol's lines.
 use Rattle.std.specs.Prelude.{ℕ, List, [], ◌∷◌, Option, Some, None, codes, decimal}
-use Rattle.slurm_text.specs.Folding.{folded, with_commas}
-use Rattle.slurm_text.specs.Moment.{moment_text}
+use Rattle.host_lists.specs.Folding.{folded, with_commas}
+use Rattle.small_texts.specs.Moment.{moment_text}
 
 -- what stands for nothing
 abbrev pub null : List ℕ

@@ -3,9 +3,9 @@
 ghost use Rattle.std.specs.Prelude.{◌≡◌, ◌++◌, flat_map, OnOk};
 ghost use Rattle.record_texts.specs.Dependency.{kind_word, index_text, id_text, item_text, mark, later_item, items_text, dependency_text};
 
-use slurm_text::memory_error::Memory;
-use slurm_text::pieces::{push_labelled, push_text};
-use slurm_text::plain::dependency::{DepId, DepItem, DepKind, DepSpec};
+use small_texts::memory_error::Memory;
+use small_texts::pieces::{push_labelled, push_text};
+use plain_data::dependency::{DepId, DepItem, DepKind, DepSpec};
 
 /// Writes what a job waits for, as `--dependency` of sbatch(1) takes it.
 #[tactic(auto, unfolding(crate::specs::Dependency::dependency_text))]

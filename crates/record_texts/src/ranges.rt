@@ -4,8 +4,8 @@ ghost use Rattle.std.specs.Prelude.{◌≡◌, ◌==◌, ◌+◌, ◌++◌, OnOk
 ghost use Rattle.record_texts.specs.Ranges.{run_text, ranges_text};
 
 use cpu_ids::CpuIds;
-use slurm_text::memory_error::Memory;
-use slurm_text::pieces::{push_labelled, push_number, push_text};
+use small_texts::memory_error::Memory;
+use small_texts::pieces::{push_labelled, push_number, push_text};
 
 /// Writes processor numbers. Linear in the bits of their row.
 pub fn push_cpus(out: &mut Vec<u8>, cpus: &CpuIds) -> Result<(), Memory>

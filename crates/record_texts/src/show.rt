@@ -7,8 +7,8 @@ use crate::show_job::push_job_line;
 use crate::show_node::push_node_line;
 use crate::show_partition::push_partition_line;
 use crate::show_reservation::push_reservation_line;
-use slurm_text::memory_error::Memory;
-use slurm_text::plain::view::{Row, View};
+use small_texts::memory_error::Memory;
+use reply_data::view::{Row, View};
 use std::alloc::Global;
 
 /// Writes a line for each record.

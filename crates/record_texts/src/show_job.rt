@@ -6,10 +6,10 @@ ghost use Rattle.record_texts.specs.ShowJob.{reason_text, one_or_zero, end_text,
 use crate::dependency::push_dependency;
 use crate::ranges::push_cpus;
 use crate::values::{push_hosts_or_null, push_moment_or_null, push_number_or_null, push_pair};
-use slurm_text::memory_error::Memory;
-use slurm_text::pieces::{push_labelled, push_text};
-use slurm_text::plain::state::Reason;
-use slurm_text::plain::view::{EndAt, JobRow, NamedPart};
+use small_texts::memory_error::Memory;
+use small_texts::pieces::{push_labelled, push_text};
+use request_data::state::Reason;
+use reply_data::view::{EndAt, JobRow, NamedPart};
 use std::alloc::Global;
 use table_texts::columns::{push_elapsed, push_limit, push_moment, reason_name, state_word};
 use table_texts::sprio::push_nice_number;

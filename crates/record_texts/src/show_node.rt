@@ -4,10 +4,10 @@ ghost use Rattle.std.specs.Prelude.{◌≡◌, ◌++◌, OnOk};
 ghost use Rattle.record_texts.specs.ShowNode.{group_word, report_text, node_pairs, standing_pairs, node_line};
 
 use crate::values::{push_names_or_null, push_pair};
-use slurm_text::memory_error::Memory;
-use slurm_text::pieces::{push_labelled, push_number, push_text};
-use slurm_text::plain::report::Heard;
-use slurm_text::plain::view::{NodeGroup, NodeRow};
+use small_texts::memory_error::Memory;
+use small_texts::pieces::{push_labelled, push_number, push_text};
+use request_data::report::Heard;
+use reply_data::view::{NodeGroup, NodeRow};
 
 /// Writes the line of a node. Linear in the text.
 #[tactic(auto, unfolding(crate::specs::ShowNode::node_line))]

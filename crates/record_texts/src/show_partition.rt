@@ -4,11 +4,11 @@ ghost use Rattle.std.specs.Prelude.{◌≡◌, ◌++◌, OnOk};
 ghost use Rattle.record_texts.specs.ShowPartition.{yes_or_no, state_word, limit_or_null, most_text, name_pairs, limit_pairs, rank_pairs, partition_line};
 
 use crate::values::{push_hosts_or_null, push_pair};
-use slurm_text::memory_error::Memory;
-use slurm_text::pieces::{push_labelled, push_number, push_text};
-use slurm_text::plain::conf::PartState;
-use slurm_text::plain::limit::Limit;
-use slurm_text::plain::view::PartRow;
+use small_texts::memory_error::Memory;
+use small_texts::pieces::{push_labelled, push_number, push_text};
+use plain_data::conf::PartState;
+use plain_data::limit::Limit;
+use reply_data::view::PartRow;
 use std::alloc::Global;
 use table_texts::columns::push_limit;
 

@@ -4,9 +4,9 @@ ghost use Rattle.std.specs.Prelude.{◌≡◌, ◌++◌, OnOk};
 ghost use Rattle.record_texts.specs.ShowReservation.{time_pairs, member_pairs, reservation_line};
 
 use crate::values::{push_hosts_or_null, push_names_or_null, push_pair};
-use slurm_text::memory_error::Memory;
-use slurm_text::pieces::push_text;
-use slurm_text::plain::view::ResRow;
+use small_texts::memory_error::Memory;
+use small_texts::pieces::push_text;
+use reply_data::view::ResRow;
 use std::alloc::Global;
 use table_texts::columns::push_moment;
 

@@ -4,10 +4,10 @@ ghost use Rattle.std.specs.Prelude.{◌≡◌, ◌∷◌, ◌++◌, flat_map, On
 ghost use Rattle.std.specs.Str.{byte};
 ghost use Rattle.record_texts.specs.Values.{number_or_null, moment_or_null, hosts_or_null, names_or_null};
 
-use slurm_text::memory_error::Memory;
-use slurm_text::name::Name;
-use slurm_text::pieces::{push_number, push_text};
-use slurm_text::ranged::Ranged;
+use small_texts::memory_error::Memory;
+use small_texts::name::Name;
+use small_texts::pieces::{push_number, push_text};
+use plain_data::ranged::Ranged;
 use std::alloc::Global;
 use table_texts::columns::push_moment;
 use table_texts::sinfo::push_names;

@@ -1,14 +1,14 @@
 //! What operators and owners change: jobs, nodes, partitions and reservations.
 
 use crate::show::{Show, push_if_some, push_listed, push_marked, push_variant};
-use slurm_text::items::Items;
-use slurm_text::name::Name;
-use slurm_text::plain::conf::PartState;
-use slurm_text::plain::limit::Limit;
-use slurm_text::plain::nice::Nice;
-use slurm_text::plain::request::NodeOrder;
-use slurm_text::plain::reservation::ReservationDesc;
-use slurm_text::plain::target::Target;
+use plain_data::items::Items;
+use small_texts::name::Name;
+use plain_data::conf::PartState;
+use plain_data::limit::Limit;
+use plain_data::nice::Nice;
+use request_data::request::NodeOrder;
+use request_data::reservation::ReservationDesc;
+use request_data::target::Target;
 use table_lines::answer::Unanswered;
 
 impl Show for NodeOrder {

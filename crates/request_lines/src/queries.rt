@@ -1,11 +1,11 @@
 //! What is to be shown.
 
 use crate::show::{Show, or_dash, push_field, push_marked, push_variant, show_joined};
-use slurm_text::items::Items;
-use slurm_text::name::Name;
-use slurm_text::plain::query::{JobColumn, JobQuery, Piece, Query, StateCode, Who};
-use slurm_text::plain::target::Target;
-use slurm_text::ranged::Ranged;
+use plain_data::items::Items;
+use small_texts::name::Name;
+use request_data::query::{JobColumn, JobQuery, Piece, Query, StateCode, Who};
+use request_data::target::Target;
+use plain_data::ranged::Ranged;
 use table_lines::answer::Unanswered;
 
 impl Show for StateCode {

@@ -1,7 +1,7 @@
 //! What a node's daemon reports.
 
 use crate::show::{Show, push_listed, push_marked};
-use slurm_text::plain::report::{Done, Report, Start};
+use request_data::report::{Done, Report, Start};
 use table_lines::answer::Unanswered;
 
 impl Show for Start {

@@ -6,7 +6,7 @@ use crate::changes::{
 use crate::queries::push_query;
 use crate::reports::push_report;
 use crate::show::push_marked;
-use slurm_text::plain::request::Request;
+use request_data::request::Request;
 use table_lines::answer::{Unanswered, push};
 
 /// Puts a request's command behind an answer, with what it says; of a job that is handed in the command alone.

@@ -1,6 +1,6 @@
 //! How values are shown.
 
-use slurm_text::ranged::Ranged;
+use plain_data::ranged::Ranged;
 use std::fmt::Debug;
 use table_lines::answer::{Unanswered, push};
 

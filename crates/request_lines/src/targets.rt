@@ -1,8 +1,8 @@
 //! Jobs that are named.
 
 use crate::show::{Show, push_if_some, push_marked, show_joined};
-use slurm_text::items::Items;
-use slurm_text::plain::target::{Target, Targets};
+use plain_data::items::Items;
+use request_data::target::{Target, Targets};
 use table_lines::answer::Unanswered;
 
 impl Show for Target {

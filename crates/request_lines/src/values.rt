@@ -1,14 +1,14 @@
 //! Values that jobs, requests and queries have.
 
 use crate::show::{Show, push_if_some, push_marked, push_variant, show_joined};
-use slurm_text::items::Items;
-use slurm_text::name::{JobName, Name};
-use slurm_text::plain::array::ArraySpec;
-use slurm_text::plain::dependency::{DepId, DepItem, DepSpec};
-use slurm_text::plain::features::FeatureExpr;
-use slurm_text::plain::limit::Limit;
-use slurm_text::plain::mem_ask::MemAsk;
-use slurm_text::plain::nice::Nice;
+use plain_data::items::Items;
+use small_texts::name::{JobName, Name};
+use plain_data::array::ArraySpec;
+use plain_data::dependency::{DepId, DepItem, DepSpec};
+use plain_data::features::FeatureExpr;
+use plain_data::limit::Limit;
+use plain_data::mem_ask::MemAsk;
+use plain_data::nice::Nice;
 use table_lines::answer::{Unanswered, push};
 
 impl Show for Name {

@@ -4,9 +4,9 @@ ghost use Rattle.std.specs.Prelude.{◌≡◌};
 ghost use Rattle.reservations.specs.Reservations;
 
 use cpu_ids::CpuIds;
-use slurm_text::items::Items;
-use slurm_text::name::Name;
-use slurm_text::ranged::Ranged;
+use plain_data::items::Items;
+use small_texts::name::Name;
+use plain_data::ranged::Ranged;
 
 /// Nodes that are kept for some users from one second to before another. "RESERVATIONS" in scontrol(1).
 #[derive(Drop)]

@@ -7,8 +7,8 @@ ghost use Rattle.reservations.specs.Reservations as spec;
 
 use crate::record::{Reservation, crosses};
 use cpu_ids::CpuIds;
-use slurm_text::memory_error::Memory;
-use slurm_text::name::Name;
+use small_texts::memory_error::Memory;
+use small_texts::name::Name;
 use std::alloc::Global;
 use std::marker::Model;
 

@@ -1,9 +1,9 @@
 -- Which limits a job reaches beside jobs that hold processors.
 use Rattle.std.specs.Prelude.{ℕ, ◌+◌, Bool, false, nat_lt, nat_le, if◌then◌else◌, List, [], ◌∷◌, ◌++◌, map, Option, Some, None}
 use Rattle.std.specs.List.{list_any}
-use Rattle.slurm_text.specs.declared.plain.assoc.QosLimits.{QosLimits}
-use Rattle.slurm_text.specs.declared.plain.state.Reason.{Reason}
-use Rattle.slurm_text.specs.declared.plain.state.Reason.TheVariants.{JobArrayTaskLimit, AssocGrpJobsLimit, AssocGrpCpuLimit, AssocMaxJobsLimit, QosGrpJobsLimit, QosGrpCpuLimit, QosMaxJobsPerUserLimit, QosMaxCpuPerUserLimit}
+use Rattle.plain_data.specs.declared.assoc.QosLimits.{QosLimits}
+use Rattle.request_data.specs.declared.state.Reason.{Reason}
+use Rattle.request_data.specs.declared.state.Reason.TheVariants.{JobArrayTaskLimit, AssocGrpJobsLimit, AssocGrpCpuLimit, AssocMaxJobsLimit, QosGrpJobsLimit, QosGrpCpuLimit, QosMaxJobsPerUserLimit, QosMaxCpuPerUserLimit}
 use Rattle.accounts_qos.specs.declared.record.AssocRecord.{AssocRecord}
 use Rattle.accounts_qos.specs.declared.record.QosRecord.{QosRecord}
 use Rattle.accounts_qos.specs.Accounts.{above, limits_at, qos_limits_at}

@@ -1,9 +1,9 @@
 -- Which limits on jobs that haven't ended new jobs exceed.
 use Rattle.std.specs.Prelude.{ℕ, ◌+◌, if◌then◌else◌, nat_lt, List, [], ◌∷◌, ◌++◌, map, Option, Some, None}
-use Rattle.slurm_text.specs.declared.plain.refusal.Refusal.{Refusal}
-use Rattle.slurm_text.specs.declared.plain.refusal.Refusal.TheVariants.{SubmitLimit}
-use Rattle.slurm_text.specs.declared.plain.refusal.Which.{Which}
-use Rattle.slurm_text.specs.declared.plain.refusal.Which.TheVariants.{AssocMaxSubmitJobs, AssocGrpSubmitJobs, QosGrpSubmitJobs, QosMaxSubmitJobsPerUser}
+use Rattle.reply_data.specs.declared.refusal.Refusal.{Refusal}
+use Rattle.reply_data.specs.declared.refusal.Refusal.TheVariants.{SubmitLimit}
+use Rattle.reply_data.specs.declared.refusal.Which.{Which}
+use Rattle.reply_data.specs.declared.refusal.Which.TheVariants.{AssocMaxSubmitJobs, AssocGrpSubmitJobs, QosGrpSubmitJobs, QosMaxSubmitJobsPerUser}
 use Rattle.accounts_qos.specs.Accounts.{above, limits_at, qos_limits_at}
 use Rattle.run_limits.specs.declared.counted.Counted.{Counted}
 use Rattle.run_limits.specs.declared.counted.Group.TheVariants.{Below, InQos, OfUser}

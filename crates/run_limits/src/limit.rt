@@ -3,7 +3,7 @@
 ghost use Rattle.std.specs.Prelude.{◌≡◌, ◌+◌};
 ghost use Rattle.run_limits.specs.Limits.{is_above};
 
-use slurm_text::ranged::Ranged;
+use plain_data::ranged::Ranged;
 
 /// A number of jobs or of processors, as the association file gives it. "Flat file" in sacctmgr(1).
 pub type Limit = Ranged<0, 9999999999>;

@@ -12,8 +12,8 @@ use crate::counted::{Counted, Counts, Group};
 use crate::limit::{Limit, is_above};
 use crate::tally::Tally;
 use accounts_qos::assocs::Assocs;
-use slurm_text::plain::assoc::QosLimits;
-use slurm_text::plain::state::Reason;
+use plain_data::assoc::QosLimits;
+use request_data::state::Reason;
 
 // Whether as many tasks of the job's array hold processors as may at once.
 #[tactic(auto, unfolding(crate::specs::Tallies::Shows))]

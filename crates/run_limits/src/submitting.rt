@@ -5,7 +5,7 @@ ghost use Rattle.accounts_qos.specs.Accounts.{limits_at, qos_limits_at};
 ghost use Rattle.run_limits.specs.declared.counted.Counted.{Counted as CountedJob};
 ghost use Rattle.run_limits.specs.declared.counted.Group.{Group as GroupOfJobs};
 ghost use Rattle.run_limits.specs.declared.counted.Group.TheVariants.{Below, InQos, OfUser};
-ghost use Rattle.slurm_text.specs.declared.plain.refusal.Which.TheVariants.{AssocGrpSubmitJobs, QosGrpSubmitJobs, QosMaxSubmitJobsPerUser};
+ghost use Rattle.reply_data.specs.declared.refusal.Which.TheVariants.{AssocGrpSubmitJobs, QosGrpSubmitJobs, QosMaxSubmitJobsPerUser};
 ghost use Rattle.run_limits.specs.Counting.{counts_of, is_in};
 ghost use Rattle.run_limits.specs.Limits.{nearest};
 ghost use Rattle.run_limits.specs.Submitting.{exceeded, first_refusal, submit_limits};
@@ -13,7 +13,7 @@ ghost use Rattle.run_limits.specs.Submitting.{exceeded, first_refusal, submit_li
 use crate::counted::{Counted, Group};
 use crate::limit::{Limit, is_above};
 use accounts_qos::assocs::Assocs;
-use slurm_text::plain::refusal::{Refusal, Which};
+use reply_data::refusal::{Refusal, Which};
 
 /// What counts jobs (own).
 pub trait CountsJobs {

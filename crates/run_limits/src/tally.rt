@@ -9,7 +9,7 @@ ghost use Rattle.run_limits.specs.Tallies.{is_same_pair, kept, with_job_if};
 use crate::counted::{Counted, Counts, Group};
 use accounts_qos::assocs::Assocs;
 use accounts_qos::laws::numbers_tell_users_apart;
-use slurm_text::memory_error::Memory;
+use small_texts::memory_error::Memory;
 use std::alloc::Global;
 use std::collections::HashMap;
 use std::hash::Hash;

@@ -5,7 +5,7 @@ ghost use Rattle.sacct_book.specs.Used as spec;
 
 use job_table::record::JobRecord;
 use job_table::usage::cpus_in;
-use slurm_text::plain::state::JobState;
+use request_data::state::JobState;
 
 // How many the job holds while it runs. The count stands still at its type's end.
 #[tactic(auto, unfolding(crate::specs::Used::held_running))]

@@ -14,8 +14,8 @@ use crate::intervals::{Holding, Interval, Window, go_on_all, kept_use};
 use crate::running::add_running;
 use ctl_core::controller::Ctl;
 use ctl_desk::entry::Entry;
-use slurm_text::memory_error::Memory;
-use slurm_text::name::Name;
+use small_texts::memory_error::Memory;
+use small_texts::name::Name;
 use std::alloc::Global;
 use std::marker::Model;
 

@@ -2,7 +2,7 @@
 use Rattle.std.proofs.Common.{ℕ, ◌≡◌, ◌<◌, Bool, true, false, nat_le, if◌then◌else◌, List, length, None, Option, refl, arith}
 use Rattle.std.specs.Option.{is_some}
 use Rattle.std.proofs.lemmas.Bool.Decides.{nat_tests}
-use Rattle.slurm_text.specs.Hosts.{hosts_in, first_bad_item}
+use Rattle.host_lists.specs.Hosts.{hosts_in, first_bad_item}
 use Rattle.sbatch_options.specs.Values.{nodes_in}
 
 pub too_many : (text : List ℕ) → 1024 < length (hosts_in text) → nodes_in text ≡ None

@@ -4,9 +4,9 @@ use Rattle.job_texts.specs.Array.{array_in}
 use Rattle.job_texts.specs.Dependency.{dependency_in}
 use Rattle.job_texts.specs.Features.{features_in}
 use Rattle.slurm_num.specs.Limits.{limit_of}
-use Rattle.slurm_text.specs.Moment.{moment_of}
+use Rattle.small_texts.specs.Moment.{moment_of}
 use Rattle.sbatch_options.specs.Values.{number_in, name_in, job_name_in, node_range_in, mem_per_node, mem_per_cpu, nice_in, nodes_in}
-use Rattle.slurm_text.specs.declared.plain.nice.Nice.TheVariants.{Lower}
+use Rattle.plain_data.specs.declared.nice.Nice.TheVariants.{Lower}
 use Rattle.option_words.specs.declared.refusal.WordKind.{WordKind}
 use Rattle.option_words.specs.declared.refusal.WordKind.TheVariants.{BadValue, TooLong}
 use Rattle.sbatch_options.specs.declared.table.FlagOption.{FlagOption}

@@ -1,16 +1,16 @@
 -- The values of options.
 use Rattle.std.specs.Prelude.{ℕ, ◌==◌, nat_le, if◌then◌else◌, List, [], ◌∷◌, length, Option, Some, None, is_some, option_map}
 use Rattle.std.specs.Str.{byte}
-use Rattle.slurm_text.specs.Digits.{number_within}
-use Rattle.slurm_text.specs.Fields.{fields}
-use Rattle.slurm_text.specs.Hosts.{hosts_in, first_bad_item}
-use Rattle.slurm_text.specs.Memory.{megabytes_of}
-use Rattle.slurm_text.specs.Name.{is_name, is_job_name}
-use Rattle.slurm_text.specs.Options.{◌>>=◌}
-use Rattle.slurm_text.specs.declared.plain.mem_ask.MemAsk.{MemAsk}
-use Rattle.slurm_text.specs.declared.plain.mem_ask.MemAsk.TheVariants.{All, PerNode, PerCpu}
-use Rattle.slurm_text.specs.declared.plain.nice.Nice.{Nice}
-use Rattle.slurm_text.specs.declared.plain.nice.Nice.TheVariants.{Lower, Raise}
+use Rattle.small_texts.specs.Digits.{number_within}
+use Rattle.small_texts.specs.Fields.{fields}
+use Rattle.host_lists.specs.Hosts.{hosts_in, first_bad_item}
+use Rattle.small_texts.specs.Memory.{megabytes_of}
+use Rattle.small_texts.specs.Name.{is_name, is_job_name}
+use Rattle.small_texts.specs.Options.{◌>>=◌}
+use Rattle.plain_data.specs.declared.mem_ask.MemAsk.{MemAsk}
+use Rattle.plain_data.specs.declared.mem_ask.MemAsk.TheVariants.{All, PerNode, PerCpu}
+use Rattle.plain_data.specs.declared.nice.Nice.{Nice}
+use Rattle.plain_data.specs.declared.nice.Nice.TheVariants.{Lower, Raise}
 use Rattle.sbatch_options.specs.declared.values.NodeRange.{NodeRange}
 
 -- a number of at most ten digits, from `least` to `most`

@@ -11,15 +11,15 @@ use crate::values::{
     read_number, read_tasks, read_waits,
 };
 use option_words::refusal::WordKind;
-use slurm_text::memory_error::Memory;
-use slurm_text::name::{JobName, Name};
-use slurm_text::plain::array::ArraySpec;
-use slurm_text::plain::dependency::DepSpec;
-use slurm_text::plain::features::FeatureExpr;
-use slurm_text::plain::limit::Limit;
-use slurm_text::plain::mem_ask::MemAsk;
-use slurm_text::plain::nice::Nice;
-use slurm_text::ranged::Ranged;
+use small_texts::memory_error::Memory;
+use small_texts::name::{JobName, Name};
+use plain_data::array::ArraySpec;
+use plain_data::dependency::DepSpec;
+use plain_data::features::FeatureExpr;
+use plain_data::limit::Limit;
+use plain_data::mem_ask::MemAsk;
+use plain_data::nice::Nice;
+use plain_data::ranged::Ranged;
 use std::alloc::Global;
 
 // How many bytes a text has at most.

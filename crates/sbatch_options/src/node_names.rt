@@ -2,8 +2,8 @@
 
 ghost use Rattle.std.specs.Prelude.{◌≡◌, ◌≤◌, [], length};
 
-use slurm_text::items::Items;
-use slurm_text::name::Name;
+use plain_data::items::Items;
+use small_texts::name::Name;
 use std::alloc::Global;
 use std::marker::Model;
 

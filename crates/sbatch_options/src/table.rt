@@ -7,7 +7,7 @@ ghost use Rattle.sbatch_options.specs.Table.{options};
 
 use option_words::arguments::Takes::{self, Maybe, Nothing, Value};
 use option_words::arguments::{Argument, Cursor, next_argument};
-use slurm_text::words::Words;
+use line_words::words::Words;
 
 /// An option that stands without a value.
 #[derive(Clone, Copy)]

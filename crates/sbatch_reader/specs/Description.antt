@@ -1,9 +1,9 @@
 -- The job that options describe.
 use Rattle.std.specs.Prelude.{ℕ, ◌*◌, max, nat_lt, Bool, false, if◌then◌else◌, List, [], ◌∷◌, length, codes, Option, Some, None, option_map, unwrap_or, Result, Ok, Err}
 use Rattle.std.specs.Str.{byte}
-use Rattle.slurm_text.specs.Fields.{fields}
-use Rattle.slurm_text.specs.Name.{is_job_name}
-use Rattle.slurm_text.specs.declared.plain.job.JobDesc.{JobDesc}
+use Rattle.small_texts.specs.Fields.{fields}
+use Rattle.small_texts.specs.Name.{is_job_name}
+use Rattle.plain_data.specs.declared.job.JobDesc.{JobDesc}
 use Rattle.option_words.specs.declared.refusal.WordKind.TheVariants.{BadValue}
 use Rattle.sbatch_options.specs.declared.entries.JobWords.{JobWords}
 use Rattle.sbatch_options.specs.declared.values.NodeRange.{NodeRange}

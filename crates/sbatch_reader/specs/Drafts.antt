@@ -4,7 +4,7 @@ use Rattle.std.specs.Option.{option_or}
 use Rattle.option_words.specs.declared.refusal.WordKind.{WordKind}
 use Rattle.option_words.specs.declared.refusal.WordKind.TheVariants.{BadValue}
 use Rattle.sbatch_options.specs.Entries.{with_entry, no_words}
-use Rattle.slurm_text.specs.declared.plain.job.JobDesc.{JobDesc}
+use Rattle.plain_data.specs.declared.job.JobDesc.{JobDesc}
 use Rattle.sbatch_options.specs.declared.entries.Entry.{Entry}
 use Rattle.sbatch_reader.specs.Description.{are_crossed, job_name, named}
 use Rattle.sbatch_reader.specs.Job.{is_nodes, unless_refused}

@@ -5,7 +5,7 @@ use Rattle.std.specs.Option.{option_or}
 use Rattle.std.specs.Result.{result_ok}
 use Rattle.option_words.specs.declared.refusal.WordKind.{WordKind}
 use Rattle.option_words.specs.declared.refusal.WordKind.TheVariants.{BadValue}
-use Rattle.slurm_text.specs.declared.plain.job.JobDesc.{JobDesc}
+use Rattle.plain_data.specs.declared.job.JobDesc.{JobDesc}
 use Rattle.sbatch_options.specs.Entries.{with_entry, no_words}
 use Rattle.sbatch_options.specs.declared.entries.Entry.{Entry}
 use Rattle.sbatch_options.specs.declared.entries.Entry.TheVariants.{Nodes}

@@ -2,9 +2,9 @@
 use Rattle.std.specs.Prelude.{ℕ, ◌+◌, Bool, true, false, ◌&&◌, ◌||◌, if◌then◌else◌, List, [], ◌∷◌, ◌++◌, drop, bytes_eq, nat_eq, codes, Option, Some, None, is_some, Err, ok_or}
 use Rattle.std.specs.List.{starts_with, list_all}
 use Rattle.std.specs.Str.{byte}
-use Rattle.slurm_text.specs.Fields.{fields}
-use Rattle.slurm_text.specs.Options.{◌>>=◌}
-use Rattle.slurm_text.specs.Words.{is_blank, before_comment, first_bad, words_in}
+use Rattle.small_texts.specs.Fields.{fields}
+use Rattle.small_texts.specs.Options.{◌>>=◌}
+use Rattle.line_words.specs.Words.{is_blank, before_comment, first_bad, words_in}
 use Rattle.option_words.specs.declared.refusal.WordKind.TheVariants.{BadValue, NoHashBang}
 use Rattle.sbatch_options.specs.Values.{number_in}
 use Rattle.sbatch_options.specs.declared.entries.Entry.{Entry}

@@ -10,8 +10,8 @@ use crate::refusal::told;
 use crate::said::{Reading, Source, read_argument};
 use option_words::arguments::{Argument, Cursor};
 use sbatch_options::table::next_option;
-use slurm_text::memory_error::Memory;
-use slurm_text::words::Words;
+use small_texts::memory_error::Memory;
+use line_words::words::Words;
 use std::alloc::Global;
 
 /// The word that names the script, with its number.

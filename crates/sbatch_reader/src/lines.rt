@@ -3,8 +3,8 @@
 ghost use Rattle.std.specs.Prelude.{◌≡◌, ◌∷◌, ◌++◌, [], true, false, drop, fold, option_copied, MatchOption, IfOk, OnOk};
 ghost use Rattle.std.specs.List.{list_all};
 ghost use Rattle.std.specs.Str.{byte};
-ghost use Rattle.slurm_text.specs.Fields.{fields, fields_of_rest};
-ghost use Rattle.slurm_text.specs.Words.{is_blank};
+ghost use Rattle.small_texts.specs.Fields.{fields, fields_of_rest};
+ghost use Rattle.line_words.specs.Words.{is_blank};
 ghost use Rattle.sbatch_reader.specs.Drafts.{after};
 ghost use Rattle.sbatch_reader.specs.Said.{fault_at};
 ghost use Rattle.sbatch_reader.specs.declared.said.Source.TheVariants.{ScriptLine};
@@ -16,9 +16,9 @@ use crate::refusal::{Place, WordKind, told};
 use crate::said::Said;
 use sbatch_options::entries::Entry;
 use sbatch_options::values::read_number;
-use slurm_text::fields::{UpToThree, first_field, up_to_three};
-use slurm_text::memory_error::Memory;
-use slurm_text::words::{Words, WordsRefusal, before_comment, split_words};
+use small_texts::fields::{UpToThree, first_field, up_to_three};
+use small_texts::memory_error::Memory;
+use line_words::words::{Words, WordsRefusal, before_comment, split_words};
 use std::alloc::Global;
 
 // A longer line of options isn't held.

@@ -2,7 +2,7 @@
 
 pub use option_words::refusal::WordKind;
 pub(crate) use option_words::refusal::told;
-use slurm_text::memory_error;
+use small_texts::memory_error;
 use std::error::Error;
 use std::fmt;
 

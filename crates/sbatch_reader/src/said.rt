@@ -9,7 +9,7 @@ use crate::refusal::{Place, WordKind, told};
 use option_words::arguments::Argument;
 use sbatch_options::entries::{Entry, flag_entry, read_entry};
 use sbatch_options::table::{FlagOption, ValueOption};
-use slurm_text::memory_error::Memory;
+use small_texts::memory_error::Memory;
 use std::alloc::Global;
 
 /// Where words stand.

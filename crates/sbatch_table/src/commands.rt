@@ -5,7 +5,7 @@ use crate::jobs::words_in;
 use command_words::alone::read_alone;
 use command_words::command::{Command, command_named};
 use request_lines::requests::push_request;
-use slurm_text::words::Words;
+use line_words::words::Words;
 use std::alloc::Global;
 use table_lines::answer::{Unanswered, push};
 use table_lines::fields::number;

@@ -1,11 +1,11 @@
 // What a description of a job says.
 
 use request_lines::show::{Show, or_dash, push_field, show_joined};
-use slurm_text::items::Items;
-use slurm_text::name::Name;
-use slurm_text::plain::job::JobDesc;
-use slurm_text::plain::nice::Nice;
-use slurm_text::ranged::Ranged;
+use plain_data::items::Items;
+use small_texts::name::Name;
+use plain_data::job::JobDesc;
+use plain_data::nice::Nice;
+use plain_data::ranged::Ranged;
 use std::alloc::Global;
 use table_lines::answer::Unanswered;
 

@@ -3,7 +3,7 @@
 use crate::description::described;
 use sbatch_reader::reader::{read_job, script_word};
 use sbatch_reader::refusal::JobRefusal;
-use slurm_text::words::{Words, WordsRefusal, split_words};
+use line_words::words::{Words, WordsRefusal, split_words};
 use std::alloc::Global;
 use table_lines::answer::{Unanswered, push};
 use table_lines::fields::LONGEST;

@@ -5,8 +5,8 @@ use job_texts::dependency::{DepRefusal, read_dependency};
 use job_texts::features::{FeaturesRefusal, read_features};
 use request_lines::show::Show;
 use request_lines::values::quantifier;
-use slurm_text::plain::array::ArraySpec;
-use slurm_text::plain::dependency::DepSpec;
+use plain_data::array::ArraySpec;
+use plain_data::dependency::DepSpec;
 use std::alloc::Global;
 use table_lines::answer::{Unanswered, push, refused};
 

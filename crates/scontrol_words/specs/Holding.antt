@@ -5,9 +5,9 @@ use Rattle.operands.specs.BadWord.{at_word, good}
 use Rattle.operands.specs.Operands.{word_at, closed_at}
 use Rattle.operands.specs.Targets.{target_by, targets_by}
 use Rattle.operands.specs.declared.bad_word.BadWord.{BadWord}
-use Rattle.slurm_text.specs.declared.plain.request.Request.{Request}
-use Rattle.slurm_text.specs.declared.plain.request.Request.TheVariants.{Hold, Release, Requeue}
-use Rattle.slurm_text.specs.declared.plain.target.Target.{Target}
+use Rattle.request_data.specs.declared.request.Request.{Request}
+use Rattle.request_data.specs.declared.request.Request.TheVariants.{Hold, Release, Requeue}
+use Rattle.request_data.specs.declared.target.Target.{Target}
 
 -- the one list of jobs that is the third word
 unfoldable pub listed_jobs : List (List ℕ) → Result (List Target) BadWord

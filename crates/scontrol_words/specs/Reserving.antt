@@ -9,11 +9,11 @@ use Rattle.option_words.specs.declared.refusal.WordKind.{WordKind}
 use Rattle.option_words.specs.declared.refusal.WordKind.TheVariants.{UnknownOption, MissingWord}
 use Rattle.sbatch_options.specs.Values.{nodes_in}
 use Rattle.slurm_num.specs.Limits.{limit_of}
-use Rattle.slurm_text.specs.Moment.{moment_of}
-use Rattle.slurm_text.specs.declared.plain.limit.Limit.{Limit}
-use Rattle.slurm_text.specs.declared.plain.limit.Limit.TheVariants.{Minutes, Unlimited}
-use Rattle.slurm_text.specs.declared.plain.request.Request.{Request}
-use Rattle.slurm_text.specs.declared.plain.request.Request.TheVariants.{CreateReservation, DeleteReservation}
+use Rattle.small_texts.specs.Moment.{moment_of}
+use Rattle.plain_data.specs.declared.limit.Limit.{Limit}
+use Rattle.plain_data.specs.declared.limit.Limit.TheVariants.{Minutes, Unlimited}
+use Rattle.request_data.specs.declared.request.Request.{Request}
+use Rattle.request_data.specs.declared.request.Request.TheVariants.{CreateReservation, DeleteReservation}
 use Rattle.scontrol_words.specs.Keys.{scontrol_key}
 use Rattle.scontrol_words.specs.Updating.{after_last}
 use Rattle.scontrol_words.specs.Values.{few_names}

@@ -5,8 +5,8 @@ use Rattle.operands.specs.BadWord.{at_word, given}
 use Rattle.operands.specs.Operands.{word_at, closed_at}
 use Rattle.operands.specs.declared.bad_word.BadWord.{BadWord}
 use Rattle.option_words.specs.declared.refusal.WordKind.TheVariants.{UnknownCommand}
-use Rattle.slurm_text.specs.declared.plain.request.Request.{Request}
-use Rattle.slurm_text.specs.declared.plain.request.Request.TheVariants.{Show, Shutdown}
+use Rattle.request_data.specs.declared.request.Request.{Request}
+use Rattle.request_data.specs.declared.request.Request.TheVariants.{Show, Shutdown}
 use Rattle.scontrol_words.specs.Holding.{hold_by, release_by, requeue_by}
 use Rattle.scontrol_words.specs.Reserving.{create_by, delete_by}
 use Rattle.scontrol_words.specs.Showing.{show_by}

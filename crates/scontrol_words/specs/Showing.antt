@@ -7,8 +7,8 @@ use Rattle.operands.specs.Operands.{word_at, closed_at, maybe}
 use Rattle.operands.specs.Targets.{target_by}
 use Rattle.operands.specs.declared.bad_word.BadWord.{BadWord}
 use Rattle.option_words.specs.declared.refusal.WordKind.TheVariants.{UnknownCommand}
-use Rattle.slurm_text.specs.declared.plain.query.Query.{Query}
-use Rattle.slurm_text.specs.declared.plain.query.Query.TheVariants.{ShowJob, ShowNode, ShowPartition, ShowReservation}
+use Rattle.request_data.specs.declared.query.Query.{Query}
+use Rattle.request_data.specs.declared.query.Query.TheVariants.{ShowJob, ShowNode, ShowPartition, ShowReservation}
 use Rattle.scontrol_words.specs.declared.showing.Shown.{Shown}
 use Rattle.scontrol_words.specs.declared.showing.Shown.TheVariants.{Job, Node, Partition, Reservation}
 

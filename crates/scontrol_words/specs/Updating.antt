@@ -11,11 +11,11 @@ use Rattle.option_words.specs.declared.refusal.WordKind.{WordKind}
 use Rattle.option_words.specs.declared.refusal.WordKind.TheVariants.{UnknownOption, MissingWord, BadValue}
 use Rattle.sbatch_options.specs.Values.{nice_in, nodes_in}
 use Rattle.slurm_num.specs.Limits.{limit_of}
-use Rattle.slurm_text.specs.declared.plain.conf.PartState.{PartState}
-use Rattle.slurm_text.specs.declared.plain.request.NodeOrder.{NodeOrder}
-use Rattle.slurm_text.specs.declared.plain.request.Request.{Request}
-use Rattle.slurm_text.specs.declared.plain.request.Request.TheVariants.{UpdateJob, UpdateNode, UpdatePartition}
-use Rattle.slurm_text.specs.declared.plain.target.Target.{Target}
+use Rattle.plain_data.specs.declared.conf.PartState.{PartState}
+use Rattle.request_data.specs.declared.request.NodeOrder.{NodeOrder}
+use Rattle.request_data.specs.declared.request.Request.{Request}
+use Rattle.request_data.specs.declared.request.Request.TheVariants.{UpdateJob, UpdateNode, UpdatePartition}
+use Rattle.request_data.specs.declared.target.Target.{Target}
 use Rattle.scontrol_words.specs.Keys.{scontrol_key}
 use Rattle.scontrol_words.specs.Values.{node_order, part_state, unless_long}
 use Rattle.scontrol_words.specs.declared.keys.Key.{Key}

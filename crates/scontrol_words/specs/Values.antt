@@ -3,10 +3,10 @@ use Rattle.std.specs.Prelude.{ℕ, nat_le, nat_lt, if◌then◌else◌, List, le
 use Rattle.conf_values.specs.Values.{names_in}
 use Rattle.option_words.specs.declared.refusal.WordKind.{WordKind}
 use Rattle.option_words.specs.declared.refusal.WordKind.TheVariants.{TooLong}
-use Rattle.slurm_text.specs.declared.plain.conf.PartState.{PartState}
-use Rattle.slurm_text.specs.declared.plain.conf.PartState.TheVariants as part
-use Rattle.slurm_text.specs.declared.plain.request.NodeOrder.{NodeOrder}
-use Rattle.slurm_text.specs.declared.plain.request.NodeOrder.TheVariants as order
+use Rattle.plain_data.specs.declared.conf.PartState.{PartState}
+use Rattle.plain_data.specs.declared.conf.PartState.TheVariants as part
+use Rattle.request_data.specs.declared.request.NodeOrder.{NodeOrder}
+use Rattle.request_data.specs.declared.request.NodeOrder.TheVariants as order
 
 abbrev pub few : List (List ℕ) → Option (List (List ℕ))
 few names = if nat_le (length names) 1024 then Some names else None

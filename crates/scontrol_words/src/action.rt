@@ -5,7 +5,7 @@ ghost use Rattle.scontrol_words.specs.Scontrol.{action_named, action_in};
 
 use operands::bad_word::{BadWord, WordKind, fault_at};
 use operands::operand::word_at;
-use slurm_text::words::Words;
+use line_words::words::Words;
 
 /// What is done.
 #[derive(Clone, Copy)]

@@ -7,10 +7,10 @@ use crate::keys::{Key, scontrol_key};
 use operands::bad_word::{BadWord, WordKind, fault_at};
 use operands::names::read_name;
 use operands::pairs::{Pairs, put, read_pairs};
-use slurm_text::memory_error::Memory;
-use slurm_text::name::Name;
-use slurm_text::plain::request::Request;
-use slurm_text::words::Words;
+use small_texts::memory_error::Memory;
+use small_texts::name::Name;
+use request_data::request::Request;
+use line_words::words::Words;
 use std::alloc::Global;
 
 /// What the pairs say of a reservation that is taken back.

@@ -6,11 +6,11 @@ ghost use Rattle.scontrol_words.specs.Holding.{listed_jobs, one_job, hold_by, re
 use operands::bad_word::BadWord;
 use operands::operand::{closed_at, good_at, word_at};
 use operands::targets::{read_target, read_targets};
-use slurm_text::items::Items;
-use slurm_text::memory_error::Memory;
-use slurm_text::plain::request::Request;
-use slurm_text::plain::target::Target;
-use slurm_text::words::Words;
+use plain_data::items::Items;
+use small_texts::memory_error::Memory;
+use request_data::request::Request;
+use request_data::target::Target;
+use line_words::words::Words;
 use std::alloc::Global;
 
 // The jobs that the third word names.

@@ -10,12 +10,12 @@ use operands::bad_word::{BadWord, WordKind, fault_at};
 use operands::pairs::{Pairs, put, read_pairs};
 use operands::targets::read_target;
 use sbatch_options::values::{read_limit, read_nice};
-use slurm_text::memory_error::Memory;
-use slurm_text::plain::limit::Limit;
-use slurm_text::plain::nice::Nice;
-use slurm_text::plain::request::Request;
-use slurm_text::plain::target::Target;
-use slurm_text::words::Words;
+use small_texts::memory_error::Memory;
+use plain_data::limit::Limit;
+use plain_data::nice::Nice;
+use request_data::request::Request;
+use request_data::target::Target;
+use line_words::words::Words;
 use std::alloc::Global;
 
 /// What the pairs of a job's update say.

@@ -8,11 +8,11 @@ use crate::keys::{Key, scontrol_key};
 use crate::values::{is_long, read_hosts, read_node_order};
 use operands::bad_word::{BadWord, WordKind, fault_at};
 use operands::pairs::{Pairs, put, read_pairs};
-use slurm_text::items::Items;
-use slurm_text::memory_error::Memory;
-use slurm_text::name::Name;
-use slurm_text::plain::request::{NodeOrder, Request};
-use slurm_text::words::Words;
+use plain_data::items::Items;
+use small_texts::memory_error::Memory;
+use small_texts::name::Name;
+use request_data::request::{NodeOrder, Request};
+use line_words::words::Words;
 use std::alloc::Global;
 
 /// What the pairs of a nodes' update say.

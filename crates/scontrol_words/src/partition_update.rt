@@ -9,11 +9,11 @@ use crate::values::read_part_state;
 use operands::bad_word::{BadWord, WordKind, fault_at};
 use operands::names::read_name;
 use operands::pairs::{Pairs, put, read_pairs};
-use slurm_text::memory_error::Memory;
-use slurm_text::name::Name;
-use slurm_text::plain::conf::PartState;
-use slurm_text::plain::request::Request;
-use slurm_text::words::Words;
+use small_texts::memory_error::Memory;
+use small_texts::name::Name;
+use plain_data::conf::PartState;
+use request_data::request::Request;
+use line_words::words::Words;
 use std::alloc::Global;
 
 /// What the pairs of a partition's update say.

@@ -9,14 +9,14 @@ use operands::bad_word::{BadWord, WordKind, fault_at};
 use operands::names::read_name;
 use operands::pairs::{Pairs, put, read_pairs};
 use sbatch_options::values::{read_begin, read_limit};
-use slurm_text::items::Items;
-use slurm_text::memory_error::Memory;
-use slurm_text::name::Name;
-use slurm_text::plain::limit::Limit;
-use slurm_text::plain::request::Request;
-use slurm_text::plain::reservation::ReservationDesc;
-use slurm_text::ranged::Ranged;
-use slurm_text::words::Words;
+use plain_data::items::Items;
+use small_texts::memory_error::Memory;
+use small_texts::name::Name;
+use plain_data::limit::Limit;
+use request_data::request::Request;
+use request_data::reservation::ReservationDesc;
+use plain_data::ranged::Ranged;
+use line_words::words::Words;
 use std::alloc::Global;
 
 // How many minutes a reservation stands that has no end (own).

@@ -11,9 +11,9 @@ use crate::showing::read_show;
 use crate::updating::read_update;
 use operands::bad_word::BadWord;
 use operands::operand::closed_at;
-use slurm_text::memory_error::Memory;
-use slurm_text::plain::request::Request;
-use slurm_text::words::Words;
+use small_texts::memory_error::Memory;
+use request_data::request::Request;
+use line_words::words::Words;
 use std::alloc::Global;
 
 fn act(

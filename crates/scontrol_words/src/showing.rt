@@ -10,11 +10,11 @@ use operands::bad_word::{BadWord, WordKind, fault_at};
 use operands::names::read_name;
 use operands::operand::{closed_at, word_at};
 use operands::targets::read_target;
-use slurm_text::memory_error::Memory;
-use slurm_text::name::Name;
-use slurm_text::plain::query::Query;
-use slurm_text::plain::target::Target;
-use slurm_text::words::Words;
+use small_texts::memory_error::Memory;
+use small_texts::name::Name;
+use request_data::query::Query;
+use request_data::target::Target;
+use line_words::words::Words;
 use std::alloc::Global;
 
 /// What is shown.

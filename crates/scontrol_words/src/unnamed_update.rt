@@ -8,9 +8,9 @@ use crate::values::{is_long, read_node_order, read_part_state};
 use operands::bad_word::{BadWord, WordKind, fault_at};
 use operands::pairs::{Pairs, read_pairs};
 use sbatch_options::values::{read_limit, read_nice};
-use slurm_text::memory_error::Memory;
-use slurm_text::plain::request::Request;
-use slurm_text::words::Words;
+use small_texts::memory_error::Memory;
+use request_data::request::Request;
+use line_words::words::Words;
 use std::alloc::Global;
 
 /// Pairs of which none names what is changed: nothing of them is kept.

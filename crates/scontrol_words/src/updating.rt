@@ -11,9 +11,9 @@ use crate::partition_update::read_partition_update;
 use crate::unnamed_update::read_unnamed_update;
 use operands::bad_word::BadWord;
 use operands::pairs::cut_pair;
-use slurm_text::memory_error::Memory;
-use slurm_text::plain::request::Request;
-use slurm_text::words::Words;
+use small_texts::memory_error::Memory;
+use request_data::request::Request;
+use line_words::words::Words;
 use std::alloc::Global;
 
 /// What an update changes.

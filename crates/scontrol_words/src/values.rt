@@ -8,11 +8,11 @@ use conf_values::refusal::ValueRefusal as NamesRefusal;
 use conf_values::values::read_names;
 use sbatch_options::node_names::NodeNames;
 use sbatch_options::values::{ValueRefusal, read_nodes};
-use slurm_text::items::Items;
-use slurm_text::memory_error::Memory;
-use slurm_text::name::Name;
-use slurm_text::plain::conf::PartState;
-use slurm_text::plain::request::NodeOrder;
+use plain_data::items::Items;
+use small_texts::memory_error::Memory;
+use small_texts::name::Name;
+use plain_data::conf::PartState;
+use request_data::request::NodeOrder;
 use std::alloc::Global;
 
 // A longer list isn't taken.

@@ -5,7 +5,7 @@ use Rattle.std.specs.List.{list_all}
 use Rattle.std.specs.Str.{IsAscii, IsUtf8}
 use Rattle.std.proofs.lemmas.Bool.Decides.{nat_tests}
 use Rattle.std.proofs.lemmas.Str.{IsUtf8-from_ascii}
-use Rattle.slurm_text.specs.Words.{is_word_byte, are_words}
+use Rattle.line_words.specs.Words.{is_word_byte, are_words}
 
 byte_is_small : (b : ℕ) → is_word_byte b ≡ true → b < 128
 byte_is_small b is = grind (arith, nat_tests)

@@ -2,7 +2,7 @@
 
 ghost use Rattle.std.specs.Prelude.{◌≡◌, IsTrue};
 ghost use Rattle.std.specs.List.{list_all};
-ghost use Rattle.slurm_text.specs.Words.{is_word_byte};
+ghost use Rattle.line_words.specs.Words.{is_word_byte};
 ghost use Rattle.option_words.specs.Arguments.{part_of};
 ghost use Rattle.server_call.specs.Scripts.{is_wrap, has_wrap, word_numbered, told_word, sbatch_place, script_place};
 ghost use Rattle.server_call.specs.Places.{told_place};
@@ -11,7 +11,7 @@ use command_words::command::Command;
 use option_words::arguments::{Argument, Cursor};
 use sbatch_options::table::{FlagOption, ValueOption, next_option};
 use sbatch_reader::reader::script_word;
-use slurm_text::words::Words;
+use line_words::words::Words;
 use std::str;
 
 /// Where a script is.

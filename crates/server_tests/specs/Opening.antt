@@ -1,7 +1,7 @@
 -- The state that two files open with.
 use Rattle.std.specs.Prelude.{◌≡◌, ℕ, List, Ok}
-use Rattle.slurm_text.specs.Assocs.{AssocView}
-use Rattle.slurm_text.specs.Confs.{ConfView}
+use Rattle.plain_data.specs.Assocs.{AssocView}
+use Rattle.plain_data.specs.Confs.{ConfView}
 use Rattle.assoc_reader.specs.Reader.{assocs_in}
 use Rattle.conf_reader.specs.Reader.{conf_in}
 use Rattle.ctl_state.specs.State.{State, opening}

@@ -3,8 +3,8 @@ use crate::gates::{Act, Step, StepGate};
 use crate::serving::{door_with, link_asking, serve_over};
 use ctl_server::ServeEnd;
 use slurm_net::NoGate;
-use slurm_text::plain::reply::Reply;
-use slurm_text::plain::request::Request;
+use reply_data::reply::Reply;
+use request_data::request::Request;
 use std::sync::atomic::{AtomicBool, Ordering};
 use std::test::Fail;
 

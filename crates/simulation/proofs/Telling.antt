@@ -1,7 +1,7 @@
 -- What root is told, and what it leaves.
 use Rattle.std.proofs.Common.{◌≡◌, ℕ, List, ap, ◌∙◌}
-use Rattle.slurm_text.specs.declared.plain.reply.Reply.{Reply}
-use Rattle.slurm_text.specs.declared.plain.request.Request.{Request}
+use Rattle.reply_data.specs.declared.reply.Reply.{Reply}
+use Rattle.request_data.specs.declared.request.Request.{Request}
 use Rattle.ctl_core.specs.Step.{reply_of, state_after}
 use Rattle.ctl_desk.specs.declared.entry.Answer.{Answer}
 use Rattle.ctl_desk.specs.Desk.{GoesOn, IsAnswered, Seat, history_of, sight_of, state_of}

@@ -1,18 +1,18 @@
 -- A simulation: the jobs of a generated script on a cluster, whose nodes' daemons report every half minute until all
 -- of the jobs are over. All is asked by root, as anyone might who watches.
 use Rattle.std.specs.Prelude.{ℕ, zero, suc, ◌+◌, ◌-◌, ◌^◌, min, Bool, true, false, nat_eq, if◌then◌else◌, Option, Some, None, List, [], ◌∷◌, ◌++◌, map, filter, filter_map, fold, length, codes, decimal}
-use Rattle.slurm_text.specs.declared.plain.query.Query.TheVariants.{ShowJob, ShowNode}
-use Rattle.slurm_text.specs.declared.plain.reply.Reply.{Reply}
-use Rattle.slurm_text.specs.declared.plain.reply.Reply.TheVariants.{Passed, Shown}
-use Rattle.slurm_text.specs.declared.plain.request.Request.{Request}
-use Rattle.slurm_text.specs.declared.plain.request.Request.TheVariants.{Pass, Show}
-use Rattle.slurm_text.specs.declared.plain.state.Final.TheVariants.{Completed, Timeout}
-use Rattle.slurm_text.specs.declared.plain.state.JobState.{JobState}
-use Rattle.slurm_text.specs.declared.plain.state.JobState.TheVariants.{Ended}
-use Rattle.slurm_text.specs.declared.plain.view.EndAt.{EndAt}
-use Rattle.slurm_text.specs.declared.plain.view.EndAt.TheVariants.{At}
-use Rattle.slurm_text.specs.declared.plain.view.Row.{Row}
-use Rattle.slurm_text.specs.declared.plain.view.Row.TheVariants.{Job, Node}
+use Rattle.request_data.specs.declared.query.Query.TheVariants.{ShowJob, ShowNode}
+use Rattle.reply_data.specs.declared.reply.Reply.{Reply}
+use Rattle.reply_data.specs.declared.reply.Reply.TheVariants.{Passed, Shown}
+use Rattle.request_data.specs.declared.request.Request.{Request}
+use Rattle.request_data.specs.declared.request.Request.TheVariants.{Pass, Show}
+use Rattle.request_data.specs.declared.state.Final.TheVariants.{Completed, Timeout}
+use Rattle.request_data.specs.declared.state.JobState.{JobState}
+use Rattle.request_data.specs.declared.state.JobState.TheVariants.{Ended}
+use Rattle.reply_data.specs.declared.view.EndAt.{EndAt}
+use Rattle.reply_data.specs.declared.view.EndAt.TheVariants.{At}
+use Rattle.reply_data.specs.declared.view.Row.{Row}
+use Rattle.reply_data.specs.declared.view.Row.TheVariants.{Job, Node}
 use Rattle.block_frame.specs.declared.form.Form.TheVariants.{Plain}
 use Rattle.block_frame.specs.Grammar.{blocks_of}
 use Rattle.command_words.specs.declared.header.Meaning.{Meaning}

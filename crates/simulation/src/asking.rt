@@ -1,7 +1,7 @@
 //! What is asked at the desk of a simulation.
 
 ghost use Rattle.std.specs.Prelude.{◌≡◌, IfOk, OnOk};
-ghost use Rattle.slurm_text.specs.declared.plain.request.Request.TheVariants.{Pass};
+ghost use Rattle.request_data.specs.declared.request.Request.TheVariants.{Pass};
 ghost use Rattle.ctl_desk.specs.Desk.{history_of, sight_of, state_of};
 ghost use Rattle.ctl_desk.specs.History.{IsHistory};
 ghost use Rattle.simulation.specs.Simulation.{behind, told};
@@ -11,9 +11,9 @@ use ctl_desk::laws::answers_follow_at_a_desk_of_its_own;
 use ctl_desk::own_desk::OwnDesk;
 use node_daemon::root;
 use resource_profile::{Plain, Steps};
-use slurm_text::memory_error::Memory;
-use slurm_text::plain::reply::Reply;
-use slurm_text::plain::request::Request;
+use small_texts::memory_error::Memory;
+use reply_data::reply::Reply;
+use request_data::request::Request;
 use std::alloc::Global;
 
 /// The desk's history is one that the controller keeps.

@@ -1,7 +1,7 @@
 //! The rounds of a simulation.
 
 ghost use Rattle.std.specs.Prelude.{◌≡◌, ◌+◌, ◌<◌, ◌^◌, All, IfOk, OnOk};
-ghost use Rattle.slurm_text.specs.declared.plain.request.Request.TheVariants.{Pass};
+ghost use Rattle.request_data.specs.declared.request.Request.TheVariants.{Pass};
 ghost use Rattle.node_daemon.specs.Daemon.{Daemon};
 ghost use Rattle.ctl_desk.specs.Desk.{state_of};
 ghost use Rattle.simulation.specs.Simulation.{behind, daemon_behind_turn, daemons_behind_turns, jobs_asked, looked, round, rows_of, state_behind_turn, state_behind_turns, tallied, told};
@@ -15,9 +15,9 @@ use ctl_desk::own_desk::OwnDesk;
 use node_daemon::daemon::DaemonState;
 use node_daemon::daemon_turn;
 use resource_profile::{Plain, Steps};
-use slurm_text::memory_error::Memory;
-use slurm_text::plain::query::Query;
-use slurm_text::plain::request::Request;
+use small_texts::memory_error::Memory;
+use request_data::query::Query;
+use request_data::request::Request;
 use std::alloc::Global;
 
 // How many seconds lie between two rounds.

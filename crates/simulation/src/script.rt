@@ -14,7 +14,7 @@ use ctl_desk::laws::answers_follow_at_a_desk_of_its_own;
 use ctl_desk::own_desk::OwnDesk;
 use ctl_session::{decide, read_meaning};
 use resource_profile::{Plain, Steps};
-use slurm_text::memory_error::Memory;
+use small_texts::memory_error::Memory;
 use std::alloc::Global;
 
 // Works what a block asks.

@@ -14,8 +14,8 @@ use ctl_desk::own_desk::OwnDesk;
 use generator::script_of;
 use node_daemon::daemon::DaemonState;
 use resource_profile::{Plain, Steps};
-use slurm_text::memory_error;
-use slurm_text::memory_error::Memory;
+use small_texts::memory_error;
+use small_texts::memory_error::Memory;
 use std::alloc::Global;
 
 // The most rounds that are made.

@@ -4,8 +4,8 @@ ghost use Rattle.std.specs.Prelude.{◌≡◌, IfOk};
 ghost use Rattle.simulation.specs.Simulation.{summary};
 
 use crate::tally::Tally;
-use slurm_text::memory_error::Memory;
-use slurm_text::pieces::{push_labelled, push_text};
+use small_texts::memory_error::Memory;
+use small_texts::pieces::{push_labelled, push_text};
 use std::alloc::Global;
 
 /// The line of what was counted.

@@ -3,9 +3,9 @@
 ghost use Rattle.std.specs.Prelude.{◌≡◌};
 ghost use Rattle.simulation.specs.Simulation.{completes, count_of, has_completed, has_timed_out, is_end, is_left, is_unfinished, looked, nothing_counted, tallied, times_out};
 
-use slurm_text::plain::reply::Reply;
-use slurm_text::plain::state::{Final, JobState};
-use slurm_text::plain::view::{EndAt, Row};
+use reply_data::reply::Reply;
+use request_data::state::{Final, JobState};
+use reply_data::view::{EndAt, Row};
 
 /// What was counted so far.
 #[derive(Clone, Copy, Debug, PartialEq, Eq)]

@@ -7,7 +7,7 @@ use Rattle.std.proofs.lemmas.Bool.{eqb-true}
 use Rattle.std.proofs.lemmas.Bool.Decides.{nat_tests}
 use Rattle.std.proofs.lemmas.List.{append_cancel_left, get_or_append_left, get_or_at, take_at, drop_at}
 use Rattle.std.proofs.lemmas.List.Sums.{AllPass-from_list_all, position_or_len_is, passes_at_first, split_at_first}
-use Rattle.slurm_text.specs.Name.{is_name, is_name_byte}
+use Rattle.small_texts.specs.Name.{is_name, is_name_byte}
 use Rattle.slurm_client.specs.Address.{IsAddress, is_sign}
 
 name_byte_no_sign : (b : ℕ) → is_name_byte b ≡ true → is_sign b ≡ false

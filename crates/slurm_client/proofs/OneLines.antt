@@ -5,8 +5,8 @@ use Rattle.std.proofs.lemmas.List.{append-nil}
 use Rattle.std.proofs.lemmas.List.Elements.{All-append, All-cons}
 use Rattle.std.proofs.lemmas.List.Sums.{AllPass-from_list_all, fails_before_first}
 use Rattle.std.specs.List.{position, position_or_len}
-use Rattle.slurm_text.specs.Name.{is_name, is_name_byte}
-use Rattle.slurm_text.specs.Words.{earlier, first_bad, is_word_byte, open_place, quoted_words}
+use Rattle.small_texts.specs.Name.{is_name, is_name_byte}
+use Rattle.line_words.specs.Words.{earlier, first_bad, is_word_byte, open_place, quoted_words}
 use Rattle.block_frame.specs.Frames.{IsFramedBlock}
 use Rattle.slurm_client.specs.Requests.{FitsRequest, HasOneLine, header_of, request}
 

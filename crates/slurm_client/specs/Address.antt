@@ -1,8 +1,8 @@
 -- The word that names a server.
 use Rattle.std.specs.Prelude.{◌≡◌, ◌==◌, ℕ, ◌<◌, Bool, List, ◌∷◌, ◌++◌, Some, IsTrue, codes}
 use Rattle.std.specs.Str.{byte}
-use Rattle.slurm_text.specs.Digits.{number_within}
-use Rattle.slurm_text.specs.Name.{is_name}
+use Rattle.small_texts.specs.Digits.{number_within}
+use Rattle.small_texts.specs.Name.{is_name}
 
 abbrev pub is_sign : ℕ → Bool
 is_sign b = b == byte "@"

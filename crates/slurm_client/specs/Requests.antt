@@ -2,7 +2,7 @@
 use Rattle.std.specs.Prelude.{◌≡◌, ◌≢◌, ℕ, ◌≤◌, List, ◌∷◌, ◌++◌, length, All, Option, IfSome}
 use Rattle.std.specs.Str.{byte}
 use Rattle.std.specs.Io.KnownBytes.{Appends}
-use Rattle.slurm_text.specs.Words.{quoted_words}
+use Rattle.line_words.specs.Words.{quoted_words}
 use Rattle.slurm_io.specs.Bytes.{AppendsFront}
 use Rattle.slurm_io.specs.Faults.{CountsOne}
 use Rattle.slurm_io.specs.Wire.{Wire}

@@ -3,8 +3,8 @@
 ghost use Rattle.std.specs.Prelude.{◌≡◌, ◌↔◌, ◌<◌, ℕ, List, IfSome, IsSomeAnd, length, position};
 ghost use Rattle.slurm_client.specs.Address.{IsAddress, is_sign};
 
-use slurm_text::digits::parse_number;
-use slurm_text::name::is_name;
+use small_texts::digits::parse_number;
+use small_texts::name::is_name;
 
 // Where the first `@` of a text stands.
 fn sign_place(text: &[u8]) -> Option<usize>

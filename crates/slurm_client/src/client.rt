@@ -13,8 +13,8 @@ use crate::sending::{request_frame, send};
 use crate::showing::show;
 use block_frame::{replies_are_one, replies_say_their_end};
 use slurm_io::{Link, Sink};
-use slurm_text::name::Name;
-use slurm_text::words::Words;
+use small_texts::name::Name;
+use line_words::words::Words;
 use std::alloc::Global;
 
 // Sends a frame, and shows the reply that is read behind it.

@@ -10,9 +10,9 @@ ghost use Rattle.slurm_client.specs.Requests.{FitsRequest, HasOneLine, ReadsStay
 
 use block_frame::write_request;
 use slurm_io::{Failed, Link, write_all};
-use slurm_text::memory_error::Memory;
-use slurm_text::name::Name;
-use slurm_text::words::{Words, quote_words};
+use small_texts::memory_error::Memory;
+use small_texts::name::Name;
+use line_words::words::{Words, quote_words};
 use std::alloc::Global;
 
 const LONGEST_HEADER: usize = 8192;

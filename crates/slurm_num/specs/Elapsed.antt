@@ -1,7 +1,7 @@
 -- How a length of time is printed.
 use Rattle.std.specs.Prelude.{ℕ, ◌/◌, ◌%◌, nat_lt, if◌then◌else◌, List, ◌++◌, codes}
 use Rattle.std.specs.Fmt.{decimal}
-use Rattle.slurm_text.specs.Digits.{two_digits}
+use Rattle.small_texts.specs.Digits.{two_digits}
 
 -- `m:ss`
 abbrev pub minutes_text : ℕ → List ℕ

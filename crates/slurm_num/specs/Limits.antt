@@ -1,11 +1,11 @@
 -- The texts of time limits, and what they mean.
 use Rattle.std.specs.Prelude.{ℕ, ◌+◌, ◌*◌, ◌/◌, ◌||◌, nat_le, ◌==◌, if◌then◌else◌, List, [], ◌∷◌, Option, None, Some, codes}
 use Rattle.std.specs.Str.{str_eq_ignore_ascii_case, byte}
-use Rattle.slurm_text.specs.Digits.{number_within}
-use Rattle.slurm_text.specs.Fields.{fields}
-use Rattle.slurm_text.specs.Options.{◌>>=◌}
-use Rattle.slurm_text.specs.declared.plain.limit.Limit.{Limit}
-use Rattle.slurm_text.specs.declared.plain.limit.Limit.TheVariants.{Minutes, Unlimited}
+use Rattle.small_texts.specs.Digits.{number_within}
+use Rattle.small_texts.specs.Fields.{fields}
+use Rattle.small_texts.specs.Options.{◌>>=◌}
+use Rattle.plain_data.specs.declared.limit.Limit.{Limit}
+use Rattle.plain_data.specs.declared.limit.Limit.TheVariants.{Minutes, Unlimited}
 
 -- the number that begins a time: one to nine digits
 abbrev pub count_of : List ℕ → Option ℕ

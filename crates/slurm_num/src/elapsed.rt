@@ -2,12 +2,12 @@
 
 ghost use Rattle.std.specs.Prelude.{◌≡◌, ◌<◌, ◌≤◌, ◌+◌, ◌∷◌, ◌++◌, length, take, drop};
 ghost use Rattle.std.specs.Fmt.{decimal};
-ghost use Rattle.slurm_text.specs.Digits.{two_digits};
+ghost use Rattle.small_texts.specs.Digits.{two_digits};
 ghost use Rattle.slurm_num.specs.Elapsed.{elapsed_text};
 
 use itoa::Buffer;
-use slurm_text::digits::to_two_digits;
-use slurm_text::plain::seconds::FOREVER;
+use small_texts::digits::to_two_digits;
+use plain_data::seconds::FOREVER;
 
 /// Writes the length of time, in seconds, to the front of `out`, as `m:ss`, `h:mm:ss` or `d-hh:mm:ss`, and answers how
 /// many bytes that took. The others stay.

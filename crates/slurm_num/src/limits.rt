@@ -4,13 +4,13 @@ ghost use Rattle.std.specs.Prelude.{◌≡◌, ◌<◌, ◌^◌, IfSome};
 ghost use Rattle.std.specs.Result.{result_ok};
 ghost use Rattle.std.specs.Str.{byte};
 ghost use Rattle.slurm_num.specs.Limits.{seconds_of_clock, seconds_of_day, seconds_of, limit_of};
-ghost use Rattle.slurm_text.specs.Fields.{fields};
+ghost use Rattle.small_texts.specs.Fields.{fields};
 
-use slurm_text::digits::parse_number;
-use slurm_text::fields::{UpToThree, up_to_three};
-use slurm_text::keywords::is_keyword;
-use slurm_text::plain::limit::Limit;
-use slurm_text::ranged::Ranged;
+use small_texts::digits::parse_number;
+use small_texts::fields::{UpToThree, up_to_three};
+use small_texts::keywords::is_keyword;
+use plain_data::limit::Limit;
+use plain_data::ranged::Ranged;
 use std::error::Error;
 use std::fmt;
 

@@ -1,3 +1,3 @@
 //! The plain data that this crate's readers make.
 
-pub use slurm_text::plain::limit::Limit;
+pub use plain_data::limit::Limit;

@@ -1,8 +1,8 @@
 -- The text of orders: a line for each.
 use Rattle.std.specs.Prelude.{ℕ, List, ◌++◌, flat_map, codes, decimal, Option, Some, None}
-use Rattle.slurm_text.specs.declared.plain.orders.Launch.{Launch}
-use Rattle.slurm_text.specs.declared.plain.orders.Orders.{Orders}
-use Rattle.slurm_text.specs.declared.plain.report.Start.{Start}
+use Rattle.reply_data.specs.declared.orders.Launch.{Launch}
+use Rattle.reply_data.specs.declared.orders.Orders.{Orders}
+use Rattle.request_data.specs.declared.report.Start.{Start}
 use Rattle.record_texts.specs.Ranges.{ranges_text}
 
 -- `ID.START`

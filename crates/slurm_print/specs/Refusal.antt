@@ -1,9 +1,9 @@
 -- The text of a refusal.
 use Rattle.std.specs.Prelude.{ℕ, List, [], ◌++◌, codes, decimal}
-use Rattle.slurm_text.specs.declared.plain.refusal.Refusal.{Refusal}
-use Rattle.slurm_text.specs.declared.plain.refusal.Refusal.TheVariants.{PartitionClosed, InvalidAccount, InvalidPartition, InvalidQos, NodesNotAvailable, NotAllowedHere, SubmitLimit, JobTableFull, ArrayTooLarge, InvalidJobId, AccessDenied, AlreadyDone, BadDependency, InvalidReservation, ReservationOverlap, UnknownNode, StaleReport, HistoryFull, JobIdsSpent, MomentTooLarge, WrongState, ShuttingDown, NotRequeueable}
-use Rattle.slurm_text.specs.declared.plain.refusal.Which.{Which}
-use Rattle.slurm_text.specs.declared.plain.refusal.Which.TheVariants.{AssocMaxSubmitJobs, AssocGrpSubmitJobs, QosGrpSubmitJobs, QosMaxSubmitJobsPerUser}
+use Rattle.reply_data.specs.declared.refusal.Refusal.{Refusal}
+use Rattle.reply_data.specs.declared.refusal.Refusal.TheVariants.{PartitionClosed, InvalidAccount, InvalidPartition, InvalidQos, NodesNotAvailable, NotAllowedHere, SubmitLimit, JobTableFull, ArrayTooLarge, InvalidJobId, AccessDenied, AlreadyDone, BadDependency, InvalidReservation, ReservationOverlap, UnknownNode, StaleReport, HistoryFull, JobIdsSpent, MomentTooLarge, WrongState, ShuttingDown, NotRequeueable}
+use Rattle.reply_data.specs.declared.refusal.Which.{Which}
+use Rattle.reply_data.specs.declared.refusal.Which.TheVariants.{AssocMaxSubmitJobs, AssocGrpSubmitJobs, QosGrpSubmitJobs, QosMaxSubmitJobsPerUser}
 
 abbrev pub refusal_name : Refusal → List ℕ
 refusal_name PartitionClosed = codes "PartitionClosed"

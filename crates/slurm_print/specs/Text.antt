@@ -1,12 +1,12 @@
 -- The text of a reply, as a function of the request and the reply.
 use Rattle.std.specs.Prelude.{ℕ, List, [], ◌++◌, codes, decimal, Bool, false, if◌then◌else◌}
-use Rattle.slurm_text.specs.declared.plain.query.Query.{Query}
-use Rattle.slurm_text.specs.declared.plain.query.Query.TheVariants.{Squeue, Sinfo, Sprio}
-use Rattle.slurm_text.specs.declared.plain.reply.Reply.{Reply}
-use Rattle.slurm_text.specs.declared.plain.reply.Reply.TheVariants.{Submitted, Done, Passed, Orders, Idle, Shown, Refused}
-use Rattle.slurm_text.specs.declared.plain.request.Request.{Request}
-use Rattle.slurm_text.specs.declared.plain.request.Request.TheVariants.{Submit, Cancel, CreateReservation, Report, Pass, Show}
-use Rattle.slurm_text.specs.declared.plain.view.View.{View}
+use Rattle.request_data.specs.declared.query.Query.{Query}
+use Rattle.request_data.specs.declared.query.Query.TheVariants.{Squeue, Sinfo, Sprio}
+use Rattle.reply_data.specs.declared.reply.Reply.{Reply}
+use Rattle.reply_data.specs.declared.reply.Reply.TheVariants.{Submitted, Done, Passed, Orders, Idle, Shown, Refused}
+use Rattle.request_data.specs.declared.request.Request.{Request}
+use Rattle.request_data.specs.declared.request.Request.TheVariants.{Submit, Cancel, CreateReservation, Report, Pass, Show}
+use Rattle.reply_data.specs.declared.view.View.{View}
 use Rattle.slurm_print.specs.Orders.{orders_text}
 use Rattle.slurm_print.specs.Refusal.{refusal_line}
 use Rattle.record_texts.specs.Show.{show_text}

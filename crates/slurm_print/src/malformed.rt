@@ -6,8 +6,8 @@ ghost use Rattle.slurm_print.specs.Malformed.{teller, fault_line, malformed_text
 
 use command_words::command::Command;
 use command_words::fault::{WordFault, WordKind};
-use slurm_text::memory_error::Memory;
-use slurm_text::pieces::{push_labelled, push_text};
+use small_texts::memory_error::Memory;
+use small_texts::pieces::{push_labelled, push_text};
 use std::alloc::Global;
 
 /// The text that answers malformed words, or a malformed script (own).

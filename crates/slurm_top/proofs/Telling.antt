@@ -3,7 +3,7 @@ use Rattle.std.proofs.Common.{◌≡◌, ℕ, zero, suc, ◌+◌, ◌≤◌, tru
 use Rattle.std.proofs.lemmas.Bool.{cases_Bool}
 use Rattle.std.proofs.lemmas.List.Elements.{All-head, All-tail}
 use Rattle.std.specs.Option.{option_to_list}
-use Rattle.slurm_text.specs.declared.plain.request.Request.{Request}
+use Rattle.request_data.specs.declared.request.Request.{Request}
 use Rattle.command_words.specs.declared.header.Asked.{Asked}
 use Rattle.block_frame.specs.declared.form.Form.TheVariants.{Plain}
 use Rattle.ctl_state.specs.State.{State}

@@ -6,7 +6,7 @@ ghost use Rattle.slurm_top.specs.Run.{IsEndWriting};
 use crate::end::End;
 use generator::script_of;
 use slurm_io::{Failed, Link, write_all};
-use slurm_text::memory_error::Memory;
+use small_texts::memory_error::Memory;
 use std::alloc::Global;
 
 /// Writes a text on the link, in one piece.

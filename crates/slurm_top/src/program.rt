@@ -38,7 +38,7 @@ use program_words::{Asked, FileNames, asked_in};
 use server_call::call_server;
 use slurm_io::{Link, Shelf, Sink};
 use slurm_net::Host;
-use slurm_text::memory_error::Memory;
+use small_texts::memory_error::Memory;
 use std::alloc::Global;
 
 /// The script of an input of whole blocks, no more than one session answers, is answered to its end, unless a count of

@@ -14,7 +14,7 @@ use ctl_desk::own_desk::OwnDesk;
 use resource_profile::start;
 use simulation::{SimulationRefusal, simulate};
 use slurm_io::Link;
-use slurm_text::memory_error::Memory;
+use small_texts::memory_error::Memory;
 use std::alloc::Global;
 
 // The file slurm.conf(5) of the cluster.

@@ -7,7 +7,7 @@ use Rattle.std.proofs.lemmas.List.{append-nil, map-append}
 use Rattle.std.proofs.lemmas.List.Elements.{All-append}
 use Rattle.std.specs.Io.KnownBytes.{Appends, Consumes}
 use Rattle.slurm_net.specs.Course.{AddsMoment}
-use Rattle.slurm_text.specs.declared.plain.orders.Orders.{Orders}
+use Rattle.reply_data.specs.declared.orders.Orders.{Orders}
 use Rattle.node_daemon.specs.Daemon.{Daemon, accepted, are_due, given, polled}
 use Rattle.slurmd_link.specs.Links.{size_read}
 use Rattle.slurmd_link.specs.Turns.{AddsMoments, AreMade, IsOrdersReply, IsTurned, Scene, Turn, after_turn, after_turns, frame_at, read_in, sent_in}

@@ -8,10 +8,10 @@ use Rattle.std.proofs.lemmas.Bool.Decides.{nat_tests}
 use Rattle.std.proofs.lemmas.Fmt.{digits_decimal}
 use Rattle.std.proofs.lemmas.List.Folds.{list_all-append}
 use Rattle.std.proofs.lemmas.Str.Parse.{IsNumeralModel, numerals_by_value, tells_all_ascii_digits}
-use Rattle.slurm_text.specs.Name.{is_name, is_name_byte}
-use Rattle.slurm_text.specs.Words.{is_word_byte}
-use Rattle.slurm_text.specs.declared.plain.report.Done.{Done}
-use Rattle.slurm_text.specs.declared.plain.report.Start.{Start}
+use Rattle.small_texts.specs.Name.{is_name, is_name_byte}
+use Rattle.line_words.specs.Words.{is_word_byte}
+use Rattle.request_data.specs.declared.report.Done.{Done}
+use Rattle.request_data.specs.declared.report.Start.{Start}
 use Rattle.slurm_print.specs.Orders.{start_text}
 use Rattle.slurmd_link.specs.Reports.{done_text}
 

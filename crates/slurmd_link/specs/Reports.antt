@@ -1,8 +1,8 @@
 -- The words of a report.
 use Rattle.std.specs.Prelude.{ℕ, List, [], ◌∷◌, ◌++◌, map, codes, decimal}
-use Rattle.slurm_text.specs.Folding.{with_commas}
-use Rattle.slurm_text.specs.declared.plain.report.Done.{Done}
-use Rattle.slurm_text.specs.declared.plain.report.Report.{Report}
+use Rattle.host_lists.specs.Folding.{with_commas}
+use Rattle.request_data.specs.declared.report.Done.{Done}
+use Rattle.request_data.specs.declared.report.Report.{Report}
 use Rattle.slurm_print.specs.Orders.{start_text}
 
 -- `ID.START.EXIT`

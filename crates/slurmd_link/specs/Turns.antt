@@ -12,7 +12,7 @@ use Rattle.slurm_client.specs.Requests.{request}
 use Rattle.slurm_client.specs.declared.reading.Unread.{Unread}
 use Rattle.slurm_client.specs.declared.reading.Unread.TheVariants as unread
 use Rattle.slurm_net.specs.Course.{AddsMoment}
-use Rattle.slurm_text.specs.declared.plain.orders.Orders.{Orders}
+use Rattle.reply_data.specs.declared.orders.Orders.{Orders}
 use Rattle.node_daemon.specs.Daemon.{Daemon, given, polled, reported}
 use Rattle.orders_text.specs.Orders.{AreOrdersOf}
 use Rattle.slurmd_link.specs.Reports.{report_words}

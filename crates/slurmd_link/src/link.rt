@@ -9,7 +9,7 @@ use crate::turn::{Cut, turn};
 use node_daemon::daemon::DaemonState;
 use slurm_io::Link;
 use slurm_net::Clock;
-use slurm_text::name::Name;
+use small_texts::name::Name;
 use std::alloc::Global;
 
 /// How a run over a link ended (own).

@@ -4,14 +4,14 @@ ghost use Rattle.std.specs.Prelude.{◌≡◌, ◌∷◌, ◌++◌, [], IfOk, On
 ghost use Rattle.std.specs.List.{list_all};
 ghost use Rattle.std.specs.Str.{byte};
 
-ghost use Rattle.slurm_text.specs.Words.{is_word_byte};
+ghost use Rattle.line_words.specs.Words.{is_word_byte};
 ghost use Rattle.slurm_print.specs.Orders.{start_text};
 ghost use Rattle.slurmd_link.specs.Reports.{done_text, list_words, report_words};
 
-use slurm_text::memory_error::Memory;
-use slurm_text::pieces::{push_labelled, push_number, push_text};
-use slurm_text::plain::report::{Done, Report, Start};
-use slurm_text::words::Words;
+use small_texts::memory_error::Memory;
+use small_texts::pieces::{push_labelled, push_number, push_text};
+use request_data::report::{Done, Report, Start};
+use line_words::words::Words;
 use std::alloc::Global;
 
 // Adds the word that a number is.

@@ -16,10 +16,10 @@ use orders_text::{OrdersRefusal, read_orders};
 use slurm_client::{Unread, fits_request, read_frame, request_frame};
 use slurm_io::{Failed, Link, write_all};
 use slurm_net::Clock;
-use slurm_text::memory_error::Memory;
-use slurm_text::name::Name;
-use slurm_text::plain::orders::Orders;
-use slurm_text::plain::report::Report;
+use small_texts::memory_error::Memory;
+use small_texts::name::Name;
+use reply_data::orders::Orders;
+use request_data::report::Report;
 use std::alloc::Global;
 
 /// Why a turn was cut short.

@@ -1,9 +1,9 @@
 -- The pieces of a format, read from the left.
 use Rattle.std.proofs.Common.{Bool, true, false, ℕ, ◌≡◌, List, [], ◌∷◌, ◌++◌, Option, Some, None, option_map, refl, ap, append_assoc}
 use Rattle.std.proofs.lemmas.List.{append-nil}
-use Rattle.slurm_text.specs.declared.plain.query.Piece.{Piece}
+use Rattle.request_data.specs.declared.query.Piece.{Piece}
 use Rattle.std.specs.Option.{IsSome}
-use Rattle.slurm_text.specs.Digits.{number_within}
+use Rattle.small_texts.specs.Digits.{number_within}
 use Rattle.squeue_format.specs.Format.{column_of, width_of, column_by, part_in, pieces_of, format_in, usual_text}
 
 -- what the parts give, behind what was read before

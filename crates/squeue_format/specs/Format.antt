@@ -1,13 +1,13 @@
 -- A format: columns between bytes that stand for themselves. squeue(1), `--format`.
 use Rattle.std.specs.Prelude.{ℕ, ◌==◌, Bool, true, false, nat_le, if◌then◌else◌, List, [], ◌∷◌, ◌++◌, drop, map, slice_get, codes, Option, Some, None, option_map}
 use Rattle.std.specs.Str.{byte}
-use Rattle.slurm_text.specs.Digits.{number_within, leading_digits, after_digits}
-use Rattle.slurm_text.specs.Fields.{fields}
-use Rattle.slurm_text.specs.Options.{◌>>=◌}
-use Rattle.slurm_text.specs.declared.plain.query.JobColumn.{JobColumn}
-use Rattle.slurm_text.specs.declared.plain.query.JobColumn.TheVariants as column
-use Rattle.slurm_text.specs.declared.plain.query.Piece.{Piece}
-use Rattle.slurm_text.specs.declared.plain.query.Piece.TheVariants.{Plain, Column}
+use Rattle.small_texts.specs.Digits.{number_within, leading_digits, after_digits}
+use Rattle.small_texts.specs.Fields.{fields}
+use Rattle.small_texts.specs.Options.{◌>>=◌}
+use Rattle.request_data.specs.declared.query.JobColumn.{JobColumn}
+use Rattle.request_data.specs.declared.query.JobColumn.TheVariants as column
+use Rattle.request_data.specs.declared.query.Piece.{Piece}
+use Rattle.request_data.specs.declared.query.Piece.TheVariants.{Plain, Column}
 
 -- the letters of the columns
 abbrev pub letters : List (ℕ × JobColumn)

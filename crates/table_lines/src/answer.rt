@@ -1,8 +1,8 @@
 // The text of an answer, and why there is none.
 ghost use Rattle.std.specs.Prelude.{◌≡◌, ◌++◌, codes, IfOk, OnOk, IfSome};
 
-use slurm_text::memory_error::Memory;
-use slurm_text::name::NameRefusal;
+use small_texts::memory_error::Memory;
+use small_texts::name::NameRefusal;
 use std::alloc::{AllocError, AllocFailed, Global};
 use std::fmt::Display;
 

@@ -1,11 +1,11 @@
 // Arguments that are numbers or lists.
 ghost use Rattle.std.specs.Prelude.{◌≡◌, map, ok_or, IfOk, Some};
-ghost use Rattle.slurm_text.specs.Digits.{number_within};
-ghost use Rattle.slurm_text.specs.Fields.{fields};
+ghost use Rattle.small_texts.specs.Digits.{number_within};
+ghost use Rattle.small_texts.specs.Fields.{fields};
 ghost use Rattle.table_lines.specs.Fields.{listed};
 
 use crate::answer::Unanswered;
-use slurm_text::digits::parse_number;
+use small_texts::digits::parse_number;
 use std::alloc::Global;
 
 /// No argument is longer.

@@ -1,17 +1,17 @@
 -- The lines of sinfo.
 use Rattle.std.specs.Prelude.{ℕ, ◌*◌, Bool, if◌then◌else◌, List, [], ◌++◌, length, flat_map, codes, decimal}
 use Rattle.slurm_num.specs.Elapsed.{elapsed_text}
-use Rattle.slurm_text.specs.Folding.{folded}
-use Rattle.slurm_text.specs.declared.plain.conf.PartState.{PartState}
-use Rattle.slurm_text.specs.declared.plain.conf.PartState.TheVariants as part
-use Rattle.slurm_text.specs.declared.plain.limit.Limit.{Limit}
-use Rattle.slurm_text.specs.declared.plain.limit.Limit.TheVariants.{Minutes, Unlimited}
-use Rattle.slurm_text.specs.declared.plain.view.NodeGroup.{NodeGroup}
-use Rattle.slurm_text.specs.declared.plain.view.NodeGroup.TheVariants.{Down, Draining, Drained, Allocated, Mixed, Idle}
-use Rattle.slurm_text.specs.declared.plain.view.StateRow.{StateRow}
-use Rattle.slurm_text.specs.declared.plain.view.Row.{Row}
-use Rattle.slurm_text.specs.declared.plain.view.Row.TheVariants.{States}
-use Rattle.slurm_text.specs.declared.plain.view.View.{View}
+use Rattle.host_lists.specs.Folding.{folded}
+use Rattle.plain_data.specs.declared.conf.PartState.{PartState}
+use Rattle.plain_data.specs.declared.conf.PartState.TheVariants as part
+use Rattle.plain_data.specs.declared.limit.Limit.{Limit}
+use Rattle.plain_data.specs.declared.limit.Limit.TheVariants.{Minutes, Unlimited}
+use Rattle.reply_data.specs.declared.view.NodeGroup.{NodeGroup}
+use Rattle.reply_data.specs.declared.view.NodeGroup.TheVariants.{Down, Draining, Drained, Allocated, Mixed, Idle}
+use Rattle.reply_data.specs.declared.view.StateRow.{StateRow}
+use Rattle.reply_data.specs.declared.view.Row.{Row}
+use Rattle.reply_data.specs.declared.view.Row.TheVariants.{States}
+use Rattle.reply_data.specs.declared.view.View.{View}
 use Rattle.table_texts.specs.Field.{cell, left_cell}
 
 -- a star behind the default partition's name

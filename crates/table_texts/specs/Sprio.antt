@@ -1,12 +1,12 @@
 -- The lines of sprio.
 use Rattle.std.specs.Prelude.{ℕ, Bool, true, if◌then◌else◌, List, [], ◌∷◌, ◌++◌, flat_map, codes, decimal}
-use Rattle.slurm_text.specs.declared.plain.nice.Nice.{Nice}
-use Rattle.slurm_text.specs.declared.plain.nice.Nice.TheVariants.{Lower, Raise}
-use Rattle.slurm_text.specs.declared.plain.priority.PriorityParts.{PriorityParts}
-use Rattle.slurm_text.specs.declared.plain.priority.PriorityRow.{PriorityRow}
-use Rattle.slurm_text.specs.declared.plain.view.Row.{Row}
-use Rattle.slurm_text.specs.declared.plain.view.Row.TheVariants.{Priority}
-use Rattle.slurm_text.specs.declared.plain.view.View.{View}
+use Rattle.plain_data.specs.declared.nice.Nice.{Nice}
+use Rattle.plain_data.specs.declared.nice.Nice.TheVariants.{Lower, Raise}
+use Rattle.reply_data.specs.declared.priority.PriorityParts.{PriorityParts}
+use Rattle.reply_data.specs.declared.priority.PriorityRow.{PriorityRow}
+use Rattle.reply_data.specs.declared.view.Row.{Row}
+use Rattle.reply_data.specs.declared.view.Row.TheVariants.{Priority}
+use Rattle.reply_data.specs.declared.view.View.{View}
 use Rattle.table_texts.specs.Field.{field, cell}
 use Rattle.table_texts.specs.Squeue.{id_of}
 

@@ -1,24 +1,24 @@
 -- The lines of squeue.
 use Rattle.std.specs.Prelude.{ℕ, ◌*◌, Bool, if◌then◌else◌, List, [], ◌∷◌, ◌++◌, flat_map, Option, Some, None, codes, decimal}
 use Rattle.slurm_num.specs.Elapsed.{elapsed_text}
-use Rattle.slurm_text.specs.Folding.{folded}
-use Rattle.slurm_text.specs.Moment.{moment_text}
-use Rattle.slurm_text.specs.declared.plain.limit.Limit.{Limit}
-use Rattle.slurm_text.specs.declared.plain.limit.Limit.TheVariants.{Minutes, Unlimited}
-use Rattle.slurm_text.specs.declared.plain.query.JobColumn.{JobColumn}
-use Rattle.slurm_text.specs.declared.plain.query.JobColumn.TheVariants as column
-use Rattle.slurm_text.specs.declared.plain.query.JobQuery.{JobQuery}
-use Rattle.slurm_text.specs.declared.plain.query.Piece.{Piece}
-use Rattle.slurm_text.specs.declared.plain.query.Piece.TheVariants.{Plain, Column}
-use Rattle.slurm_text.specs.declared.plain.state.JobState.{JobState}
-use Rattle.slurm_text.specs.declared.plain.state.JobState.TheVariants.{Pending, Running, Completing, Ended}
-use Rattle.slurm_text.specs.declared.plain.state.Final.TheVariants.{Completed, Cancelled, Failed, Timeout, NodeFail, Requeue}
-use Rattle.slurm_text.specs.declared.plain.state.Reason.{Reason}
-use Rattle.slurm_text.specs.declared.plain.state.Reason.TheVariants.{JobHeldAdmin, JobHeldUser, DependencyNeverSatisfied, Dependency, BeginTime, PartitionInactive, PartitionDown, PartitionTimeLimit, PartitionNodeLimit, QosMaxWallDurationPerJobLimit, JobArrayTaskLimit, AssocGrpJobsLimit, AssocGrpCpuLimit, AssocMaxJobsLimit, QosGrpJobsLimit, QosGrpCpuLimit, QosMaxJobsPerUserLimit, QosMaxCpuPerUserLimit, Reservation, ReqNodeNotAvail, Resources, Priority}
-use Rattle.slurm_text.specs.declared.plain.view.JobRow.{JobRow}
-use Rattle.slurm_text.specs.declared.plain.view.Row.{Row}
-use Rattle.slurm_text.specs.declared.plain.view.Row.TheVariants as shown
-use Rattle.slurm_text.specs.declared.plain.view.View.{View}
+use Rattle.host_lists.specs.Folding.{folded}
+use Rattle.small_texts.specs.Moment.{moment_text}
+use Rattle.plain_data.specs.declared.limit.Limit.{Limit}
+use Rattle.plain_data.specs.declared.limit.Limit.TheVariants.{Minutes, Unlimited}
+use Rattle.request_data.specs.declared.query.JobColumn.{JobColumn}
+use Rattle.request_data.specs.declared.query.JobColumn.TheVariants as column
+use Rattle.request_data.specs.declared.query.JobQuery.{JobQuery}
+use Rattle.request_data.specs.declared.query.Piece.{Piece}
+use Rattle.request_data.specs.declared.query.Piece.TheVariants.{Plain, Column}
+use Rattle.request_data.specs.declared.state.JobState.{JobState}
+use Rattle.request_data.specs.declared.state.JobState.TheVariants.{Pending, Running, Completing, Ended}
+use Rattle.request_data.specs.declared.state.Final.TheVariants.{Completed, Cancelled, Failed, Timeout, NodeFail, Requeue}
+use Rattle.request_data.specs.declared.state.Reason.{Reason}
+use Rattle.request_data.specs.declared.state.Reason.TheVariants.{JobHeldAdmin, JobHeldUser, DependencyNeverSatisfied, Dependency, BeginTime, PartitionInactive, PartitionDown, PartitionTimeLimit, PartitionNodeLimit, QosMaxWallDurationPerJobLimit, JobArrayTaskLimit, AssocGrpJobsLimit, AssocGrpCpuLimit, AssocMaxJobsLimit, QosGrpJobsLimit, QosGrpCpuLimit, QosMaxJobsPerUserLimit, QosMaxCpuPerUserLimit, Reservation, ReqNodeNotAvail, Resources, Priority}
+use Rattle.reply_data.specs.declared.view.JobRow.{JobRow}
+use Rattle.reply_data.specs.declared.view.Row.{Row}
+use Rattle.reply_data.specs.declared.view.Row.TheVariants as shown
+use Rattle.reply_data.specs.declared.view.View.{View}
 use Rattle.squeue_format.specs.Format.{usual}
 use Rattle.table_texts.specs.Field.{field}
 

@@ -2,20 +2,20 @@
 
 ghost use Rattle.std.specs.Prelude.{◌≡◌, ◌≤◌, ◌++◌, OnOk};
 ghost use Rattle.slurm_num.specs.Elapsed.{elapsed_text};
-ghost use Rattle.slurm_text.specs.Moment.{moment_text};
+ghost use Rattle.small_texts.specs.Moment.{moment_text};
 ghost use Rattle.table_texts.specs.Squeue;
 
 use slurm_num::print_elapsed;
-use slurm_text::folding::fold_hosts;
-use slurm_text::memory_error::Memory;
-use slurm_text::moment::print_moment;
-use slurm_text::pieces::{push_labelled, push_number, push_text};
-use slurm_text::plain::limit::Limit;
-use slurm_text::plain::query::JobColumn;
-use slurm_text::plain::seconds::FOREVER;
-use slurm_text::plain::state::{Final, JobState, Reason};
-use slurm_text::plain::view::JobRow;
-use slurm_text::ranged::Ranged;
+use host_lists::folding::fold_hosts;
+use small_texts::memory_error::Memory;
+use small_texts::moment::print_moment;
+use small_texts::pieces::{push_labelled, push_number, push_text};
+use plain_data::limit::Limit;
+use request_data::query::JobColumn;
+use plain_data::seconds::FOREVER;
+use request_data::state::{Final, JobState, Reason};
+use reply_data::view::JobRow;
+use plain_data::ranged::Ranged;
 use std::alloc::Global;
 
 /// Writes what the column tells of a job. The names of its nodes take memory beside `out` while they are folded.

@@ -1,20 +1,20 @@
 //! The lines of sinfo(1).
 
 ghost use Rattle.std.specs.Prelude.{◌≡◌, ◌≤◌, ◌++◌, flat_map, length, decimal, OnOk};
-ghost use Rattle.slurm_text.specs.Folding.{folded};
+ghost use Rattle.host_lists.specs.Folding.{folded};
 ghost use Rattle.table_texts.specs.Field.{cell, left_cell};
 ghost use Rattle.table_texts.specs.Sinfo.{sinfo_text, sinfo_titles, sinfo_row, state_line, starred, longest_text, avail_text, group_code};
 
 use crate::field::{push_cell, push_left_cell};
 use itoa::Buffer;
 use slurm_num::print_elapsed;
-use slurm_text::folding::fold_hosts;
-use slurm_text::memory_error::Memory;
-use slurm_text::name::Name;
-use slurm_text::pieces::push_text;
-use slurm_text::plain::conf::PartState;
-use slurm_text::plain::limit::Limit;
-use slurm_text::plain::view::{NodeGroup, Row, StateRow, View};
+use host_lists::folding::fold_hosts;
+use small_texts::memory_error::Memory;
+use small_texts::name::Name;
+use small_texts::pieces::push_text;
+use plain_data::conf::PartState;
+use plain_data::limit::Limit;
+use reply_data::view::{NodeGroup, Row, StateRow, View};
 use std::alloc::Global;
 
 /// Writes a line for each row, with titles above them where they are wanted.

@@ -3,9 +3,9 @@
 use crate::words::list_of;
 use slurm_client::{Called, client_run, fits_request, read_address};
 use slurm_io::MemLink;
-use slurm_text::memory_error::Memory;
-use slurm_text::name::Name;
-use slurm_text::words::words_of;
+use small_texts::memory_error::Memory;
+use small_texts::name::Name;
+use line_words::words::words_of;
 use std::alloc::{AllocError, Global};
 use table_lines::answer::{Unanswered, push};
 use table_lines::fields::{LONGEST, narrow_number, number, parts};

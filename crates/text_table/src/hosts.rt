@@ -1,8 +1,8 @@
 // Host expressions.
 
-use slurm_text::folding::fold_hosts;
-use slurm_text::hosts::{HostRefusal, expand_hosts};
-use slurm_text::name::Name;
+use host_lists::folding::fold_hosts;
+use host_lists::hosts::{HostRefusal, expand_hosts};
+use small_texts::name::Name;
 use std::alloc::Global;
 use table_lines::answer::{Unanswered, refused, taken};
 use table_lines::fields::{LONGEST, number};

@@ -2,9 +2,9 @@
 
 use crate::rows::job_row;
 use crate::views::query_text;
-use slurm_text::items::Items;
-use slurm_text::plain::query::{JobQuery, Piece, Query, Who};
-use slurm_text::plain::view::Row;
+use plain_data::items::Items;
+use request_data::query::{JobQuery, Piece, Query, Who};
+use reply_data::view::Row;
 use squeue_format::format::{FormatRefusal, read_format};
 use std::alloc::Global;
 use table_lines::answer::{Unanswered, refused};

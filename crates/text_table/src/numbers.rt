@@ -1,6 +1,6 @@
 // Arguments that are numbers.
 
-use slurm_text::ranged::Ranged;
+use plain_data::ranged::Ranged;
 use table_lines::answer::Unanswered;
 use table_lines::fields::{narrow_number, number};
 

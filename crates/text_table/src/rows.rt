@@ -2,15 +2,15 @@
 
 use crate::numbers::{number_or_none, ranged};
 use slurm_num::parse_limit;
-use slurm_text::hosts::expand_hosts;
-use slurm_text::items::Items;
-use slurm_text::name::{JobName, Name};
-use slurm_text::plain::limit::Limit;
-use slurm_text::plain::nice::Nice;
-use slurm_text::plain::seconds::FOREVER;
-use slurm_text::plain::state::{Final, JobState, Reason};
-use slurm_text::plain::view::{EndAt, JobRow};
-use slurm_text::ranged::Ranged;
+use host_lists::hosts::expand_hosts;
+use plain_data::items::Items;
+use small_texts::name::{JobName, Name};
+use plain_data::limit::Limit;
+use plain_data::nice::Nice;
+use plain_data::seconds::FOREVER;
+use request_data::state::{Final, JobState, Reason};
+use reply_data::view::{EndAt, JobRow};
+use plain_data::ranged::Ranged;
 use std::alloc::Global;
 use table_lines::answer::Unanswered;
 use table_lines::fields::{LONGEST, narrow_number, number, parts};

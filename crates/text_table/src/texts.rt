@@ -1,10 +1,10 @@
 // Names, numbers, amounts of memory and moments.
 
-use slurm_text::digits::parse_number;
-use slurm_text::memory::parse_mem;
-use slurm_text::moment;
-use slurm_text::moment::parse_moment;
-use slurm_text::name::{JobName, Name, NameRefusal};
+use small_texts::digits::parse_number;
+use small_texts::memory::parse_mem;
+use small_texts::moment;
+use small_texts::moment::parse_moment;
+use small_texts::name::{JobName, Name, NameRefusal};
 use std::alloc::Global;
 use table_lines::answer::{Unanswered, refused, taken};
 use table_lines::fields::number as argument;

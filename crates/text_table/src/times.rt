@@ -3,7 +3,7 @@ ghost use Rattle.std.specs.Prelude.{◌<◌, ◌^◌, IfOk};
 
 use slurm_num::plain::Limit;
 use slurm_num::{Ratio, parse_limit, print_elapsed};
-use slurm_text::plain::seconds::FOREVER;
+use plain_data::seconds::FOREVER;
 use std::alloc::Global;
 use std::cmp::Ordering;
 use table_lines::answer::{Unanswered, refused, taken};

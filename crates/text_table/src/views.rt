@@ -1,11 +1,11 @@
 // What is printed for who asks to be shown something.
 
 use slurm_print::text::text;
-use slurm_text::items::Items;
-use slurm_text::plain::query::Query;
-use slurm_text::plain::reply::Reply;
-use slurm_text::plain::request::Request;
-use slurm_text::plain::view::{Row, View};
+use plain_data::items::Items;
+use request_data::query::Query;
+use reply_data::reply::Reply;
+use request_data::request::Request;
+use reply_data::view::{Row, View};
 use std::alloc::Global;
 use table_lines::answer::Unanswered;
 

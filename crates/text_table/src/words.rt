@@ -1,6 +1,6 @@
 // Words of a line, as a shell reads and writes them.
 
-use slurm_text::words::{Words, WordsRefusal, quote_words, split_words, words_of};
+use line_words::words::{Words, WordsRefusal, quote_words, split_words, words_of};
 use std::alloc::Global;
 use table_lines::answer::{Unanswered, refused};
 use table_lines::fields::{LONGEST, parts};

@@ -16,12 +16,12 @@ use Rattle.conf_reader.specs.Reader.{kind_of, with_nodes, after_node_line, after
 use Rattle.conf_reader.specs.Reader.{nothing_said, has_unknown, first_unknown, nodes_by, conf_of_lines, whole_file, conf_in}
 use Rattle.slurm_num.specs.Elapsed.{elapsed_text}
 use Rattle.slurm_num.specs.Limits.{seconds_of_clock, seconds_of_day, seconds_of_parts, seconds_of, limit_of_minutes, limit_of}
-use Rattle.slurm_text.specs.Digits.{number_within}
-use Rattle.slurm_text.specs.Name.{is_name, is_job_name}
-use Rattle.slurm_text.specs.Memory.{in_megabytes, megabytes_of}
-use Rattle.slurm_text.specs.Hosts.{numbers_of, range_names, made_behind, made_by, few, host_items, first_bad_item, hosts_in}
+use Rattle.small_texts.specs.Digits.{number_within}
+use Rattle.small_texts.specs.Name.{is_name, is_job_name}
+use Rattle.small_texts.specs.Memory.{in_megabytes, megabytes_of}
+use Rattle.host_lists.specs.Hosts.{numbers_of, range_names, made_behind, made_by, few, host_items, first_bad_item, hosts_in}
 use Rattle.worked_rows.specs.Clusters.{usual_settings, usual_partition, usual_account, user_named, usual_assocs, one_node, on_one_node, small_node, four_nodes, on_four_nodes}
-use Rattle.slurm_text.specs.Assocs.{greatest_depth}
+use Rattle.plain_data.specs.Assocs.{greatest_depth}
 use Rattle.accounts_qos.specs.Accounts.{above, are_of_one_user, place_meant}
 use Rattle.run_limits.specs.Counting.{counts_of, is_in}
 use Rattle.run_limits.specs.Limits.{limits_reached}
@@ -30,7 +30,7 @@ use Rattle.slurm_top.specs.Script.{script_of}
 use Rattle.ctl_session.specs.Session.{most_blocks}
 use Rattle.block_frame.specs.Grammar.{first_block, blocks_within, blocks_of}
 use Rattle.block_frame.specs.Attachments.{reading_at}
-use Rattle.slurm_text.specs.Words.{words_in as line_words_in, before_comment, open_place, first_bad}
+use Rattle.line_words.specs.Words.{words_in as line_words_in, before_comment, open_place, first_bad}
 use Rattle.command_words.specs.Command.{command_named}
 use Rattle.command_words.specs.Header.{head_in, asked_by, meaning_by, meaning_in}
 use Rattle.command_words.specs.Wanted.{alone_by, wanted_by}
@@ -93,7 +93,7 @@ use Rattle.ctl_show.specs.Standing.{cpus_held, names_standing, rows_of_partition
 use Rattle.table_texts.specs.Squeue.{told as told_of, title, line}
 use Rattle.table_texts.specs.Sprio.{nice_end, priority_line}
 use Rattle.table_texts.specs.Field.{field, cell, left_cell}
-use Rattle.slurm_text.specs.Folding.{in_byte_order, digits_len, grouped, run_text as folded_run, group_text, folded}
+use Rattle.host_lists.specs.Folding.{in_byte_order, digits_len, grouped, run_text as folded_run, group_text, folded}
 
 -- what the lines of a file say
 unfoldable pub files : Unit {0}

@@ -1,16 +1,16 @@
 -- The clusters of the rows.
 use Rattle.std.specs.Prelude.{ℕ, true, false, List, [], ◌∷◌, Option, Some, None, codes}
-use Rattle.slurm_text.specs.declared.plain.conf.Settings.{Settings}
-use Rattle.slurm_text.specs.declared.plain.conf.NodeConf.{NodeConf}
-use Rattle.slurm_text.specs.declared.plain.conf.PartConf.{PartConf}
-use Rattle.slurm_text.specs.declared.plain.conf.NodeStart.TheVariants.{Unknown, Down}
-use Rattle.slurm_text.specs.declared.plain.conf.PartState.TheVariants.{Up}
-use Rattle.slurm_text.specs.declared.plain.limit.Limit.TheVariants.{Minutes, Unlimited}
-use Rattle.slurm_text.specs.declared.plain.mem_ask.MemAsk.TheVariants.{PerCpu}
-use Rattle.slurm_text.specs.declared.plain.assoc.AssocConf.{AssocConf}
-use Rattle.slurm_text.specs.declared.plain.assoc.QosConf.{QosConf}
-use Rattle.slurm_text.specs.Assocs.{AssocView}
-use Rattle.slurm_text.specs.Confs.{ConfView}
+use Rattle.plain_data.specs.declared.conf.Settings.{Settings}
+use Rattle.plain_data.specs.declared.conf.NodeConf.{NodeConf}
+use Rattle.plain_data.specs.declared.conf.PartConf.{PartConf}
+use Rattle.plain_data.specs.declared.conf.NodeStart.TheVariants.{Unknown, Down}
+use Rattle.plain_data.specs.declared.conf.PartState.TheVariants.{Up}
+use Rattle.plain_data.specs.declared.limit.Limit.TheVariants.{Minutes, Unlimited}
+use Rattle.plain_data.specs.declared.mem_ask.MemAsk.TheVariants.{PerCpu}
+use Rattle.plain_data.specs.declared.assoc.AssocConf.{AssocConf}
+use Rattle.plain_data.specs.declared.assoc.QosConf.{QosConf}
+use Rattle.plain_data.specs.Assocs.{AssocView}
+use Rattle.plain_data.specs.Confs.{ConfView}
 use Rattle.accounts_qos.specs.Accounts.{no_limits, no_qos_limits}
 use Rattle.ctl_state.specs.State.{State, opening}
 

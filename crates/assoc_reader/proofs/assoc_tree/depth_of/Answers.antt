@@ -1,6 +1,6 @@
 use Rattle.std.proofs.Common.{◌≡◌, ◌<◌, suc, Some, sym, arith}
 use Rattle.std.specs.List.{slice_get}
-use Rattle.slurm_text.specs.Assocs.{greatest_depth}
+use Rattle.plain_data.specs.Assocs.{greatest_depth}
 use Rattle.assoc_reader.proofs.DepthLemmas.{way-step}
 use Rattle.assoc_reader.proofs.assoc_tree.depth_of.Goals as goal
 

@@ -1,5 +1,5 @@
 use Rattle.std.proofs.Common.{◌≡◌, ◌+◌, ◌-◌, suc, length}
-use Rattle.slurm_text.specs.Assocs.{greatest_depth, parents_in, way_up}
+use Rattle.plain_data.specs.Assocs.{greatest_depth, parents_in, way_up}
 use Rattle.assoc_reader.specs.Tree.{depth_of}
 use Rattle.assoc_reader.proofs.assoc_tree.depth_of.Given as goal
 

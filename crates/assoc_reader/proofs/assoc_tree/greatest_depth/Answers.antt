@@ -1,5 +1,5 @@
 use Rattle.std.proofs.Common.{refl, arith}
-use Rattle.slurm_text.specs.Assocs.{greatest_depth}
+use Rattle.plain_data.specs.Assocs.{greatest_depth}
 use Rattle.assoc_reader.proofs.assoc_tree.greatest_depth.Goals as goal
 
 pub returns : goal.returns

@@ -1,5 +1,5 @@
 use Rattle.std.proofs.Common.{◌≡◌, drop}
-use Rattle.slurm_text.specs.Hosts.{has}
+use Rattle.host_lists.specs.Hosts.{has}
 use Rattle.assoc_reader.specs.Qos.{qos_names}
 use Rattle.assoc_reader.proofs.qos_table.has_qos.Given as goal
 

@@ -1,5 +1,5 @@
 use Rattle.std.proofs.Common.{◌≡◌, Some, Err, ap, refl, ◌∙◌}
-use Rattle.slurm_text.specs.Words.{first_bad}
+use Rattle.line_words.specs.Words.{first_bad}
 use Rattle.command_words.specs.FramedHeader.{head_said}
 use Rattle.command_words.proofs.framed.read_said.Goals as goal
 

@@ -1,5 +1,5 @@
 use Rattle.std.proofs.Common.{◌≡◌, sym, ◌∙◌, ap, Err}
-use Rattle.slurm_text.specs.Confs.{node_names}
+use Rattle.plain_data.specs.Confs.{node_names}
 use Rattle.conf_entries.specs.NodeLines.{node_word, with_entry, node_line}
 use Rattle.conf_values.specs.declared.refusal.Fault.TheVariants.{Refused}
 use Rattle.conf_entries.proofs.SaidLemmas.{said_bad}

@@ -1,5 +1,5 @@
 use Rattle.std.proofs.Common.{◌≡◌, ◌≤◌, length}
-use Rattle.slurm_text.specs.Confs.{node_names}
+use Rattle.plain_data.specs.Confs.{node_names}
 use Rattle.conf_entries.specs.NodeLines.{node_word, with_entry, no_node_words}
 use Rattle.conf_entries.specs.Words.{said_by}
 use Rattle.conf_entries.proofs.node_lines.read_node_line.Given as goal

@@ -1,6 +1,6 @@
 use Rattle.std.proofs.Common.{◌≡◌, drop}
 use Rattle.conf_entries.specs.PartitionLines.{partition_names}
-use Rattle.slurm_text.specs.Hosts.{has}
+use Rattle.host_lists.specs.Hosts.{has}
 use Rattle.conf_entries.proofs.partition_lines.has_partition.Given as goal
 
 abbrev pub invariant-loop-line : goal.invariant-loop-line

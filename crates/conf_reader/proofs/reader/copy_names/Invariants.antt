@@ -1,5 +1,5 @@
 use Rattle.std.proofs.Common.{◌≡◌, take}
-use Rattle.slurm_text.specs.Confs.{node_names}
+use Rattle.plain_data.specs.Confs.{node_names}
 use Rattle.conf_reader.proofs.reader.copy_names.Given as goal
 
 abbrev pub invariant-loop-node : goal.invariant-loop-node

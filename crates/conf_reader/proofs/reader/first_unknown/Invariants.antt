@@ -1,5 +1,5 @@
 use Rattle.std.proofs.Common.{◌≡◌, drop}
-use Rattle.slurm_text.specs.Confs.{node_names}
+use Rattle.plain_data.specs.Confs.{node_names}
 use Rattle.conf_reader.specs.Reader.{first_unknown}
 use Rattle.conf_reader.proofs.reader.first_unknown.Given as goal
 

@@ -1,5 +1,5 @@
 use Rattle.std.proofs.Common.{◌≡◌, ◌++◌, length}
-use Rattle.slurm_text.specs.Confs.{node_names}
+use Rattle.plain_data.specs.Confs.{node_names}
 use Rattle.conf_reader.specs.Reader.{partitions_by}
 use Rattle.conf_reader.proofs.reader.make_partitions.Given as goal
 

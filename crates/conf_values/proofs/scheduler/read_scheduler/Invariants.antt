@@ -1,7 +1,7 @@
 use Rattle.std.proofs.Common.{◌≡◌, ◌+◌, length, map}
 use Rattle.std.specs.Option.{option_copied, option_map_or}
-use Rattle.slurm_text.specs.Fields.{fields, fields_of_rest}
-use Rattle.slurm_text.specs.Hosts.{all_some}
+use Rattle.small_texts.specs.Fields.{fields, fields_of_rest}
+use Rattle.host_lists.specs.Hosts.{all_some}
 use Rattle.conf_values.specs.Scheduler.{scheduler_item, no_items}
 use Rattle.conf_values.proofs.SchedulerLemmas.{on_top}
 use Rattle.conf_values.proofs.scheduler.read_scheduler.Given as goal

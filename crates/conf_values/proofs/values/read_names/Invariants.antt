@@ -1,7 +1,7 @@
 use Rattle.std.proofs.Common.{◌≡◌, ◌+◌, length, map}
 use Rattle.std.specs.Option.{option_copied, option_map_or}
-use Rattle.slurm_text.specs.Fields.{fields, fields_of_rest}
-use Rattle.slurm_text.specs.Hosts.{all_some}
+use Rattle.small_texts.specs.Fields.{fields, fields_of_rest}
+use Rattle.host_lists.specs.Hosts.{all_some}
 use Rattle.conf_values.specs.Values.{name_in}
 use Rattle.conf_values.proofs.ValueLemmas.{behind}
 use Rattle.conf_values.proofs.values.read_names.Given as goal

@@ -1,4 +1,4 @@
-use Rattle.slurm_text.specs.declared.plain.request.Request.TheVariants.{Pass}
+use Rattle.request_data.specs.declared.request.Request.TheVariants.{Pass}
 use Rattle.ctl_state.specs.State.{state_of}
 use Rattle.ctl_core.specs.Step.{state_after}
 use Rattle.ctl_core.proofs.Stepping.{sound-either}

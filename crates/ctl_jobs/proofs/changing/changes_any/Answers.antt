@@ -2,7 +2,7 @@ use Rattle.std.proofs.Common.{◌∙◌, Bool, ap, sym}
 use Rattle.std.specs.List.{filter, list_any}
 use Rattle.std.proofs.lemmas.List.{drop_all}
 use Rattle.std.proofs.lemmas.List.Folds.{list_any_at}
-use Rattle.slurm_text.specs.declared.plain.target.Target.{Target}
+use Rattle.request_data.specs.declared.target.Target.{Target}
 use Rattle.job_table.specs.declared.record.JobRecord.{JobRecord}
 use Rattle.job_table.specs.Targets.{is_named}
 use Rattle.ctl_state.specs.State.{state_of}

@@ -1,6 +1,6 @@
 use Rattle.std.proofs.Common.{◌≡◌, Bool, drop}
 use Rattle.std.specs.List.{filter, list_any}
-use Rattle.slurm_text.specs.declared.plain.target.Target.{Target}
+use Rattle.request_data.specs.declared.target.Target.{Target}
 use Rattle.job_table.specs.declared.record.JobRecord.{JobRecord}
 use Rattle.job_table.specs.Targets.{is_named}
 use Rattle.ctl_state.specs.State.{state_of}

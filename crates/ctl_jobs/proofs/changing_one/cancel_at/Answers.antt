@@ -1,6 +1,6 @@
 use Rattle.std.proofs.Common.{◌∙◌, ap, refl, None}
-use Rattle.slurm_text.specs.declared.plain.state.Final.TheVariants.{Cancelled}
-use Rattle.slurm_text.specs.declared.plain.state.JobState.TheVariants.{Pending, Running, Completing}
+use Rattle.request_data.specs.declared.state.Final.TheVariants.{Cancelled}
+use Rattle.request_data.specs.declared.state.JobState.TheVariants.{Pending, Running, Completing}
 use Rattle.job_table.specs.declared.change.Change.TheVariants.{CancelPending, CancelRequeue, Leave}
 use Rattle.job_table.specs.Changes.{changed}
 use Rattle.job_table.specs.Walks.{map_at}

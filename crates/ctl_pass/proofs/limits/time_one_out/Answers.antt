@@ -1,6 +1,6 @@
 use Rattle.std.proofs.Common.{◌≡◌, true, None, get_or, sym, ap, ◌∙◌, refl}
 use Rattle.std.proofs.lemmas.List.{get_or_default}
-use Rattle.slurm_text.specs.declared.plain.state.Final.TheVariants.{Timeout}
+use Rattle.request_data.specs.declared.state.Final.TheVariants.{Timeout}
 use Rattle.job_table.specs.declared.change.Change.TheVariants.{Leave}
 use Rattle.job_table.specs.Changes.{changed}
 use Rattle.ctl_pass.specs.Limits.{is_over, timed_out}

@@ -1,6 +1,6 @@
 use Rattle.std.proofs.Common.{◌≡◌}
 use Rattle.node_daemon.specs.Turn.{root}
-use Rattle.slurm_text.specs.declared.plain.request.Request.TheVariants.{Pass}
+use Rattle.request_data.specs.declared.request.Request.TheVariants.{Pass}
 use Rattle.ctl_planner.proofs.Counting.{answered-later, cut-short, goes_further, goes_nowhere, not-counted, on-err, planned-beside, planned-beside-err}
 use Rattle.ctl_planner.proofs.turn.planner_turn.Goals as goal
 

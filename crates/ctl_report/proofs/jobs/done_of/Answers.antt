@@ -1,7 +1,7 @@
 use Rattle.std.proofs.Common.{◌∙◌, rules, tests}
 use Rattle.std.proofs.lemmas.Iterator.{YieldsList-from_slice}
 use Rattle.std.proofs.lemmas.Iterator.Search.{find_from_yields_List}
-use Rattle.slurm_text.specs.declared.plain.report.Done.{Done}
+use Rattle.request_data.specs.declared.report.Done.{Done}
 use Rattle.ctl_report.specs.Reporting.{is_last_start}
 use Rattle.ctl_report.proofs.jobs.done_of.Goals as goal
 

@@ -1,6 +1,6 @@
 use Rattle.std.proofs.Common.{◌≡◌, ◌∙◌, List, map, not, ap}
 use Rattle.std.specs.List.{list_any, filter}
-use Rattle.slurm_text.specs.declared.plain.report.Start.{Start}
+use Rattle.request_data.specs.declared.report.Start.{Start}
 use Rattle.ctl_report.specs.Ordering.{in_order, is_same, start_of, stays}
 use Rattle.ctl_report.proofs.Reported.{lost_starts}
 use Rattle.ctl_report.proofs.ordering.kills.Goals as goal

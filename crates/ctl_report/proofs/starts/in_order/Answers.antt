@@ -1,7 +1,7 @@
 use Rattle.std.proofs.Common.{◌∙◌, rules}
 use Rattle.std.proofs.lemmas.List.Filters.{dedup_is}
 use Rattle.std.proofs.lemmas.List.Sorted.{answers_always}
-use Rattle.slurm_text.specs.declared.plain.report.Start.{Start}
+use Rattle.request_data.specs.declared.report.Start.{Start}
 use Rattle.ctl_report.proofs.InOrder.{in_order-deduped, in_order_rises}
 use Rattle.ctl_report.proofs.starts.in_order.Goals as goal
 

@@ -1,6 +1,6 @@
 use Rattle.std.proofs.Common.{◌≡◌, take, sym, refl, append-nil}
 use Rattle.std.proofs.lemmas.List.{take_all}
-use Rattle.slurm_text.specs.declared.plain.view.Row.TheVariants.{Job}
+use Rattle.reply_data.specs.declared.view.Row.TheVariants.{Job}
 use Rattle.job_table.specs.declared.record.JobRecord.{JobRecord}
 use Rattle.ctl_state.specs.State.{state_of}
 use Rattle.ctl_show.specs.Showing.{row_of, is_meant}

@@ -1,5 +1,5 @@
 use Rattle.std.proofs.Common.{◌≡◌, take, map, filter}
-use Rattle.slurm_text.specs.declared.plain.view.Row.TheVariants.{Priority}
+use Rattle.reply_data.specs.declared.view.Row.TheVariants.{Priority}
 use Rattle.ctl_state.specs.State.{state_of}
 use Rattle.ctl_show.specs.Showing.{priority_row_of, is_weighed}
 use Rattle.ctl_show.proofs.priorities.priority_rows.Given as goal

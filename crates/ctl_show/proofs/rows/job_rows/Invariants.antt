@@ -1,5 +1,5 @@
 use Rattle.std.proofs.Common.{◌≡◌, take, map, filter}
-use Rattle.slurm_text.specs.declared.plain.view.Row.TheVariants.{Job}
+use Rattle.reply_data.specs.declared.view.Row.TheVariants.{Job}
 use Rattle.ctl_state.specs.State.{state_of}
 use Rattle.ctl_show.specs.Showing.{row_of, is_shown}
 use Rattle.ctl_show.proofs.rows.job_rows.Given as goal

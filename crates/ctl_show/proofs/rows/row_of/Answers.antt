@@ -1,5 +1,5 @@
 use Rattle.std.proofs.Common.{ap, refl, ◌∙◌}
-use Rattle.slurm_text.specs.declared.plain.priority.PriorityParts.{PriorityParts}
+use Rattle.reply_data.specs.declared.priority.PriorityParts.{PriorityParts}
 use Rattle.ctl_state.specs.State.{state_of}
 use Rattle.ctl_rank.specs.Rank.{priority_of}
 use Rattle.ctl_show.specs.Showing.{reason_shown}

@@ -2,7 +2,7 @@ use Rattle.std.proofs.Common.{◌≡◌, ℕ, take, length, sym, refl, arith, ap
 use Rattle.std.specs.List.{enumerate_from}
 use Rattle.std.proofs.lemmas.List.{take_all}
 use Rattle.std.proofs.lemmas.List.FromFn.{length-enumerate_from}
-use Rattle.slurm_text.specs.declared.plain.view.Row.TheVariants as shown
+use Rattle.reply_data.specs.declared.view.Row.TheVariants as shown
 use Rattle.node_state.specs.declared.record.NodeRecord.{NodeRecord}
 use Rattle.ctl_state.specs.Holding.{parts_of, mem_in, mem_held}
 use Rattle.ctl_state.specs.State.{state_of}

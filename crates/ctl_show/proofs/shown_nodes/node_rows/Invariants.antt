@@ -1,6 +1,6 @@
 use Rattle.std.proofs.Common.{◌≡◌, ℕ, take, map, filter}
 use Rattle.std.specs.List.{enumerate_from}
-use Rattle.slurm_text.specs.declared.plain.view.Row.TheVariants as shown
+use Rattle.reply_data.specs.declared.view.Row.TheVariants as shown
 use Rattle.node_state.specs.declared.record.NodeRecord.{NodeRecord}
 use Rattle.ctl_state.specs.State.{state_of}
 use Rattle.ctl_show.specs.Records.{node_row, is_asked_for}

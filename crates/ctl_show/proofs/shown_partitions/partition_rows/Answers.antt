@@ -1,6 +1,6 @@
 use Rattle.std.proofs.Common.{◌≡◌, take, sym, refl, append-nil}
 use Rattle.std.proofs.lemmas.List.{take_all}
-use Rattle.slurm_text.specs.declared.plain.view.Row.TheVariants as shown
+use Rattle.reply_data.specs.declared.view.Row.TheVariants as shown
 use Rattle.partitions.specs.declared.record.PartRecord.{PartRecord}
 use Rattle.ctl_state.specs.State.{state_of}
 use Rattle.ctl_show.specs.Records.{partition_row}

@@ -1,5 +1,5 @@
 use Rattle.std.proofs.Common.{◌≡◌, take, map, filter}
-use Rattle.slurm_text.specs.declared.plain.view.Row.TheVariants as shown
+use Rattle.reply_data.specs.declared.view.Row.TheVariants as shown
 use Rattle.ctl_state.specs.State.{state_of}
 use Rattle.ctl_show.specs.Records.{partition_row}
 use Rattle.ctl_show.specs.Standing.{is_asked}

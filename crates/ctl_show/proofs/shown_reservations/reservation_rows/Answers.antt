@@ -1,6 +1,6 @@
 use Rattle.std.proofs.Common.{◌≡◌, take, sym, refl, append-nil}
 use Rattle.std.proofs.lemmas.List.{take_all}
-use Rattle.slurm_text.specs.declared.plain.view.Row.TheVariants as shown
+use Rattle.reply_data.specs.declared.view.Row.TheVariants as shown
 use Rattle.reservations.specs.declared.record.Reservation.{Reservation}
 use Rattle.ctl_show.specs.Records.{is_meant, reservation_row}
 use Rattle.ctl_show.proofs.Gathered.{map-filter-more}

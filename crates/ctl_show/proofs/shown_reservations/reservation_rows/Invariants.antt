@@ -1,5 +1,5 @@
 use Rattle.std.proofs.Common.{◌≡◌, take, map, filter}
-use Rattle.slurm_text.specs.declared.plain.view.Row.TheVariants as shown
+use Rattle.reply_data.specs.declared.view.Row.TheVariants as shown
 use Rattle.reservations.specs.declared.record.Reservation.{Reservation}
 use Rattle.ctl_show.specs.Records.{is_meant, reservation_row}
 use Rattle.ctl_show.proofs.shown_reservations.reservation_rows.Given as goal

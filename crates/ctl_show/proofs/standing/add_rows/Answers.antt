@@ -1,5 +1,5 @@
 use Rattle.std.proofs.Common.{◌≡◌, ◌∙◌, Some, None, sym, arith, append-nil}
-use Rattle.slurm_text.specs.declared.plain.view.NodeGroup.{NodeGroup}
+use Rattle.reply_data.specs.declared.view.NodeGroup.{NodeGroup}
 use Rattle.ctl_state.specs.State.{state_of}
 use Rattle.ctl_show.specs.Standing.{groups, row_by, names_standing, rows_of_partition}
 use Rattle.ctl_show.proofs.Gathered.{filter_map-more}

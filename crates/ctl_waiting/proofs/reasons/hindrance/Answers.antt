@@ -5,7 +5,7 @@ use Rattle.ctl_state.specs.State.{partition_of, state_of}
 use Rattle.ctl_waiting.specs.Reasons.{exceeds_wall, held_reason, hindrance, hindrances_in, is_early, lacks_node, lacks_reservation, reached_beside, awaiting_reason}
 use Rattle.run_limits.specs.Limits.{first_reason, reason_if}
 use Rattle.ctl_waiting.proofs.FirstReason.{or-else, reasons-joined}
-use Rattle.slurm_text.specs.declared.plain.state.Reason.TheVariants.{BeginTime, QosMaxWallDurationPerJobLimit, ReqNodeNotAvail, Reservation}
+use Rattle.request_data.specs.declared.state.Reason.TheVariants.{BeginTime, QosMaxWallDurationPerJobLimit, ReqNodeNotAvail, Reservation}
 use Rattle.ctl_waiting.proofs.reasons.hindrance.Goals as goal
 
 pub returns : goal.returns

@@ -1,5 +1,5 @@
 use Rattle.std.proofs.Common.{◌≡◌, ◌+◌, length, take, sum_by}
-use Rattle.slurm_text.specs.declared.plain.dependency.DepItem.{DepItem}
+use Rattle.plain_data.specs.declared.dependency.DepItem.{DepItem}
 use Rattle.job_texts.proofs.dependency.name_few_jobs.Given as goal
 
 abbrev pub invariant-loop-item : goal.invariant-loop-item

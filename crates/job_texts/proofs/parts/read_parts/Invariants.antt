@@ -1,6 +1,6 @@
 use Rattle.std.proofs.Common.{◌≡◌, ◌+◌, length}
 use Rattle.std.specs.Option.{option_copied, option_map_or}
-use Rattle.slurm_text.specs.Fields.{fields_of_rest}
+use Rattle.small_texts.specs.Fields.{fields_of_rest}
 use Rattle.job_texts.specs.Parts.{parts_in}
 use Rattle.job_texts.proofs.PartLemmas.{behind}
 use Rattle.job_texts.proofs.parts.read_parts.Given as goal

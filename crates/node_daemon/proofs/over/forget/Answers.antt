@@ -1,7 +1,7 @@
 -- What is retained is what isn't to be forgotten.
 use Rattle.std.proofs.Common.{Bool, not, rules, tests}
 use Rattle.std.proofs.lemmas.Fn.{filter_same}
-use Rattle.slurm_text.specs.declared.plain.report.Done.{Done}
+use Rattle.request_data.specs.declared.report.Done.{Done}
 use Rattle.node_daemon.specs.Daemon.{is_among}
 use Rattle.node_daemon.proofs.over.forget.Goals as goal
 

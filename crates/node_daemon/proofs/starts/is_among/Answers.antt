@@ -1,7 +1,7 @@
 -- The starts are in order, so the search finds exactly those that stand there.
 use Rattle.std.proofs.Common.{◌∙◌, rules}
 use Rattle.std.proofs.lemmas.List.Sorted.{answers_always}
-use Rattle.slurm_text.specs.declared.plain.report.Start.{Start}
+use Rattle.request_data.specs.declared.report.Start.{Start}
 use Rattle.node_daemon.proofs.Searching.{searched}
 use Rattle.node_daemon.proofs.starts.is_among.Goals as goal
 

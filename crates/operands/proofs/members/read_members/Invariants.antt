@@ -1,5 +1,5 @@
 use Rattle.std.proofs.Common.{◌≡◌, drop, map}
-use Rattle.slurm_text.specs.Hosts.{all_some}
+use Rattle.host_lists.specs.Hosts.{all_some}
 use Rattle.operands.proofs.Lists.{behind}
 use Rattle.operands.specs.Cut.{texts_of}
 use Rattle.operands.proofs.members.read_members.Given as goal

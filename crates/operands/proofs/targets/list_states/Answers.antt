@@ -1,7 +1,7 @@
 use Rattle.std.proofs.Common.{Bor, List, ℕ, ◌∙◌, rules}
 use Rattle.std.proofs.lemmas.Iterator.{YieldsList-from_map, YieldsList-from_slice, items_from_collect}
 use Rattle.std.proofs.lemmas.Iterator.Consumers.{YieldsList-at}
-use Rattle.slurm_text.specs.declared.plain.query.StateCode.{StateCode}
+use Rattle.request_data.specs.declared.query.StateCode.{StateCode}
 use Rattle.operands.proofs.targets.list_states.Goals as goal
 
 pub returns : goal.returns

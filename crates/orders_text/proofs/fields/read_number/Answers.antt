@@ -1,5 +1,5 @@
 use Rattle.std.proofs.Common.{decimal, true, false, ◌≡◌, Some, None, sym, ap, ◌∙◌, arith}
-use Rattle.slurm_text.specs.Digits.{number_within}
+use Rattle.small_texts.specs.Digits.{number_within}
 use Rattle.orders_text.proofs.Cutting.{decimal_read}
 use Rattle.std.specs.Cmp.Lexicographic.{bytes_decides}
 use Rattle.orders_text.proofs.fields.read_number.Goals as goal

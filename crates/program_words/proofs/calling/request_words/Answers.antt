@@ -1,6 +1,6 @@
 use Rattle.std.proofs.Common.{◌≡◌, ◌∷◌, Err, map, string_bytes, sym, ap, ◌∙◌, arith}
 use Rattle.std.proofs.lemmas.List.{length-map}
-use Rattle.slurm_text.specs.Words.{first_bad_word}
+use Rattle.line_words.specs.Words.{first_bad_word}
 use Rattle.program_words.proofs.Headers.{bad_word, many_words}
 use Rattle.program_words.proofs.calling.request_words.Goals as goal
 

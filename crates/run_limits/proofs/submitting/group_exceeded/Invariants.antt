@@ -1,6 +1,6 @@
 -- None is exceeded at the places so far.
 use Rattle.std.proofs.Common.{◌≡◌, ◌+◌, map, drop}
-use Rattle.slurm_text.specs.declared.plain.refusal.Which.TheVariants.{AssocGrpSubmitJobs}
+use Rattle.reply_data.specs.declared.refusal.Which.TheVariants.{AssocGrpSubmitJobs}
 use Rattle.accounts_qos.specs.Accounts.{limits_at}
 use Rattle.run_limits.specs.declared.counted.Group.TheVariants.{Below}
 use Rattle.run_limits.specs.Submitting.{exceeded, first_refusal}

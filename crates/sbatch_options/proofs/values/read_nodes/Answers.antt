@@ -1,5 +1,5 @@
 use Rattle.std.proofs.Common.{◌≡◌, Some, Err, ap, refl}
-use Rattle.slurm_text.specs.Hosts.{first_bad_item}
+use Rattle.host_lists.specs.Hosts.{first_bad_item}
 use Rattle.sbatch_options.specs.Values.{nodes_in}
 use Rattle.sbatch_options.proofs.values.read_nodes.Goals as goal
 

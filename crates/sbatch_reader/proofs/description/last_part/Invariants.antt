@@ -1,6 +1,6 @@
 use Rattle.std.proofs.Common.{◌≡◌, ◌+◌, [], length}
 use Rattle.std.specs.Option.{option_copied, option_map_or}
-use Rattle.slurm_text.specs.Fields.{fields, fields_of_rest}
+use Rattle.small_texts.specs.Fields.{fields, fields_of_rest}
 use Rattle.sbatch_reader.specs.Description.{last_of}
 use Rattle.sbatch_reader.proofs.description.last_part.Given as goal
 

@@ -1,6 +1,6 @@
 use Rattle.std.proofs.Common.{◌≡◌, ◌+◌, ◌≤◌, fold, length}
 use Rattle.std.specs.Option.{option_copied, option_map_or}
-use Rattle.slurm_text.specs.Fields.{fields_of_rest}
+use Rattle.small_texts.specs.Fields.{fields_of_rest}
 use Rattle.sbatch_reader.specs.Drafts.{after}
 use Rattle.sbatch_reader.specs.Lines.{lines_say}
 use Rattle.sbatch_reader.proofs.lines.read_lines.Given as goal

@@ -1,5 +1,5 @@
 use Rattle.std.proofs.Common.{◌≡◌, Some, Err, ap, refl}
-use Rattle.slurm_text.specs.Words.{first_bad}
+use Rattle.line_words.specs.Words.{first_bad}
 use Rattle.sbatch_reader.specs.Lines.{split_text}
 use Rattle.sbatch_reader.proofs.lines.split_text.Goals as goal
 

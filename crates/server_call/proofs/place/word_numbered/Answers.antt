@@ -1,6 +1,6 @@
 use Rattle.std.proofs.Common.{◌≡◌, true, List, [], sym, ap, subst, unwrap_or}
 use Rattle.std.specs.List.{list_all}
-use Rattle.slurm_text.specs.Words.{is_word_byte}
+use Rattle.line_words.specs.Words.{is_word_byte}
 use Rattle.server_call.proofs.Names.{word_at_is_good}
 use Rattle.server_call.proofs.place.word_numbered.Goals as goal
 

@@ -1,4 +1,4 @@
-use Rattle.slurm_text.specs.declared.plain.request.Request.TheVariants.{Pass}
+use Rattle.request_data.specs.declared.request.Request.TheVariants.{Pass}
 use Rattle.simulation.proofs.Telling.{is_told}
 use Rattle.simulation.proofs.asking.pass.Goals as goal
 

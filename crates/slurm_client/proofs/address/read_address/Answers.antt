@@ -1,6 +1,6 @@
 use Rattle.std.proofs.Common.{◌≡◌, None, Some, sym, ap, ◌∙◌, arith, true, false}
-use Rattle.slurm_text.specs.Digits.{number_within}
-use Rattle.slurm_text.specs.Name.{is_name}
+use Rattle.small_texts.specs.Digits.{number_within}
+use Rattle.small_texts.specs.Name.{is_name}
 use Rattle.slurm_client.proofs.Addresses.{begins, has_sign, parts_told, parts_make}
 use Rattle.slurm_client.proofs.address.read_address.Goals as goal
 

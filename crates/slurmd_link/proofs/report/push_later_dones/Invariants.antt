@@ -1,7 +1,7 @@
 use Rattle.std.proofs.Common.{◌≡◌, ◌∷◌, ◌++◌, map, take, flat_map, true}
 use Rattle.std.specs.List.{list_all}
 use Rattle.std.specs.Str.{byte}
-use Rattle.slurm_text.specs.Words.{is_word_byte}
+use Rattle.line_words.specs.Words.{is_word_byte}
 use Rattle.slurmd_link.specs.Reports.{done_text}
 use Rattle.slurmd_link.proofs.report.push_later_dones.Given as goal
 

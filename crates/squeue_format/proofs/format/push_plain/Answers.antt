@@ -2,7 +2,7 @@ use Rattle.std.proofs.Common.{rules}
 use Rattle.std.proofs.lemmas.Iterator.{YieldsList-from_map, YieldsList-from_slice}
 use Rattle.std.proofs.lemmas.Iterator.Consumers.{YieldsList-at}
 use Rattle.std.proofs.lemmas.Iterator.Adapters.{items_from_extend}
-use Rattle.slurm_text.specs.declared.plain.query.Piece.TheVariants.{Plain}
+use Rattle.request_data.specs.declared.query.Piece.TheVariants.{Plain}
 use Rattle.squeue_format.proofs.format.push_plain.Goals as goal
 
 pub returns : goal.returns

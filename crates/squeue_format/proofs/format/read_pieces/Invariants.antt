@@ -1,6 +1,6 @@
 use Rattle.std.proofs.Common.{◌≡◌, ◌+◌, length}
 use Rattle.std.specs.Option.{option_copied, option_map_or}
-use Rattle.slurm_text.specs.Fields.{fields_of_rest}
+use Rattle.small_texts.specs.Fields.{fields_of_rest}
 use Rattle.squeue_format.specs.Format.{format_in}
 use Rattle.squeue_format.proofs.FormatLemmas.{behind}
 use Rattle.squeue_format.proofs.format.read_pieces.Given as goal

@@ -1,5 +1,5 @@
 use Rattle.std.proofs.Common.{◌≡◌, map, take, Some}
-use Rattle.slurm_text.specs.Digits.{number_within}
+use Rattle.small_texts.specs.Digits.{number_within}
 use Rattle.table_lines.proofs.fields.narrow_numbers.Given as goal
 
 -- the numbers of the parts so far

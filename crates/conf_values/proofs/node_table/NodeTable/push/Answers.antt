@@ -1,7 +1,7 @@
 use Rattle.std.proofs.Common.{rules, ℕ, ◌≡◌, [], ◌∷◌, ◌++◌, List, ap, sym, ◌∙◌}
 use Rattle.std.proofs.lemmas.List.{map-append}
-use Rattle.slurm_text.specs.Confs.{node_names}
-use Rattle.slurm_text.specs.declared.plain.conf.NodeConf.{NodeConf}
+use Rattle.plain_data.specs.Confs.{node_names}
+use Rattle.plain_data.specs.declared.conf.NodeConf.{NodeConf}
 use Rattle.conf_values.proofs.NameLemmas.{has-insert}
 use Rattle.conf_values.proofs.node_table.NodeTable.push.Goals as goal
 

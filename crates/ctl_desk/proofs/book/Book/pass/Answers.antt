@@ -1,5 +1,5 @@
 use Rattle.std.proofs.Common.{◌≡◌, ap, ◌∙◌, sym, subst, ℕ, IfSome}
-use Rattle.slurm_text.specs.declared.plain.request.Request.TheVariants.{Pass}
+use Rattle.request_data.specs.declared.request.Request.TheVariants.{Pass}
 use Rattle.ctl_state.specs.State.{State}
 use Rattle.backfill_planner.specs.Plans.{PlannedView}
 use Rattle.ctl_core.specs.Step.{IsHinted, raised, reply_of, steps_of}

@@ -1,4 +1,4 @@
-use Rattle.slurm_text.specs.declared.plain.request.Request.TheVariants.{Pass}
+use Rattle.request_data.specs.declared.request.Request.TheVariants.{Pass}
 use Rattle.std.proofs.Common.{IfOk, IfSome, ap, refl, subst}
 use Rattle.backfill_planner.specs.Plans.{PlannedView}
 use Rattle.ctl_state.specs.State.{State}
