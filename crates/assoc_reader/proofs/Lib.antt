@@ -3,3 +3,4 @@ pub mod IndexLemmas
 pub mod ListLemmas
 pub mod QosLemmas
 pub mod TreeLemmas
+pub mod OptionLemmas

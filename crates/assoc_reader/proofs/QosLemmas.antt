@@ -8,9 +8,9 @@ use Rattle.std.proofs.lemmas.List.Quantifiers.{all_pairs_push}
 use Rattle.std.proofs.lemmas.Slice.Eq.{bytes_eq-Decides}
 use Rattle.host_lists.specs.Hosts.{has}
 use Rattle.plain_data.specs.declared.assoc.QosConf.{QosConf}
-use Rattle.assoc_values.specs.Words.{no_qos_words}
-use Rattle.assoc_values.specs.declared.qos_words.QosWords.{QosWords}
-use Rattle.assoc_values.specs.declared.refusal.AssocKind.TheVariants.{TwiceNamed, OverLimit}
+use Rattle.assoc_reader.specs.Words.{no_qos_words}
+use Rattle.assoc_reader.specs.declared.qos_words.QosWords.{QosWords}
+use Rattle.assoc_reader.specs.declared.refusal.AssocKind.TheVariants.{TwiceNamed, OverLimit}
 use Rattle.assoc_reader.specs.Qos.{qos_names, counted, qos_fault, qos_conf, with_normal, IsQosList}
 use Rattle.assoc_reader.proofs.ListLemmas.{fails-at, list_any-of}
 

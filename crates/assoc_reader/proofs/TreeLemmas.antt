@@ -11,8 +11,8 @@ use Rattle.std.proofs.lemmas.Option.{slice_get-map, slice_get-get_or}
 use Rattle.std.proofs.lemmas.Slice.Eq.{bytes_eq-Decides}
 use Rattle.plain_data.specs.Assocs.{StandsUnder, AreNamedApart, is_same_place, parents_in, greatest_depth}
 use Rattle.plain_data.specs.declared.assoc.AssocConf.{AssocConf}
-use Rattle.assoc_values.specs.declared.assoc_words.AssocWords.{AssocWords}
-use Rattle.assoc_values.specs.declared.refusal.AssocKind.TheVariants.{TwiceNamed, OverLimit}
+use Rattle.assoc_reader.specs.declared.assoc_words.AssocWords.{AssocWords}
+use Rattle.assoc_reader.specs.declared.refusal.AssocKind.TheVariants.{TwiceNamed, OverLimit}
 use Rattle.assoc_reader.specs.Tree.{TreeView, is_root, is_account, is_user_of, account_place, parent_named, is_named, users_in, children_of, depth_of, is_full, name_fault, assoc_conf, with_assoc, IsAccountAt, IsTree}
 use Rattle.assoc_reader.proofs.DepthLemmas.{Rises, Within, way_up-push}
 use Rattle.assoc_reader.proofs.ListLemmas.{slice_get-before, slice_get-last, slice_get-behind, fails-at, none-passes}

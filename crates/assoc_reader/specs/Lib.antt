@@ -1,6 +1,11 @@
-pub use Rattle.assoc_values.specs.Refusal
+pub use Rattle.assoc_reader.specs.Refusal
 pub mod Index
 pub mod Lines
 pub mod Qos
 pub mod Reader
 pub mod Tree
+pub mod Cuts
+pub mod Keys
+pub mod Options
+pub mod Refusal
+pub mod Words

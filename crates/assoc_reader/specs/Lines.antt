@@ -4,9 +4,9 @@ use Rattle.std.specs.List.{list_all}
 use Rattle.std.specs.Str.{byte}
 use Rattle.small_texts.specs.Name.{is_name}
 use Rattle.small_texts.specs.Options.{◌>>=◌}
-use Rattle.assoc_values.specs.Cuts.{cut_at}
-use Rattle.assoc_values.specs.Keys.{line_kind}
-use Rattle.assoc_values.specs.declared.keys.LineKind.{LineKind}
+use Rattle.assoc_reader.specs.Cuts.{cut_at}
+use Rattle.assoc_reader.specs.Keys.{line_kind}
+use Rattle.assoc_reader.specs.declared.keys.LineKind.{LineKind}
 use Rattle.assoc_reader.specs.declared.lines.LineForm.{LineForm}
 
 -- an empty line and a comment, which begins with `#`, say nothing, whatever their bytes

@@ -2,10 +2,10 @@
 use Rattle.std.specs.Prelude.{◌≢◌, ℕ, ◌+◌, ◌≤◌, nat_lt, if◌then◌else◌, List, [], ◌∷◌, ◌++◌, length, map, codes, AllPairs, Option, Some, None}
 use Rattle.host_lists.specs.Hosts.{has}
 use Rattle.plain_data.specs.declared.assoc.QosConf.{QosConf}
-use Rattle.assoc_values.specs.Words.{no_qos_words}
-use Rattle.assoc_values.specs.declared.qos_words.QosWords.{QosWords}
-use Rattle.assoc_values.specs.declared.refusal.AssocKind.{AssocKind}
-use Rattle.assoc_values.specs.declared.refusal.AssocKind.TheVariants.{TwiceNamed, OverLimit}
+use Rattle.assoc_reader.specs.Words.{no_qos_words}
+use Rattle.assoc_reader.specs.declared.qos_words.QosWords.{QosWords}
+use Rattle.assoc_reader.specs.declared.refusal.AssocKind.{AssocKind}
+use Rattle.assoc_reader.specs.declared.refusal.AssocKind.TheVariants.{TwiceNamed, OverLimit}
 
 -- their names
 abbrev pub qos_names : List QosConf → List (List ℕ)

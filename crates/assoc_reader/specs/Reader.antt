@@ -4,13 +4,13 @@ use Rattle.std.specs.Str.{byte}
 use Rattle.plain_data.specs.Assocs.{AssocView}
 use Rattle.small_texts.specs.Fields.{fields}
 use Rattle.conf_values.specs.Refusal.{◌>>=◌}
-use Rattle.assoc_values.specs.Words.{assoc_said, qos_said}
-use Rattle.assoc_values.specs.declared.keys.LineKind.{LineKind}
-use Rattle.assoc_values.specs.declared.keys.LineKind.TheVariants.{Cluster, Qos, Parent, Account, User}
-use Rattle.assoc_values.specs.declared.refusal.AssocKind.{AssocKind}
-use Rattle.assoc_values.specs.declared.refusal.AssocKind.TheVariants.{NotAscii, BadLine, UnknownParent, OverLimit, NoCluster}
-use Rattle.assoc_values.specs.declared.refusal.AssocRefusal.{AssocRefusal}
-use Rattle.assoc_values.specs.declared.refusal.AssocRefusal.TheVariants.{At}
+use Rattle.assoc_reader.specs.Words.{assoc_said, qos_said}
+use Rattle.assoc_reader.specs.declared.keys.LineKind.{LineKind}
+use Rattle.assoc_reader.specs.declared.keys.LineKind.TheVariants.{Cluster, Qos, Parent, Account, User}
+use Rattle.assoc_reader.specs.declared.refusal.AssocKind.{AssocKind}
+use Rattle.assoc_reader.specs.declared.refusal.AssocKind.TheVariants.{NotAscii, BadLine, UnknownParent, OverLimit, NoCluster}
+use Rattle.assoc_reader.specs.declared.refusal.AssocRefusal.{AssocRefusal}
+use Rattle.assoc_reader.specs.declared.refusal.AssocRefusal.TheVariants.{At}
 use Rattle.assoc_reader.specs.Lines.{Form, is_skipped, is_ascii, form_in}
 use Rattle.assoc_reader.specs.Qos.{qos_names, qos_fault, qos_conf, with_normal}
 use Rattle.assoc_reader.specs.Tree.{parent_named, name_fault, with_assoc, no_assocs}

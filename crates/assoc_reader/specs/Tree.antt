@@ -3,9 +3,9 @@ use Rattle.std.specs.Prelude.{◌≡◌, ◌≢◌, ℕ, suc, ◌<◌, ◌≤◌
 use Rattle.std.specs.List.{list_any}
 use Rattle.plain_data.specs.Assocs.{StandsUnder, AreNamedApart, is_same_place, parents_in, way_up, greatest_depth}
 use Rattle.plain_data.specs.declared.assoc.AssocConf.{AssocConf}
-use Rattle.assoc_values.specs.declared.assoc_words.AssocWords.{AssocWords}
-use Rattle.assoc_values.specs.declared.refusal.AssocKind.{AssocKind}
-use Rattle.assoc_values.specs.declared.refusal.AssocKind.TheVariants.{TwiceNamed, OverLimit}
+use Rattle.assoc_reader.specs.declared.assoc_words.AssocWords.{AssocWords}
+use Rattle.assoc_reader.specs.declared.refusal.AssocKind.{AssocKind}
+use Rattle.assoc_reader.specs.declared.refusal.AssocKind.TheVariants.{TwiceNamed, OverLimit}
 
 pub record TreeView : Type 0 where
   -- in the order of the file

@@ -4,14 +4,14 @@ ghost use Rattle.std.specs.Prelude.{◌≡◌, ◌<◌, ◌^◌, slice_get, opti
 ghost use Rattle.plain_data.specs.Assocs.{greatest_depth};
 ghost use Rattle.assoc_reader.specs.Tree.{is_root, depth_of};
 
+use crate::assoc_words::AssocWords;
 use crate::counts::Counts;
 use crate::name_index::NameIndex;
-use assoc_values::assoc_words::AssocWords;
-use assoc_values::refusal::AssocKind;
+use crate::refusal::AssocKind;
+use plain_data::assoc::AssocConf;
 use plain_data::items::Items;
 use small_texts::memory_error::Memory;
 use small_texts::name::Name;
-use plain_data::assoc::AssocConf;
 use std::alloc::Global;
 use std::marker::Model;
 

@@ -3,12 +3,12 @@
 ghost use Rattle.std.specs.Prelude.{◌≡◌, IfOk};
 
 use crate::assoc_tree::AssocTree;
+use crate::assoc_words::read_assoc_words;
+use crate::keys::LineKind;
 use crate::lines::{LineForm, is_ascii, is_skipped, read_form};
 use crate::qos_table::QosTable;
-use assoc_values::assoc_words::read_assoc_words;
-use assoc_values::keys::LineKind;
-use assoc_values::qos_words::read_qos_words;
-use assoc_values::refusal::{AssocKind, Fault};
+use crate::qos_words::read_qos_words;
+use crate::refusal::{AssocKind, Fault};
 use small_texts::memory_error::Memory;
 use small_texts::name::Name;
 use std::alloc::Global;
@@ -30,7 +30,7 @@ fn copy_name(alloc: Global, text: &[u8]) -> Result<Name, Memory>
 
 impl Draft {
     ghost use Rattle.std.specs.Prelude.{◌≡◌, OnOk, IsErrOf, Ok, Err};
-    ghost use Rattle.assoc_values.specs.declared.refusal.AssocKind.{AssocKind};
+    ghost use Rattle.assoc_reader.specs.declared.refusal.AssocKind.{AssocKind};
     ghost use Rattle.assoc_reader.specs.Lines.{form_of};
     ghost use Rattle.assoc_reader.specs.Reader.{nothing_said, after_cluster, after_qos, after_parent, after_assoc, before_cluster, behind_cluster, after_form, after_line};
 

@@ -4,8 +4,8 @@ ghost use Rattle.std.specs.Prelude.{◌≡◌, option_map};
 ghost use Rattle.small_texts.specs.Name.{is_name};
 ghost use Rattle.assoc_reader.specs.Lines.{is_skipped, is_ascii, form_in, form_of};
 
-use assoc_values::cuts::cut_at;
-use assoc_values::keys::{LineKind, line_kind};
+use crate::cuts::cut_at;
+use crate::keys::{LineKind, line_kind};
 use small_texts::name::is_name;
 
 /// A line of one of the forms, cut behind its name.

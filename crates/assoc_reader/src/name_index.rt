@@ -1,8 +1,8 @@
 //! The names of associations: a look-up costs the same however many there are.
 
+use plain_data::assoc::AssocConf;
 use small_texts::memory_error::Memory;
 use small_texts::name::Name;
-use plain_data::assoc::AssocConf;
 use std::alloc::Global;
 use std::collections::{HashMap, HashSet};
 

@@ -4,12 +4,12 @@ ghost use Rattle.std.specs.Prelude.{◌≡◌, codes, bytes_eq};
 ghost use Rattle.host_lists.specs.Hosts.{has};
 ghost use Rattle.assoc_reader.specs.Qos.{qos_names, qos_conf};
 
-use assoc_values::qos_words::QosWords;
-use assoc_values::refusal::AssocKind;
+use crate::qos_words::QosWords;
+use crate::refusal::AssocKind;
+use plain_data::assoc::QosConf;
 use plain_data::items::Items;
 use small_texts::memory_error::Memory;
 use small_texts::name::Name;
-use plain_data::assoc::QosConf;
 use std::alloc::Global;
 use std::marker::Model;
 

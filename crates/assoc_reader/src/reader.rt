@@ -3,13 +3,13 @@
 ghost use Rattle.std.specs.Prelude.{ℕ, ◌≡◌, ◌≤◌, length, IfOk, IsErrOf, Ok, Err};
 ghost use Rattle.std.specs.Str.{byte};
 ghost use Rattle.small_texts.specs.Fields.{fields};
-ghost use Rattle.assoc_values.specs.declared.refusal.AssocKind.{AssocKind};
+ghost use Rattle.assoc_reader.specs.declared.refusal.AssocKind.{AssocKind};
 ghost use Rattle.assoc_reader.specs.Reader.{after_lines, nothing_said, whole_file, assocs_in};
 
 use crate::draft::Draft;
-use assoc_values::refusal::{AssocKind, AssocRefusal, Fault};
-use small_texts::fields::first_field;
+use crate::refusal::{AssocKind, AssocRefusal, Fault};
 use plain_data::assoc::AssocFile;
+use small_texts::fields::first_field;
 use std::alloc::Global;
 
 const LONGEST_FILE: usize = 4_194_304;

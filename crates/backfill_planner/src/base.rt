@@ -1,5 +1,5 @@
-use resource_profile::{Hold, NodeRoom};
 use plain_data::items::Items;
+use resource_profile::{Hold, NodeRoom};
 use std::marker::Model;
 
 /// What a plan begins with: the nodes' rooms, what the running jobs hold of them, and the last second at which a start

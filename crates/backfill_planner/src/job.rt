@@ -3,9 +3,9 @@ ghost use Rattle.backfill_planner.specs.Placements.{IsPlannable};
 
 use cpu_ids::CpuIds;
 use node_pick::Need;
-use small_texts::memory_error::Memory;
 use plain_data::mem_ask::MemAsk;
 use plain_data::ranged::Ranged;
+use small_texts::memory_error::Memory;
 use std::marker::Model;
 use std::sync::ArcSlice;
 

@@ -15,8 +15,8 @@ ghost use Rattle.backfill_planner.specs.Staying.{EndsInTime, StaysFrom};
 ghost use Rattle.backfill_planner.specs.LowerLaws.{LowerLaws};
 
 use node_pick::laws::{chosen_is_first, lesser_needs_fit};
-use resource_profile::laws::free_amounts_fit;
 use plain_data::seconds::LAST_START;
+use resource_profile::laws::free_amounts_fit;
 
 // What the crates below promise.
 pub(crate) fn lower_laws()

@@ -22,9 +22,9 @@ mod sweep;
 pub use base::Base;
 pub use job::{Barred, BarredList, NodeList, PlanJob};
 pub use placing::place;
+pub use plain_data::mem_ask::MemAsk;
 pub use planned::{Planned, plan};
 pub use planning::Planning;
-pub use plain_data::mem_ask::MemAsk;
 
 /// A job's part on one node.
 #[derive(Clone, Copy, Debug, PartialEq, Eq)]

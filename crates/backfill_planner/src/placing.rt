@@ -15,11 +15,11 @@ use crate::sweep::Sweep;
 use crate::{Placed, Share};
 use node_pick::laws::fitting_sets_are_within;
 use node_pick::{Dealt, pick};
-use resource_profile::{NodeRoom, Profile, Steps};
 use plain_data::items::Items;
-use small_texts::memory_error::Memory;
 use plain_data::mem_ask::MemAsk;
 use plain_data::seconds::{FOREVER, LAST_START};
+use resource_profile::{NodeRoom, Profile, Steps};
+use small_texts::memory_error::Memory;
 use std::alloc::Global;
 
 // Where the job's window ends that begins at `start`.

@@ -17,9 +17,9 @@ use crate::laws::lower_laws;
 use crate::placing::{place, window_end};
 use crate::planned::Planned;
 use crate::seen::{Searches, Seen};
+use plain_data::seconds::LAST_START;
 use resource_profile::{Hold, Profile, Steps};
 use small_texts::memory_error::Memory;
-use plain_data::seconds::LAST_START;
 use std::alloc::Global;
 use std::marker::Model;
 

@@ -5,9 +5,9 @@ ghost use Rattle.backfill_planner.specs.Sweeps.{GivesUntil, IsSwept};
 use crate::barred_times::{barred_until, next_begin};
 use crate::job::PlanJob;
 use crate::placing::{tasks_given, window_end};
+use plain_data::seconds::LAST_START;
 use resource_profile::{NodeRoom, Profile};
 use small_texts::memory_error::Memory;
-use plain_data::seconds::LAST_START;
 use std::alloc::Global;
 
 // What a node can give, and the second before which that holds.

@@ -7,12 +7,12 @@ use crate::cancel::read_scancel;
 use crate::command::Command;
 use crate::queries::{read_sinfo, read_sprio, read_squeue};
 use crate::report::read_report;
+use line_words::words::Words;
 use operands::bad_word::{BadWord, WordKind, fault_of};
 use operands::operand::closed_at;
+use request_data::request::Request;
 use scontrol_words::scontrol::read_scontrol;
 use small_texts::memory_error::Memory;
-use request_data::request::Request;
-use line_words::words::Words;
 use std::alloc::Global;
 
 /// Reads the words of a command other than sbatch(1) at the moment `now`, the first of which is its name: what they ask

@@ -4,16 +4,16 @@ ghost use Rattle.std.specs.Prelude.{◌≡◌, IfOk};
 ghost use Rattle.option_words.specs.Arguments.{part_of, rows};
 ghost use Rattle.command_words.specs.Cancel.{cancel_parts, cancel_words, is_user, names_user, said_by, nothing_said, scancel_by, scancel_options};
 
+use line_words::words::Words;
 use operands::bad_word::{BadWord, WordKind, fault_at, fault_of};
 use operands::names::read_name;
 use operands::targets::read_target;
 use option_words::arguments::Takes::{self, Value};
 use option_words::arguments::{Argument, Cursor, next_argument};
 use plain_data::items::Items;
+use request_data::target::{Target, Targets};
 use small_texts::memory_error::Memory;
 use small_texts::name::Name;
-use request_data::target::{Target, Targets};
-use line_words::words::Words;
 use std::alloc::Global;
 
 /// There is no option that stands without a value.

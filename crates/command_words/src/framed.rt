@@ -5,10 +5,10 @@ ghost use Rattle.std.specs.Option.{option_map_or};
 ghost use Rattle.command_words.specs.FramedHeader.{asked_at, called_by, caller_in, framed_head_in, head_said};
 
 use crate::header::{Head, Meaning, read_asked};
+use line_words::words::{Words, WordsRefusal, split_words};
 use operands::names::read_name;
 use small_texts::memory_error::Memory;
 use small_texts::name::Name;
-use line_words::words::{Words, WordsRefusal, split_words};
 use std::alloc::Global;
 
 /// How many bytes a header has at the most. The frame may have more (own).

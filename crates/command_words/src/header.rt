@@ -6,12 +6,12 @@ ghost use Rattle.command_words.specs.Header.{head_in, command_in, asked_by, mean
 use crate::command::{Command, command_named};
 use crate::fault::WordFault;
 use crate::wanted::read_command;
+use line_words::words::{Words, WordsRefusal, split_words};
 use operands::names::read_name;
+use request_data::request::Request;
 use small_texts::digits::parse_number;
 use small_texts::memory_error::Memory;
 use small_texts::name::Name;
-use request_data::request::Request;
-use line_words::words::{Words, WordsRefusal, split_words};
 use std::alloc::Global;
 
 // A longer header isn't held.

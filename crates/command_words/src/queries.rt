@@ -5,17 +5,17 @@ ghost use Rattle.option_words.specs.Arguments.{part_of, rows};
 ghost use Rattle.command_words.specs.declared.queries.QueryOption.TheVariants as option;
 ghost use Rattle.command_words.specs.Queries.{entry_of, flag_entry, format_by, unless_long, nothing_said, query_words, squeue_options, sinfo_options, sprio_options, squeue_by, sinfo_by, sprio_by, value_of, with_entry};
 
+use line_words::words::Words;
 use operands::bad_word::{BadWord, WordKind, at_word, fault_at, fault_of};
 use operands::names::read_name;
 use operands::targets::{read_states, read_targets};
 use option_words::arguments::Takes::{self, Nothing, Value};
 use option_words::arguments::{Argument, Cursor, next_argument};
 use plain_data::items::Items;
-use small_texts::memory_error::Memory;
-use small_texts::name::Name;
 use request_data::query::{JobQuery, Piece, Query, StateCode, Who};
 use request_data::target::Target;
-use line_words::words::Words;
+use small_texts::memory_error::Memory;
+use small_texts::name::Name;
 use squeue_format::format::{FormatRefusal, read_format};
 use std::alloc::Global;
 

@@ -6,17 +6,17 @@ ghost use Rattle.operands.specs.Operands.{value_at};
 ghost use Rattle.operands.specs.Pairs.{pairs_say};
 ghost use Rattle.command_words.specs.Report.{listed_adding, nothing_named, pair_in, numbers_by, report_by};
 
+use line_words::words::Words;
 use operands::bad_word::{BadWord, WordKind};
 use operands::members::read_all;
 use operands::names::read_name;
 use operands::operand::{good_at, word_at};
 use operands::pairs::{Pairs, read_pairs};
-use small_texts::digits::parse_number;
 use plain_data::items::Items;
+use request_data::report::{Done, Report, Start};
+use small_texts::digits::parse_number;
 use small_texts::memory_error::Memory;
 use small_texts::name::Name;
-use request_data::report::{Done, Report, Start};
-use line_words::words::Words;
 use std::alloc::Global;
 
 // The starts that a report's words name.

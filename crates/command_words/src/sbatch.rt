@@ -4,11 +4,11 @@ ghost use Rattle.std.specs.Prelude.{◌≡◌, option_copied, IfOk};
 ghost use Rattle.command_words.specs.Sbatch.{sbatch_by};
 
 use crate::fault::WordFault;
+use line_words::words::Words;
+use request_data::request::Request;
 use sbatch_reader::reader::read_job;
 use sbatch_reader::refusal::JobRefusal;
 use small_texts::memory_error::Memory;
-use request_data::request::Request;
-use line_words::words::Words;
 use std::alloc::Global;
 
 /// The job that the words and the script ask for at the moment `now`, or the first bad place.

@@ -7,10 +7,10 @@ use crate::alone::read_alone;
 use crate::command::Command;
 use crate::fault::{WordFault, WordKind};
 use crate::sbatch::read_sbatch;
-use operands::bad_word::BadWord;
-use small_texts::memory_error::Memory;
-use request_data::request::Request;
 use line_words::words::Words;
+use operands::bad_word::BadWord;
+use request_data::request::Request;
+use small_texts::memory_error::Memory;
 use std::alloc::Global;
 
 /// Reads the words of a command, the first of which is its name, and its attachment at the moment `now`: what they ask

@@ -5,3 +5,7 @@ pub mod ReaderLemmas
 pub mod SoundLemmas
 pub mod StepLemmas
 pub mod WholeLemmas
+pub mod LineLemmas
+pub mod WordLemmas
+pub mod ProductLemmas
+pub mod SaidLemmas

@@ -13,17 +13,17 @@ use Rattle.conf_values.specs.Values.{nodes_in}
 use Rattle.conf_values.specs.declared.keys.NodeKey.{NodeKey}
 use Rattle.conf_values.specs.declared.keys.NodeKey.TheVariants as key
 use Rattle.conf_values.specs.declared.refusal.ConfKind.TheVariants.{TwiceNamed, OverLimit}
-use Rattle.conf_entries.specs.NodeLines.{node_name, node_entry, names_fault, entry_fault, node_word, with_entry}
-use Rattle.conf_entries.specs.NodeLines.{no_node_words, node_line, over, processors, node_conf, is_for_nodes, listed}
+use Rattle.conf_reader.specs.NodeLines.{node_name, node_entry, names_fault, entry_fault, node_word, with_entry}
+use Rattle.conf_reader.specs.NodeLines.{no_node_words, node_line, over, processors, node_conf, is_for_nodes, listed}
 use Rattle.conf_reader.specs.Reader.{with_nodes, after_node_line}
 use Rattle.conf_reader.specs.Sound.{AreOnce, IsSound}
 use Rattle.conf_reader.specs.declared.draft.Draft.{Draft}
-use Rattle.conf_entries.specs.declared.node_lines.NodeNames.{NodeNames}
-use Rattle.conf_entries.specs.declared.node_lines.NodeNames.TheVariants.{Default, Hosts}
-use Rattle.conf_entries.specs.declared.node_lines.NodeEntry.{NodeEntry}
-use Rattle.conf_entries.specs.declared.node_lines.NodeEntry.TheVariants.{Names, Cpus, Boards, Sockets, Cores, Threads}
-use Rattle.conf_entries.specs.declared.node_lines.NodeEntry.TheVariants.{Mem, Weight, Features, State}
-use Rattle.conf_entries.specs.declared.node_lines.NodeWords.{NodeWords}
+use Rattle.conf_reader.specs.declared.node_lines.NodeNames.{NodeNames}
+use Rattle.conf_reader.specs.declared.node_lines.NodeNames.TheVariants.{Default, Hosts}
+use Rattle.conf_reader.specs.declared.node_lines.NodeEntry.{NodeEntry}
+use Rattle.conf_reader.specs.declared.node_lines.NodeEntry.TheVariants.{Names, Cpus, Boards, Sockets, Cores, Threads}
+use Rattle.conf_reader.specs.declared.node_lines.NodeEntry.TheVariants.{Mem, Weight, Features, State}
+use Rattle.conf_reader.specs.declared.node_lines.NodeWords.{NodeWords}
 use Rattle.conf_reader.proofs.OnceLemmas.{once-nil, once-append, nodes_in-once}
 use Rattle.conf_reader.proofs.StepLemmas.{ok-then, some-mapped, some-any, entry-is, unless-is, said-is}
 

@@ -10,23 +10,23 @@ use Rattle.conf_values.specs.Values.{nodes_in, is_word}
 use Rattle.conf_values.specs.declared.keys.PartitionKey.{PartitionKey}
 use Rattle.conf_values.specs.declared.keys.PartitionKey.TheVariants as key
 use Rattle.conf_values.specs.declared.refusal.ConfKind.TheVariants.{TwiceNamed, OverLimit}
-use Rattle.conf_entries.specs.PartitionLines.{part_nodes, part_entry, partition_names, part_fault, part_word, with_part}
-use Rattle.conf_entries.specs.PartitionLines.{no_part_words, part_line, over, part_conf, line_by, line_of}
-use Rattle.conf_entries.specs.PartitionLines.{is_for_partitions}
+use Rattle.conf_reader.specs.PartitionLines.{part_nodes, part_entry, partition_names, part_fault, part_word, with_part}
+use Rattle.conf_reader.specs.PartitionLines.{no_part_words, part_line, over, part_conf, line_by, line_of}
+use Rattle.conf_reader.specs.PartitionLines.{is_for_partitions}
 use Rattle.conf_reader.specs.Reader.{with_partition, after_part_line}
 use Rattle.conf_reader.specs.Sound.{AreOnce, ListsOnce, IsSound}
 use Rattle.conf_reader.specs.declared.draft.Draft.{Draft}
-use Rattle.conf_entries.specs.declared.partition_lines.PartName.{PartName}
-use Rattle.conf_entries.specs.declared.partition_lines.PartName.TheVariants.{Default, Named}
-use Rattle.conf_entries.specs.declared.partition_lines.PartNodes.{PartNodes}
-use Rattle.conf_entries.specs.declared.partition_lines.PartNodes.TheVariants.{All, Listed}
-use Rattle.conf_entries.specs.declared.partition_lines.PartEntry.{PartEntry}
-use Rattle.conf_entries.specs.declared.partition_lines.PartEntry.TheVariants.{Name, Nodes, IsDefault, MaxTime}
-use Rattle.conf_entries.specs.declared.partition_lines.PartEntry.TheVariants.{DefaultTime, State, Factor, Tier}
-use Rattle.conf_entries.specs.declared.partition_lines.PartEntry.TheVariants.{MinNodes, MaxNodes, Accounts, Qos}
-use Rattle.conf_entries.specs.declared.partition_lines.PartEntry.TheVariants.{Exclusive, Mem, WithoutEffect}
-use Rattle.conf_entries.specs.declared.partition_lines.PartWords.{PartWords}
-use Rattle.conf_entries.specs.declared.partition_lines.PartLine.{PartLine}
+use Rattle.conf_reader.specs.declared.partition_lines.PartName.{PartName}
+use Rattle.conf_reader.specs.declared.partition_lines.PartName.TheVariants.{Default, Named}
+use Rattle.conf_reader.specs.declared.partition_lines.PartNodes.{PartNodes}
+use Rattle.conf_reader.specs.declared.partition_lines.PartNodes.TheVariants.{All, Listed}
+use Rattle.conf_reader.specs.declared.partition_lines.PartEntry.{PartEntry}
+use Rattle.conf_reader.specs.declared.partition_lines.PartEntry.TheVariants.{Name, Nodes, IsDefault, MaxTime}
+use Rattle.conf_reader.specs.declared.partition_lines.PartEntry.TheVariants.{DefaultTime, State, Factor, Tier}
+use Rattle.conf_reader.specs.declared.partition_lines.PartEntry.TheVariants.{MinNodes, MaxNodes, Accounts, Qos}
+use Rattle.conf_reader.specs.declared.partition_lines.PartEntry.TheVariants.{Exclusive, Mem, WithoutEffect}
+use Rattle.conf_reader.specs.declared.partition_lines.PartWords.{PartWords}
+use Rattle.conf_reader.specs.declared.partition_lines.PartLine.{PartLine}
 use Rattle.conf_reader.proofs.OnceLemmas.{once-push, nodes_in-once}
 use Rattle.conf_reader.proofs.StepLemmas.{ok-then, some-mapped, some-any, some-or, entry-is, unless-is, said-is}
 

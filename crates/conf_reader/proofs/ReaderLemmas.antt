@@ -2,7 +2,7 @@
 use Rattle.std.proofs.Common.{ℕ, ◌≡◌, List, ◌∷◌, Ok, Err, Result, IfOk, Bool, true, false, None, refl}
 use Rattle.std.specs.Str.{IsUtf8, is_utf8}
 use Rattle.std.proofs.lemmas.Str.{IsUtf8-from_is_utf8, is_utf8-from_IsUtf8}
-use Rattle.conf_lines.specs.Lines.{NumberedLine, lines_of_rest}
+use Rattle.conf_reader.specs.Lines.{NumberedLine, lines_of_rest}
 use Rattle.conf_reader.specs.Reader.{after_line, after_lines}
 use Rattle.conf_reader.specs.declared.draft.Draft.{Draft}
 use Rattle.conf_values.specs.declared.refusal.ConfKind.{ConfKind}

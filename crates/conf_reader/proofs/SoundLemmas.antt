@@ -2,20 +2,20 @@
 use Rattle.std.proofs.Common.{ℕ, ◌≡◌, Bool, true, false, if◌then◌else◌, List, [], ◌∷◌, Result, Ok, Err, IfOk, arith}
 use Rattle.std.proofs.lemmas.List.Elements.{All-nil}
 use Rattle.std.specs.Str.{is_utf8}
-use Rattle.conf_lines.specs.Lines.{NumberedLine}
+use Rattle.conf_reader.specs.Lines.{NumberedLine}
 use Rattle.plain_data.specs.Confs.{node_names}
 use Rattle.conf_values.specs.declared.refusal.ConfKind.{ConfKind}
 use Rattle.conf_values.specs.declared.refusal.ConfKind.TheVariants.{NotUtf8}
-use Rattle.conf_entries.specs.NodeLines.{node_line}
-use Rattle.conf_entries.specs.PartitionLines.{no_part_words, partition_names, part_line}
-use Rattle.conf_entries.specs.SettingLines.{setting_line}
+use Rattle.conf_reader.specs.NodeLines.{node_line}
+use Rattle.conf_reader.specs.PartitionLines.{no_part_words, partition_names, part_line}
+use Rattle.conf_reader.specs.SettingLines.{setting_line}
 use Rattle.conf_reader.specs.Reader.{kind_of, after_kind, after_node_line, after_part_line, after_line, at_line}
 use Rattle.conf_reader.specs.Reader.{after_lines, nothing_said}
 use Rattle.conf_reader.specs.Sound.{ListsOnce, IsSound}
 use Rattle.conf_reader.specs.declared.draft.Draft.{Draft}
 use Rattle.conf_reader.specs.declared.draft.LineKind.{LineKind}
 use Rattle.conf_reader.specs.declared.draft.LineKind.TheVariants.{Settings, Node, Partition}
-use Rattle.conf_entries.specs.declared.partition_lines.PartLine.{PartLine}
+use Rattle.conf_reader.specs.declared.partition_lines.PartLine.{PartLine}
 use Rattle.conf_reader.proofs.NodeSteps.{after_node_line-sound}
 use Rattle.conf_reader.proofs.NodeSteps.{line-comes as node_line-comes}
 use Rattle.conf_reader.proofs.OnceLemmas.{once-nil}

@@ -3,10 +3,10 @@ use Rattle.std.proofs.Common.{ℕ, ◌≡◌, List, [], ◌∷◌, map, fold, Op
 use Rattle.std.proofs.Common.{Ok, Err, IfOk, refl}
 use Rattle.std.specs.List.{AllByRecursion}
 use Rattle.std.specs.Option.{option_or}
-use Rattle.conf_lines.specs.Pairs.{Pair, pair_in}
-use Rattle.conf_lines.specs.Words.{words_in}
+use Rattle.conf_reader.specs.Pairs.{Pair, pair_in}
+use Rattle.conf_reader.specs.LineWords.{words_in}
 use Rattle.conf_values.specs.Refusal.{◌>>=◌}
-use Rattle.conf_entries.specs.Words.{entry_in, unless, all_ok, said_by}
+use Rattle.conf_reader.specs.Words.{entry_in, unless, all_ok, said_by}
 use Rattle.conf_values.specs.declared.refusal.ConfKind.{ConfKind}
 use Rattle.conf_values.specs.declared.refusal.ConfKind.TheVariants.{BadPair, UnknownKey, BadValue}
 

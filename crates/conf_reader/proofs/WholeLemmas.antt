@@ -12,14 +12,14 @@ use Rattle.plain_data.specs.Confs.{ConfView, node_names, IsOfNodes, IsConf}
 use Rattle.host_lists.specs.Hosts.{has}
 use Rattle.plain_data.specs.declared.conf.NodeConf.{NodeConf}
 use Rattle.plain_data.specs.declared.conf.PartConf.{PartConf}
-use Rattle.conf_entries.specs.PartitionLines.{partition_names}
+use Rattle.conf_reader.specs.PartitionLines.{partition_names}
 use Rattle.conf_reader.specs.Reader.{has_unknown, first_unknown, nodes_by, partitions_by, conf_of_lines, known_all}
 use Rattle.conf_reader.specs.Reader.{whole_file}
 use Rattle.conf_reader.specs.Sound.{AreOnce, ListsOnce, IsSound}
 use Rattle.conf_reader.specs.declared.draft.Draft.{Draft}
-use Rattle.conf_entries.specs.declared.partition_lines.PartLine.{PartLine}
-use Rattle.conf_entries.specs.declared.partition_lines.PartNodes.{PartNodes}
-use Rattle.conf_entries.specs.declared.partition_lines.PartNodes.TheVariants.{All as EachNode, Listed}
+use Rattle.conf_reader.specs.declared.partition_lines.PartLine.{PartLine}
+use Rattle.conf_reader.specs.declared.partition_lines.PartNodes.{PartNodes}
+use Rattle.conf_reader.specs.declared.partition_lines.PartNodes.TheVariants.{All as EachNode, Listed}
 use Rattle.conf_values.specs.declared.refusal.ConfKind.TheVariants.{NoPartition}
 use Rattle.conf_values.specs.declared.refusal.ConfRefusal.TheVariants.{At}
 use Rattle.conf_reader.proofs.OnceLemmas.{fails_at, pairs-unmapped}

@@ -1,2 +1,9 @@
 pub mod Reader
 pub mod Sound
+pub mod Lines
+pub mod Pairs
+pub mod LineWords
+pub mod NodeLines
+pub mod PartitionLines
+pub mod SettingLines
+pub mod Words

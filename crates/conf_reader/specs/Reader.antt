@@ -3,14 +3,14 @@ use Rattle.std.specs.Prelude.{ℕ, ◌==◌, nat_lt, nat_le, Bool, false, not, �
 use Rattle.std.specs.Prelude.{length, map, find, codes, Option, Some, None, option_map, Result, Ok, Err}
 use Rattle.std.specs.List.{list_any}
 use Rattle.std.specs.Str.{is_utf8}
-use Rattle.conf_lines.specs.Lines.{NumberedLine, logical_lines}
-use Rattle.conf_lines.specs.Pairs.{Pair, pair_in}
-use Rattle.conf_lines.specs.Words.{words_in}
-use Rattle.conf_entries.specs.NodeLines.{node_line, no_node_words, processors, node_conf, is_for_nodes, listed}
-use Rattle.conf_entries.specs.NodeLines.{over as nodes_over}
-use Rattle.conf_entries.specs.PartitionLines.{part_line, partition_names, no_part_words, line_of, is_for_partitions}
-use Rattle.conf_entries.specs.PartitionLines.{over as parts_over}
-use Rattle.conf_entries.specs.SettingLines.{setting_line, no_settings, settings_of}
+use Rattle.conf_reader.specs.Lines.{NumberedLine, logical_lines}
+use Rattle.conf_reader.specs.Pairs.{Pair, pair_in}
+use Rattle.conf_reader.specs.LineWords.{words_in}
+use Rattle.conf_reader.specs.NodeLines.{node_line, no_node_words, processors, node_conf, is_for_nodes, listed}
+use Rattle.conf_reader.specs.NodeLines.{over as nodes_over}
+use Rattle.conf_reader.specs.PartitionLines.{part_line, partition_names, no_part_words, line_of, is_for_partitions}
+use Rattle.conf_reader.specs.PartitionLines.{over as parts_over}
+use Rattle.conf_reader.specs.SettingLines.{setting_line, no_settings, settings_of}
 use Rattle.conf_values.specs.Refusal.{◌>>=◌}
 use Rattle.host_lists.specs.Hosts.{has}
 use Rattle.conf_values.specs.Values.{is_word}
@@ -19,11 +19,11 @@ use Rattle.plain_data.specs.declared.conf.PartConf.{PartConf}
 use Rattle.conf_reader.specs.declared.draft.Draft.{Draft}
 use Rattle.conf_reader.specs.declared.draft.LineKind.{LineKind}
 use Rattle.conf_reader.specs.declared.draft.LineKind.TheVariants.{Settings, Node, Partition}
-use Rattle.conf_entries.specs.declared.node_lines.NodeWords.{NodeWords}
-use Rattle.conf_entries.specs.declared.partition_lines.PartNodes.{PartNodes}
-use Rattle.conf_entries.specs.declared.partition_lines.PartNodes.TheVariants.{All, Listed}
-use Rattle.conf_entries.specs.declared.partition_lines.PartWords.{PartWords}
-use Rattle.conf_entries.specs.declared.partition_lines.PartLine.{PartLine}
+use Rattle.conf_reader.specs.declared.node_lines.NodeWords.{NodeWords}
+use Rattle.conf_reader.specs.declared.partition_lines.PartNodes.{PartNodes}
+use Rattle.conf_reader.specs.declared.partition_lines.PartNodes.TheVariants.{All, Listed}
+use Rattle.conf_reader.specs.declared.partition_lines.PartWords.{PartWords}
+use Rattle.conf_reader.specs.declared.partition_lines.PartLine.{PartLine}
 use Rattle.conf_values.specs.declared.refusal.ConfKind.{ConfKind}
 use Rattle.conf_values.specs.declared.refusal.ConfKind.TheVariants.{NotUtf8, BadValue, UnknownNode, NoPartition}
 use Rattle.conf_values.specs.declared.refusal.ConfKind.TheVariants.{OverLimit}

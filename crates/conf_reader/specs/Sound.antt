@@ -1,10 +1,10 @@
 -- What is true of every draft: nodes and partitions are few and named once, and a partition's list names a node once.
 use Rattle.std.specs.Prelude.{◌≢◌, ℕ, ◌≤◌, List, length, All, AllPairs, IfSome}
 use Rattle.plain_data.specs.Confs.{node_names}
-use Rattle.conf_entries.specs.PartitionLines.{partition_names}
+use Rattle.conf_reader.specs.PartitionLines.{partition_names}
 use Rattle.conf_reader.specs.declared.draft.Draft.{Draft}
-use Rattle.conf_entries.specs.declared.partition_lines.PartNodes.{PartNodes}
-use Rattle.conf_entries.specs.declared.partition_lines.PartNodes.TheVariants.{All as EachNode, Listed}
+use Rattle.conf_reader.specs.declared.partition_lines.PartNodes.{PartNodes}
+use Rattle.conf_reader.specs.declared.partition_lines.PartNodes.TheVariants.{All as EachNode, Listed}
 
 -- names of which no two are the same
 abbrev pub AreOnce : List (List ℕ) → Type 0

@@ -6,17 +6,17 @@ ghost use Rattle.conf_reader.specs.Reader.{kind_by_key, kind_of, after_node_line
 ghost use Rattle.conf_reader.specs.Reader.{after_line, nothing_said};
 ghost use Rattle.conf_values.specs.declared.refusal.ConfKind.{ConfKind};
 
+use crate::node_lines::{NodeWords, read_node_line};
+use crate::pairs::read_pair;
 use crate::part_table::PartTable;
-use conf_entries::node_lines::{NodeWords, read_node_line};
-use conf_entries::partition_lines::{PartLine, PartWords, read_part_line};
-use conf_entries::setting_lines::SettingWords;
-use conf_lines::pairs::read_pair;
-use conf_lines::words::first_word;
+use crate::partition_lines::{PartLine, PartWords, read_part_line};
+use crate::setting_lines::SettingWords;
+use crate::words::first_word;
 use conf_values::node_table::NodeTable;
 use conf_values::refusal::{ConfKind, Fault};
+use plain_data::conf::NodeConf;
 use plain_data::items::Items;
 use small_texts::keywords::is_keyword;
-use plain_data::conf::NodeConf;
 use std::alloc::Global;
 
 /// What lines say.
@@ -79,7 +79,7 @@ impl Draft {
     ghost use Rattle.std.specs.Prelude.{ℕ, ◌≡◌, ◌<◌, ◌^◌, length, OnOk, IsErrOf, Ok, Err};
     ghost use Rattle.conf_reader.specs.Reader.{nothing_said, after_node_line, after_part_line, after_kind, after_line};
     ghost use Rattle.conf_reader.specs.Reader.{with_nodes, with_partition};
-    ghost use Rattle.conf_entries.specs.PartitionLines.{line_of};
+    ghost use Rattle.conf_reader.specs.PartitionLines.{line_of};
     ghost use Rattle.conf_values.specs.declared.refusal.ConfKind.{ConfKind};
     ghost use Rattle.conf_reader.specs.declared.draft.LineKind.TheVariants.{Settings, Node, Partition};
 

@@ -1,6 +1,6 @@
 //! Partitions, in the order of their lines.
 
-use conf_entries::partition_lines::PartLine;
+use crate::partition_lines::PartLine;
 use small_texts::memory_error::Memory;
 use std::alloc::Global;
 use std::marker::Model;
@@ -13,7 +13,7 @@ pub(crate) struct PartTable {
 
 impl Model for PartTable {
     ghost use Rattle.std.specs.Prelude.{List};
-    ghost use Rattle.conf_entries.specs.declared.partition_lines.PartLine.{PartLine};
+    ghost use Rattle.conf_reader.specs.declared.partition_lines.PartLine.{PartLine};
 
     ghost Value = { List PartLine };
 

@@ -3,25 +3,25 @@
 ghost use Rattle.std.specs.Prelude.{ℕ, ◌≡◌, ◌≤◌, ◌<◌, ◌^◌, ◌++◌, ◌&&◌, length, not, IfOk, IfSome, IsNone, IsErrOf, Ok};
 ghost use Rattle.std.specs.Prelude.{Err, OnOk};
 ghost use Rattle.std.specs.List.{list_any};
-ghost use Rattle.conf_lines.specs.Lines.{logical_lines};
+ghost use Rattle.conf_reader.specs.Lines.{logical_lines};
 ghost use Rattle.plain_data.specs.Confs.{node_names, IsConf};
 ghost use Rattle.conf_reader.specs.Reader.{after_lines, nothing_said, has_unknown, first_unknown, nodes_by};
 ghost use Rattle.conf_reader.specs.Reader.{partitions_by, conf_of_lines, whole_file, conf_in};
-ghost use Rattle.conf_entries.specs.SettingLines.{settings_of};
+ghost use Rattle.conf_reader.specs.SettingLines.{settings_of};
 ghost use Rattle.conf_reader.specs.Sound.{IsSound};
 ghost use Rattle.host_lists.specs.Hosts.{has};
 ghost use Rattle.conf_values.specs.declared.refusal.ConfKind.{ConfKind};
 
 use crate::draft::Draft;
-use conf_entries::partition_lines::{PartLine, PartNodes};
-use conf_entries::setting_lines::SettingWords;
-use conf_lines::lines::first_line;
+use crate::lines::first_line;
+use crate::partition_lines::{PartLine, PartNodes};
+use crate::setting_lines::SettingWords;
 use conf_values::node_table::NodeTable;
 use conf_values::refusal::{ConfKind, ConfRefusal, Fault};
+use plain_data::conf::{Conf, NodeConf, PartConf};
 use plain_data::items::Items;
 use small_texts::memory_error::Memory;
 use small_texts::name::Name;
-use plain_data::conf::{Conf, NodeConf, PartConf};
 use std::alloc::Global;
 
 const LONGEST_FILE: usize = 1_048_576;

@@ -1,9 +1,9 @@
 //! Nodes, with an index of their names.
 
+use plain_data::conf::NodeConf;
 use plain_data::items::Items;
 use small_texts::memory_error::Memory;
 use small_texts::name::Name;
-use plain_data::conf::NodeConf;
 use std::alloc::Global;
 use std::collections::HashSet;
 use std::marker::Model;

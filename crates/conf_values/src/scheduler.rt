@@ -4,8 +4,8 @@ ghost use Rattle.std.specs.Prelude.{◌≡◌, Some};
 ghost use Rattle.conf_values.specs.Scheduler.{scheduler_item, scheduler_in};
 
 use crate::values::read_number;
-use small_texts::fields::{UpToThree, first_field, up_to_three};
 use plain_data::ranged::Ranged;
+use small_texts::fields::{UpToThree, first_field, up_to_three};
 
 /// The parameters that a value gives.
 #[derive(Clone, Copy)]

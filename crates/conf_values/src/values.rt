@@ -5,17 +5,17 @@ ghost use Rattle.conf_values.specs.Values.{number_in, u32_in, name_in, names_in,
 ghost use Rattle.slurm_num.specs.Limits.{limit_of};
 
 use crate::refusal::ValueRefusal;
-use slurm_num::parse_limit;
-use small_texts::digits::parse_number;
-use small_texts::fields::first_field;
 use host_lists::hosts::{HostRefusal, expand_hosts};
-use plain_data::items::Items;
-use small_texts::keywords::is_keyword;
-use small_texts::name::Name;
 use plain_data::conf::{NodeStart, PartState};
+use plain_data::items::Items;
 use plain_data::limit::Limit;
 use plain_data::mem_ask::MemAsk;
 use plain_data::ranged::Ranged;
+use slurm_num::parse_limit;
+use small_texts::digits::parse_number;
+use small_texts::fields::first_field;
+use small_texts::keywords::is_keyword;
+use small_texts::name::Name;
 use std::alloc::Global;
 
 /// A number of at most ten digits within its range.

@@ -16,7 +16,7 @@ use Rattle.request_data.specs.declared.report.Report.{Report as Told}
 use Rattle.request_data.specs.declared.request.Request.{Request}
 use Rattle.request_data.specs.declared.request.Request.TheVariants.{Submit, Cancel, Hold, Release, Requeue, UpdateJob, UpdateNode, UpdatePartition, CreateReservation, DeleteReservation, Report, Pass, Shutdown, Show}
 use Rattle.plain_data.specs.declared.conf.PartState.{PartState}
-use Rattle.partitions.specs.Partitions.{place_meant}
+use Rattle.node_state.specs.Partitions.{place_meant}
 use Rattle.job_table.specs.declared.record.JobRecord.{JobRecord}
 use Rattle.node_state.specs.declared.record.NodeRecord.{NodeRecord}
 use Rattle.node_state.specs.Nodes.{is_named, place_named}
@@ -24,8 +24,8 @@ use Rattle.ctl_state.specs.State.{State, last_moment}
 use Rattle.ctl_state.specs.Refusals.{refused_if, first_refusal, unless_refused, is_privileged}
 use Rattle.ctl_state.specs.Soundness.{IsSound}
 use Rattle.ctl_state.specs.Verdicts.{Verdict, Refuses, Tells, Stays, Makes, reply_by, left_by}
-use Rattle.ctl_report.specs.Reporting.{heard_of, heard_nodes}
-use Rattle.ctl_report.specs.Answering.{is_restarted, node_of, last_heard, staleness}
+use Rattle.ctl_node_side.specs.Reporting.{heard_of, heard_nodes}
+use Rattle.ctl_node_side.specs.Answering.{is_restarted, node_of, last_heard, staleness}
 use Rattle.ctl_node_side.specs.Passes.{after_pass, made_by_pass, pass_is_idle}
 use Rattle.ctl_node_side.specs.Restarting.{made_by_report, met}
 use Rattle.ctl_submit.specs.Submission.{made_under, submit_made, terms_of}
@@ -35,8 +35,8 @@ use Rattle.ctl_jobs.specs.Changing.{are_meant, are_naming, change_after, change_
 use Rattle.request_data.specs.declared.request.NodeOrder.{NodeOrder}
 use Rattle.ctl_nodes.specs.Updating.{changes_any, update_after, update_made}
 use Rattle.request_data.specs.declared.reservation.ReservationDesc.{ReservationDesc}
-use Rattle.reservations.specs.Reservations.{reservation_named}
-use Rattle.ctl_reservations.specs.Reserving.{created, deleted}
+use Rattle.node_state.specs.Reservations.{reservation_named}
+use Rattle.ctl_nodes.specs.Reserving.{created, deleted}
 use Rattle.ctl_core.specs.Operating.{is_in_state, partition_after, partition_made, shut}
 use Rattle.ctl_core.specs.Sizes.{has_room}
 use Rattle.ctl_core.specs.Step.{raised, refusals_of, made, worked, ChangesNothing, early_refusals, unless_full, verdict_of, reply_of, is_closed}

@@ -7,7 +7,7 @@ use Rattle.node_state.specs.declared.record.Held.{Held}
 use Rattle.node_state.specs.declared.record.NodeRecord.{NodeRecord}
 use Rattle.node_state.specs.Held.{HoldsNothing}
 use Rattle.node_state.specs.Nodes.{opened}
-use Rattle.partitions.specs.Partitions.{IsOnNodes}
+use Rattle.node_state.specs.Partitions.{IsOnNodes}
 use Rattle.plain_data.specs.Confs.{node_names}
 use Rattle.ctl_state.specs.State.{State, last_job_id}
 use Rattle.ctl_state.specs.Holding.{times_held, mem_held, parts_of, IsHeldOnce}

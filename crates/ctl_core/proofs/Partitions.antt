@@ -3,8 +3,8 @@ use Rattle.std.proofs.Common.{◌≡◌, ℕ, zero, suc, Bool, true, List, [], �
 use Rattle.std.specs.Prelude.{slice_get}
 use Rattle.plain_data.specs.declared.conf.PartState.{PartState}
 use Rattle.plain_data.specs.declared.conf.PartState.TheVariants.{Up, Down, Drain, Inactive}
-use Rattle.partitions.specs.declared.record.PartRecord.{PartRecord}
-use Rattle.partitions.specs.Partitions.{in_state_at}
+use Rattle.node_state.specs.declared.partition_record.PartRecord.{PartRecord}
+use Rattle.node_state.specs.Partitions.{in_state_at}
 use Rattle.ctl_core.specs.Operating.{is_in_state, same_state}
 
 state-is : (one other : PartState) → same_state one other ≡ true → one ≡ other

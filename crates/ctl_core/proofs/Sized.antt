@@ -10,7 +10,7 @@ use Rattle.request_data.specs.declared.request.Request.TheVariants.{Submit, Canc
 use Rattle.ctl_state.specs.State.{State}
 use Rattle.ctl_state.specs.Refusals.{first_refusal, unless_refused}
 use Rattle.ctl_state.specs.Verdicts.{Verdict, Refuses, Tells, Stays, Makes, reply_by, left_by}
-use Rattle.ctl_report.specs.Answering.{is_restarted, node_of}
+use Rattle.ctl_node_side.specs.Answering.{is_restarted, node_of}
 use Rattle.ctl_node_side.specs.Passes.{pass_is_idle}
 use Rattle.ctl_node_side.specs.Restarting.{made_by_report, met}
 use Rattle.ctl_node_side.specs.Silence.{any_silent, silenced}
@@ -20,7 +20,7 @@ use Rattle.ctl_jobs.specs.declared.action.Action.TheVariants as act
 use Rattle.ctl_jobs.specs.Changing.{are_meant, are_naming, change_made, goes}
 use Rattle.ctl_nodes.specs.Updating.{changes_any}
 use Rattle.ctl_core.specs.Operating.{is_in_state, partition_made}
-use Rattle.partitions.specs.Partitions.{place_meant}
+use Rattle.node_state.specs.Partitions.{place_meant}
 use Rattle.job_table.specs.declared.record.JobRecord.{JobRecord}
 use Rattle.ctl_core.specs.declared.reply.Answered.{Answered}
 use Rattle.ctl_core.specs.Answering.{Answers}

@@ -13,15 +13,15 @@ use Rattle.request_data.specs.declared.request.Request.{Request}
 use Rattle.request_data.specs.declared.request.Request.TheVariants.{Submit, Cancel, Hold, Release, Requeue, UpdateJob, UpdateNode, UpdatePartition, CreateReservation, DeleteReservation, Report, Pass, Shutdown, Show}
 use Rattle.plain_data.specs.declared.conf.PartState.{PartState}
 use Rattle.reply_data.specs.declared.reply.Reply.TheVariants.{Done}
-use Rattle.partitions.specs.Partitions.{place_meant}
+use Rattle.node_state.specs.Partitions.{place_meant}
 use Rattle.job_table.specs.declared.record.JobRecord.{JobRecord}
 use Rattle.ctl_state.specs.State.{State, last_moment, last_size, shutdown_size}
 use Rattle.ctl_state.specs.Laws.{PartitionStates, Shutting, Sizing}
 use Rattle.ctl_state.specs.Soundness.{IsSound, IsAsked, IsLimit}
 use Rattle.ctl_state.specs.Refusals.{refused_if, first_refusal, unless_refused}
 use Rattle.ctl_state.specs.Verdicts.{Verdict, Refuses, Tells, Stays, Makes, reply_by, left_by, stamped}
-use Rattle.ctl_report.specs.Reporting.{report_after}
-use Rattle.ctl_report.specs.Answering.{node_of}
+use Rattle.ctl_node_side.specs.Reporting.{report_after}
+use Rattle.ctl_node_side.specs.Answering.{node_of}
 use Rattle.ctl_node_side.specs.Passes.{after_pass, pass_is_idle}
 use Rattle.ctl_node_side.specs.Restarting.{made_by_report, met}
 use Rattle.ctl_submit.specs.Submission.{submit_refusals, submit_made}
@@ -31,7 +31,7 @@ use Rattle.ctl_jobs.specs.Changing.{IsAction, are_meant, are_naming, change_afte
 use Rattle.request_data.specs.declared.request.NodeOrder.{NodeOrder}
 use Rattle.ctl_nodes.specs.Updating.{changes_any, update_after}
 use Rattle.request_data.specs.declared.reservation.ReservationDesc.{ReservationDesc}
-use Rattle.ctl_reservations.specs.Reserving.{create_refusals, created, deleted}
+use Rattle.ctl_nodes.specs.Reserving.{create_refusals, created, deleted}
 use Rattle.ctl_core.specs.Operating.{is_in_state, partition_made, shut, shutdown_refusals}
 use Rattle.ctl_core.specs.declared.reply.Decided.{Decided}
 use Rattle.ctl_core.specs.Sizes.{has_room, size_of}

@@ -5,8 +5,8 @@ use Rattle.plain_data.specs.declared.conf.PartState.TheVariants.{Up, Down, Drain
 use Rattle.reply_data.specs.declared.refusal.Refusal.{Refusal}
 use Rattle.reply_data.specs.declared.refusal.Refusal.TheVariants.{AccessDenied, InvalidPartition}
 use Rattle.reply_data.specs.declared.reply.Reply.TheVariants.{Done}
-use Rattle.partitions.specs.declared.record.PartRecord.{PartRecord}
-use Rattle.partitions.specs.Partitions.{in_state_at, place_meant}
+use Rattle.node_state.specs.declared.partition_record.PartRecord.{PartRecord}
+use Rattle.node_state.specs.Partitions.{in_state_at, place_meant}
 use Rattle.ctl_state.specs.State.{State}
 use Rattle.ctl_state.specs.Refusals.{is_privileged, refused_if}
 use Rattle.ctl_state.specs.Verdicts.{Verdict, Stays, Makes}

@@ -7,19 +7,19 @@ use Rattle.reply_data.specs.declared.refusal.Refusal.TheVariants.{HistoryFull, M
 use Rattle.reply_data.specs.declared.reply.Reply.{Reply}
 use Rattle.reply_data.specs.declared.reply.Reply.TheVariants.{Submitted, Done, Passed, Orders, Idle, Shown, Refused}
 use Rattle.backfill_planner.specs.Plans.{PlannedView}
-use Rattle.partitions.specs.Partitions.{place_meant}
+use Rattle.node_state.specs.Partitions.{place_meant}
 use Rattle.ctl_state.specs.State.{State, last_moment}
 use Rattle.ctl_state.specs.Soundness.{IsAsked, IsLimit, IsSound}
 use Rattle.ctl_state.specs.Refusals.{refused_if, first_refusal, unless_refused, is_privileged}
 use Rattle.ctl_state.specs.Verdicts.{Verdict, Refuses, Tells, Makes, reply_by, left_by, stamped}
 use Rattle.ctl_pass.specs.Passing.{pass_refusals}
-use Rattle.ctl_report.specs.Answering.{report_refusals}
+use Rattle.ctl_node_side.specs.Answering.{report_refusals}
 use Rattle.ctl_node_side.specs.Passes.{IsPassedOver, after_pass, made_by_pass, pass_input, planned_by_pass}
 use Rattle.ctl_node_side.specs.Restarting.{report_made}
 use Rattle.ctl_submit.specs.Submission.{submit_refusals, submit_made}
 use Rattle.ctl_jobs.specs.declared.action.Action.TheVariants as act
 use Rattle.ctl_nodes.specs.Updating.{update_after, update_made, update_refusals}
-use Rattle.ctl_reservations.specs.Reserving.{create_made, create_refusals, delete_made, delete_refusals}
+use Rattle.ctl_nodes.specs.Reserving.{create_made, create_refusals, delete_made, delete_refusals}
 use Rattle.ctl_jobs.specs.Changing.{are_meant, are_naming, cancel_refusals, change_after, change_made, refusals}
 use Rattle.ctl_show.specs.Showing.{show_refusals, view_of}
 use Rattle.ctl_core.specs.Operating.{partition_after, partition_made, partition_refusals, shut, shutdown_refusals}

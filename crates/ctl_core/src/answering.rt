@@ -24,12 +24,12 @@ use crate::submitting::submit;
 use backfill_planner::Planned;
 use ctl_jobs::Action;
 use ctl_state::cluster::Cluster;
-use resource_profile::{Steps, start};
-use small_texts::memory_error::Memory;
-use small_texts::name::Name;
 use reply_data::refusal::Refusal;
 use reply_data::reply::Reply;
 use request_data::request::Request;
+use resource_profile::{Steps, start};
+use small_texts::memory_error::Memory;
+use small_texts::name::Name;
 use std::alloc::Global;
 
 pub(crate) const LAST_MOMENT: u64 = 250_000_000_000;

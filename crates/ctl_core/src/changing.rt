@@ -15,9 +15,9 @@ use ctl_jobs::{
     Action, change, change_owned, changes_any, changes_owned, refusal_of, refusal_of_owner,
 };
 use ctl_state::cluster::Cluster;
-use small_texts::name::Name;
 use reply_data::refusal::Refusal;
 use request_data::target::{Target, Targets};
+use small_texts::name::Name;
 
 /// Something done to the jobs that the targets name, at its raised moment, where the history has room for it or not. It
 /// takes no memory.

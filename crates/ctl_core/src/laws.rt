@@ -25,7 +25,7 @@ use ctl_node_side::laws::{
     a_whole_pass_over_its_own_plan_counts_nothing, an_idle_whole_pass_changes_nothing,
 };
 use ctl_nodes::laws::{an_idle_order_changes_nothing, updating_nodes_keeps_all_sound};
-use ctl_reservations::laws::{
+use ctl_nodes::reservation_laws::{
     making_and_taking_reservations_changes_the_state,
     making_and_taking_reservations_keeps_all_sound,
 };

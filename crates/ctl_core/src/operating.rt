@@ -11,18 +11,18 @@ ghost use Rattle.ctl_nodes.specs.Updating;
 ghost use Rattle.ctl_core.specs.Answering.{Answers};
 ghost use Rattle.ctl_core.specs.Operating;
 ghost use Rattle.ctl_core.specs.Step.{unless_full};
-ghost use Rattle.partitions.specs.Partitions.{place_meant};
+ghost use Rattle.node_state.specs.Partitions.{place_meant};
 
 use crate::answering::{done, idle, refused};
 use crate::reply::Answered;
 use ctl_nodes::{changes_any, refusal_of, update};
 use ctl_state::cluster::Cluster;
-use partitions::partitions::Partitions;
-use plain_data::items::Items;
-use small_texts::name::Name;
+use node_state::partitions::Partitions;
 use plain_data::conf::PartState;
+use plain_data::items::Items;
 use reply_data::refusal::Refusal;
 use request_data::request::NodeOrder;
+use small_texts::name::Name;
 
 fn same_state(one: PartState, other: PartState) -> bool
     ensures { result ≡ Operating.same_state one other }

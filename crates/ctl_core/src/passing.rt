@@ -17,11 +17,11 @@ use backfill_planner::Planned;
 use ctl_node_side::PassOutcome;
 use ctl_pass::refusal_of;
 use ctl_state::cluster::Cluster;
+use reply_data::refusal::Refusal;
+use reply_data::reply::Reply;
 use resource_profile::Steps;
 use small_texts::memory_error::Memory;
 use small_texts::name::Name;
-use reply_data::refusal::Refusal;
-use reply_data::reply::Reply;
 use std::alloc::Global;
 
 fn passed(ended: u32, started: u32, planned: u32) -> Answered

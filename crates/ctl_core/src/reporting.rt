@@ -5,21 +5,21 @@ ghost use Rattle.ctl_state.specs.State.{state_of, last_moment};
 ghost use Rattle.ctl_state.specs.Index.{IsIndexed};
 ghost use Rattle.ctl_state.specs.Soundness.{IsSound};
 ghost use Rattle.ctl_state.specs.Refusals.{first_refusal, unless_refused};
-ghost use Rattle.ctl_report.specs.Answering.{report_refusals};
+ghost use Rattle.ctl_node_side.specs.Answering.{report_refusals};
 ghost use Rattle.ctl_node_side.specs.Restarting.{report_made};
 ghost use Rattle.ctl_core.specs.Answering.{Answers};
 ghost use Rattle.ctl_core.specs.Step.{unless_full};
 
 use crate::answering::refused;
 use crate::reply::Answered;
+use ctl_node_side::report::{node_of, refusal_of};
 use ctl_node_side::{accept, orders};
-use ctl_report::{node_of, refusal_of};
 use ctl_state::cluster::Cluster;
-use small_texts::memory_error::Memory;
-use small_texts::name::Name;
 use reply_data::refusal::Refusal;
 use reply_data::reply::Reply;
 use request_data::report::Report;
+use small_texts::memory_error::Memory;
+use small_texts::name::Name;
 use std::alloc::Global;
 
 /// A report at its raised moment, where the history has room for it or not.

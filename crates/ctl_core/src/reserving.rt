@@ -5,18 +5,18 @@ ghost use Rattle.ctl_state.specs.State.{state_of, last_moment};
 ghost use Rattle.ctl_state.specs.Index.{IsIndexed};
 ghost use Rattle.ctl_state.specs.Soundness.{IsSound};
 ghost use Rattle.ctl_state.specs.Refusals.{first_refusal, unless_refused};
-ghost use Rattle.ctl_reservations.specs.Reserving;
+ghost use Rattle.ctl_nodes.specs.Reserving;
 ghost use Rattle.ctl_core.specs.Answering.{Answers};
 ghost use Rattle.ctl_core.specs.Step.{unless_full};
 
 use crate::answering::{done, refused};
 use crate::reply::Answered;
-use ctl_reservations::{create, delete, refusal_of_creation, refusal_of_deletion};
+use ctl_nodes::{create, delete, refusal_of_creation, refusal_of_deletion};
 use ctl_state::cluster::Cluster;
-use small_texts::memory_error::Memory;
-use small_texts::name::Name;
 use reply_data::refusal::Refusal;
 use request_data::reservation::ReservationDesc;
+use small_texts::memory_error::Memory;
+use small_texts::name::Name;
 
 /// A reservation more, at its raised moment, where the history has room for it or not. Linear in the names of its nodes,
 /// in the reservations, and in the jobs and their parts.

@@ -12,10 +12,10 @@ use crate::answering::refused;
 use crate::reply::Answered;
 use ctl_show::{refusal_of, view_of};
 use ctl_state::cluster::Cluster;
+use reply_data::reply::Reply;
+use request_data::query::Query;
 use small_texts::memory_error::Memory;
 use small_texts::name::Name;
-use request_data::query::Query;
-use reply_data::reply::Reply;
 use std::alloc::Global;
 
 /// What a user's query asks for, at its raised moment. It makes no entry.

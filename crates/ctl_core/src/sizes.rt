@@ -6,12 +6,12 @@ ghost use Rattle.ctl_core.specs.Sizes;
 
 use ctl_state::cluster::Cluster;
 use plain_data::items::Items;
-use small_texts::name::Name;
 use plain_data::job::JobDesc;
 use request_data::report::Report;
 use request_data::request::Request;
 use request_data::reservation::ReservationDesc;
 use request_data::target::{Target, Targets};
+use small_texts::name::Name;
 
 // The greatest sum of the sizes of accepted requests.
 const LAST_SIZE: u128 = 1_073_741_824;

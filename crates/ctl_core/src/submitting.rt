@@ -13,11 +13,11 @@ use crate::answering::refused;
 use crate::reply::Answered;
 use ctl_state::cluster::Cluster;
 use ctl_submit::{accept, decide};
-use small_texts::memory_error::Memory;
-use small_texts::name::Name;
 use plain_data::job::JobDesc;
 use reply_data::refusal::Refusal;
 use reply_data::reply::Reply;
+use small_texts::memory_error::Memory;
+use small_texts::name::Name;
 use std::alloc::Global;
 
 /// A submission at its raised moment, where the history has room for it or not.

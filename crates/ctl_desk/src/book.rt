@@ -14,10 +14,10 @@ use ctl_core::laws::raised_moments_decide_alike;
 use ctl_core::reply::Decided;
 use ctl_node_side::laws::passes_are_free;
 use ctl_pass::PlanInput;
+use request_data::request::Request;
 use resource_profile::Steps;
 use small_texts::memory_error::Memory;
 use small_texts::name::Name;
-use request_data::request::Request;
 use std::alloc::Global;
 use std::marker::Model;
 

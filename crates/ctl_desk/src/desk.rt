@@ -10,10 +10,10 @@ ghost use Rattle.ctl_desk.specs.History.{IsHistory, present};
 use crate::entry::Answer;
 use backfill_planner::Planned;
 use ctl_pass::PlanInput;
+use request_data::request::Request;
 use resource_profile::{Plain, Steps};
 use small_texts::memory_error::Memory;
 use small_texts::name::Name;
-use request_data::request::Request;
 
 /// Where one session asks the controller. The history may have entries of other sessions, and more of them at each
 /// call.

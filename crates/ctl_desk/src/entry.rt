@@ -1,8 +1,8 @@
 //! What the history keeps of an accepted request, and what a session is told.
 
-use small_texts::name::Name;
 use reply_data::reply::Reply;
 use request_data::request::Request;
+use small_texts::name::Name;
 
 /// An accepted request.
 #[derive(Drop)]

@@ -7,10 +7,10 @@ use crate::desk::Desk;
 use crate::entry::Answer;
 use backfill_planner::Planned;
 use ctl_pass::PlanInput;
+use request_data::request::Request;
 use resource_profile::{Plain, Steps};
 use small_texts::memory_error::Memory;
 use small_texts::name::Name;
-use request_data::request::Request;
 use std::marker::Model;
 
 /// A desk that owns the book. Its entries bear the number 0, and all that come since it was made are its own.

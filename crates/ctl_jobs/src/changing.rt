@@ -23,8 +23,8 @@ use ctl_state::laws::parts_stay;
 use job_table::laws::{a_change_is_of_its_place, a_walk_changes_all, who_leaves_is_charged};
 use job_table::record::JobRecord;
 use job_table::targets::{is_named, places_of};
-use small_texts::name::Name;
 use request_data::target::Target;
+use small_texts::name::Name;
 
 /// Whether this changes a job that the targets name. Costs as the test of its refusals.
 pub fn changes_any(cluster: &Cluster, user: &Name, action: &Action, targets: &[Target]) -> bool

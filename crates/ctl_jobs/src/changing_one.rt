@@ -12,10 +12,10 @@ use job_table::change::Change;
 use job_table::jobs::Jobs;
 use job_table::laws::{a_change_is_of_its_place, who_leaves_is_charged};
 use job_table::record::JobRecord;
-use small_texts::name::Name;
 use plain_data::limit::Limit;
 use plain_data::nice::Nice;
 use request_data::state::{Final, HeldBy, JobState};
+use small_texts::name::Name;
 
 /// Does this to the job at a place. It takes no memory.
 pub(crate) fn change_at(jobs: &mut Jobs, place: usize, moment: u64, user: &Name, action: &Action)

@@ -6,10 +6,10 @@ ghost use Rattle.ctl_jobs.specs.Actions;
 use crate::action::Action;
 use crate::changing_one::held_after;
 use job_table::record::JobRecord;
-use small_texts::name::Name;
 use plain_data::limit::Limit;
 use plain_data::nice::Nice;
 use request_data::state::HeldBy;
+use small_texts::name::Name;
 
 /// Whether this leaves the job as it is, to which the user may do it.
 pub(crate) fn leaves(user: &Name, action: &Action, job: &JobRecord) -> bool

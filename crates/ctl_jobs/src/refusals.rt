@@ -15,12 +15,12 @@ use ctl_state::cluster::Cluster;
 use ctl_state::limits::exceeds;
 use job_table::record::JobRecord;
 use job_table::targets::{is_named, places_of};
-use small_texts::name::Name;
 use plain_data::limit::Limit;
 use plain_data::nice::Nice;
 use reply_data::refusal::Refusal;
 use request_data::state::{Final, HeldBy, JobState};
 use request_data::target::Target;
+use small_texts::name::Name;
 
 /// Why the user may not do this to what the targets name, if it is refused: the first target's that is. Logarithmic in
 /// the jobs for each target, and linear in the tasks of arrays.

@@ -6,3 +6,10 @@ pub mod Running
 pub mod Back
 pub mod Coming
 pub mod Over
+pub mod Heard
+pub mod InOrder
+pub mod ReportPlaces
+pub mod Reported
+pub mod Launching
+pub mod Dropped
+pub mod Empty

@@ -9,9 +9,9 @@ use Rattle.ctl_state.specs.Soundness.{IsSound}
 use Rattle.ctl_state.specs.State.{State, last_moment}
 use Rattle.ctl_state.specs.Verdicts.{stamped}
 use Rattle.ctl_nodes.specs.Failing.{lost_after}
-use Rattle.ctl_report.specs.Answering.{is_restarted}
-use Rattle.ctl_report.specs.Ordering.{orders_of}
-use Rattle.ctl_report.specs.Reporting.{report_after}
+use Rattle.ctl_node_side.specs.Answering.{is_restarted}
+use Rattle.ctl_node_side.specs.Ordering.{orders_of}
+use Rattle.ctl_node_side.specs.Reporting.{report_after}
 use Rattle.ctl_node_side.specs.Restarting.{met}
 use Rattle.ctl_node_side.proofs.Silent.{LosingFrees, LosingKeeps}
 

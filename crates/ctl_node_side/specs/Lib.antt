@@ -3,3 +3,7 @@ pub mod Silence
 pub mod Passes
 pub mod Came
 pub mod Keeping
+pub mod Reporting
+pub mod Ordering
+pub mod Answering
+pub mod Leaving

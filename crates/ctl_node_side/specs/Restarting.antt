@@ -6,9 +6,9 @@ use Rattle.reply_data.specs.declared.reply.Reply.TheVariants.{Orders}
 use Rattle.ctl_state.specs.State.{State}
 use Rattle.ctl_state.specs.Verdicts.{Verdict, Refuses, Makes, stamped}
 use Rattle.ctl_nodes.specs.Failing.{lost_after}
-use Rattle.ctl_report.specs.Answering.{is_restarted, node_of}
-use Rattle.ctl_report.specs.Ordering.{orders_of}
-use Rattle.ctl_report.specs.Reporting.{report_after}
+use Rattle.ctl_node_side.specs.Answering.{is_restarted, node_of}
+use Rattle.ctl_node_side.specs.Ordering.{orders_of}
+use Rattle.ctl_node_side.specs.Reporting.{report_after}
 
 -- the state in which the report of the node at a place is worked: a daemon that was restarted runs nothing, so what its
 -- node held is lost

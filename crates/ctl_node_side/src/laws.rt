@@ -14,18 +14,18 @@ ghost use Rattle.ctl_nodes.specs.Failing.{after_loss, loses};
 ghost use Rattle.ctl_pass.specs.Passing.{outcome};
 ghost use Rattle.ctl_pass.specs.Readiness.{jobs_left, placements};
 ghost use Rattle.ctl_pass.specs.Starting.{HasStarted, WasHeldBack};
-ghost use Rattle.ctl_report.specs.Reporting.{report_after};
+ghost use Rattle.ctl_node_side.specs.Reporting.{report_after};
 ghost use Rattle.ctl_node_side.specs.Keeping.{put_all};
 ghost use Rattle.ctl_node_side.specs.Passes.{IsPassedOver, PassIsFree, after_pass, pass_input, pass_is_idle};
 ghost use Rattle.ctl_node_side.specs.Restarting.{met};
 ghost use Rattle.ctl_node_side.specs.Silence.{silenced};
 
+use crate::report_laws::a_report_keeps_all_sound;
 use ctl_nodes::laws::{lost_nodes_keep_all_sound, others_stay_where_nodes_are_lost};
 use ctl_pass::laws::{
     a_pass_keeps_all_sound, a_pass_over_its_own_plan_counts_nothing, a_started_job_was_planned,
     an_idle_pass_changes_nothing, starts_are_free, starts_get_all_they_planned,
 };
-use ctl_report::laws::a_report_keeps_all_sound;
 use ctl_state::laws::nodes_that_stay_keep_all_sound;
 use node_state::laws::a_change_leaves_the_confs;
 

@@ -5,21 +5,21 @@ ghost use Rattle.job_table.specs.Table.{HaveRisingIds};
 ghost use Rattle.ctl_state.specs.Index.{IsIndexed};
 ghost use Rattle.ctl_state.specs.Soundness.{IsSound};
 ghost use Rattle.ctl_state.specs.State.{state_of, last_moment};
-ghost use Rattle.ctl_report.specs.Answering.{is_restarted};
-ghost use Rattle.ctl_report.specs.Ordering.{orders_of};
-ghost use Rattle.ctl_report.specs.Reporting.{report_after};
+ghost use Rattle.ctl_node_side.specs.Answering.{is_restarted};
+ghost use Rattle.ctl_node_side.specs.Ordering.{orders_of};
+ghost use Rattle.ctl_node_side.specs.Reporting.{report_after};
 ghost use Rattle.ctl_node_side.specs.Restarting.{met};
 
+use crate::report::is_restarted;
+use crate::report_laws::a_node_without_jobs_is_ordered_alike;
 use cpu_ids::CpuIds;
 use ctl_nodes::laws::{lost_nodes_keep_all_sound, the_same_nodes_are_lost_alike};
 use ctl_nodes::lose;
-use ctl_report::is_restarted;
-use ctl_report::laws::a_node_without_jobs_is_ordered_alike;
 use ctl_state::cluster::Cluster;
 use job_table::record::JobRecord;
-use small_texts::memory_error::Memory;
 use reply_data::orders::Orders;
 use request_data::report::Report;
+use small_texts::memory_error::Memory;
 use std::alloc::Global;
 
 // The jobs by which a report is answered: none, where its daemon was restarted.
@@ -50,7 +50,7 @@ pub fn orders(
 {
     lost_nodes_keep_all_sound();
     a_node_without_jobs_is_ordered_alike();
-    let orders = ctl_report::orders(alloc, jobs_met(cluster, report), node, report)?;
+    let orders = crate::report::orders(alloc, jobs_met(cluster, report), node, report)?;
     Ok(orders)
 }
 
@@ -89,5 +89,5 @@ pub fn accept(cluster: &mut Cluster, moment: u64, node: u32, report: &Report)
     ensures indexed { IsIndexed cluster.new }
 {
     lose_restarted(cluster, moment, node, report);
-    ctl_report::accept(cluster, moment, node, report);
+    crate::report::accept(cluster, moment, node, report);
 }

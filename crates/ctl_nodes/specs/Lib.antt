@@ -1,3 +1,4 @@
 pub mod Changing
 pub mod Failing
 pub mod Updating
+pub mod Reserving

@@ -12,7 +12,7 @@ use Rattle.node_state.specs.declared.record.NodeRecord.{NodeRecord}
 use Rattle.node_state.specs.declared.record.NodeChange.{NodeChange}
 use Rattle.node_state.specs.declared.record.NodeChange.TheVariants as change
 use Rattle.node_state.specs.Nodes.{place_named}
-use Rattle.reservations.specs.Reservations.{has}
+use Rattle.node_state.specs.Reservations.{has}
 use Rattle.ctl_state.specs.Planning.{is_at}
 use Rattle.ctl_state.specs.Refusals.{is_privileged, refused_if}
 use Rattle.ctl_state.specs.State.{State}

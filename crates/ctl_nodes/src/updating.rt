@@ -17,9 +17,9 @@ use ctl_state::cluster::Cluster;
 use job_table::laws::who_leaves_is_charged;
 use node_state::record::{DownBy, NodeChange, NodeRecord};
 use plain_data::items::Items;
-use small_texts::name::Name;
 use reply_data::refusal::Refusal;
 use request_data::request::NodeOrder;
+use small_texts::name::Name;
 
 fn change_by(state: NodeOrder) -> NodeChange
     ensures { result ≡ Updating.change_by state }

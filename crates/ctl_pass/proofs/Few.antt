@@ -15,7 +15,7 @@ use Rattle.ctl_state.specs.Laws.{OrderMoves}
 use Rattle.ctl_state.specs.Ordered.{ordered_by}
 use Rattle.ctl_state.specs.Soundness.{IsSound}
 use Rattle.ctl_state.specs.State.{State}
-use Rattle.ctl_rank.specs.Rank.{is_higher}
+use Rattle.ctl_waiting.specs.Rank.{is_higher}
 use Rattle.ctl_pass.specs.Limits.{timed_out}
 use Rattle.ctl_pass.specs.Passing.{outcome}
 use Rattle.ctl_waiting.specs.Candidates.{is_candidate, candidates, needs_of, ranked}

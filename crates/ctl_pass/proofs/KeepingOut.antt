@@ -21,12 +21,12 @@ use Rattle.backfill_planner.specs.Giving.{bars, is_barred, window_end}
 use Rattle.backfill_planner.specs.Placements.{IsPlacement}
 use Rattle.backfill_planner.specs.Plans.{holds_of, placed_of, plan_beside, plan_of}
 use Rattle.cpu_ids.specs.Rows.{has_id}
-use Rattle.partitions.specs.declared.record.PartRecord.{PartRecord}
+use Rattle.node_state.specs.declared.partition_record.PartRecord.{PartRecord}
 use Rattle.job_table.specs.declared.record.JobRecord.{JobRecord}
 use Rattle.job_table.specs.JobStates.{is_pending}
-use Rattle.reservations.specs.declared.record.Reservation.{Reservation}
-use Rattle.reservations.specs.Laws.{LastingTwice}
-use Rattle.reservations.specs.Reservations.{lasting}
+use Rattle.node_state.specs.declared.reservation_record.Reservation.{Reservation}
+use Rattle.node_state.specs.ReservationLaws.{LastingTwice}
+use Rattle.node_state.specs.Reservations.{lasting}
 use Rattle.ctl_state.specs.Laws.{OrderMoves}
 use Rattle.ctl_state.specs.Planning.{barred_by, barred_of, is_theirs, outside, plan_job, seconds_of, throughout}
 use Rattle.ctl_state.specs.State.{State}

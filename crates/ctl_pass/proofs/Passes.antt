@@ -18,8 +18,8 @@ use Rattle.job_table.specs.declared.change.Change.TheVariants.{Start}
 use Rattle.job_table.specs.Changes.{changed}
 use Rattle.job_table.specs.JobStates.{is_running, is_pending}
 use Rattle.job_table.specs.Awaiting.{AwaitedThroughChanges, has_gone}
-use Rattle.reservations.specs.declared.record.Reservation.{Reservation}
-use Rattle.reservations.specs.Reservations.{lasting}
+use Rattle.node_state.specs.declared.reservation_record.Reservation.{Reservation}
+use Rattle.node_state.specs.Reservations.{lasting}
 use Rattle.job_table.specs.Usage.{NothingCharged, charged}
 use Rattle.job_table.specs.Targets.{is_task_of}
 use Rattle.ctl_state.specs.declared.record.ArrayRecord.{ArrayRecord}

@@ -18,14 +18,14 @@ use Rattle.backfill_planner.specs.declared.job.PlanJob.{PlanJob}
 use Rattle.backfill_planner.specs.Bases.{BaseView}
 use Rattle.backfill_planner.specs.Placements.{IsPlannable, IsOnRooms, AreParts, StartsFit}
 use Rattle.backfill_planner.specs.Plans.{plan_of, PlannedView}
-use Rattle.partitions.specs.Partitions.{IsOnNodes, bounds_of}
+use Rattle.node_state.specs.Partitions.{IsOnNodes, bounds_of}
 use Rattle.small_texts.specs.Options.{◌>>=◌}
-use Rattle.reservations.specs.declared.record.Reservation.{Reservation}
-use Rattle.reservations.specs.Laws.{LastingTwice}
-use Rattle.reservations.specs.Reservations.{lasting, reservation_named}
-use Rattle.dependencies.specs.declared.standing.Standing.{Standing}
-use Rattle.dependencies.specs.Laws.{PassesLeaveStandings, SameForOthers}
-use Rattle.dependencies.specs.Standing.{standing}
+use Rattle.node_state.specs.declared.reservation_record.Reservation.{Reservation}
+use Rattle.node_state.specs.ReservationLaws.{LastingTwice}
+use Rattle.node_state.specs.Reservations.{lasting, reservation_named}
+use Rattle.job_table.specs.declared.standing.Standing.{Standing}
+use Rattle.job_table.specs.Laws.{PassesLeaveStandings, SameForOthers}
+use Rattle.job_table.specs.Standing.{standing}
 use Rattle.job_table.specs.declared.record.JobRecord.{JobRecord}
 use Rattle.job_table.specs.declared.record.Part.{Part}
 use Rattle.job_table.specs.Changes.{is_on}
@@ -44,12 +44,12 @@ use Rattle.ctl_state.specs.Ordered.{ordered_by}
 use Rattle.ctl_state.specs.Planning.{barred_of, plan_job, room_of, seconds_of}
 use Rattle.ctl_state.specs.Soundness.{IsSound, IsKept, IsLimit, pending_ids}
 use Rattle.ctl_state.specs.State.{State, partition_of, last_moment, last_job_id}
-use Rattle.ctl_rank.specs.FairShare.{rank_at, user_count, user_usage}
-use Rattle.ctl_rank.specs.Laws.{RanksStay}
-use Rattle.ctl_rank.specs.Priority as priority
-use Rattle.ctl_rank.specs.Priority.{all_cpus, greatest_factor, greatest_qos}
-use Rattle.ctl_rank.specs.Rank.{is_higher}
-use Rattle.ctl_rank.specs.Usage.{usage_at}
+use Rattle.ctl_waiting.specs.FairShare.{rank_at, user_count, user_usage}
+use Rattle.ctl_waiting.specs.Laws.{RanksStay}
+use Rattle.ctl_waiting.specs.Priority as priority
+use Rattle.ctl_waiting.specs.Priority.{all_cpus, greatest_factor, greatest_qos}
+use Rattle.ctl_waiting.specs.Rank.{is_higher}
+use Rattle.ctl_waiting.specs.Usage.{usage_at}
 use Rattle.ctl_pass.specs.Awaiting.{Awaits, CanBegin}
 use Rattle.ctl_pass.specs.Limits.{holds_of_job, hold_end, timed_out}
 use Rattle.ctl_waiting.specs.Candidates.{is_candidate, candidates, need_in, needs_of, ranked}

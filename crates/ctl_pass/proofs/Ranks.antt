@@ -8,19 +8,19 @@ use Rattle.std.proofs.lemmas.List.Elements.{All-cons, All-filter, All-head, All-
 use Rattle.std.proofs.lemmas.List.Kept.{AllPairs-cons, AllPairs-filter}
 use Rattle.std.proofs.lemmas.List.Sorted.{All-permutation}
 use Rattle.backfill_planner.specs.declared.job.PlanJob.{PlanJob}
-use Rattle.partitions.specs.declared.record.PartRecord.{PartRecord}
-use Rattle.partitions.specs.Partitions.{bounds_of}
+use Rattle.node_state.specs.declared.partition_record.PartRecord.{PartRecord}
+use Rattle.node_state.specs.Partitions.{bounds_of}
 use Rattle.small_texts.specs.Options.{◌>>=◌}
 use Rattle.job_table.specs.declared.record.JobRecord.{JobRecord}
 use Rattle.job_table.specs.JobStates.{is_pending}
 use Rattle.ctl_state.specs.Ordered.{put, ordered_by}
 use Rattle.ctl_state.specs.Laws.{OrderMoves, OrderKeepsApart}
-use Rattle.reservations.specs.Reservations.{lasting}
+use Rattle.node_state.specs.Reservations.{lasting}
 use Rattle.ctl_state.specs.Planning.{plan_job}
 use Rattle.ctl_state.specs.Soundness.{pending_ids}
 use Rattle.job_table.specs.Table.{HaveRisingIds}
 use Rattle.ctl_state.specs.State.{State, partition_of}
-use Rattle.ctl_rank.specs.Rank.{is_higher}
+use Rattle.ctl_waiting.specs.Rank.{is_higher}
 use Rattle.ctl_waiting.specs.Candidates.{is_candidate, candidates, need_in, needs_of, ranked}
 use Rattle.ctl_waiting.specs.Reasons.{hindrance}
 use Rattle.ctl_pass.proofs.Lists.{pairs-head, pairs-tail}

@@ -21,9 +21,9 @@ use Rattle.job_table.specs.Table.{is_old}
 use Rattle.job_table.specs.Usage.{ChangesRunOn, RunsOn, StaysOn}
 use Rattle.ctl_state.specs.Events.{LetsGo, those_left}
 use Rattle.ctl_state.specs.Holding.{has_members}
-use Rattle.reservations.specs.declared.record.Reservation.{Reservation}
-use Rattle.reservations.specs.Laws.{Fewer}
-use Rattle.reservations.specs.Reservations.{lasting}
+use Rattle.node_state.specs.declared.reservation_record.Reservation.{Reservation}
+use Rattle.node_state.specs.ReservationLaws.{Fewer}
+use Rattle.node_state.specs.Reservations.{lasting}
 use Rattle.ctl_state.specs.Laws.{Charging, LettingGo, ChangesLetGo, LetsGoNothing, KeptLater, Reserving}
 use Rattle.ctl_state.specs.Soundness.{IsSound, IsKept, PlansPending, pending_ids, HasItsParts}
 use Rattle.ctl_state.specs.State.{State, last_moment}

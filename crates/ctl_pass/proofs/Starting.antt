@@ -18,7 +18,7 @@ use Rattle.job_table.specs.declared.record.Part.{Part}
 use Rattle.job_table.specs.JobStates.{is_pending}
 use Rattle.node_state.specs.declared.record.NodeRecord.{NodeRecord}
 use Rattle.node_state.specs.Nodes.{is_up}
-use Rattle.reservations.specs.declared.record.Reservation.{Reservation}
+use Rattle.node_state.specs.declared.reservation_record.Reservation.{Reservation}
 use Rattle.ctl_state.specs.declared.record.ArrayRecord.{ArrayRecord}
 use Rattle.ctl_state.specs.Events.{started_as, MayTake}
 use Rattle.ctl_state.specs.Holding.{cpus_of, times_held, free_ids, IsPartOf, parts_of, mem_of, mem_in, mem_held, has_members}

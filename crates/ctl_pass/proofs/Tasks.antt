@@ -6,7 +6,7 @@ use Rattle.job_table.specs.declared.record.JobRecord.{JobRecord}
 use Rattle.job_table.specs.declared.record.Part.{Part}
 use Rattle.job_table.specs.JobStates.{is_holding, is_pending}
 use Rattle.job_table.specs.Table.{HaveRisingIds, job_with}
-use Rattle.accounts_qos.specs.declared.record.AssocRecord.{AssocRecord}
+use Rattle.run_limits.specs.declared.record.AssocRecord.{AssocRecord}
 use Rattle.run_limits.specs.declared.counted.Counted.{Counted}
 use Rattle.run_limits.specs.declared.tally.Tally.{Tally}
 use Rattle.run_limits.specs.Tallies.{HaveSameSums, Shows}

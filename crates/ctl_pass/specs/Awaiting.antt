@@ -5,7 +5,7 @@ use Rattle.backfill_planner.specs.declared.Share.{Share}
 use Rattle.job_table.specs.declared.record.JobRecord.{JobRecord}
 use Rattle.job_table.specs.Table.{HaveRisingIds, job_with}
 use Rattle.node_state.specs.declared.record.NodeRecord.{NodeRecord}
-use Rattle.accounts_qos.specs.declared.record.AssocRecord.{AssocRecord}
+use Rattle.run_limits.specs.declared.record.AssocRecord.{AssocRecord}
 use Rattle.run_limits.specs.declared.counted.Counted.{Counted}
 use Rattle.run_limits.specs.declared.tally.Tally.{Tally}
 use Rattle.run_limits.specs.Tallies.{Shows}

@@ -9,7 +9,7 @@ use Rattle.std.specs.List.{list_any}
 use Rattle.job_table.specs.declared.record.JobRecord.{JobRecord}
 use Rattle.job_table.specs.Awaiting.{ShowsAwaited}
 use Rattle.job_table.specs.Targets.{is_task_of}
-use Rattle.reservations.specs.Reservations.{lasting}
+use Rattle.node_state.specs.Reservations.{lasting}
 use Rattle.ctl_pass.specs.declared.live_arrays.LiveArrays.{LiveArrays}
 use Rattle.ctl_pass.specs.declared.pass.Decided.{Decided}
 use Rattle.ctl_pass.specs.Awaiting.{IsPrepared, placements_of}

@@ -14,7 +14,7 @@ use Rattle.ctl_waiting.specs.Candidates.{ranked}
 use Rattle.ctl_pass.specs.Limits.{timed_out, holds_of_job}
 use Rattle.job_table.specs.Awaiting.{is_awaited}
 use Rattle.job_table.specs.Table.{is_old}
-use Rattle.reservations.specs.Reservations.{lasting}
+use Rattle.node_state.specs.Reservations.{lasting}
 
 -- the record of a job goes once it is old, where no pending job waits for it
 abbrev pub goes : State → ℕ → JobRecord → Bool

@@ -4,8 +4,8 @@ use Rattle.backfill_planner.specs.declared.Placed.{Placed}
 use Rattle.backfill_planner.specs.declared.Share.{Share}
 use Rattle.cpu_ids.specs.Rows.{has_id}
 use Rattle.job_table.specs.declared.record.JobRecord.{JobRecord}
-use Rattle.reservations.specs.declared.record.Reservation.{Reservation}
-use Rattle.reservations.specs.Reservations.{lasting}
+use Rattle.node_state.specs.declared.reservation_record.Reservation.{Reservation}
+use Rattle.node_state.specs.Reservations.{lasting}
 use Rattle.ctl_state.specs.Planning.{is_theirs}
 use Rattle.ctl_state.specs.State.{State}
 use Rattle.ctl_pass.specs.Limits.{limit_end}

@@ -19,8 +19,8 @@ use job_table::awaited::Awaited;
 use job_table::jobs::has_gone;
 use job_table::laws::who_is_awaited_stays;
 use job_table::record::JobRecord;
-use resource_profile::Hold;
 use plain_data::items::Items;
+use resource_profile::Hold;
 use small_texts::memory_error::Memory;
 use std::alloc::Global;
 

@@ -21,17 +21,17 @@ use backfill_planner::laws::{
     parts_are_apart, placements_are_first, placements_are_of_ranked_jobs,
     placements_keep_out_of_barred_times, starts_fit,
 };
-use ctl_rank::laws::priorities_stay;
 use ctl_state::laws::{
     a_stable_sort_makes_the_order, charging_keeps_all_sound, every_change_but_a_start_lets_go,
     jobs_are_kept, jobs_get_nodes_that_are_there, letting_go_keeps_all_sound, others_wait_on,
     plans_keep_all_sound, reservations_keep_all_sound, taking_keeps_all_sound,
     what_is_taken_is_counted,
 };
-use dependencies::laws::passes_leave_standings;
+use ctl_waiting::laws::priorities_stay;
+use job_table::dependency_laws::passes_leave_standings;
 use job_table::laws::{jobs_run_on, who_is_awaited_stays, who_leaves_is_charged};
 use job_table::record::JobRecord;
-use reservations::laws::reservations_stay_apart;
+use node_state::reservation_laws::reservations_stay_apart;
 
 /// A pass keeps all sound.
 pub fn a_pass_keeps_all_sound()

@@ -10,7 +10,7 @@ ghost use Rattle.ctl_state.specs.Refusals.{first_refusal};
 ghost use Rattle.ctl_state.specs.declared.record.ArrayRecord.{ArrayRecord};
 ghost use Rattle.ctl_pass.specs.Live.{has_array};
 ghost use Rattle.job_table.specs.Awaiting.{ShowsAwaited, has_gone};
-ghost use Rattle.reservations.specs.declared.record.Reservation.{Reservation as OneReservation};
+ghost use Rattle.node_state.specs.declared.reservation_record.Reservation.{Reservation as OneReservation};
 ghost use Rattle.run_limits.specs.Tallies.{Shows};
 ghost use Rattle.ctl_state.specs.Counted.{holding};
 ghost use Rattle.ctl_pass.specs.Readiness.{jobs_left, placements, ready};
@@ -33,12 +33,12 @@ use ctl_state::laws::parts_stay;
 use ctl_state::record::ArrayRecord;
 use job_table::awaited::Awaited;
 use job_table::laws::who_is_awaited_stays;
-use reservations::record::Reservation;
+use node_state::reservation_record::Reservation;
+use reply_data::refusal::Refusal;
 use resource_profile::Steps;
 use run_limits::tally::Tally;
 use small_texts::memory_error::Memory;
 use small_texts::name::Name;
-use reply_data::refusal::Refusal;
 use std::alloc::Global;
 
 /// What a pass decides before it changes anything: its memory is taken by then.

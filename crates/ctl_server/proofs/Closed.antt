@@ -18,8 +18,8 @@ use Rattle.slurm_net.specs.Session.{LinkSession}
 use Rattle.ctl_state.specs.State.{State}
 use Rattle.ctl_desk.specs.declared.entry.Entry.{Entry}
 use Rattle.ctl_desk.specs.History.{History, of_session, after_all, present}
-use Rattle.locked_desk.specs.Locked.{BookView}
-use Rattle.ctl_worker.specs.declared.working.WorkerEnd.TheVariants.{Shut, DoorFault, Memory}
+use Rattle.ctl_server.specs.Locked.{BookView}
+use Rattle.ctl_server.specs.declared.working.WorkerEnd.TheVariants.{Shut, DoorFault, Memory}
 use Rattle.ctl_server.specs.declared.workers.Worked.{Worked}
 use Rattle.ctl_server.specs.Numbered.{AreOfWorker, AreServed}
 use Rattle.ctl_server.specs.Parts.{BeganWith, HasMet, HasSeenShut, IsBookOf, IsLeft, IsWhole, claims_of}

@@ -5,9 +5,9 @@ use Rattle.std.proofs.lemmas.List.{get_or_append_left}
 use Rattle.std.proofs.lemmas.List.Elements.{All-nil, All-cons, All-append}
 use Rattle.std.proofs.lemmas.List.Quantifiers.{Any-push}
 use Rattle.turn_lock.specs.Passes.{Meets}
-use Rattle.locked_desk.specs.Locked.{BookView}
-use Rattle.ctl_worker.specs.declared.working.WorkerEnd.{WorkerEnd}
-use Rattle.ctl_worker.specs.declared.working.WorkerEnd.TheVariants.{Shut, DoorFault, Memory}
+use Rattle.ctl_server.specs.Locked.{BookView}
+use Rattle.ctl_server.specs.declared.working.WorkerEnd.{WorkerEnd}
+use Rattle.ctl_server.specs.declared.working.WorkerEnd.TheVariants.{Shut, DoorFault, Memory}
 use Rattle.ctl_server.specs.declared.workers.Worked.{Worked}
 use Rattle.ctl_server.specs.Parts.{EndBy, HasMet, worse}
 use Rattle.ctl_server.proofs.Meeting.{met_one}

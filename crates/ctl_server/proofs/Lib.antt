@@ -6,3 +6,10 @@ pub mod Seated
 pub mod Served
 pub mod Sitting
 pub mod Working
+pub mod Locking
+pub mod Cutting
+pub mod Ending
+pub mod Following
+pub mod Timings
+pub mod Turning
+pub mod Counting

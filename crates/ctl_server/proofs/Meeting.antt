@@ -8,7 +8,7 @@ use Rattle.turn_lock.specs.Views.{Differ, StartsWith}
 use Rattle.turn_lock.specs.Passes.{HasTurn, Meets, IsKnown}
 use Rattle.ctl_desk.specs.declared.entry.Entry.{Entry}
 use Rattle.ctl_desk.specs.History.{History, of_session}
-use Rattle.locked_desk.specs.Locked.{BookView}
+use Rattle.ctl_server.specs.Locked.{BookView}
 use Rattle.ctl_server.specs.Parts.{HasMet, IsBookOf, claim_of, claims_of}
 
 pub starts_trans : (whole middle front : List Entry) → StartsWith whole middle → StartsWith middle front → StartsWith whole front

@@ -7,7 +7,7 @@ use Rattle.slurm_net.specs.Course.{Course}
 use Rattle.slurm_net.specs.Host.{IsNewDoor}
 use Rattle.slurm_net.specs.Session.{LinkSession}
 use Rattle.ctl_state.specs.State.{State}
-use Rattle.locked_desk.specs.Locked.{BookView}
+use Rattle.ctl_server.specs.Locked.{BookView}
 use Rattle.ctl_server.specs.declared.workers.Seat.{Seat}
 use Rattle.ctl_server.specs.Parts.{BeganWith, IsReady, IsSplit, IsStill}
 

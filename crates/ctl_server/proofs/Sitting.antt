@@ -8,7 +8,7 @@ use Rattle.ctl_state.specs.State.{State}
 use Rattle.ctl_desk.specs.declared.entry.Entry.{Entry}
 use Rattle.ctl_desk.specs.Desk.{Sight, GoesOn, history_of, later, seen}
 use Rattle.ctl_desk.specs.History.{History, of_session, present}
-use Rattle.locked_desk.specs.Locked.{BookView, LockedSeat, sight_at, sight_by, sight_there}
+use Rattle.ctl_server.specs.Locked.{BookView, LockedSeat, sight_at, sight_by, sight_there}
 use Rattle.ctl_server.specs.Parts.{BeganWith, HasSeenShut, seen_by}
 
 -- What is known of a pass that comes back from a desk.

@@ -12,16 +12,16 @@ use Rattle.ctl_state.specs.State.{State}
 use Rattle.ctl_desk.specs.declared.entry.Entry.{Entry}
 use Rattle.ctl_desk.specs.Desk.{Sight, GoesOn, seen}
 use Rattle.ctl_desk.specs.History.{History, of_session}
-use Rattle.locked_desk.specs.Locked.{BookView, LockedSeat, sight_at, sight_there}
+use Rattle.ctl_server.specs.Locked.{BookView, LockedSeat, sight_at, sight_there}
 use Rattle.ctl_session.specs.Clock.{Timing, Gives, timing}
-use Rattle.ctl_worker.specs.declared.working.WorkerEnd.{WorkerEnd}
-use Rattle.ctl_worker.specs.declared.working.WorkerEnd.TheVariants.{Memory}
-use Rattle.ctl_worker.specs.Cause.{IsCause}
-use Rattle.ctl_worker.specs.Run.{Follow}
-use Rattle.ctl_worker.specs.Served.{IsWithin, KeepsServed}
-use Rattle.ctl_worker.specs.Serving.{Serving, moments_of, readings_of, sessions_in}
-use Rattle.ctl_worker.specs.Standing.{Standing}
-use Rattle.ctl_worker.specs.Worked.{IsWorked, AddsSessions}
+use Rattle.ctl_server.specs.declared.working.WorkerEnd.{WorkerEnd}
+use Rattle.ctl_server.specs.declared.working.WorkerEnd.TheVariants.{Memory}
+use Rattle.ctl_server.specs.Cause.{IsCause}
+use Rattle.ctl_server.specs.Run.{Follow}
+use Rattle.ctl_server.specs.Served.{IsWithin, KeepsServed}
+use Rattle.ctl_server.specs.Serving.{Serving, moments_of, readings_of, sessions_in}
+use Rattle.ctl_server.specs.Standing.{Standing}
+use Rattle.ctl_server.specs.Worked.{IsWorked, AddsSessions}
 use Rattle.ctl_server.specs.declared.workers.Seat.{Seat}
 use Rattle.ctl_server.specs.Numbered.{AreOfWorker}
 use Rattle.ctl_server.specs.Parts.{IsLeft, IsReady, IsWhole}

@@ -3,3 +3,11 @@ pub mod Line
 pub mod Numbered
 pub mod Parts
 pub mod Prepared
+pub mod Locked
+pub mod Cause
+pub mod Run
+pub mod Served
+pub mod Serving
+pub mod Standing
+pub mod Worked
+pub mod Beside

@@ -5,8 +5,8 @@ use Rattle.slurm_net.specs.Course.{Course, first_moments}
 use Rattle.slurm_net.specs.Session.{LinkSession}
 use Rattle.ctl_desk.specs.declared.entry.Entry.{Entry}
 use Rattle.ctl_desk.specs.History.{History}
-use Rattle.ctl_worker.specs.Served.{IsWithin, KeepsServed}
-use Rattle.ctl_worker.specs.Serving.{readings_of}
+use Rattle.ctl_server.specs.Served.{IsWithin, KeepsServed}
+use Rattle.ctl_server.specs.Serving.{readings_of}
 
 -- each entry that bears the number stands within one of the sessions
 abbrev pub StandWithin : ℕ → List Entry → List LinkSession → Type 0

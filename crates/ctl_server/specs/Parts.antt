@@ -9,9 +9,9 @@ use Rattle.turn_lock.specs.Views.{Differ, StartsWith}
 use Rattle.ctl_state.specs.State.{State}
 use Rattle.ctl_desk.specs.declared.entry.Entry.{Entry}
 use Rattle.ctl_desk.specs.History.{History, of_session, present}
-use Rattle.locked_desk.specs.Locked.{BookView}
-use Rattle.ctl_worker.specs.declared.working.WorkerEnd.{WorkerEnd}
-use Rattle.ctl_worker.specs.declared.working.WorkerEnd.TheVariants.{Shut, DoorFault, Memory}
+use Rattle.ctl_server.specs.Locked.{BookView}
+use Rattle.ctl_server.specs.declared.working.WorkerEnd.{WorkerEnd}
+use Rattle.ctl_server.specs.declared.working.WorkerEnd.TheVariants.{Shut, DoorFault, Memory}
 use Rattle.ctl_server.specs.declared.workers.Seat.{Seat}
 use Rattle.ctl_server.specs.declared.workers.Worked.{Worked}
 use Rattle.ctl_server.specs.Numbered.{AreOfWorker}

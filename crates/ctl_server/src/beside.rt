@@ -5,8 +5,7 @@ ghost use Rattle.ctl_state.specs.State.{State};
 ghost use Rattle.ctl_server.specs.Parts.{BeganWith, HasSeenShut};
 
 use crate::daemons::turn_daemons;
-use ctl_planner::planner_part;
-use locked_desk::{BookLock, BookPass, locked_desk};
+use crate::{BookLock, BookPass, locked_desk, planner_part};
 use node_daemon::daemon::DaemonState;
 use slurm_net::{Clock, Gate};
 use std::alloc::Global;

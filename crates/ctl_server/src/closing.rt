@@ -8,10 +8,9 @@ ghost use Rattle.ctl_server.specs.Parts.{BeganWith, EndBy, HasMet, HasSeenShut, 
 
 use crate::ending::ServeEnd;
 use crate::workers::{Worked, gather};
+use crate::{BookLock, BookPass, WorkerEnd};
 use ctl_desk::book::Book;
 use ctl_desk::laws::what_is_shut_stays_shut;
-use ctl_worker::WorkerEnd;
-use locked_desk::{BookLock, BookPass};
 use slurm_net::{Door, Host};
 use std::sync::Wait;
 

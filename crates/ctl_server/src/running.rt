@@ -6,7 +6,7 @@ ghost use Rattle.ctl_server.specs.Parts.{AreLeft, BeganWith, CanWork, HasSeenShu
 
 use crate::beside::{Planner, Reporter, run_beside};
 use crate::workers::{Seat, Worked, work_all};
-use locked_desk::{BookLock, BookPass};
+use crate::{BookLock, BookPass};
 use slurm_net::{Clock, Door, Gate};
 use small_texts::memory_error::Memory;
 use std::alloc::Global;

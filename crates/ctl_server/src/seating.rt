@@ -6,7 +6,7 @@ ghost use Rattle.ctl_state.specs.State.{State};
 ghost use Rattle.ctl_server.specs.Parts.{BeganWith, IsReady, IsSplit, IsStill};
 
 use crate::workers::{Seat, put};
-use locked_desk::{BookLock, BookPass};
+use crate::{BookLock, BookPass};
 use slurm_net::{Clock, Door};
 use std::sync::Wait;
 

@@ -5,12 +5,11 @@ ghost use Rattle.slurm_net.specs.Course.{Course};
 ghost use Rattle.ctl_state.specs.State.{State};
 ghost use Rattle.ctl_server.specs.Parts.{AreLeft, CanWork, EndBy, HasMet, IsLeft, IsReady, worse};
 
-use ctl_worker::laws::{
+use crate::laws::{
     connections_stand_in_histories, doors_keep_what_was_served, entries_stand_within_cuts,
     moments_are_the_first_of_a_course,
 };
-use ctl_worker::{WorkerEnd, worker};
-use locked_desk::{BookLock, BookPass, locked_desk};
+use crate::{BookLock, BookPass, WorkerEnd, locked_desk, worker};
 use resource_profile::start;
 use slurm_net::{Clock, Door, Gate};
 use small_texts::memory_error::Memory;

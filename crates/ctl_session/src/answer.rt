@@ -13,14 +13,14 @@ use block_frame::{Block, Form, write_block};
 use command_words::header::{Asked, Meaning};
 use ctl_desk::desk::Desk;
 use ctl_desk::entry::Answer;
+use reply_data::reply::Reply;
+use request_data::request::Request;
 use resource_profile::{Plain, Steps};
 use slurm_io::{Failed, Link};
 use slurm_net::Clock;
 use slurm_print::malformed::{bad_header, bad_words, malformed, unknown_command};
 use slurm_print::text::text;
 use small_texts::memory_error::Memory;
-use reply_data::reply::Reply;
-use request_data::request::Request;
 use std::alloc::Global;
 
 /// Asks what a header asked. After want of memory nothing of it is entered.

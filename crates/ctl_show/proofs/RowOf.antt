@@ -9,7 +9,7 @@ use Rattle.reply_data.specs.declared.view.NamedPart.{NamedPart}
 use Rattle.job_table.specs.declared.record.JobRecord.{JobRecord}
 use Rattle.job_table.specs.Targets.{index_of}
 use Rattle.ctl_state.specs.State.{State}
-use Rattle.ctl_rank.specs.Rank.{priority_of}
+use Rattle.ctl_waiting.specs.Rank.{priority_of}
 use Rattle.ctl_show.specs.Showing.{partition_name, elapsed_of, nodes_of, node_names, reason_shown, start_shown, cpus_of, end_shown, named_parts, row_of}
 
 pub row-found : (s : State) (now : ℕ) (job : JobRecord) (index : Option ℕ) (name user account partition qos : List ℕ)

@@ -6,7 +6,7 @@ use Rattle.job_table.specs.declared.record.Part.{Part}
 use Rattle.run_limits.specs.Tallies.{Shows}
 use Rattle.ctl_state.specs.Counted.{holding}
 use Rattle.ctl_state.specs.State.{State}
-use Rattle.ctl_rank.specs.Measured.{IsMeasured}
+use Rattle.ctl_waiting.specs.Measured.{IsMeasured}
 use Rattle.ctl_show.specs.declared.outlook.Outlook.{Outlook}
 use Rattle.ctl_show.specs.Standing.{group_at}
 use Rattle.ctl_show.specs.Showing.{highest, planned_start}

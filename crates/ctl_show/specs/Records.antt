@@ -7,9 +7,9 @@ use Rattle.reply_data.specs.declared.view.ResRow.{ResRow}
 use Rattle.reply_data.specs.declared.view.Row.{Row}
 use Rattle.reply_data.specs.declared.view.Row.TheVariants as shown
 use Rattle.node_state.specs.declared.record.NodeRecord.{NodeRecord}
-use Rattle.partitions.specs.declared.record.PartRecord.{PartRecord}
-use Rattle.reservations.specs.declared.record.Reservation.{Reservation}
-use Rattle.reservations.specs.Reservations.{is_named}
+use Rattle.node_state.specs.declared.partition_record.PartRecord.{PartRecord}
+use Rattle.node_state.specs.declared.reservation_record.Reservation.{Reservation}
+use Rattle.node_state.specs.Reservations.{is_named}
 use Rattle.ctl_state.specs.Holding.{parts_of, mem_held}
 use Rattle.ctl_state.specs.State.{State}
 use Rattle.ctl_show.specs.Standing.{cpus_held, group_by, is_asked}

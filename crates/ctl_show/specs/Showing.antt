@@ -29,18 +29,18 @@ use Rattle.reply_data.specs.declared.view.View.{View}
 use Rattle.backfill_planner.specs.declared.Placed.{Placed}
 use Rattle.node_state.specs.declared.record.NodeRecord.{NodeRecord}
 use Rattle.node_state.specs.Nodes.{place_named}
-use Rattle.partitions.specs.declared.record.PartRecord.{PartRecord}
-use Rattle.partitions.specs.Partitions.{place_meant}
+use Rattle.node_state.specs.declared.partition_record.PartRecord.{PartRecord}
+use Rattle.node_state.specs.Partitions.{place_meant}
 use Rattle.job_table.specs.declared.record.Part.{Part}
 use Rattle.job_table.specs.declared.record.JobRecord.{JobRecord}
 use Rattle.job_table.specs.JobStates.{is_pending, is_running, is_completing, is_ended, is_holding}
 use Rattle.job_table.specs.Targets.{index_of, is_named}
-use Rattle.reservations.specs.Reservations.{reservation_named}
+use Rattle.node_state.specs.Reservations.{reservation_named}
 use Rattle.ctl_state.specs.Planning.{names_of}
 use Rattle.ctl_state.specs.Refusals.{refused_if}
 use Rattle.ctl_state.specs.State.{State, partition_of}
-use Rattle.ctl_rank.specs.Priority.{parts_of}
-use Rattle.ctl_rank.specs.Rank.{priority_of}
+use Rattle.ctl_waiting.specs.Priority.{parts_of}
+use Rattle.ctl_waiting.specs.Rank.{priority_of}
 use Rattle.ctl_waiting.specs.Reasons.{hindrance}
 use Rattle.ctl_waiting.specs.Candidates.{candidates}
 use Rattle.ctl_show.specs.Records.{node_rows, partition_rows, reservation_rows}

@@ -6,7 +6,7 @@ use Rattle.reply_data.specs.declared.view.Row.{Row}
 use Rattle.reply_data.specs.declared.view.Row.TheVariants.{States}
 use Rattle.node_state.specs.declared.record.NodeRecord.{NodeRecord}
 use Rattle.node_state.specs.Nodes.{is_up}
-use Rattle.partitions.specs.declared.record.PartRecord.{PartRecord}
+use Rattle.node_state.specs.declared.partition_record.PartRecord.{PartRecord}
 use Rattle.job_table.specs.declared.record.Part.{Part}
 use Rattle.ctl_state.specs.Holding.{parts_of}
 use Rattle.job_table.specs.Changes.{is_on}

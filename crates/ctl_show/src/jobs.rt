@@ -13,10 +13,10 @@ use ctl_state::jobs::is_pending;
 use job_table::record::JobRecord;
 use job_table::targets::{is_named, places_of};
 use plain_data::items::Items;
-use small_texts::name::Name;
 use request_data::query::{JobQuery, StateCode, Who};
 use request_data::state::{Final, JobState};
 use request_data::target::Target;
+use small_texts::name::Name;
 
 // Whether a job in this state has the code.
 fn has_code(code: StateCode, state: JobState) -> bool

@@ -10,9 +10,9 @@ use crate::rows::row_of;
 use ctl_state::cluster::Cluster;
 use job_table::record::JobRecord;
 use job_table::targets::is_named;
-use small_texts::memory_error::Memory;
-use request_data::target::Target;
 use reply_data::view::Row;
+use request_data::target::Target;
+use small_texts::memory_error::Memory;
 use std::alloc::Global;
 
 // Whether the target names the job, if there is one.

@@ -9,19 +9,15 @@ ghost use Rattle.ctl_show.specs.Found.{IsOutlook};
 ghost use Rattle.ctl_show.specs.Showing;
 
 use backfill_planner::Placed;
-use ctl_rank::{Factors, measure};
 use ctl_state::cluster::Cluster;
 use ctl_state::counting::count_holding;
-use ctl_waiting::highest;
+use ctl_waiting::{Factors, highest, measure};
+use plain_data::ranged::Ranged;
+use plain_data::seconds::{LAST_START, Second};
 use run_limits::tally::Tally;
 use small_texts::memory_error::Memory;
-use plain_data::seconds::LAST_START;
-use plain_data::ranged::Ranged;
 use std::alloc::Global;
 use std::collections::HashMap;
-
-/// A second that can be shown.
-pub(crate) type Second = Ranged<0, 253402300799>;
 
 /// What the rows of pending jobs need of the other jobs and of the plan.
 #[derive(Drop)]

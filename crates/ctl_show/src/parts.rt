@@ -6,8 +6,8 @@ ghost use Rattle.ctl_show.specs.Showing;
 use job_table::record::Part;
 use node_state::record::NodeRecord;
 use plain_data::items::Items;
-use small_texts::memory_error::Memory;
 use reply_data::view::NamedPart;
+use small_texts::memory_error::Memory;
 use std::alloc::Global;
 
 // What the part holds of the node.

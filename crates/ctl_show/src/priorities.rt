@@ -3,22 +3,22 @@
 ghost use Rattle.std.specs.Prelude.{◌≡◌, ◌<◌, IfOk, length};
 ghost use Rattle.ctl_state.specs.State.{state_of};
 ghost use Rattle.ctl_state.specs.Soundness.{IsSound};
-ghost use Rattle.ctl_rank.specs.Measured.{IsMeasured};
+ghost use Rattle.ctl_waiting.specs.Measured.{IsMeasured};
 ghost use Rattle.ctl_show.specs.Showing;
 
 use crate::jobs::is_weighed;
 use crate::rows::partition_name;
-use ctl_rank::{Factors, measure, priority_of};
 use ctl_state::cluster::Cluster;
+use ctl_waiting::{Factors, measure, priority_of};
 use job_table::record::JobRecord;
 use job_table::targets::index_of;
 use plain_data::items::Items;
-use small_texts::memory_error::Memory;
-use small_texts::name::Name;
 use reply_data::priority::PriorityRow;
+use reply_data::view::Row;
 use request_data::query::Who;
 use request_data::target::Target;
-use reply_data::view::Row;
+use small_texts::memory_error::Memory;
+use small_texts::name::Name;
 use std::alloc::Global;
 
 // What is shown of the job's priority.

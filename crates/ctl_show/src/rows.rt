@@ -8,26 +8,25 @@ ghost use Rattle.ctl_show.specs.Found.{IsOutlook};
 ghost use Rattle.ctl_show.specs.Showing;
 
 use crate::jobs::is_shown;
-use crate::outlook::{Outlook, Second, outlook_of};
+use crate::outlook::{Outlook, outlook_of};
 use crate::parts::named_parts;
-use ctl_rank::priority_of;
 use ctl_state::cluster::Cluster;
 use ctl_state::jobs::is_pending;
 use ctl_state::planning::names_of;
-use ctl_waiting::hindrance;
+use ctl_waiting::{hindrance, priority_of};
 use job_table::record::JobRecord;
 use job_table::targets::index_of;
 use job_table::usage::cpus_in;
+use plain_data::Plain;
 use plain_data::items::Items;
+use plain_data::limit::Limit;
+use plain_data::ranged::Ranged;
+use plain_data::seconds::{FOREVER, Second};
+use reply_data::view::{EndAt, JobRow, Row};
+use request_data::query::JobQuery;
+use request_data::state::{JobState, Reason};
 use small_texts::memory_error::Memory;
 use small_texts::name::Name;
-use plain_data::Plain;
-use plain_data::limit::Limit;
-use request_data::query::JobQuery;
-use plain_data::seconds::FOREVER;
-use request_data::state::{JobState, Reason};
-use reply_data::view::{EndAt, JobRow, Row};
-use plain_data::ranged::Ranged;
 use std::alloc::Global;
 
 // How long a job runs or ran, in seconds.

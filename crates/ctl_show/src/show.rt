@@ -16,12 +16,12 @@ use crate::shown_reservations::reservation_rows;
 use crate::standing::state_rows;
 use ctl_state::cluster::Cluster;
 use plain_data::items::Items;
+use reply_data::refusal::Refusal;
+use reply_data::view::{Row, View};
+use request_data::query::{JobQuery, Query};
+use request_data::target::Target;
 use small_texts::memory_error::Memory;
 use small_texts::name::Name;
-use request_data::query::{JobQuery, Query};
-use reply_data::refusal::Refusal;
-use request_data::target::Target;
-use reply_data::view::{Row, View};
 use std::alloc::Global;
 
 // Why a query is refused that asks for this partition.

@@ -11,9 +11,9 @@ use crate::held::{cpus_held, mem_held};
 use crate::standing::group_of;
 use ctl_state::cluster::Cluster;
 use node_state::record::NodeRecord;
+use reply_data::view::{NodeRow, Row};
 use small_texts::memory_error::Memory;
 use small_texts::name::Name;
-use reply_data::view::{NodeRow, Row};
 use std::alloc::Global;
 
 // What is shown of the node, of which so many processors and megabytes are held.

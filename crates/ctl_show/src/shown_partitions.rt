@@ -1,19 +1,19 @@
 //! The rows of partitions.
 
 ghost use Rattle.std.specs.Prelude.{◌≡◌, ◌^◌, ◌-◌, min, sum_by, length, IfOk};
-ghost use Rattle.partitions.specs.Partitions.{IsOnNodes};
+ghost use Rattle.node_state.specs.Partitions.{IsOnNodes};
 ghost use Rattle.ctl_state.specs.Soundness.{IsSound};
 ghost use Rattle.ctl_state.specs.State.{state_of};
 ghost use Rattle.ctl_show.specs.Records;
 
 use crate::standing::is_asked;
 use ctl_state::cluster::Cluster;
+use node_state::partition_record::PartRecord;
 use node_state::record::NodeRecord;
-use partitions::record::PartRecord;
 use plain_data::items::Items;
+use reply_data::view::{PartRow, Row};
 use small_texts::memory_error::Memory;
 use small_texts::name::Name;
-use reply_data::view::{PartRow, Row};
 use std::alloc::Global;
 
 /// The names of the nodes at places. Linear in these.

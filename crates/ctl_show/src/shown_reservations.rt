@@ -7,12 +7,12 @@ ghost use Rattle.ctl_show.specs.Records;
 use crate::shown_partitions::names_at;
 use ctl_state::cluster::Cluster;
 use node_state::record::NodeRecord;
-use reservations::record::Reservation;
+use node_state::reservation_record::Reservation;
 use plain_data::items::Items;
+use plain_data::ranged::Ranged;
+use reply_data::view::{ResRow, Row};
 use small_texts::memory_error::Memory;
 use small_texts::name::Name;
-use reply_data::view::{ResRow, Row};
-use plain_data::ranged::Ranged;
 use std::alloc::Global;
 
 // Whether the reservation is the one that is asked for, if one is.

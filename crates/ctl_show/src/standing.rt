@@ -8,13 +8,13 @@ ghost use Rattle.ctl_show.specs.Standing;
 
 use crate::held::cpus_held;
 use ctl_state::cluster::Cluster;
+use node_state::partition_record::PartRecord;
 use node_state::record::NodeRecord;
 use node_state::standing::is_up;
-use partitions::record::PartRecord;
 use plain_data::items::Items;
+use reply_data::view::{NodeGroup, Row, StateRow};
 use small_texts::memory_error::Memory;
 use small_texts::name::Name;
-use reply_data::view::{NodeGroup, Row, StateRow};
 use std::alloc::Global;
 
 // The ways in which a node may stand, in the order of the lines.

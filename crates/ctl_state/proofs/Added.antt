@@ -19,9 +19,9 @@ use Rattle.ctl_state.specs.State.{State, last_job_id, last_moment}
 use Rattle.job_table.specs.JobStates.{is_pending}
 use Rattle.ctl_state.specs.Holding.{IsHeldOnce, IsPartOf, cpus_of, mem_of, parts_of}
 use Rattle.ctl_state.specs.Planning.{room_of}
-use Rattle.partitions.specs.declared.record.PartRecord.{PartRecord}
-use Rattle.partitions.specs.Laws.{OnNodesStays}
-use Rattle.partitions.specs.Partitions.{IsOnNodes, in_state, in_state_at}
+use Rattle.node_state.specs.declared.partition_record.PartRecord.{PartRecord}
+use Rattle.node_state.specs.PartitionLaws.{OnNodesStays}
+use Rattle.node_state.specs.Partitions.{IsOnNodes, in_state, in_state_at}
 use Rattle.ctl_state.specs.Soundness.{AreNodes, AreOfPartitions, HasLimits, IsOfAccounts, AreUp, IsKept, IsSound, PlansPending, is_up_at, pending_ids}
 use Rattle.ctl_state.proofs.Kept.{kept-later, pending-nothing}
 use Rattle.ctl_state.proofs.Lists.{flat_map-nothing, pairs-append}

@@ -12,9 +12,9 @@ use Rattle.std.proofs.lemmas.List.Sorted.{All-permutation}
 use Rattle.std.proofs.lemmas.Option.{slice_get-get_or}
 use Rattle.plain_data.specs.declared.job.JobDesc.{JobDesc}
 use Rattle.node_state.specs.declared.record.NodeRecord.{NodeRecord}
-use Rattle.partitions.specs.declared.record.PartRecord.{PartRecord}
-use Rattle.partitions.specs.Partitions.{IsOnNodes}
-use Rattle.reservations.specs.declared.record.Reservation.{Reservation}
+use Rattle.node_state.specs.declared.partition_record.PartRecord.{PartRecord}
+use Rattle.node_state.specs.Partitions.{IsOnNodes}
+use Rattle.node_state.specs.declared.reservation_record.Reservation.{Reservation}
 use Rattle.ctl_state.specs.Planning.{are_there, is_at, is_taken_before, is_within, may_run, must_have, node_order, nodes_among, places_for, required_first, weight_at}
 use Rattle.ctl_state.proofs.Lists.{pairs-append}
 use Rattle.ctl_state.proofs.Ordering.{ordered-moves, ordered-pairs, sorted-is_ordered}

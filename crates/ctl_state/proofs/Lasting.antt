@@ -5,8 +5,8 @@ use Rattle.std.proofs.lemmas.Bool.{cases_Bool}
 use Rattle.std.proofs.lemmas.List.{append-nil, take_more}
 use Rattle.std.proofs.lemmas.List.Concat.{flat_map-append}
 use Rattle.std.proofs.lemmas.List.Elements.{filter-append}
-use Rattle.reservations.specs.declared.record.Reservation.{Reservation}
-use Rattle.reservations.specs.Reservations.{is_named, lasting, reservation_named}
+use Rattle.node_state.specs.declared.reservation_record.Reservation.{Reservation}
+use Rattle.node_state.specs.Reservations.{is_named, lasting, reservation_named}
 use Rattle.ctl_state.specs.Planning.{barred_by, barred_of}
 
 -- the first of those that last, by its name

@@ -14,8 +14,8 @@ use Rattle.job_table.specs.JobStates.{is_pending}
 use Rattle.job_table.specs.Table.{HaveRisingIds, job_with}
 use Rattle.job_table.specs.Targets.{AreTogether}
 use Rattle.ctl_state.specs.declared.record.ArrayRecord.{ArrayRecord}
-use Rattle.accounts_qos.specs.declared.record.AssocRecord.{AssocRecord}
-use Rattle.accounts_qos.specs.declared.record.QosRecord.{QosRecord}
+use Rattle.run_limits.specs.declared.record.AssocRecord.{AssocRecord}
+use Rattle.run_limits.specs.declared.record.QosRecord.{QosRecord}
 use Rattle.ctl_state.specs.State.{State, last_moment}
 use Rattle.ctl_state.specs.Holding.{IsHeldOnce, IsPartOf, mem_held, mem_in, parts_of, times_held}
 use Rattle.ctl_state.specs.Planning.{room_of}

@@ -6,13 +6,13 @@ use Rattle.backfill_planner.specs.declared.Placed.{Placed}
 use Rattle.backfill_planner.specs.declared.job.Barred.{Barred}
 use Rattle.job_table.specs.declared.record.Part.{Part}
 use Rattle.node_state.specs.declared.record.NodeRecord.{NodeRecord}
-use Rattle.partitions.specs.declared.record.PartRecord.{PartRecord}
-use Rattle.partitions.specs.Partitions.{IsOnNodes, in_state_at}
+use Rattle.node_state.specs.declared.partition_record.PartRecord.{PartRecord}
+use Rattle.node_state.specs.Partitions.{IsOnNodes, in_state_at}
 use Rattle.plain_data.specs.declared.conf.PartState.{PartState}
 use Rattle.job_table.specs.declared.record.JobRecord.{JobRecord}
 use Rattle.job_table.specs.declared.change.Change.{Change}
-use Rattle.reservations.specs.declared.record.Reservation.{Reservation}
-use Rattle.reservations.specs.Reservations.{AreReservations}
+use Rattle.node_state.specs.declared.reservation_record.Reservation.{Reservation}
+use Rattle.node_state.specs.Reservations.{AreReservations}
 use Rattle.ctl_state.specs.declared.record.ArrayRecord.{ArrayRecord}
 use Rattle.ctl_state.specs.State.{State, last_moment, last_job_id, last_size, shutdown_size}
 use Rattle.job_table.specs.JobStates.{is_pending}

@@ -9,12 +9,12 @@ use Rattle.plain_data.specs.declared.job.JobDesc.{JobDesc}
 use Rattle.resource_profile.specs.declared.NodeRoom.{NodeRoom}
 use Rattle.backfill_planner.specs.declared.job.Barred.{Barred}
 use Rattle.backfill_planner.specs.declared.job.PlanJob.{PlanJob}
-use Rattle.reservations.specs.declared.record.Reservation.{Reservation}
-use Rattle.reservations.specs.Reservations.{has, is_named as has_name, reservation_named}
+use Rattle.node_state.specs.declared.reservation_record.Reservation.{Reservation}
+use Rattle.node_state.specs.Reservations.{has, is_named as has_name, reservation_named}
 use Rattle.cpu_ids.specs.Rows.{has_id}
 use Rattle.node_state.specs.declared.record.NodeRecord.{NodeRecord}
 use Rattle.node_state.specs.Nodes.{is_available, is_named, has_features}
-use Rattle.partitions.specs.declared.record.PartRecord.{PartRecord}
+use Rattle.node_state.specs.declared.partition_record.PartRecord.{PartRecord}
 use Rattle.job_table.specs.declared.record.JobRecord.{JobRecord}
 use Rattle.job_table.specs.declared.record.Part.{Part}
 use Rattle.ctl_state.specs.Ordered.{ordered_by}

@@ -9,14 +9,14 @@ use Rattle.request_data.specs.declared.state.Final.TheVariants.{Requeue}
 use Rattle.backfill_planner.specs.declared.Placed.{Placed}
 use Rattle.node_state.specs.declared.record.NodeRecord.{NodeRecord}
 use Rattle.node_state.specs.Nodes.{AreNamedOnce, is_up}
-use Rattle.partitions.specs.declared.record.PartRecord.{PartRecord}
-use Rattle.partitions.specs.Partitions.{IsOnNodes}
+use Rattle.node_state.specs.declared.partition_record.PartRecord.{PartRecord}
+use Rattle.node_state.specs.Partitions.{IsOnNodes}
 use Rattle.job_table.specs.declared.record.Part.{Part}
 use Rattle.job_table.specs.declared.record.JobRecord.{JobRecord}
-use Rattle.accounts_qos.specs.declared.record.AssocRecord.{AssocRecord}
-use Rattle.accounts_qos.specs.declared.record.QosRecord.{QosRecord}
-use Rattle.accounts_qos.specs.Accounts.{is_of_user}
-use Rattle.reservations.specs.Reservations.{AreReservations}
+use Rattle.run_limits.specs.declared.record.AssocRecord.{AssocRecord}
+use Rattle.run_limits.specs.declared.record.QosRecord.{QosRecord}
+use Rattle.run_limits.specs.Accounts.{is_of_user}
+use Rattle.node_state.specs.Reservations.{AreReservations}
 use Rattle.ctl_state.specs.State.{State, last_job_id, last_moment, last_size, shutdown_size}
 use Rattle.job_table.specs.Table.{HaveRisingIds}
 use Rattle.job_table.specs.Targets.{AreTogether}

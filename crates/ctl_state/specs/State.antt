@@ -6,14 +6,14 @@ use Rattle.plain_data.specs.Assocs.{AssocView}
 use Rattle.backfill_planner.specs.declared.Placed.{Placed}
 use Rattle.node_state.specs.declared.record.NodeRecord.{NodeRecord}
 use Rattle.node_state.specs.Nodes.{opened}
-use Rattle.partitions.specs.declared.record.PartRecord.{PartRecord}
-use Rattle.partitions.specs.Partitions
+use Rattle.node_state.specs.declared.partition_record.PartRecord.{PartRecord}
+use Rattle.node_state.specs.Partitions
 use Rattle.ctl_state.specs.declared.record.ArrayRecord.{ArrayRecord}
-use Rattle.accounts_qos.specs.declared.record.AssocRecord.{AssocRecord}
-use Rattle.accounts_qos.specs.declared.record.QosRecord.{QosRecord}
-use Rattle.accounts_qos.specs.Accounts
+use Rattle.run_limits.specs.declared.record.AssocRecord.{AssocRecord}
+use Rattle.run_limits.specs.declared.record.QosRecord.{QosRecord}
+use Rattle.run_limits.specs.Accounts
 use Rattle.job_table.specs.declared.record.JobRecord.{JobRecord}
-use Rattle.reservations.specs.declared.record.Reservation.{Reservation}
+use Rattle.node_state.specs.declared.reservation_record.Reservation.{Reservation}
 use Rattle.ctl_state.specs.declared.cluster.Cluster.{Cluster}
 
 pub record State : Type 0 where

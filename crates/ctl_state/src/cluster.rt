@@ -5,14 +5,14 @@ ghost use Rattle.ctl_state.specs.Refusals;
 ghost use Rattle.ctl_state.specs.State.{state_of};
 
 use crate::record::ArrayRecord;
-use accounts_qos::assocs::Assocs;
 use backfill_planner::Placed;
 use job_table::jobs::Jobs;
 use node_state::nodes::Nodes;
-use partitions::partitions::Partitions;
-use reservations::reservations::Reservations;
-use small_texts::name::Name;
+use node_state::partitions::Partitions;
+use node_state::reservations::Reservations;
 use plain_data::conf::Settings;
+use run_limits::assocs::Assocs;
+use small_texts::name::Name;
 
 /// The cluster as the controller knows it (own). The controller's type keeps what is true of it; here it is plain data.
 #[derive(Drop)]

@@ -5,8 +5,8 @@ ghost use Rattle.run_limits.specs.Tallies.{Shows};
 ghost use Rattle.ctl_state.specs.Counted as spec;
 
 use crate::jobs::is_holding;
-use accounts_qos::assocs::Assocs;
 use job_table::record::JobRecord;
+use run_limits::assocs::Assocs;
 use run_limits::counted::Counted;
 use run_limits::tally::Tally;
 use small_texts::memory_error::Memory;

@@ -3,16 +3,16 @@
 ghost use Rattle.std.specs.Prelude.{◌≡◌, ◌↔◌, ◌<◌, [], length, filter, None, IfOk, IsTrue, All};
 ghost use Rattle.std.specs.List.{list_any};
 ghost use Rattle.node_state.specs.Nodes.{is_named};
-ghost use Rattle.reservations.specs.Reservations.{has};
+ghost use Rattle.node_state.specs.Reservations.{has};
 ghost use Rattle.ctl_state.specs.Planning.{are_there, is_at, may_run, must_have, nodes_among, required_first};
 
 use backfill_planner::NodeList;
 use node_state::record::NodeRecord;
 use node_state::standing::has_features;
 use plain_data::items::Items;
+use plain_data::job::JobDesc;
 use small_texts::memory_error::Memory;
 use small_texts::name::Name;
-use plain_data::job::JobDesc;
 use std::alloc::Global;
 
 // Whether the name is among the names.

@@ -6,7 +6,7 @@ ghost use Rattle.ctl_state.specs.Holding.{AreApart, parts_of};
 ghost use Rattle.ctl_state.specs.Laws;
 ghost use Rattle.ctl_state.specs.Soundness.{IsSound};
 
-use partitions::laws::a_state_leaves_the_rest;
+use node_state::partition_laws::a_state_leaves_the_rest;
 
 /// An event that starts nothing keeps all sound: each job that stays keeps some of its parts.
 pub fn letting_go_keeps_all_sound()

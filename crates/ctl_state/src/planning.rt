@@ -1,23 +1,23 @@
 //! What the planner is told of nodes and jobs.
 
 ghost use Rattle.std.specs.Prelude.{◌≡◌, ◌≤◌, ◌<◌, length, map, IfOk, All};
-ghost use Rattle.partitions.specs.Partitions.{IsOnNodes};
+ghost use Rattle.node_state.specs.Partitions.{IsOnNodes};
 ghost use Rattle.ctl_state.specs.Planning;
 
 use crate::job_nodes::nodes_among;
 use backfill_planner::{BarredList, NodeList, PlanJob};
 use job_table::record::{JobRecord, Part};
 use node_pick::Need;
+use node_state::partition_record::PartRecord;
 use node_state::record::NodeRecord;
 use node_state::standing::is_available;
-use partitions::record::PartRecord;
-use resource_profile::NodeRoom;
-use small_texts::memory_error::Memory;
-use small_texts::name::Name;
 use plain_data::job::JobDesc;
 use plain_data::limit::Limit;
 use plain_data::mem_ask::MemAsk;
 use plain_data::ranged::Ranged;
+use resource_profile::NodeRoom;
+use small_texts::memory_error::Memory;
+use small_texts::name::Name;
 use std::alloc::Global;
 
 /// What the nodes have in all, as a plan may use it.

@@ -2,16 +2,16 @@
 
 ghost use Rattle.std.specs.Prelude.{◌≡◌, ◌++◌, ◌&&◌, IfOk, OnOk, filter, find, nat_lt, option_copied};
 ghost use Rattle.cpu_ids.specs.Rows.{has_id};
-ghost use Rattle.reservations.specs.declared.record.Reservation.{Reservation as OneReservation};
-ghost use Rattle.reservations.specs.Reservations.{is_named, lasting, reservation_named};
+ghost use Rattle.node_state.specs.declared.reservation_record.Reservation.{Reservation as OneReservation};
+ghost use Rattle.node_state.specs.Reservations.{is_named, lasting, reservation_named};
 ghost use Rattle.ctl_state.specs.Planning;
 
 use backfill_planner::{Barred, BarredList, NodeList};
-use reservations::record::Reservation;
-use reservations::reservations::Reservations;
+use node_state::reservation_record::Reservation;
+use node_state::reservations::Reservations;
+use plain_data::seconds::FOREVER;
 use small_texts::memory_error::Memory;
 use small_texts::name::Name;
-use plain_data::seconds::FOREVER;
 use std::alloc::Global;
 
 // The first reservation that has this name and isn't over at the moment.

@@ -7,7 +7,7 @@ use Rattle.plain_data.specs.declared.job.JobDesc.{JobDesc}
 use Rattle.reply_data.specs.declared.refusal.Refusal.{Refusal}
 use Rattle.reply_data.specs.declared.refusal.Refusal.TheVariants.{InvalidAccount, InvalidPartition, InvalidQos, PartitionClosed}
 use Rattle.reply_data.specs.declared.reply.Reply.TheVariants.{Submitted}
-use Rattle.partitions.specs.declared.record.PartRecord.{PartRecord}
+use Rattle.node_state.specs.declared.partition_record.PartRecord.{PartRecord}
 use Rattle.job_table.specs.declared.record.JobRecord.{JobRecord}
 use Rattle.ctl_state.specs.State.{State}
 use Rattle.ctl_state.specs.Refusals.{first_refusal, refused_if}

@@ -8,8 +8,8 @@ use Rattle.plain_data.specs.declared.job.JobDesc.{JobDesc}
 use Rattle.plain_data.specs.declared.limit.Limit.{Limit}
 use Rattle.reply_data.specs.declared.refusal.Refusal.TheVariants.{InvalidAccount, InvalidPartition, InvalidQos, PartitionClosed}
 use Rattle.reply_data.specs.declared.reply.Reply.{Reply}
-use Rattle.partitions.specs.declared.record.PartRecord.{PartRecord}
-use Rattle.accounts_qos.specs.Accounts.{is_of_user}
+use Rattle.node_state.specs.declared.partition_record.PartRecord.{PartRecord}
+use Rattle.run_limits.specs.Accounts.{is_of_user}
 use Rattle.job_table.specs.declared.record.JobRecord.{JobRecord}
 use Rattle.job_table.specs.JobStates.{is_pending}
 use Rattle.ctl_state.specs.declared.record.ArrayRecord.{ArrayRecord}

@@ -24,10 +24,10 @@ use Rattle.reply_data.specs.declared.refusal.Refusal.TheVariants.{AccessDenied, 
 use Rattle.reply_data.specs.declared.reply.Reply.TheVariants.{Submitted}
 use Rattle.backfill_planner.specs.Plans.{placed_of}
 use Rattle.node_state.specs.Nodes.{place_named}
-use Rattle.partitions.specs.declared.record.PartRecord.{PartRecord}
-use Rattle.partitions.specs.Partitions
-use Rattle.accounts_qos.specs.declared.record.AssocRecord.{AssocRecord}
-use Rattle.accounts_qos.specs.Accounts.{account_of, place_meant, qos_meant}
+use Rattle.node_state.specs.declared.partition_record.PartRecord.{PartRecord}
+use Rattle.node_state.specs.Partitions
+use Rattle.run_limits.specs.declared.record.AssocRecord.{AssocRecord}
+use Rattle.run_limits.specs.Accounts.{account_of, place_meant, qos_meant}
 use Rattle.run_limits.specs.declared.counted.Counted.{Counted}
 use Rattle.run_limits.specs.declared.counted.Group.{Group}
 use Rattle.run_limits.specs.Counting.{is_in}
@@ -37,8 +37,8 @@ use Rattle.job_table.specs.declared.record.JobRecord.{JobRecord}
 use Rattle.job_table.specs.JobStates.{is_ended}
 use Rattle.job_table.specs.Table.{HaveRisingIds}
 use Rattle.job_table.specs.Targets.{is_named_by}
-use Rattle.reservations.specs.declared.record.Reservation.{Reservation}
-use Rattle.reservations.specs.Reservations.{may_use, reservation_named}
+use Rattle.node_state.specs.declared.reservation_record.Reservation.{Reservation}
+use Rattle.node_state.specs.Reservations.{may_use, reservation_named}
 use Rattle.ctl_state.specs.declared.record.ArrayRecord.{ArrayRecord}
 use Rattle.ctl_state.specs.Counted.{counted_of}
 use Rattle.ctl_state.specs.Planning.{open_room, places_for, plan_job}

@@ -5,13 +5,13 @@ ghost use Rattle.std.specs.List.{list_any};
 ghost use Rattle.ctl_state.specs.State.{state_of};
 ghost use Rattle.ctl_submit.specs.Submission;
 
-use accounts_qos::assocs::Assocs;
 use ctl_state::cluster::Cluster;
-use partitions::record::PartRecord;
+use node_state::partition_record::PartRecord;
 use plain_data::items::Items;
+use plain_data::job::JobDesc;
+use run_limits::assocs::Assocs;
 use small_texts::memory_error::Memory;
 use small_texts::name::Name;
-use plain_data::job::JobDesc;
 use std::alloc::Global;
 
 /// The place of the association that a submission counts for. Linear in the associations.

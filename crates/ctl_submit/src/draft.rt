@@ -1,8 +1,8 @@
 //! A submission with its terms.
 
-use partitions::record::PartRecord;
-use small_texts::name::Name;
+use node_state::partition_record::PartRecord;
 use plain_data::job::JobDesc;
+use small_texts::name::Name;
 
 /// What a user hands in at a moment, with its terms: what it counts for, and its partition (own).
 #[derive(Drop)]

@@ -9,8 +9,8 @@ ghost use Rattle.ctl_state.specs.Refusals.{first_refusal};
 ghost use Rattle.ctl_state.specs.Verdicts.{Makes, stamped};
 ghost use Rattle.ctl_submit.specs.Submission.{submit_refusals, submit_made};
 
-use accounts_qos::laws::what_is_meant_is_there;
 use ctl_state::laws::added_jobs_keep_all_sound;
+use run_limits::account_laws::what_is_meant_is_there;
 
 /// An accepted submission keeps all sound.
 pub fn a_submission_keeps_all_sound()

@@ -9,15 +9,15 @@ ghost use Rattle.ctl_state.specs.State.{state_of};
 ghost use Rattle.ctl_submit.specs.Submission.{beside_unended, jobs_unended};
 ghost use Rattle.job_table.specs.JobStates;
 
-use accounts_qos::assocs::Assocs;
 use ctl_state::cluster::Cluster;
 use ctl_state::counting::counted_of;
 use job_table::record::JobRecord;
+use reply_data::refusal::Refusal;
+use request_data::state::JobState;
+use run_limits::assocs::Assocs;
 use run_limits::counted::Group;
 use run_limits::groups::is_in;
 use run_limits::submitting::{CountsJobs, submit_limit};
-use reply_data::refusal::Refusal;
-use request_data::state::JobState;
 
 // The jobs, of which those are counted that haven't ended.
 #[derive(Drop)]

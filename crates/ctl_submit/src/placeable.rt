@@ -1,7 +1,7 @@
 //! Whether a job could ever run.
 
 ghost use Rattle.std.specs.Prelude.{◌≡◌, IfOk, length};
-ghost use Rattle.partitions.specs.Partitions.{IsOnNodes};
+ghost use Rattle.node_state.specs.Partitions.{IsOnNodes};
 ghost use Rattle.ctl_state.specs.Planning;
 ghost use Rattle.ctl_state.specs.State.{state_of};
 ghost use Rattle.ctl_state.specs.Soundness.{IsSound};
@@ -13,11 +13,11 @@ use ctl_state::laws::jobs_get_nodes_that_are_there;
 use ctl_state::planning::{node_order, open_rooms_of, plan_job};
 use ctl_state::reserved::places_in;
 use job_table::record::JobRecord;
-use partitions::record::PartRecord;
-use resource_profile::{Profile, start};
+use node_state::partition_record::PartRecord;
 use plain_data::items::Items;
-use small_texts::memory_error::Memory;
 use plain_data::job::JobDesc;
+use resource_profile::{Profile, start};
+use small_texts::memory_error::Memory;
 use std::alloc::Global;
 
 // How many nodes a submission may have by itself, at least and at most. `--nodes` in sbatch(1).

@@ -2,7 +2,7 @@
 
 ghost use Rattle.std.specs.Prelude.{◌≡◌, ◌≤◌, IfOk, length, nat_le};
 ghost use Rattle.std.specs.List.{list_any};
-ghost use Rattle.partitions.specs.Partitions.{IsOnNodes};
+ghost use Rattle.node_state.specs.Partitions.{IsOnNodes};
 ghost use Rattle.job_table.specs.Targets.{AreTogether};
 ghost use Rattle.ctl_state.specs.State.{state_of};
 ghost use Rattle.ctl_state.specs.Soundness.{IsSound};
@@ -17,14 +17,14 @@ use crate::limits::limit_exceeded;
 use crate::placeable::is_placeable;
 use ctl_state::cluster::Cluster;
 use job_table::record::JobRecord;
-use reservations::record::may_use;
-use small_texts::memory_error::Memory;
-use small_texts::name::Name;
+use node_state::reservation_record::may_use;
 use plain_data::array::ArraySpec;
 use plain_data::conf::PartState;
 use plain_data::job::JobDesc;
 use plain_data::nice::Nice;
 use reply_data::refusal::Refusal;
+use small_texts::memory_error::Memory;
+use small_texts::name::Name;
 use std::alloc::Global;
 
 // The last number that a job can have. `MaxJobId` in slurm.conf(5).

@@ -7,14 +7,14 @@ ghost use Rattle.ctl_submit.specs.Submission;
 
 use crate::draft::Draft;
 use ctl_state::cluster::Cluster;
-use partitions::record::PartRecord;
-use small_texts::memory_error::Memory;
-use small_texts::name::Name;
+use node_state::partition_record::PartRecord;
 use plain_data::Plain;
 use plain_data::array::ArraySpec;
 use plain_data::job::JobDesc;
 use plain_data::limit::Limit;
 use plain_data::mem_ask::MemAsk;
+use small_texts::memory_error::Memory;
+use small_texts::name::Name;
 use std::alloc::Global;
 
 /// How long a job of the partition may run that says so much of it. `--time` in sbatch(1), `DefaultTime` and `MaxTime`

@@ -2,7 +2,7 @@
 
 ghost use Rattle.std.specs.Prelude.{◌≡◌, ◌<◌, All, IfOk, OnErr, OnOk, length};
 ghost use Rattle.std.specs.Option.{option_to_list};
-ghost use Rattle.partitions.specs.Partitions.{IsOnNodes};
+ghost use Rattle.node_state.specs.Partitions.{IsOnNodes};
 ghost use Rattle.job_table.specs.declared.record.JobRecord.{JobRecord};
 ghost use Rattle.ctl_state.specs.State.{state_of};
 ghost use Rattle.ctl_state.specs.Index.{IsIndexed};
@@ -17,10 +17,10 @@ use crate::refusals::{is_closed, refusal_of};
 use crate::tasks::{hand_in, lone_job};
 use ctl_state::cluster::Cluster;
 use ctl_state::laws::parts_stay;
-use small_texts::memory_error::Memory;
-use small_texts::name::Name;
 use plain_data::job::JobDesc;
 use reply_data::refusal::Refusal;
+use small_texts::memory_error::Memory;
+use small_texts::name::Name;
 use std::alloc::Global;
 
 // Why the draft is refused, or what it makes.

@@ -12,12 +12,12 @@ use crate::settled::{limit_in, settled};
 use ctl_state::cluster::Cluster;
 use ctl_state::record::ArrayRecord;
 use job_table::record::JobRecord;
-use plain_data::items::Items;
-use small_texts::memory_error::Memory;
 use plain_data::array::{ArraySpec, Indices};
+use plain_data::items::Items;
 use plain_data::job::JobDesc;
-use request_data::state::{HeldBy, JobState};
 use plain_data::ranged::Ranged;
+use request_data::state::{HeldBy, JobState};
+use small_texts::memory_error::Memory;
 use std::alloc::Global;
 
 // Who holds a job back that is handed in. `--hold` in sbatch(1).

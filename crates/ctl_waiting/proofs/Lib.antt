@@ -1,3 +1,10 @@
 pub mod FirstReason
 pub mod Orders
 pub mod Needs
+pub mod Places
+pub mod Users
+pub mod Trees
+pub mod Ranking
+pub mod Members
+pub mod Charged
+pub mod Staying

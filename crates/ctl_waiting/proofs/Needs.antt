@@ -5,7 +5,7 @@ use Rattle.std.specs.List.{cons_option}
 use Rattle.std.proofs.lemmas.Option.{slice_get-map, get_or_from_slice_get}
 use Rattle.std.proofs.lemmas.List.{take_more, map-append}
 use Rattle.std.proofs.lemmas.List.Elements.{filter_map-append}
-use Rattle.partitions.specs.declared.record.PartRecord.{PartRecord}
+use Rattle.node_state.specs.declared.partition_record.PartRecord.{PartRecord}
 use Rattle.ctl_state.specs.Planning.{node_order}
 use Rattle.node_state.specs.declared.record.NodeRecord.{NodeRecord}
 

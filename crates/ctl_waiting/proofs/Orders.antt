@@ -9,8 +9,8 @@ use Rattle.std.proofs.lemmas.List.Elements.{filter_more}
 use Rattle.job_table.specs.declared.record.JobRecord.{JobRecord}
 use Rattle.ctl_state.specs.Ordered.{put, ordered_by}
 use Rattle.ctl_state.specs.State.{State}
-use Rattle.ctl_rank.specs.declared.rank.RankKey.{RankKey}
-use Rattle.ctl_rank.specs.Rank.{is_above, is_higher, key_of}
+use Rattle.ctl_waiting.specs.declared.rank_keys.RankKey.{RankKey}
+use Rattle.ctl_waiting.specs.Rank.{is_above, is_higher, key_of}
 use Rattle.ctl_waiting.specs.Candidates.{is_candidate, candidates}
 
 -- an order of mapped elements

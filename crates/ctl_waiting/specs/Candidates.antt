@@ -2,16 +2,16 @@
 use Rattle.std.specs.Prelude.{ℕ, Bool, ◌&&◌, is_none, List, filter, filter_map, Option, Some}
 use Rattle.small_texts.specs.Options.{◌>>=◌}
 use Rattle.backfill_planner.specs.declared.job.PlanJob.{PlanJob}
-use Rattle.partitions.specs.declared.record.PartRecord.{PartRecord}
-use Rattle.partitions.specs.Partitions.{bounds_of}
-use Rattle.reservations.specs.declared.record.Reservation.{Reservation}
+use Rattle.node_state.specs.declared.partition_record.PartRecord.{PartRecord}
+use Rattle.node_state.specs.Partitions.{bounds_of}
+use Rattle.node_state.specs.declared.reservation_record.Reservation.{Reservation}
 use Rattle.job_table.specs.declared.record.JobRecord.{JobRecord}
 use Rattle.job_table.specs.JobStates.{is_pending}
 use Rattle.ctl_state.specs.Ordered.{ordered_by}
-use Rattle.reservations.specs.Reservations.{lasting}
+use Rattle.node_state.specs.Reservations.{lasting}
 use Rattle.ctl_state.specs.Planning.{barred_of, places_for, plan_job}
 use Rattle.ctl_state.specs.State.{State, partition_of}
-use Rattle.ctl_rank.specs.Rank.{is_higher}
+use Rattle.ctl_waiting.specs.Rank.{is_higher}
 use Rattle.ctl_waiting.specs.Reasons.{hindrance}
 
 -- a pending job can be planned at a moment where nothing hinders it

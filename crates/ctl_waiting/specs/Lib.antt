@@ -1,3 +1,9 @@
 pub mod Reasons
 pub mod Candidates
 pub mod Needs
+pub mod Usage
+pub mod FairShare
+pub mod Priority
+pub mod Rank
+pub mod Measured
+pub mod Laws

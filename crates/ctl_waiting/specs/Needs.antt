@@ -1,6 +1,6 @@
 -- What the candidates of a moment are planned by. Of the proof alone: no public call speaks of it.
 use Rattle.std.specs.Prelude.{◌≡◌, ℕ, map, None}
-use Rattle.reservations.specs.Reservations.{lasting}
+use Rattle.node_state.specs.Reservations.{lasting}
 use Rattle.ctl_state.specs.Planning.{barred_of, node_order}
 use Rattle.ctl_state.specs.State.{State}
 use Rattle.ctl_waiting.specs.declared.ranking.Grounds.{Grounds}

@@ -9,18 +9,18 @@ use Rattle.request_data.specs.declared.state.Reason.{Reason}
 use Rattle.request_data.specs.declared.state.Reason.TheVariants.{JobHeldAdmin, JobHeldUser, DependencyNeverSatisfied, Dependency, BeginTime, PartitionInactive, PartitionDown, PartitionTimeLimit, PartitionNodeLimit, QosMaxWallDurationPerJobLimit, Reservation, ReqNodeNotAvail}
 use Rattle.request_data.specs.declared.state.HeldBy.{HeldBy}
 use Rattle.request_data.specs.declared.state.HeldBy.TheVariants as held
-use Rattle.partitions.specs.declared.record.PartRecord.{PartRecord}
-use Rattle.partitions.specs.Partitions.{bounds_of}
+use Rattle.node_state.specs.declared.partition_record.PartRecord.{PartRecord}
+use Rattle.node_state.specs.Partitions.{bounds_of}
 use Rattle.job_table.specs.declared.record.JobRecord.{JobRecord}
 use Rattle.node_state.specs.declared.record.NodeRecord.{NodeRecord}
 use Rattle.node_state.specs.Nodes.{is_available, place_named}
-use Rattle.accounts_qos.specs.Accounts.{qos_limits_at}
+use Rattle.run_limits.specs.Accounts.{qos_limits_at}
 use Rattle.run_limits.specs.Limits.{first_reason, limits_reached, reason_if}
-use Rattle.dependencies.specs.declared.standing.Standing.{Standing}
-use Rattle.dependencies.specs.declared.standing.Standing.TheVariants.{Satisfied, Waiting, Never}
-use Rattle.dependencies.specs.Standing.{standing}
-use Rattle.reservations.specs.declared.record.Reservation.{Reservation as Kept}
-use Rattle.reservations.specs.Reservations.{lasting, reservation_named}
+use Rattle.job_table.specs.declared.standing.Standing.{Standing}
+use Rattle.job_table.specs.declared.standing.Standing.TheVariants.{Satisfied, Waiting, Never}
+use Rattle.job_table.specs.Standing.{standing}
+use Rattle.node_state.specs.declared.reservation_record.Reservation.{Reservation as Kept}
+use Rattle.node_state.specs.Reservations.{lasting, reservation_named}
 use Rattle.ctl_state.specs.Counted.{beside, counted_of}
 use Rattle.ctl_state.specs.Holds.{limit_end}
 use Rattle.ctl_state.specs.Limits.{exceeds}

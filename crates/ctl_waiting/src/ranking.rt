@@ -9,27 +9,27 @@ ghost use Rattle.ctl_state.specs.Counted.{holding};
 ghost use Rattle.ctl_state.specs.Planning;
 ghost use Rattle.ctl_state.specs.Soundness.{IsSound};
 ghost use Rattle.ctl_state.specs.State.{state_of};
-ghost use Rattle.partitions.specs.Partitions.{IsOnNodes};
-ghost use Rattle.ctl_rank.specs.Measured.{IsMeasured};
-ghost use Rattle.ctl_rank.specs.Rank;
-ghost use Rattle.ctl_rank.specs.declared.rank.RankKey.{RankKey};
+ghost use Rattle.node_state.specs.Partitions.{IsOnNodes};
+ghost use Rattle.ctl_waiting.specs.Measured.{IsMeasured};
+ghost use Rattle.ctl_waiting.specs.Rank;
+ghost use Rattle.ctl_waiting.specs.declared.rank_keys.RankKey.{RankKey};
 ghost use Rattle.job_table.specs.Targets.{AreTogether};
-ghost use Rattle.reservations.specs.Reservations.{lasting};
+ghost use Rattle.node_state.specs.Reservations.{lasting};
 ghost use Rattle.ctl_waiting.specs.Candidates;
 ghost use Rattle.ctl_waiting.specs.Needs;
 
 use crate::reasons::hindrance;
+use crate::{Factors, RankKey, is_above, key_of};
 use backfill_planner::{BarredList, NodeList, PlanJob};
-use ctl_rank::{Factors, RankKey, is_above, key_of};
 use ctl_state::cluster::Cluster;
 use ctl_state::jobs::is_pending;
 use ctl_state::laws::{a_stable_sort_makes_the_order, jobs_get_nodes_that_are_there};
 use ctl_state::planning::{node_order, plan_job};
 use ctl_state::reserved::{barred_for, lasting_named, places_in};
 use job_table::record::JobRecord;
+use node_state::bounds::bounds_of;
+use node_state::partition_record::PartRecord;
 use node_state::record::NodeRecord;
-use partitions::bounds::bounds_of;
-use partitions::record::PartRecord;
 use run_limits::tally::Tally;
 use small_texts::memory_error::Memory;
 use std::alloc::Global;
@@ -264,7 +264,7 @@ pub fn rank(
 }
 
 // Whether one job is higher in rank than another.
-#[tactic(auto, unfolding(ctl_rank::specs::Rank::is_higher))]
+#[tactic(auto, unfolding(crate::specs::Rank::is_higher))]
 fn is_higher(cluster: &Cluster, factors: &Factors, one: &JobRecord, other: &JobRecord) -> bool
     requires { IsMeasured (state_of cluster.now) factors.now }
     ensures { result ≡ Rank.is_higher (state_of cluster.now) factors.now.moment one.now other.now }

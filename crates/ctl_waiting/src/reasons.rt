@@ -3,7 +3,7 @@
 ghost use Rattle.std.specs.Prelude.{◌≡◌, List};
 ghost use Rattle.job_table.specs.declared.record.JobRecord.{JobRecord};
 ghost use Rattle.job_table.specs.Targets.{AreTogether};
-ghost use Rattle.dependencies.specs.Standing.{standing};
+ghost use Rattle.job_table.specs.Standing.{standing};
 ghost use Rattle.run_limits.specs.Limits.{first_reason, reason_if};
 ghost use Rattle.run_limits.specs.Tallies.{Shows};
 ghost use Rattle.ctl_state.specs.Counted.{holding};
@@ -14,19 +14,19 @@ use ctl_state::cluster::Cluster;
 use ctl_state::counting::counted_of;
 use ctl_state::limits::exceeds;
 use ctl_state::reserved::lasting_named;
-use dependencies::standing::{Standing, standing_among};
 use job_table::record::JobRecord;
+use job_table::standing::{Standing, standing_among};
+use node_state::bounds::bounds_of;
 use node_state::nodes::Nodes;
-use partitions::bounds::bounds_of;
-use partitions::record::PartRecord;
-use reservations::record::Reservation;
-use run_limits::reasons::limit_reached as first_limit_reached;
-use run_limits::tally::Tally;
-use small_texts::name::Name;
+use node_state::partition_record::PartRecord;
+use node_state::reservation_record::Reservation;
 use plain_data::conf::PartState;
 use plain_data::limit::Limit;
 use plain_data::seconds::FOREVER;
 use request_data::state::{HeldBy, Reason};
+use run_limits::reasons::limit_reached as first_limit_reached;
+use run_limits::tally::Tally;
+use small_texts::name::Name;
 
 // Who holds the job back.
 fn held_reason(held_by: HeldBy) -> Option<Reason>
@@ -208,7 +208,7 @@ fn node_hindrance(cluster: &Cluster, job: &JobRecord) -> Option<Reason>
 
 /// Why a pending job can't be planned at a moment, in seconds; None where nothing hinders it. Linear in its
 /// association's way up to root, in the reservations where it names one, and in the nodes that it must have; where it
-/// waits for others it costs what `dependencies::standing_among` does besides. "JOB REASON CODES" in squeue(1), and `--begin`,
+/// waits for others it costs what `job_table::standing_among` does besides. "JOB REASON CODES" in squeue(1), and `--begin`,
 /// `--dependency`, `--reservation` in sbatch(1).
 pub fn hindrance(cluster: &Cluster, tally: &Tally, moment: u64, job: &JobRecord) -> Option<Reason>
     requires together { AreTogether cluster.now.jobs.records }

@@ -20,9 +20,9 @@ use Rattle.ctl_state.specs.Soundness.{IsSound, is_up_at}
 use Rattle.ctl_state.specs.State.{State, last_moment}
 use Rattle.ctl_state.specs.Verdicts.{stamped}
 use Rattle.ctl_nodes.specs.Failing.{after_loss, lost_after}
-use Rattle.ctl_report.specs.Answering.{is_restarted}
-use Rattle.ctl_report.specs.Ordering.{launch_of, orders_of}
-use Rattle.ctl_report.specs.Reporting.{heard_by, heard_of, lists_nothing, report_after, reported}
+use Rattle.ctl_node_side.specs.Answering.{is_restarted}
+use Rattle.ctl_node_side.specs.Ordering.{launch_of, orders_of}
+use Rattle.ctl_node_side.specs.Reporting.{heard_by, heard_of, lists_nothing, report_after, reported}
 use Rattle.ctl_node_side.specs.Restarting.{met}
 use Rattle.node_daemon.specs.Daemon.{Daemon, are_due, is_among, is_same}
 use Rattle.node_daemon.specs.declared.running.Running.{Running}

@@ -16,7 +16,7 @@ use Rattle.ctl_state.specs.Soundness.{is_up_at}
 use Rattle.ctl_state.specs.State.{State}
 use Rattle.ctl_nodes.specs.Changing.{changed_where}
 use Rattle.ctl_nodes.specs.Updating.{is_set_down}
-use Rattle.ctl_report.specs.Reporting.{heard_of}
+use Rattle.ctl_node_side.specs.Reporting.{heard_of}
 use Rattle.daemon_world.specs.Claims.{Claim, IsHeldAt}
 use Rattle.daemon_world.specs.Leaving.{LeavesNode}
 use Rattle.daemon_world.specs.Together.{is_emptied}

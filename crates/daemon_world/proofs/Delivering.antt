@@ -12,9 +12,9 @@ use Rattle.node_state.specs.Nodes.{place_named}
 use Rattle.ctl_state.specs.State.{State, last_moment}
 use Rattle.ctl_state.specs.Refusals.{first_refusal, is_privileged, refused_if, unless_refused}
 use Rattle.ctl_state.specs.Verdicts.{Verdict, Refuses, Makes}
-use Rattle.ctl_report.specs.Answering.{last_heard, node_of, staleness}
-use Rattle.ctl_report.specs.Ordering.{orders_of}
-use Rattle.ctl_report.specs.Reporting.{is_after, report_after}
+use Rattle.ctl_node_side.specs.Answering.{last_heard, node_of, staleness}
+use Rattle.ctl_node_side.specs.Ordering.{orders_of}
+use Rattle.ctl_node_side.specs.Reporting.{is_after, report_after}
 use Rattle.ctl_node_side.specs.Restarting.{made_by_report, met}
 use Rattle.ctl_core.specs.Sizes.{has_room}
 use Rattle.ctl_core.specs.Step.{is_closed, raised, unless_full, verdict_of, worked}

@@ -14,7 +14,7 @@ use Rattle.request_data.specs.declared.request.NodeOrder.{NodeOrder}
 use Rattle.request_data.specs.declared.request.Request.{Request}
 use Rattle.request_data.specs.declared.request.Request.TheVariants.{Submit, Cancel, Hold, Release, Requeue, UpdateJob, UpdateNode, UpdatePartition, CreateReservation, DeleteReservation, Report, Pass, Shutdown, Show}
 use Rattle.reply_data.specs.declared.reply.Reply.TheVariants.{Done}
-use Rattle.partitions.specs.Partitions.{place_meant}
+use Rattle.node_state.specs.Partitions.{place_meant}
 use Rattle.job_table.specs.declared.record.JobRecord.{JobRecord}
 use Rattle.job_table.specs.declared.record.Part.{Part}
 use Rattle.job_table.specs.declared.change.Change.TheVariants.{Start}
@@ -33,8 +33,8 @@ use Rattle.ctl_nodes.specs.Updating.{changes_any, lost_by, update_after}
 use Rattle.ctl_pass.specs.Limits.{timed_out}
 use Rattle.ctl_pass.specs.Passing.{outcome, pass_after}
 use Rattle.ctl_pass.specs.Readiness.{goes as gone, jobs_left, placements, ready}
-use Rattle.ctl_report.specs.Answering.{is_restarted, node_of}
-use Rattle.ctl_report.specs.Reporting.{report_after, reported}
+use Rattle.ctl_node_side.specs.Answering.{is_restarted, node_of}
+use Rattle.ctl_node_side.specs.Reporting.{report_after, reported}
 use Rattle.ctl_node_side.specs.Passes.{after_pass, pass_is_idle}
 use Rattle.ctl_node_side.specs.Restarting.{made_by_report, met}
 use Rattle.ctl_node_side.specs.Silence.{any_silent, silent_at, silenced, without_silent}

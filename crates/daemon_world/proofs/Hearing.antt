@@ -11,7 +11,7 @@ use Rattle.node_state.specs.Nodes.{change_at, is_up, noted}
 use Rattle.ctl_state.specs.Planning.{is_at}
 use Rattle.ctl_state.specs.Soundness.{is_up_at}
 use Rattle.ctl_nodes.specs.Updating.{is_set_down}
-use Rattle.ctl_report.specs.Reporting.{heard_of}
+use Rattle.ctl_node_side.specs.Reporting.{heard_of}
 use Rattle.daemon_world.specs.Together.{is_emptied}
 
 -- the report is kept

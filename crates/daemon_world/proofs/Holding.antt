@@ -13,7 +13,7 @@ use Rattle.job_table.specs.declared.change.Change.TheVariants.{CancelPending, Ca
 use Rattle.job_table.specs.Changes.{changed, is_on, not_again, off_node, parts_off, with_left}
 use Rattle.job_table.specs.JobStates.{is_pending, is_running}
 use Rattle.ctl_nodes.specs.Failing.{after_loss, failed, failing, loses, off_lost, parts_kept}
-use Rattle.ctl_report.specs.Reporting.{after_told, done_of, final_of as final_by, is_at, is_batch_host, is_listed, reported, script_over}
+use Rattle.ctl_node_side.specs.Reporting.{after_told, done_of, final_of as final_by, is_at, is_batch_host, is_listed, reported, script_over}
 use Rattle.daemon_world.specs.Claims.{Claim, Holds, IsClaimed}
 use Rattle.daemon_world.proofs.Lists.{any_filter, any_none}
 

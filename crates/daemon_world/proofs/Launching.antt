@@ -16,8 +16,8 @@ use Rattle.job_table.specs.declared.change.Change.TheVariants.{DropPart}
 use Rattle.job_table.specs.Changes.{changed, is_on, off_node}
 use Rattle.job_table.specs.JobStates.{is_running}
 use Rattle.job_table.specs.Table.{HaveRisingIds}
-use Rattle.ctl_report.specs.Ordering.{launch_of, launch_part, start_of}
-use Rattle.ctl_report.specs.Reporting.{after_told, done_of, is_at, is_last_start, is_listed, reported}
+use Rattle.ctl_node_side.specs.Ordering.{launch_of, launch_part, start_of}
+use Rattle.ctl_node_side.specs.Reporting.{after_told, done_of, is_at, is_last_start, is_listed, reported}
 use Rattle.node_daemon.specs.Daemon.{is_among, is_same}
 use Rattle.daemon_world.specs.Claims.{Claim, Holds, IsHeldAt, claim_launch, times_claiming}
 use Rattle.daemon_world.specs.Together.{tells_over}

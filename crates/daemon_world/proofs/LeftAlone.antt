@@ -11,7 +11,7 @@ use Rattle.job_table.specs.declared.record.JobRecord.{JobRecord}
 use Rattle.ctl_state.specs.Planning.{is_at}
 use Rattle.ctl_state.specs.Soundness.{is_up_at}
 use Rattle.ctl_state.specs.State.{State}
-use Rattle.ctl_report.specs.Reporting.{heard_of}
+use Rattle.ctl_node_side.specs.Reporting.{heard_of}
 use Rattle.node_daemon.specs.Daemon.{Daemon}
 use Rattle.node_daemon.specs.declared.running.Running.{Running}
 use Rattle.daemon_world.specs.Claims.{Claim, IsHeldAt, claim_launch, claim_run, claims_of, claims_ordered}

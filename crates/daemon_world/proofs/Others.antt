@@ -10,8 +10,8 @@ use Rattle.ctl_state.specs.Planning.{is_at}
 use Rattle.ctl_state.specs.State.{State}
 use Rattle.ctl_state.specs.Verdicts.{stamped}
 use Rattle.ctl_nodes.specs.Failing.{after_loss, lost_after}
-use Rattle.ctl_report.specs.Answering.{is_restarted}
-use Rattle.ctl_report.specs.Reporting.{heard_by, heard_of, lists_nothing, report_after, reported}
+use Rattle.ctl_node_side.specs.Answering.{is_restarted}
+use Rattle.ctl_node_side.specs.Reporting.{heard_by, heard_of, lists_nothing, report_after, reported}
 use Rattle.ctl_node_side.specs.Restarting.{met}
 use Rattle.daemon_world.specs.Claims.{Claim, Holds, IsHeldAt}
 use Rattle.daemon_world.specs.Leaving.{LeavesNode}

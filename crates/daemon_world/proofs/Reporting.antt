@@ -8,8 +8,8 @@ use Rattle.request_data.specs.declared.request.Request.TheVariants.{Report as Re
 use Rattle.ctl_state.specs.Soundness.{IsSound}
 use Rattle.ctl_state.specs.State.{State}
 use Rattle.ctl_state.specs.Verdicts.{Verdict, left_by, reply_by}
-use Rattle.ctl_report.specs.Ordering.{orders_of}
-use Rattle.ctl_report.specs.Reporting.{report_after}
+use Rattle.ctl_node_side.specs.Ordering.{orders_of}
+use Rattle.ctl_node_side.specs.Reporting.{report_after}
 use Rattle.ctl_node_side.specs.Restarting.{met}
 use Rattle.ctl_core.specs.Sizes.{size_of}
 use Rattle.ctl_core.specs.Step.{entered, is_entered, raised, verdict_of}

@@ -18,7 +18,7 @@ use Rattle.request_data.specs.declared.state.JobState.{JobState}
 use Rattle.request_data.specs.declared.state.JobState.TheVariants.{Pending, Running, Completing, Ended}
 use Rattle.node_state.specs.declared.record.NodeChange.TheVariants as change
 use Rattle.node_state.specs.declared.record.NodeRecord.{NodeRecord}
-use Rattle.partitions.specs.Partitions.{place_meant}
+use Rattle.node_state.specs.Partitions.{place_meant}
 use Rattle.job_table.specs.declared.record.JobRecord.{JobRecord}
 use Rattle.job_table.specs.declared.record.Part.{Part}
 use Rattle.job_table.specs.declared.change.Change.TheVariants.{Leave}

@@ -19,7 +19,7 @@ use Rattle.ctl_jobs.specs.declared.action.Action.TheVariants as act
 use Rattle.ctl_jobs.specs.Actions.{cancelled_in, done_to, with_limit, with_nice}
 use Rattle.ctl_nodes.specs.Failing.{after_loss, failed, failing, loses, off_lost, parts_kept}
 use Rattle.ctl_pass.specs.Limits.{is_over, timed_out}
-use Rattle.ctl_report.specs.Reporting.{after_told, done_of, final_of as final_by, is_at, is_batch_host, is_listed, reported, script_over}
+use Rattle.ctl_node_side.specs.Reporting.{after_told, done_of, final_of as final_by, is_at, is_batch_host, is_listed, reported, script_over}
 use Rattle.daemon_world.specs.Finals.{IsSettled, StaysSettled, final_of}
 
 -- the job after something happened to it that starts nothing

@@ -9,9 +9,9 @@ use Rattle.backfill_planner.specs.declared.Placed.{Placed}
 use Rattle.backfill_planner.specs.declared.job.PlanJob.{PlanJob}
 use Rattle.backfill_planner.specs.Bases.{BaseView}
 use Rattle.backfill_planner.specs.Plans.{plan_of}
-use Rattle.partitions.specs.declared.record.PartRecord.{PartRecord}
-use Rattle.partitions.specs.Partitions.{bounds_of}
-use Rattle.reservations.specs.Reservations.{lasting}
+use Rattle.node_state.specs.declared.partition_record.PartRecord.{PartRecord}
+use Rattle.node_state.specs.Partitions.{bounds_of}
+use Rattle.node_state.specs.Reservations.{lasting}
 use Rattle.job_table.specs.declared.record.JobRecord.{JobRecord}
 use Rattle.job_table.specs.declared.record.Part.{Part}
 use Rattle.job_table.specs.declared.change.Change.TheVariants.{Start}
@@ -22,7 +22,7 @@ use Rattle.ctl_state.specs.Events.{started_as}
 use Rattle.ctl_state.specs.Laws.{OrderKeepsApart}
 use Rattle.ctl_state.specs.Planning.{plan_job}
 use Rattle.ctl_state.specs.State.{State, partition_of}
-use Rattle.ctl_rank.specs.Rank.{is_higher}
+use Rattle.ctl_waiting.specs.Rank.{is_higher}
 use Rattle.ctl_waiting.specs.Candidates.{candidates, is_candidate, need_in, needs_of, ranked}
 use Rattle.ctl_waiting.specs.Reasons.{hindrance}
 use Rattle.ctl_pass.specs.Readiness.{base_of, placements, planned, ready}

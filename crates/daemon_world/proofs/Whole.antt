@@ -12,7 +12,7 @@ use Rattle.request_data.specs.declared.request.Request.TheVariants.{Report as Re
 use Rattle.node_state.specs.Nodes.{opened, place_named}
 use Rattle.ctl_state.specs.Soundness.{IsSound}
 use Rattle.ctl_state.specs.State.{State, opening}
-use Rattle.ctl_report.specs.Reporting.{heard_of}
+use Rattle.ctl_node_side.specs.Reporting.{heard_of}
 use Rattle.ctl_core.specs.Step.{IsInRange, state_after}
 use Rattle.node_daemon.specs.Daemon.{Daemon, are_due, given, polled, reported, started}
 use Rattle.node_daemon.specs.Turn.{root}

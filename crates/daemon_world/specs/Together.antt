@@ -11,7 +11,7 @@ use Rattle.ctl_state.specs.Planning.{is_at}
 use Rattle.ctl_state.specs.Soundness.{IsSound}
 use Rattle.ctl_state.specs.State.{State}
 use Rattle.ctl_nodes.specs.Updating.{is_set_down}
-use Rattle.ctl_report.specs.Reporting.{heard_of}
+use Rattle.ctl_node_side.specs.Reporting.{heard_of}
 use Rattle.node_daemon.specs.Daemon.{Daemon, are_due, is_among}
 use Rattle.node_daemon.specs.declared.running.Running.{Running}
 use Rattle.daemon_world.specs.Claims.{Claim, AreHeld, claims_of, claims_ordered, times_claimed, times_claiming, times_over}

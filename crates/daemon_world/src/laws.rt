@@ -10,9 +10,9 @@ ghost use Rattle.daemon_world.specs.Worlds.{AllCanHappen, CanHappen, Event, HasC
 use backfill_planner::laws::placements_are_of_ranked_jobs;
 use ctl_core::laws::a_step_keeps_all_sound;
 use ctl_node_side::laws::{a_report_met_keeps_all_sound, silence_keeps_all_sound};
+use ctl_node_side::report_laws::a_node_without_jobs_is_ordered_alike;
 use ctl_nodes::laws::lost_nodes_keep_all_sound;
 use ctl_pass::laws::{planned_jobs_are_candidates, what_a_pass_plans_is_sound};
-use ctl_report::laws::a_node_without_jobs_is_ordered_alike;
 use ctl_state::laws::a_stable_sort_makes_the_order;
 use job_table::record::JobRecord;
 use node_state::laws::{a_change_leaves_the_confs, names_lead_to_places};

@@ -2,11 +2,11 @@
 
 use crate::shown::{show_limit, show_name, show_numbers};
 use conf_reader::read_conf;
-use plain_data::items::Items;
-use small_texts::name::Name;
 use plain_data::conf::{Conf, NodeConf, NodeStart, PartConf, PartState, Settings};
+use plain_data::items::Items;
 use plain_data::limit::Limit;
 use plain_data::mem_ask::MemAsk;
+use small_texts::name::Name;
 use std::alloc::Global;
 use std::io;
 

@@ -1,7 +1,7 @@
 //! What both kinds of file say, as text.
 
-use small_texts::name::Name;
 use plain_data::limit::Limit;
+use small_texts::name::Name;
 use std::io;
 
 /// Numbers, each behind its key.

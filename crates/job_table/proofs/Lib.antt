@@ -4,3 +4,6 @@ pub mod Places
 pub mod Entries
 pub mod Charging
 pub mod Awaiting
+pub mod Folds
+pub mod Earlier
+pub mod Passes

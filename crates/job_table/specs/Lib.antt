@@ -6,3 +6,5 @@ pub mod Walks
 pub mod Refusals
 pub mod Usage
 pub mod Awaiting
+pub mod Standing
+pub mod Laws

@@ -11,10 +11,10 @@ ghost use Rattle.job_table.specs.Targets.{AreTogether, is_named};
 use crate::jobs::Jobs;
 use crate::record::JobRecord;
 use crate::targets::{is_named, span_of};
-use small_texts::memory_error::Memory;
 use plain_data::dependency::{DepId, DepItem, DepKind};
 use request_data::state::JobState;
 use request_data::target::Target;
+use small_texts::memory_error::Memory;
 use std::alloc::Global;
 use std::collections::HashSet;
 

@@ -5,10 +5,10 @@ ghost use Rattle.job_table.specs.Changes.{changed, not_again, off_node, parts_of
 
 use crate::record::{JobRecord, Part};
 use plain_data::items::Items;
-use small_texts::name::Name;
 use plain_data::limit::Limit;
 use plain_data::nice::Nice;
 use request_data::state::{Final, HeldBy, JobState};
+use small_texts::name::Name;
 use std::alloc::Global;
 use std::mem;
 

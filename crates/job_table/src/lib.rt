@@ -1,10 +1,13 @@
-//! The table of jobs: what is kept of each, what may happen to one, and which jobs a user names.
+//! The table of jobs: what is kept of each, what may happen to one, which jobs a user names, and whether what a job waits
+//! for has come.
 #![tactic(auto)]
 
 pub mod awaited;
 pub mod change;
+pub mod dependency_laws;
 pub mod jobs;
 pub mod laws;
 pub mod record;
+pub mod standing;
 pub mod targets;
 pub mod usage;

@@ -4,11 +4,11 @@ ghost use Rattle.std.specs.Prelude.{◌≡◌, IfOk};
 
 use cpu_ids::CpuIds;
 use plain_data::items::Items;
-use small_texts::memory_error::Memory;
-use small_texts::name::Name;
 use plain_data::job::JobDesc;
 use plain_data::limit::Limit;
 use request_data::state::{HeldBy, JobState};
+use small_texts::memory_error::Memory;
+use small_texts::name::Name;
 use std::alloc::Global;
 
 /// What a job holds of one node.

@@ -1,14 +1,22 @@
-//! The priority of a job as the sum of its terms: Slurm's multifactor priority.
+//! Slurm's multifactor priority: the priority of a job as the sum of its terms, and the ranks of users by Fair Tree that one
+//! of these terms rests on.
 #![tactic(auto)]
 
 ghost use Rattle.std.specs.Prelude.{◌≡◌, ◌<◌, ◌^◌, map, sum};
 ghost use Rattle.multifactor.specs.Priority.{terms_of, priority_of, value_of};
 
-use slurm_num::scaled;
 use plain_data::nice::Nice;
 use reply_data::priority::PriorityParts;
+use slurm_num::scaled;
 
+pub mod fair_tree;
+mod level;
+mod order;
+mod paths;
+pub mod rows;
+mod sums;
 mod terms;
+pub mod tree;
 
 pub use terms::{PriorityInput, Term};
 

@@ -12,8 +12,8 @@ use Rattle.request_data.specs.declared.request.Request.TheVariants.{Report as Re
 use Rattle.ctl_state.specs.State.{State}
 use Rattle.ctl_state.specs.Refusals.{first_refusal, unless_refused}
 use Rattle.ctl_state.specs.Verdicts.{Verdict, Refuses, Tells, Stays, Makes, reply_by}
-use Rattle.ctl_report.specs.Answering.{node_of, report_refusals}
-use Rattle.ctl_report.specs.Ordering.{orders_of}
+use Rattle.ctl_node_side.specs.Answering.{node_of, report_refusals}
+use Rattle.ctl_node_side.specs.Ordering.{orders_of}
 use Rattle.ctl_node_side.specs.Restarting.{made_by_report, met, report_made}
 use Rattle.ctl_core.specs.Sizes.{has_room}
 use Rattle.ctl_core.specs.Step.{early_refusals, raised, reply_of, unless_full, worked}

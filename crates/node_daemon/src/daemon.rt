@@ -7,10 +7,10 @@ ghost use Rattle.node_daemon.specs.Daemon.{accepted, are_due, finished, given, p
 use crate::over::{forget, with_over};
 use crate::running::{Running, drop_over, kill, launched, run_also, starts_left};
 use plain_data::items::Items;
-use small_texts::memory_error::Memory;
-use small_texts::name::Name;
 use reply_data::orders::Orders;
 use request_data::report::{Done, Report};
+use small_texts::memory_error::Memory;
+use small_texts::name::Name;
 use std::alloc::Global;
 use std::marker::Model;
 

@@ -5,9 +5,9 @@ ghost use Rattle.node_daemon.specs.Daemon.{not_forgotten, told_over};
 
 use crate::running::{Running, told_over};
 use crate::starts::is_among;
-use small_texts::memory_error::Memory;
 use reply_data::orders::Starts;
 use request_data::report::Done;
+use small_texts::memory_error::Memory;
 use std::alloc::Global;
 
 /// These, which were over, and behind them those that are over at a moment. Linear in both.

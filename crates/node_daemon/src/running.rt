@@ -5,9 +5,9 @@ ghost use Rattle.node_daemon.specs.Daemon.{has_ended, is_over, launched, not_kil
 
 use crate::starts::is_among;
 use cpu_ids::CpuIds;
-use small_texts::memory_error::Memory;
 use reply_data::orders::{Launch, Starts};
 use request_data::report::{Done, Start};
+use small_texts::memory_error::Memory;
 use std::alloc::Global;
 
 /// A script that ends by itself.

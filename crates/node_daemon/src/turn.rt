@@ -8,10 +8,10 @@ ghost use Rattle.node_daemon.specs.Turn as spec;
 use crate::daemon::DaemonState;
 use ctl_desk::desk::Desk;
 use ctl_desk::entry::Answer;
-use small_texts::memory_error::Memory;
-use small_texts::name::Name;
 use reply_data::reply::Reply;
 use request_data::request::Request;
+use small_texts::memory_error::Memory;
+use small_texts::name::Name;
 use std::alloc::Global;
 
 /// The user as whom daemons report.

@@ -3,9 +3,9 @@
 ghost use Rattle.std.specs.Prelude.{◌≡◌, IfOk};
 
 use cpu_ids::CpuIds;
-use small_texts::memory_error::Memory;
 use plain_data::conf::NodeConf;
 use request_data::report::Heard;
+use small_texts::memory_error::Memory;
 
 /// By whom a node is down.
 #[derive(Clone, Copy, Debug, PartialEq, Eq)]

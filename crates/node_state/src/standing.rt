@@ -5,10 +5,10 @@ ghost use Rattle.std.specs.List.{list_all, list_any};
 ghost use Rattle.node_state.specs.Nodes;
 
 use crate::record::{DownBy, NodeRecord};
-use plain_data::items::Items;
-use small_texts::name::Name;
 use plain_data::conf::{NodeConf, NodeStart};
 use plain_data::features::FeatureExpr;
+use plain_data::items::Items;
+use small_texts::name::Name;
 
 /// A node of slurm.conf(5) before anything was heard of it.
 pub fn opened(conf: NodeConf) -> NodeRecord

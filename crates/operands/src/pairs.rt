@@ -5,9 +5,9 @@ ghost use Rattle.operands.specs.BadWord.{good, given};
 ghost use Rattle.operands.specs.Pairs.{pair_of, pair_added, pairs_say, now_said};
 
 use crate::bad_word::{BadWord, WordKind, fault_at};
+use line_words::words::Words;
 use option_words::arguments::equals_place;
 use small_texts::memory_error::Memory;
-use line_words::words::Words;
 use std::alloc::Global;
 
 /// What pairs of keys and values say together.

@@ -5,8 +5,8 @@ ghost use Rattle.operands.specs.Starts.{start_of, start_by, done_by};
 
 use crate::members::Member;
 use crate::names::read_u32;
-use small_texts::fields::{UpToThree, up_to_three};
 use request_data::report::{Done, Start};
+use small_texts::fields::{UpToThree, up_to_three};
 
 impl Member for Start {
     ghost meaning = { start_by };

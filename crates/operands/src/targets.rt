@@ -5,11 +5,11 @@ ghost use Rattle.operands.specs.Targets.{rows, state_among, state_by, states, st
 
 use crate::members::{Member, read_few};
 use crate::names::read_u32;
-use small_texts::fields::{UpToThree, up_to_three};
 use plain_data::items::Items;
-use small_texts::memory_error::Memory;
 use request_data::query::StateCode;
 use request_data::target::Target;
+use small_texts::fields::{UpToThree, up_to_three};
+use small_texts::memory_error::Memory;
 use std::alloc::Global;
 
 // The states and their codes. "JOB STATE CODES" in squeue(1).

@@ -11,6 +11,7 @@ use crate::limit::Limit;
 use crate::mem_ask::MemAsk;
 use crate::nice::Nice;
 use crate::ranged::Ranged;
+use crate::seconds::Moment;
 use small_texts::memory_error::Memory;
 use small_texts::name::{JobName, Name};
 
@@ -37,7 +38,7 @@ pub struct JobDesc {
     /// How long it may run.
     pub limit: Option<Limit>,
     /// The second before which it doesn't start.
-    pub begin: Option<Ranged<0, 250000000000>>,
+    pub begin: Option<Moment>,
     pub nice: Nice,
     /// Whether it is held from the start.
     pub held: bool,

@@ -4,9 +4,9 @@ ghost use Rattle.std.specs.Prelude.{◌≡◌, ◌↔◌, ℕ, ◌≤◌, ◌<�
 ghost use Rattle.backfill_planner.specs.Staying.{StaysFrom};
 ghost use Rattle.plan_keeper.specs.Nodes.{IsAsFree};
 
+use plain_data::seconds::FOREVER;
 use resource_profile::{NodeRoom, Profile};
 use small_texts::memory_error::Memory;
-use plain_data::seconds::FOREVER;
 use std::alloc::Global;
 
 // Whether as much of the node is free in both profiles at each second from `now` on. Linear in the steps of both.

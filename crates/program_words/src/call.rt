@@ -1,8 +1,8 @@
 //! A call of a server, as words ask it.
 
 use command_words::command::Command;
-use small_texts::name::Name;
 use line_words::words::Words;
+use small_texts::name::Name;
 
 /// A call of a server (own).
 #[derive(Drop)]

@@ -11,10 +11,10 @@ ghost use Rattle.command_words.specs.Command.{command_named};
 
 use crate::Call;
 use command_words::command::{Command, command_named};
+use line_words::words::{Words, WordsRefusal, words_of};
 use slurm_client::{fits_request, read_address};
 use small_texts::memory_error::Memory;
 use small_texts::name::{Name, NameRefusal};
-use line_words::words::{Words, WordsRefusal, words_of};
 use std::alloc::{AllocError, Global};
 
 /// A header has fewer words than this.

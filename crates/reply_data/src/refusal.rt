@@ -1,9 +1,5 @@
 //! Why the controller refuses a request.
 
-ghost use Rattle.std.specs.Prelude.{◌≡◌, IfOk};
-
-use small_texts::memory_error::Memory;
-
 /// Which limit of submitted jobs a submission exceeds. "Limits" in sacctmgr(1).
 #[derive(Clone, Copy, PartialEq, Eq, Debug)]
 pub enum Which {
@@ -18,7 +14,7 @@ pub enum Which {
 }
 
 /// Why a request was refused. The numbers are those that its text shows (own).
-#[derive(PartialEq, Debug, Drop)]
+#[derive(Clone, Copy, PartialEq, Eq, Debug)]
 pub enum Refusal {
     /// 1: the partition takes no jobs.
     PartitionClosed,
@@ -66,43 +62,4 @@ pub enum Refusal {
     ShuttingDown,
     /// 23: the job may not be started again.
     NotRequeueable,
-}
-
-impl Refusal {
-    /// An equal refusal.
-    pub fn copy(&self) -> Result<Refusal, Memory>
-        ensures { IfOk result (λ refusal. refusal ≡ self.now) }
-    {
-        match self {
-            Refusal::PartitionClosed => Ok(Refusal::PartitionClosed),
-            Refusal::InvalidAccount => Ok(Refusal::InvalidAccount),
-            Refusal::InvalidPartition => Ok(Refusal::InvalidPartition),
-            Refusal::InvalidQos => Ok(Refusal::InvalidQos),
-            Refusal::NodesNotAvailable => Ok(Refusal::NodesNotAvailable),
-            Refusal::NotAllowedHere => Ok(Refusal::NotAllowedHere),
-            Refusal::SubmitLimit { which, limit } => Ok(Refusal::SubmitLimit {
-                which: *which,
-                limit: *limit,
-            }),
-            Refusal::JobTableFull => Ok(Refusal::JobTableFull),
-            Refusal::ArrayTooLarge => Ok(Refusal::ArrayTooLarge),
-            Refusal::InvalidJobId => Ok(Refusal::InvalidJobId),
-            Refusal::AccessDenied => Ok(Refusal::AccessDenied),
-            Refusal::AlreadyDone => Ok(Refusal::AlreadyDone),
-            Refusal::BadDependency => Ok(Refusal::BadDependency),
-            Refusal::InvalidReservation => Ok(Refusal::InvalidReservation),
-            Refusal::ReservationOverlap => Ok(Refusal::ReservationOverlap),
-            Refusal::UnknownNode => Ok(Refusal::UnknownNode),
-            Refusal::StaleReport { boot, number } => Ok(Refusal::StaleReport {
-                boot: *boot,
-                number: *number,
-            }),
-            Refusal::HistoryFull => Ok(Refusal::HistoryFull),
-            Refusal::JobIdsSpent => Ok(Refusal::JobIdsSpent),
-            Refusal::MomentTooLarge => Ok(Refusal::MomentTooLarge),
-            Refusal::WrongState => Ok(Refusal::WrongState),
-            Refusal::ShuttingDown => Ok(Refusal::ShuttingDown),
-            Refusal::NotRequeueable => Ok(Refusal::NotRequeueable),
-        }
-    }
 }

@@ -55,7 +55,7 @@ impl Reply {
             Reply::Orders(orders) => Ok(Reply::Orders(orders.copy()?)),
             Reply::Idle => Ok(Reply::Idle),
             Reply::Shown(view) => Ok(Reply::Shown(view.copy()?)),
-            Reply::Refused(refusal) => Ok(Reply::Refused(refusal.copy()?)),
+            Reply::Refused(refusal) => Ok(Reply::Refused(*refusal)),
         }
     }
 }

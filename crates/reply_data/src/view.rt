@@ -11,7 +11,7 @@ use plain_data::items::Items;
 use plain_data::limit::Limit;
 use plain_data::nice::Nice;
 use plain_data::ranged::Ranged;
-use plain_data::seconds::FOREVER;
+use plain_data::seconds::{FOREVER, Second};
 use request_data::report::Heard;
 use request_data::state::{JobState, Reason};
 use small_texts::memory_error::Memory;
@@ -25,7 +25,7 @@ pub enum EndAt {
     /// It runs, and has no limit.
     Unknown,
     /// The second at which it ended, or reaches its limit.
-    At(Ranged<0, 253402300799>),
+    At(Second),
 }
 
 /// What a job holds of a node.
@@ -69,7 +69,7 @@ pub struct JobRow {
     /// Why it is pending, where it is.
     pub reason: Option<Reason>,
     /// The second of its start, or the one planned for it.
-    pub start: Option<Ranged<0, 253402300799>>,
+    pub start: Option<Second>,
     pub priority: u32,
     /// How long it may run.
     pub limit: Limit,
@@ -87,9 +87,9 @@ pub struct JobRow {
     /// Its exit code, where it told one.
     pub exit: Option<u32>,
     /// The second at which it was handed in.
-    pub submit: Ranged<0, 253402300799>,
+    pub submit: Second,
     /// The second from which it may run.
-    pub eligible: Ranged<0, 253402300799>,
+    pub eligible: Second,
     pub end: EndAt,
     /// What it holds of each of its nodes.
     pub parts: Items<NamedPart>,
@@ -266,9 +266,9 @@ impl PartRow {
 pub struct ResRow {
     pub name: Name,
     /// The second at which it begins.
-    pub start: Ranged<0, 253402300799>,
+    pub start: Second,
     /// The second at which it is over.
-    pub end: Ranged<0, 253402300799>,
+    pub end: Second,
     pub nodes: Items<Name>,
     pub users: Items<Name>,
     pub accounts: Items<Name>,

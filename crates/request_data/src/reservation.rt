@@ -3,7 +3,7 @@
 ghost use Rattle.std.specs.Prelude.{◌≡◌, IfOk};
 
 use plain_data::items::Items;
-use plain_data::ranged::Ranged;
+use plain_data::seconds::{Moment, ReservationEnd};
 use small_texts::memory_error::Memory;
 use small_texts::name::Name;
 
@@ -12,9 +12,9 @@ use small_texts::name::Name;
 pub struct ReservationDesc {
     pub name: Name,
     /// The second at which it begins.
-    pub start: Ranged<0, 250000000000>,
+    pub start: Moment,
     /// The second at which it is over; a duration may lead past the last moment that can be written.
-    pub end: Ranged<0, 253153600000>,
+    pub end: ReservationEnd,
     pub nodes: Items<Name>,
     /// Who may use it.
     pub users: Items<Name>,

@@ -4,7 +4,7 @@ use Rattle.std.specs.List.{list_any}
 use Rattle.std.specs.Option.{option_or}
 use Rattle.request_data.specs.declared.state.Reason.{Reason}
 use Rattle.request_data.specs.declared.state.Reason.TheVariants.{JobArrayTaskLimit, AssocGrpJobsLimit, AssocGrpCpuLimit, AssocMaxJobsLimit}
-use Rattle.accounts_qos.specs.Accounts.{above, qos_limits_at}
+use Rattle.run_limits.specs.Accounts.{above, qos_limits_at}
 use Rattle.run_limits.specs.declared.counted.Counted.{Counted}
 use Rattle.run_limits.specs.declared.counted.Group.TheVariants.{Below, InQos, OfUser}
 use Rattle.run_limits.specs.Limits.{Beside, first_reason, is_above, is_full, counts_in, most_jobs, has_jobs_too_many, has_cpus_too_many, assoc_limits_reached, qos_limits_reached, limits_reached}

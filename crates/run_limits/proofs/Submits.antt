@@ -4,7 +4,7 @@ use Rattle.std.proofs.Math.Path.{fun_ext}
 use Rattle.std.specs.Option.{option_or}
 use Rattle.reply_data.specs.declared.refusal.Refusal.{Refusal}
 use Rattle.reply_data.specs.declared.refusal.Which.TheVariants.{AssocMaxSubmitJobs, AssocGrpSubmitJobs, QosGrpSubmitJobs, QosMaxSubmitJobsPerUser}
-use Rattle.accounts_qos.specs.Accounts.{above, limits_at, qos_limits_at}
+use Rattle.run_limits.specs.Accounts.{above, limits_at, qos_limits_at}
 use Rattle.run_limits.specs.declared.counted.Counted.{Counted}
 use Rattle.run_limits.specs.declared.counted.Group.{Group}
 use Rattle.run_limits.specs.declared.counted.Group.TheVariants.{Below, InQos, OfUser}

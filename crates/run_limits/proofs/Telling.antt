@@ -4,9 +4,9 @@ use Rattle.std.proofs.Math.Path.{fun_ext}
 use Rattle.std.proofs.lemmas.Bool.Decides.{nat_tests}
 use Rattle.std.specs.List.{list_any}
 use Rattle.std.specs.HashMap.{get}
-use Rattle.accounts_qos.specs.declared.record.AssocRecord.{AssocRecord}
-use Rattle.accounts_qos.specs.declared.record.QosRecord.{QosRecord}
-use Rattle.accounts_qos.specs.Accounts.{limits_at, above, are_of_one_user, is_same_number, user_number}
+use Rattle.run_limits.specs.declared.record.AssocRecord.{AssocRecord}
+use Rattle.run_limits.specs.declared.record.QosRecord.{QosRecord}
+use Rattle.run_limits.specs.Accounts.{limits_at, above, are_of_one_user, is_same_number, user_number}
 use Rattle.run_limits.specs.declared.counted.Counted.{Counted}
 use Rattle.run_limits.specs.declared.counted.Counts.{Counts}
 use Rattle.run_limits.specs.declared.counted.Group.{Group}

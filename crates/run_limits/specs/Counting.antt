@@ -1,8 +1,8 @@
 -- What jobs count towards limits.
 use Rattle.std.specs.Prelude.{ℕ, Bool, false, ◌&&◌, nat_eq, if◌then◌else◌, List, count_by, sum_by, Option, Some, None}
 use Rattle.std.specs.List.{list_any}
-use Rattle.accounts_qos.specs.declared.record.AssocRecord.{AssocRecord}
-use Rattle.accounts_qos.specs.Accounts.{above, are_of_one_user}
+use Rattle.run_limits.specs.declared.record.AssocRecord.{AssocRecord}
+use Rattle.run_limits.specs.Accounts.{above, are_of_one_user}
 use Rattle.run_limits.specs.declared.counted.Counted.{Counted}
 use Rattle.run_limits.specs.declared.counted.Counts.{Counts}
 use Rattle.run_limits.specs.declared.counted.Group.{Group}

@@ -2,3 +2,4 @@ pub mod Counting
 pub mod Limits
 pub mod Tallies
 pub mod Submitting
+pub mod Accounts

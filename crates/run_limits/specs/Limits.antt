@@ -4,9 +4,9 @@ use Rattle.std.specs.List.{list_any}
 use Rattle.plain_data.specs.declared.assoc.QosLimits.{QosLimits}
 use Rattle.request_data.specs.declared.state.Reason.{Reason}
 use Rattle.request_data.specs.declared.state.Reason.TheVariants.{JobArrayTaskLimit, AssocGrpJobsLimit, AssocGrpCpuLimit, AssocMaxJobsLimit, QosGrpJobsLimit, QosGrpCpuLimit, QosMaxJobsPerUserLimit, QosMaxCpuPerUserLimit}
-use Rattle.accounts_qos.specs.declared.record.AssocRecord.{AssocRecord}
-use Rattle.accounts_qos.specs.declared.record.QosRecord.{QosRecord}
-use Rattle.accounts_qos.specs.Accounts.{above, limits_at, qos_limits_at}
+use Rattle.run_limits.specs.declared.record.AssocRecord.{AssocRecord}
+use Rattle.run_limits.specs.declared.record.QosRecord.{QosRecord}
+use Rattle.run_limits.specs.Accounts.{above, limits_at, qos_limits_at}
 use Rattle.run_limits.specs.declared.counted.Counted.{Counted}
 use Rattle.run_limits.specs.declared.counted.Counts.{Counts}
 use Rattle.run_limits.specs.declared.counted.Group.{Group}

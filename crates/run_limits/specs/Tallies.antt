@@ -1,8 +1,8 @@
 -- What a tally shows.
 use Rattle.std.specs.Prelude.{◌≡◌, ℕ, ◌+◌, Bool, ◌&&◌, nat_eq, if◌then◌else◌, unwrap_or, List, sum_by, Option, Some, None}
 use Rattle.std.specs.HashMap.{get}
-use Rattle.accounts_qos.specs.declared.record.AssocRecord.{AssocRecord}
-use Rattle.accounts_qos.specs.Accounts.{user_number}
+use Rattle.run_limits.specs.declared.record.AssocRecord.{AssocRecord}
+use Rattle.run_limits.specs.Accounts.{user_number}
 use Rattle.run_limits.specs.declared.counted.Counted.{Counted}
 use Rattle.run_limits.specs.declared.counted.Counts.{Counts}
 use Rattle.run_limits.specs.declared.counted.Group.{Group}

@@ -2,12 +2,12 @@
 
 ghost use Rattle.std.specs.Prelude.{◌≡◌, nat_eq};
 ghost use Rattle.std.specs.List.{list_any};
-ghost use Rattle.accounts_qos.specs.Accounts;
+ghost use Rattle.run_limits.specs.Accounts;
 ghost use Rattle.run_limits.specs.Counting;
 
+use crate::account_laws::numbers_tell_users_apart;
+use crate::assocs::Assocs;
 use crate::counted::{Counted, Group};
-use accounts_qos::assocs::Assocs;
-use accounts_qos::laws::numbers_tell_users_apart;
 
 // Whether the associations at two places are of one user.
 fn are_of_one_user(assocs: &Assocs, one: u32, other: u32) -> bool

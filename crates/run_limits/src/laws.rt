@@ -1,7 +1,7 @@
 //! What holds of every tally. A law is the contract of a function that does nothing.
 
 ghost use Rattle.std.specs.Prelude.{List};
-ghost use Rattle.accounts_qos.specs.declared.record.AssocRecord.{AssocRecord};
+ghost use Rattle.run_limits.specs.declared.record.AssocRecord.{AssocRecord};
 ghost use Rattle.run_limits.specs.declared.counted.Counted.{Counted};
 ghost use Rattle.run_limits.specs.declared.tally.Tally.{Tally};
 ghost use Rattle.run_limits.specs.Tallies.{HaveSameSums, Shows};

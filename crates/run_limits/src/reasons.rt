@@ -2,16 +2,16 @@
 
 ghost use Rattle.std.specs.Prelude.{◌≡◌, ◌+◌, ℕ, List, map};
 ghost use Rattle.std.specs.List.{list_any};
-ghost use Rattle.accounts_qos.specs.Accounts.{limits_at};
+ghost use Rattle.run_limits.specs.Accounts.{limits_at};
 ghost use Rattle.run_limits.specs.declared.counted.Counted.{Counted as CountedJob};
 ghost use Rattle.run_limits.specs.declared.counted.Group.TheVariants.{Below};
 ghost use Rattle.run_limits.specs.Limits.{assoc_limits_reached, first_reason, is_above, is_full, limits_reached, nearest, qos_limits_reached};
 ghost use Rattle.run_limits.specs.Tallies.{Shows, told};
 
+use crate::assocs::Assocs;
 use crate::counted::{Counted, Counts, Group};
 use crate::limit::{Limit, is_above};
 use crate::tally::Tally;
-use accounts_qos::assocs::Assocs;
 use plain_data::assoc::QosLimits;
 use request_data::state::Reason;
 

@@ -1,7 +1,7 @@
 //! Which limits on jobs that haven't ended new jobs exceed.
 
 ghost use Rattle.std.specs.Prelude.{◌≡◌, ◌+◌, ℕ, [], ◌∷◌, List, map};
-ghost use Rattle.accounts_qos.specs.Accounts.{limits_at, qos_limits_at};
+ghost use Rattle.run_limits.specs.Accounts.{limits_at, qos_limits_at};
 ghost use Rattle.run_limits.specs.declared.counted.Counted.{Counted as CountedJob};
 ghost use Rattle.run_limits.specs.declared.counted.Group.{Group as GroupOfJobs};
 ghost use Rattle.run_limits.specs.declared.counted.Group.TheVariants.{Below, InQos, OfUser};
@@ -10,9 +10,9 @@ ghost use Rattle.run_limits.specs.Counting.{counts_of, is_in};
 ghost use Rattle.run_limits.specs.Limits.{nearest};
 ghost use Rattle.run_limits.specs.Submitting.{exceeded, first_refusal, submit_limits};
 
+use crate::assocs::Assocs;
 use crate::counted::{Counted, Group};
 use crate::limit::{Limit, is_above};
-use accounts_qos::assocs::Assocs;
 use reply_data::refusal::{Refusal, Which};
 
 /// What counts jobs (own).

@@ -6,9 +6,9 @@ ghost use Rattle.std.specs.HashMap.{get};
 ghost use Rattle.run_limits.specs.Counting.{is_number};
 ghost use Rattle.run_limits.specs.Tallies.{is_same_pair, kept, with_job_if};
 
+use crate::account_laws::numbers_tell_users_apart;
+use crate::assocs::Assocs;
 use crate::counted::{Counted, Counts, Group};
-use accounts_qos::assocs::Assocs;
-use accounts_qos::laws::numbers_tell_users_apart;
 use small_texts::memory_error::Memory;
 use std::alloc::Global;
 use std::collections::HashMap;
@@ -94,7 +94,7 @@ fn count_user(
 
 impl Tally {
     ghost use Rattle.std.specs.Prelude.{◌≡◌, ◌++◌, ◌∷◌, [], IfOk, OnOk, List};
-    ghost use Rattle.accounts_qos.specs.declared.record.AssocRecord.{AssocRecord};
+    ghost use Rattle.run_limits.specs.declared.record.AssocRecord.{AssocRecord};
     ghost use Rattle.run_limits.specs.declared.counted.Counted.{Counted as CountedJob};
     ghost use Rattle.run_limits.specs.Tallies.{Shows, told};
 

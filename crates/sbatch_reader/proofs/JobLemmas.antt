@@ -4,9 +4,9 @@ use Rattle.std.specs.Option.{option_or, option_map, is_none}
 use Rattle.std.proofs.lemmas.List.Sums.{fold-append}
 use Rattle.option_words.specs.declared.refusal.WordKind.{WordKind}
 use Rattle.option_words.specs.declared.refusal.WordKind.TheVariants.{BadValue}
-use Rattle.sbatch_options.specs.Entries.{with_entry, no_words}
-use Rattle.sbatch_options.specs.declared.entries.Entry.{Entry}
-use Rattle.sbatch_options.specs.declared.entries.JobWords.{JobWords}
+use Rattle.sbatch_reader.specs.Entries.{with_entry, no_words}
+use Rattle.sbatch_reader.specs.declared.entries.Entry.{Entry}
+use Rattle.sbatch_reader.specs.declared.entries.JobWords.{JobWords}
 use Rattle.sbatch_reader.specs.Description.{are_crossed, job_name, named}
 use Rattle.sbatch_reader.specs.Drafts.{nothing_said, after, nodes_after, verdict, draft_job}
 use Rattle.sbatch_reader.specs.Job.{words_of, is_nodes, says_nodes, first_fault, unless_refused, job_by}

@@ -1,1 +1,6 @@
 pub mod JobLemmas
+pub mod ArrayLemmas
+pub mod DependencyLemmas
+pub mod MarkLemmas
+pub mod PartLemmas
+pub mod ValueLemmas

@@ -5,8 +5,8 @@ use Rattle.small_texts.specs.Fields.{fields}
 use Rattle.small_texts.specs.Name.{is_job_name}
 use Rattle.plain_data.specs.declared.job.JobDesc.{JobDesc}
 use Rattle.option_words.specs.declared.refusal.WordKind.TheVariants.{BadValue}
-use Rattle.sbatch_options.specs.declared.entries.JobWords.{JobWords}
-use Rattle.sbatch_options.specs.declared.values.NodeRange.{NodeRange}
+use Rattle.sbatch_reader.specs.declared.entries.JobWords.{JobWords}
+use Rattle.sbatch_reader.specs.declared.values.NodeRange.{NodeRange}
 use Rattle.option_words.specs.Refusal.{told}
 use Rattle.sbatch_reader.specs.Refusal.{refusal_at}
 use Rattle.sbatch_reader.specs.declared.refusal.JobRefusal.{JobRefusal}

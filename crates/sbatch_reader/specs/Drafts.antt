@@ -3,9 +3,9 @@ use Rattle.std.specs.Prelude.{ℕ, Bool, if◌then◌else◌, List, Option, Some
 use Rattle.std.specs.Option.{option_or}
 use Rattle.option_words.specs.declared.refusal.WordKind.{WordKind}
 use Rattle.option_words.specs.declared.refusal.WordKind.TheVariants.{BadValue}
-use Rattle.sbatch_options.specs.Entries.{with_entry, no_words}
+use Rattle.sbatch_reader.specs.Entries.{with_entry, no_words}
 use Rattle.plain_data.specs.declared.job.JobDesc.{JobDesc}
-use Rattle.sbatch_options.specs.declared.entries.Entry.{Entry}
+use Rattle.sbatch_reader.specs.declared.entries.Entry.{Entry}
 use Rattle.sbatch_reader.specs.Description.{are_crossed, job_name, named}
 use Rattle.sbatch_reader.specs.Job.{is_nodes, unless_refused}
 use Rattle.sbatch_reader.specs.Refusal.{refusal_at}

@@ -6,10 +6,10 @@ use Rattle.std.specs.Result.{result_ok}
 use Rattle.option_words.specs.declared.refusal.WordKind.{WordKind}
 use Rattle.option_words.specs.declared.refusal.WordKind.TheVariants.{BadValue}
 use Rattle.plain_data.specs.declared.job.JobDesc.{JobDesc}
-use Rattle.sbatch_options.specs.Entries.{with_entry, no_words}
-use Rattle.sbatch_options.specs.declared.entries.Entry.{Entry}
-use Rattle.sbatch_options.specs.declared.entries.Entry.TheVariants.{Nodes}
-use Rattle.sbatch_options.specs.declared.entries.JobWords.{JobWords}
+use Rattle.sbatch_reader.specs.Entries.{with_entry, no_words}
+use Rattle.sbatch_reader.specs.declared.entries.Entry.{Entry}
+use Rattle.sbatch_reader.specs.declared.entries.Entry.TheVariants.{Nodes}
+use Rattle.sbatch_reader.specs.declared.entries.JobWords.{JobWords}
 use Rattle.sbatch_reader.specs.Description.{are_crossed, job_name, named}
 use Rattle.sbatch_reader.specs.Lines.{script_says}
 use Rattle.sbatch_reader.specs.Refusal.{refusal_at}

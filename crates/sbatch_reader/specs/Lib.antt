@@ -4,3 +4,12 @@ pub mod Job
 pub mod Lines
 pub mod Refusal
 pub mod Said
+pub mod Array
+pub mod Dependency
+pub mod Features
+pub mod Marks
+pub mod Parts
+pub mod Refusals
+pub mod Entries
+pub mod Table
+pub mod Values

@@ -8,10 +8,10 @@ ghost use Rattle.sbatch_reader.specs.Said.{command_parts, script_in, command_say
 use crate::draft::Draft;
 use crate::refusal::told;
 use crate::said::{Reading, Source, read_argument};
-use option_words::arguments::{Argument, Cursor};
-use sbatch_options::table::next_option;
-use small_texts::memory_error::Memory;
+use crate::table::next_option;
 use line_words::words::Words;
+use option_words::arguments::{Argument, Cursor};
+use small_texts::memory_error::Memory;
 use std::alloc::Global;
 
 /// The word that names the script, with its number.

@@ -4,13 +4,13 @@ ghost use Rattle.std.specs.Prelude.{◌≡◌, ◌*◌, ℕ, List, Option, optio
 ghost use Rattle.small_texts.specs.Fields.{fields, fields_of_rest};
 ghost use Rattle.sbatch_reader.specs.Description.{least_nodes, are_crossed, all_tasks, min_nodes, max_nodes, last_part, usual_name, job_name, job_of, named};
 
+use crate::entries::JobWords;
 use crate::refusal::{JobRefusal, Place, WordKind, told};
-use sbatch_options::entries::JobWords;
+use plain_data::job::JobDesc;
+use plain_data::ranged::Ranged;
 use small_texts::fields::first_field;
 use small_texts::memory_error::Memory;
 use small_texts::name::{JobName, NameRefusal};
-use plain_data::job::JobDesc;
-use plain_data::ranged::Ranged;
 use std::alloc::Global;
 use std::mem;
 

@@ -1,8 +1,8 @@
 //! What a command says, as far as it is read.
 
+use crate::entries::{Entry, JobWords};
 use crate::refusal::{JobRefusal, Place, WordKind};
 use crate::said::Said;
-use sbatch_options::entries::{Entry, JobWords};
 use std::alloc::Global;
 
 /// What is said so far.

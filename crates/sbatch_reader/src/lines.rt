@@ -12,13 +12,13 @@ ghost use Rattle.sbatch_reader.specs.Lines.{is_read, begins_blank, begins_or_end
 
 use crate::command::read_line_words;
 use crate::draft::Draft;
+use crate::entries::Entry;
 use crate::refusal::{Place, WordKind, told};
 use crate::said::Said;
-use sbatch_options::entries::Entry;
-use sbatch_options::values::read_number;
+use crate::values::read_number;
+use line_words::words::{Words, WordsRefusal, before_comment, split_words};
 use small_texts::fields::{UpToThree, first_field, up_to_three};
 use small_texts::memory_error::Memory;
-use line_words::words::{Words, WordsRefusal, before_comment, split_words};
 use std::alloc::Global;
 
 // A longer line of options isn't held.

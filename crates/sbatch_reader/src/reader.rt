@@ -11,9 +11,9 @@ use crate::description::{are_crossed, describe};
 use crate::draft::Draft;
 use crate::lines::read_script;
 use crate::refusal::JobRefusal;
-use small_texts::memory_error::Memory;
-use plain_data::job::JobDesc;
 use line_words::words::Words;
+use plain_data::job::JobDesc;
+use small_texts::memory_error::Memory;
 use std::alloc::Global;
 
 // Reads the script, where there is one.

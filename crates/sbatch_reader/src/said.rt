@@ -5,10 +5,10 @@ ghost use Rattle.option_words.specs.Arguments.{part_of};
 ghost use Rattle.sbatch_reader.specs.Said.{fault_at, is_stray, said_of};
 ghost use Rattle.option_words.specs.declared.refusal.WordKind.TheVariants.{StrayWord, MissingValue};
 
+use crate::entries::{Entry, flag_entry, read_entry};
 use crate::refusal::{Place, WordKind, told};
+use crate::table::{FlagOption, ValueOption};
 use option_words::arguments::Argument;
-use sbatch_options::entries::{Entry, flag_entry, read_entry};
-use sbatch_options::table::{FlagOption, ValueOption};
 use small_texts::memory_error::Memory;
 use std::alloc::Global;
 

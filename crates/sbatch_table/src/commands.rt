@@ -2,9 +2,9 @@
 
 use crate::headers::push_place;
 use crate::jobs::words_in;
+use crate::requests::push_request;
 use command_words::alone::read_alone;
 use command_words::command::{Command, command_named};
-use request_lines::requests::push_request;
 use line_words::words::Words;
 use std::alloc::Global;
 use table_lines::answer::{Unanswered, push};

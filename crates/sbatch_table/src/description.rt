@@ -1,11 +1,11 @@
 // What a description of a job says.
 
-use request_lines::show::{Show, or_dash, push_field, show_joined};
+use crate::show::{Show, or_dash, push_field, show_joined};
 use plain_data::items::Items;
-use small_texts::name::Name;
 use plain_data::job::JobDesc;
 use plain_data::nice::Nice;
 use plain_data::ranged::Ranged;
+use small_texts::name::Name;
 use std::alloc::Global;
 use table_lines::answer::Unanswered;
 

@@ -1,11 +1,11 @@
 // Headers of blocks.
 
 use crate::description::described;
+use crate::requests::push_request;
+use crate::show::push_marked;
 use command_words::command::Command;
 use command_words::fault::{WordFault, WordKind};
 use command_words::header::{Asked, Meaning, read_header};
-use request_lines::requests::push_request;
-use request_lines::show::push_marked;
 use plain_data::job::JobDesc;
 use request_data::request::Request;
 use std::alloc::Global;

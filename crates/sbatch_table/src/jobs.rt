@@ -1,9 +1,9 @@
 // The words and the script of sbatch(1).
 
 use crate::description::described;
+use line_words::words::{Words, WordsRefusal, split_words};
 use sbatch_reader::reader::{read_job, script_word};
 use sbatch_reader::refusal::JobRefusal;
-use line_words::words::{Words, WordsRefusal, split_words};
 use std::alloc::Global;
 use table_lines::answer::{Unanswered, push};
 use table_lines::fields::LONGEST;

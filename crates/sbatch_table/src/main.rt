@@ -1,11 +1,18 @@
 //! Reads the words of commands that the lines of a table hold, and prints each line with what they mean.
 #![tactic(auto)]
 
+mod changes;
 mod commands;
 mod description;
 mod headers;
 mod jobs;
+mod queries;
+mod reports;
+mod requests;
+mod show;
+mod targets;
 mod texts;
+mod values;
 
 use std::alloc::Global;
 use std::io;

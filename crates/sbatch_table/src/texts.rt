@@ -1,12 +1,12 @@
 // Texts of a job's options.
 
-use job_texts::array::{ArrayRefusal, read_array};
-use job_texts::dependency::{DepRefusal, read_dependency};
-use job_texts::features::{FeaturesRefusal, read_features};
-use request_lines::show::Show;
-use request_lines::values::quantifier;
+use crate::show::Show;
+use crate::values::quantifier;
 use plain_data::array::ArraySpec;
 use plain_data::dependency::DepSpec;
+use sbatch_reader::array::{ArrayRefusal, read_array};
+use sbatch_reader::dependency::{DepRefusal, read_dependency};
+use sbatch_reader::features::{FeaturesRefusal, read_features};
 use std::alloc::Global;
 use table_lines::answer::{Unanswered, push, refused};
 

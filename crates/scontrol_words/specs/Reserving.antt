@@ -7,7 +7,7 @@ use Rattle.operands.specs.Pairs.{pairs_say}
 use Rattle.operands.specs.declared.bad_word.BadWord.{BadWord}
 use Rattle.option_words.specs.declared.refusal.WordKind.{WordKind}
 use Rattle.option_words.specs.declared.refusal.WordKind.TheVariants.{UnknownOption, MissingWord}
-use Rattle.sbatch_options.specs.Values.{nodes_in}
+use Rattle.sbatch_reader.specs.Values.{nodes_in}
 use Rattle.slurm_num.specs.Limits.{limit_of}
 use Rattle.small_texts.specs.Moment.{moment_of}
 use Rattle.plain_data.specs.declared.limit.Limit.{Limit}

@@ -9,7 +9,7 @@ use Rattle.operands.specs.Names.{name_by}
 use Rattle.operands.specs.declared.bad_word.BadWord.{BadWord}
 use Rattle.option_words.specs.declared.refusal.WordKind.{WordKind}
 use Rattle.option_words.specs.declared.refusal.WordKind.TheVariants.{UnknownOption, MissingWord, BadValue}
-use Rattle.sbatch_options.specs.Values.{nice_in, nodes_in}
+use Rattle.sbatch_reader.specs.Values.{nice_in, nodes_in}
 use Rattle.slurm_num.specs.Limits.{limit_of}
 use Rattle.plain_data.specs.declared.conf.PartState.{PartState}
 use Rattle.request_data.specs.declared.request.NodeOrder.{NodeOrder}

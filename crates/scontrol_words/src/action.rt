@@ -3,9 +3,9 @@
 ghost use Rattle.std.specs.Prelude.{◌≡◌};
 ghost use Rattle.scontrol_words.specs.Scontrol.{action_named, action_in};
 
+use line_words::words::Words;
 use operands::bad_word::{BadWord, WordKind, fault_at};
 use operands::operand::word_at;
-use line_words::words::Words;
 
 /// What is done.
 #[derive(Clone, Copy)]

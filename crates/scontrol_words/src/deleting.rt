@@ -4,13 +4,13 @@ ghost use Rattle.std.specs.Prelude.{◌≡◌, ◌+◌, IfOk};
 ghost use Rattle.scontrol_words.specs.Reserving.{deletion_said, delete_by};
 
 use crate::keys::{Key, scontrol_key};
+use line_words::words::Words;
 use operands::bad_word::{BadWord, WordKind, fault_at};
 use operands::names::read_name;
 use operands::pairs::{Pairs, put, read_pairs};
+use request_data::request::Request;
 use small_texts::memory_error::Memory;
 use small_texts::name::Name;
-use request_data::request::Request;
-use line_words::words::Words;
 use std::alloc::Global;
 
 /// What the pairs say of a reservation that is taken back.

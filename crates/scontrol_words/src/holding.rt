@@ -3,14 +3,14 @@
 ghost use Rattle.std.specs.Prelude.{◌≡◌, IfOk};
 ghost use Rattle.scontrol_words.specs.Holding.{listed_jobs, one_job, hold_by, release_by, requeue_by};
 
+use line_words::words::Words;
 use operands::bad_word::BadWord;
 use operands::operand::{closed_at, good_at, word_at};
 use operands::targets::{read_target, read_targets};
 use plain_data::items::Items;
-use small_texts::memory_error::Memory;
 use request_data::request::Request;
 use request_data::target::Target;
-use line_words::words::Words;
+use small_texts::memory_error::Memory;
 use std::alloc::Global;
 
 // The jobs that the third word names.

@@ -6,16 +6,16 @@ ghost use Rattle.operands.specs.Pairs.{now_said};
 ghost use Rattle.scontrol_words.specs.Updating.{job_key, job_said, job_update_by};
 
 use crate::keys::{Key, scontrol_key};
+use line_words::words::Words;
 use operands::bad_word::{BadWord, WordKind, fault_at};
 use operands::pairs::{Pairs, put, read_pairs};
 use operands::targets::read_target;
-use sbatch_options::values::{read_limit, read_nice};
-use small_texts::memory_error::Memory;
 use plain_data::limit::Limit;
 use plain_data::nice::Nice;
 use request_data::request::Request;
 use request_data::target::Target;
-use line_words::words::Words;
+use sbatch_reader::values::{read_limit, read_nice};
+use small_texts::memory_error::Memory;
 use std::alloc::Global;
 
 /// What the pairs of a job's update say.

@@ -6,13 +6,13 @@ ghost use Rattle.scontrol_words.specs.Updating.{node_said, node_update_by};
 
 use crate::keys::{Key, scontrol_key};
 use crate::values::{is_long, read_hosts, read_node_order};
+use line_words::words::Words;
 use operands::bad_word::{BadWord, WordKind, fault_at};
 use operands::pairs::{Pairs, put, read_pairs};
 use plain_data::items::Items;
+use request_data::request::{NodeOrder, Request};
 use small_texts::memory_error::Memory;
 use small_texts::name::Name;
-use request_data::request::{NodeOrder, Request};
-use line_words::words::Words;
 use std::alloc::Global;
 
 /// What the pairs of a nodes' update say.

@@ -6,14 +6,14 @@ ghost use Rattle.scontrol_words.specs.Updating.{partition_said, partition_update
 
 use crate::keys::{Key, scontrol_key};
 use crate::values::read_part_state;
+use line_words::words::Words;
 use operands::bad_word::{BadWord, WordKind, fault_at};
 use operands::names::read_name;
 use operands::pairs::{Pairs, put, read_pairs};
-use small_texts::memory_error::Memory;
-use small_texts::name::Name;
 use plain_data::conf::PartState;
 use request_data::request::Request;
-use line_words::words::Words;
+use small_texts::memory_error::Memory;
+use small_texts::name::Name;
 use std::alloc::Global;
 
 /// What the pairs of a partition's update say.

@@ -5,18 +5,19 @@ ghost use Rattle.scontrol_words.specs.Reserving.{is_for_someone, minutes_of, end
 
 use crate::keys::{Key, scontrol_key};
 use crate::values::{read_few_names, read_hosts};
+use line_words::words::Words;
 use operands::bad_word::{BadWord, WordKind, fault_at};
 use operands::names::read_name;
 use operands::pairs::{Pairs, put, read_pairs};
-use sbatch_options::values::{read_begin, read_limit};
 use plain_data::items::Items;
-use small_texts::memory_error::Memory;
-use small_texts::name::Name;
 use plain_data::limit::Limit;
+use plain_data::ranged::Ranged;
+use plain_data::seconds::Moment;
 use request_data::request::Request;
 use request_data::reservation::ReservationDesc;
-use plain_data::ranged::Ranged;
-use line_words::words::Words;
+use sbatch_reader::values::{read_begin, read_limit};
+use small_texts::memory_error::Memory;
+use small_texts::name::Name;
 use std::alloc::Global;
 
 // How many minutes a reservation stands that has no end (own).
@@ -26,7 +27,7 @@ const YEAR: u64 = 525_600;
 #[derive(Clone, Copy)]
 pub(crate) enum Until {
     /// At this second.
-    At(Ranged<0, 250000000000>),
+    At(Moment),
     /// So long after its start.
     For(Limit),
 }
@@ -36,7 +37,7 @@ pub(crate) enum Until {
 pub(crate) struct Reserved {
     pub(crate) now: u64,
     pub(crate) name: Option<Name>,
-    pub(crate) start: Option<Ranged<0, 250000000000>>,
+    pub(crate) start: Option<Moment>,
     pub(crate) until: Option<Until>,
     pub(crate) nodes: Option<Items<Name>>,
     pub(crate) users: Option<Items<Name>>,
@@ -138,7 +139,7 @@ fn minutes_of(duration: Limit) -> u64
 }
 
 // The second at which a reservation is over.
-fn second_of_end(start: Ranged<0, 250000000000>, until: Until) -> u64
+fn second_of_end(start: Moment, until: Until) -> u64
     ensures value { result ≡ end_of start until }
     ensures range { result ≤ 253_153_600_000 }
 {

@@ -9,11 +9,11 @@ use crate::holding::{read_hold, read_release, read_requeue};
 use crate::reserving::read_create;
 use crate::showing::read_show;
 use crate::updating::read_update;
+use line_words::words::Words;
 use operands::bad_word::BadWord;
 use operands::operand::closed_at;
-use small_texts::memory_error::Memory;
 use request_data::request::Request;
-use line_words::words::Words;
+use small_texts::memory_error::Memory;
 use std::alloc::Global;
 
 fn act(

@@ -6,15 +6,15 @@ ghost use Rattle.operands.specs.Names.{name_by};
 ghost use Rattle.operands.specs.Targets.{target_by};
 ghost use Rattle.scontrol_words.specs.Showing.{shown_named, shown_in, named_query, job_query, name_query, query_of, show_by};
 
+use line_words::words::Words;
 use operands::bad_word::{BadWord, WordKind, fault_at};
 use operands::names::read_name;
 use operands::operand::{closed_at, word_at};
 use operands::targets::read_target;
-use small_texts::memory_error::Memory;
-use small_texts::name::Name;
 use request_data::query::Query;
 use request_data::target::Target;
-use line_words::words::Words;
+use small_texts::memory_error::Memory;
+use small_texts::name::Name;
 use std::alloc::Global;
 
 /// What is shown.

@@ -5,12 +5,12 @@ ghost use Rattle.scontrol_words.specs.Updating.{unnamed_update_by};
 
 use crate::keys::{Key, scontrol_key};
 use crate::values::{is_long, read_node_order, read_part_state};
+use line_words::words::Words;
 use operands::bad_word::{BadWord, WordKind, fault_at};
 use operands::pairs::{Pairs, read_pairs};
-use sbatch_options::values::{read_limit, read_nice};
-use small_texts::memory_error::Memory;
 use request_data::request::Request;
-use line_words::words::Words;
+use sbatch_reader::values::{read_limit, read_nice};
+use small_texts::memory_error::Memory;
 use std::alloc::Global;
 
 /// Pairs of which none names what is changed: nothing of them is kept.

@@ -9,11 +9,11 @@ use crate::keys::{Key, scontrol_key};
 use crate::node_update::read_node_update;
 use crate::partition_update::read_partition_update;
 use crate::unnamed_update::read_unnamed_update;
+use line_words::words::Words;
 use operands::bad_word::BadWord;
 use operands::pairs::cut_pair;
-use small_texts::memory_error::Memory;
 use request_data::request::Request;
-use line_words::words::Words;
+use small_texts::memory_error::Memory;
 use std::alloc::Global;
 
 /// What an update changes.

@@ -1,18 +1,18 @@
 //! Values of keys.
 
 ghost use Rattle.std.specs.Prelude.{◌≡◌, nat_lt, length, IfOk};
-ghost use Rattle.sbatch_options.specs.Values.{nodes_in};
+ghost use Rattle.sbatch_reader.specs.Values.{nodes_in};
 ghost use Rattle.scontrol_words.specs.Values.{few, few_names, node_order, part_state};
 
 use conf_values::refusal::ValueRefusal as NamesRefusal;
 use conf_values::values::read_names;
-use sbatch_options::node_names::NodeNames;
-use sbatch_options::values::{ValueRefusal, read_nodes};
+use plain_data::conf::PartState;
 use plain_data::items::Items;
+use request_data::request::NodeOrder;
+use sbatch_reader::node_names::NodeNames;
+use sbatch_reader::values::{ValueRefusal, read_nodes};
 use small_texts::memory_error::Memory;
 use small_texts::name::Name;
-use plain_data::conf::PartState;
-use request_data::request::NodeOrder;
 use std::alloc::Global;
 
 // A longer list isn't taken.

@@ -10,9 +10,9 @@ use Rattle.command_words.specs.declared.command.Command.{Command}
 use Rattle.command_words.specs.declared.command.Command.TheVariants.{Sbatch}
 use Rattle.option_words.specs.Arguments.{Part, valued, lacking}
 use Rattle.option_words.specs.Refusal.{told}
-use Rattle.sbatch_options.specs.declared.table.FlagOption.{FlagOption}
-use Rattle.sbatch_options.specs.declared.table.ValueOption.{ValueOption}
-use Rattle.sbatch_options.specs.declared.table.ValueOption.TheVariants.{Wrap}
+use Rattle.sbatch_reader.specs.declared.table.FlagOption.{FlagOption}
+use Rattle.sbatch_reader.specs.declared.table.ValueOption.{ValueOption}
+use Rattle.sbatch_reader.specs.declared.table.ValueOption.TheVariants.{Wrap}
 use Rattle.sbatch_reader.specs.Job.{script_word}
 use Rattle.sbatch_reader.specs.Said.{command_parts}
 use Rattle.server_call.specs.declared.refusal.ScriptRefusal.{ScriptRefusal}

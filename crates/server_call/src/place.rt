@@ -8,10 +8,10 @@ ghost use Rattle.server_call.specs.Scripts.{is_wrap, has_wrap, word_numbered, to
 ghost use Rattle.server_call.specs.Places.{told_place};
 
 use command_words::command::Command;
-use option_words::arguments::{Argument, Cursor};
-use sbatch_options::table::{FlagOption, ValueOption, next_option};
-use sbatch_reader::reader::script_word;
 use line_words::words::Words;
+use option_words::arguments::{Argument, Cursor};
+use sbatch_reader::reader::script_word;
+use sbatch_reader::table::{FlagOption, ValueOption, next_option};
 use std::str;
 
 /// Where a script is.

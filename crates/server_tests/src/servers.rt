@@ -2,9 +2,9 @@
 use crate::gates::{Act, Step, StepGate};
 use crate::serving::{door_with, link_asking, serve_over};
 use ctl_server::ServeEnd;
-use slurm_net::NoGate;
 use reply_data::reply::Reply;
 use request_data::request::Request;
+use slurm_net::NoGate;
 use std::sync::atomic::{AtomicBool, Ordering};
 use std::test::Fail;
 

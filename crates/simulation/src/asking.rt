@@ -10,10 +10,10 @@ use ctl_desk::desk::Desk;
 use ctl_desk::laws::answers_follow_at_a_desk_of_its_own;
 use ctl_desk::own_desk::OwnDesk;
 use node_daemon::root;
-use resource_profile::{Plain, Steps};
-use small_texts::memory_error::Memory;
 use reply_data::reply::Reply;
 use request_data::request::Request;
+use resource_profile::{Plain, Steps};
+use small_texts::memory_error::Memory;
 use std::alloc::Global;
 
 /// The desk's history is one that the controller keeps.

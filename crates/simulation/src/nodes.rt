@@ -7,11 +7,11 @@ ghost use Rattle.simulation.specs.Simulation.{behind, daemon_of, daemons_of, nod
 use crate::asking::ask;
 use ctl_desk::own_desk::OwnDesk;
 use node_daemon::daemon::DaemonState;
-use small_texts::memory_error::Memory;
-use request_data::query::Query;
 use reply_data::reply::Reply;
-use request_data::request::Request;
 use reply_data::view::Row;
+use request_data::query::Query;
+use request_data::request::Request;
+use small_texts::memory_error::Memory;
 use std::alloc::Global;
 
 /// The records that a reply shows.

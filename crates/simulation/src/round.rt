@@ -14,10 +14,10 @@ use ctl_desk::laws::answers_follow_at_a_desk_of_its_own;
 use ctl_desk::own_desk::OwnDesk;
 use node_daemon::daemon::DaemonState;
 use node_daemon::daemon_turn;
-use resource_profile::{Plain, Steps};
-use small_texts::memory_error::Memory;
 use request_data::query::Query;
 use request_data::request::Request;
+use resource_profile::{Plain, Steps};
+use small_texts::memory_error::Memory;
 use std::alloc::Global;
 
 // How many seconds lie between two rounds.

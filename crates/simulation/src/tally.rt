@@ -4,8 +4,8 @@ ghost use Rattle.std.specs.Prelude.{◌≡◌};
 ghost use Rattle.simulation.specs.Simulation.{completes, count_of, has_completed, has_timed_out, is_end, is_left, is_unfinished, looked, nothing_counted, tallied, times_out};
 
 use reply_data::reply::Reply;
-use request_data::state::{Final, JobState};
 use reply_data::view::{EndAt, Row};
+use request_data::state::{Final, JobState};
 
 /// What was counted so far.
 #[derive(Clone, Copy, Debug, PartialEq, Eq)]

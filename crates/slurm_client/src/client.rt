@@ -12,9 +12,9 @@ use crate::reading::{Unread, read_frame};
 use crate::sending::{request_frame, send};
 use crate::showing::show;
 use block_frame::{replies_are_one, replies_say_their_end};
+use line_words::words::Words;
 use slurm_io::{Link, Sink};
 use small_texts::name::Name;
-use line_words::words::Words;
 use std::alloc::Global;
 
 // Sends a frame, and shows the reply that is read behind it.

@@ -9,10 +9,10 @@ ghost use Rattle.block_frame.specs.declared.form.Form.TheVariants.{Framed};
 ghost use Rattle.slurm_client.specs.Requests.{FitsRequest, HasOneLine, ReadsStay, header_of, request};
 
 use block_frame::write_request;
+use line_words::words::{Words, quote_words};
 use slurm_io::{Failed, Link, write_all};
 use small_texts::memory_error::Memory;
 use small_texts::name::Name;
-use line_words::words::{Words, quote_words};
 use std::alloc::Global;
 
 const LONGEST_HEADER: usize = 8192;

@@ -6,8 +6,8 @@ ghost use Rattle.small_texts.specs.Digits.{two_digits};
 ghost use Rattle.slurm_num.specs.Elapsed.{elapsed_text};
 
 use itoa::Buffer;
-use small_texts::digits::to_two_digits;
 use plain_data::seconds::FOREVER;
+use small_texts::digits::to_two_digits;
 
 /// Writes the length of time, in seconds, to the front of `out`, as `m:ss`, `h:mm:ss` or `d-hh:mm:ss`, and answers how
 /// many bytes that took. The others stay.

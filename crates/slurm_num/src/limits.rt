@@ -6,11 +6,11 @@ ghost use Rattle.std.specs.Str.{byte};
 ghost use Rattle.slurm_num.specs.Limits.{seconds_of_clock, seconds_of_day, seconds_of, limit_of};
 ghost use Rattle.small_texts.specs.Fields.{fields};
 
+use plain_data::limit::Limit;
+use plain_data::ranged::Ranged;
 use small_texts::digits::parse_number;
 use small_texts::fields::{UpToThree, up_to_three};
 use small_texts::keywords::is_keyword;
-use plain_data::limit::Limit;
-use plain_data::ranged::Ranged;
 use std::error::Error;
 use std::fmt;
 

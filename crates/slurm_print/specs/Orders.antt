@@ -3,7 +3,7 @@ use Rattle.std.specs.Prelude.{ℕ, List, ◌++◌, flat_map, codes, decimal, Opt
 use Rattle.reply_data.specs.declared.orders.Launch.{Launch}
 use Rattle.reply_data.specs.declared.orders.Orders.{Orders}
 use Rattle.request_data.specs.declared.report.Start.{Start}
-use Rattle.record_texts.specs.Ranges.{ranges_text}
+use Rattle.table_texts.specs.Ranges.{ranges_text}
 
 -- `ID.START`
 abbrev pub start_text : Start → List ℕ

@@ -9,7 +9,7 @@ use Rattle.request_data.specs.declared.request.Request.TheVariants.{Submit, Canc
 use Rattle.reply_data.specs.declared.view.View.{View}
 use Rattle.slurm_print.specs.Orders.{orders_text}
 use Rattle.slurm_print.specs.Refusal.{refusal_line}
-use Rattle.record_texts.specs.Show.{show_text}
+use Rattle.table_texts.specs.Show.{show_text}
 use Rattle.table_texts.specs.Sinfo.{sinfo_text}
 use Rattle.table_texts.specs.Sprio.{sprio_text}
 use Rattle.table_texts.specs.Squeue.{squeue_text}

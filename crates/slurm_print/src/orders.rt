@@ -3,11 +3,11 @@
 ghost use Rattle.std.specs.Prelude.{◌≡◌, ◌++◌, flat_map, OnOk};
 ghost use Rattle.slurm_print.specs.Orders.{orders_text, head_line, start_text, start_line, launch_line, number_or_dash};
 
-use record_texts::ranges::push_cpus;
-use small_texts::memory_error::Memory;
-use small_texts::pieces::{push_labelled, push_number, push_text};
 use reply_data::orders::{Launch, Orders};
 use request_data::report::Start;
+use small_texts::memory_error::Memory;
+use small_texts::pieces::{push_labelled, push_number, push_text};
+use table_texts::ranges::push_cpus;
 
 /// Writes a line for each order, behind one that names the report that they answer.
 pub(crate) fn push_orders(out: &mut Vec<u8>, orders: &Orders) -> Result<(), Memory>

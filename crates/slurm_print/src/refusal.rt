@@ -3,9 +3,9 @@
 ghost use Rattle.std.specs.Prelude.{◌≡◌, ◌++◌, OnOk};
 ghost use Rattle.slurm_print.specs.Refusal.{refusal_line, refusal_name, refusal_number, refusal_details, which_name};
 
+use reply_data::refusal::{Refusal, Which};
 use small_texts::memory_error::Memory;
 use small_texts::pieces::{push_labelled, push_text};
-use reply_data::refusal::{Refusal, Which};
 
 /// Writes the line of a refusal, which begins with the command.
 pub(crate) fn push_refusal(

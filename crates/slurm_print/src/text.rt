@@ -5,19 +5,19 @@ ghost use Rattle.slurm_print.specs.Text.{text_of, command_of, command_asking, is
 
 use crate::orders::push_orders;
 use crate::refusal::push_refusal;
-use record_texts::show::push_show;
-use record_texts::values::push_pair;
+use reply_data::reply::Reply;
+use reply_data::view::View;
+use request_data::query::Query;
+use request_data::request::Request;
 use small_texts::memory_error::Memory;
 use small_texts::name::Name;
 use small_texts::pieces::{push_labelled, push_number, push_text};
-use request_data::query::Query;
-use reply_data::reply::Reply;
-use request_data::request::Request;
-use reply_data::view::View;
 use std::alloc::Global;
+use table_texts::show::push_show;
 use table_texts::sinfo::push_sinfo;
 use table_texts::sprio::push_sprio;
 use table_texts::squeue::push_view;
+use table_texts::values::push_pair;
 
 /// The text that answers a request. Linear in the text, but for the names of nodes, which are sorted, and for each part
 /// of a job in the bits of a row of processors.

@@ -13,8 +13,8 @@ use Rattle.ctl_session.specs.declared.session.How.{How}
 use Rattle.ctl_session.specs.declared.session.How.TheVariants as how
 use Rattle.ctl_session.specs.Session.{most_blocks}
 use Rattle.generator.specs.Generated.{generated}
-use Rattle.cluster_files.specs.declared.cluster.ClusterRefusal.{ClusterRefusal}
-use Rattle.cluster_files.specs.declared.cluster.ClusterRefusal.TheVariants as cluster
+use Rattle.slurm_top.specs.declared.cluster.ClusterRefusal.{ClusterRefusal}
+use Rattle.slurm_top.specs.declared.cluster.ClusterRefusal.TheVariants as cluster
 use Rattle.slurm_top.specs.declared.end.End.{End}
 use Rattle.slurm_top.specs.declared.end.End.TheVariants.{Usage, NoFile, BadConf, BadAssocs, Memory, Script, Generated, WriteFault, Spent, Serving, Called}
 use Rattle.slurm_io.specs.Faults.{CountsNone}
@@ -26,7 +26,7 @@ use Rattle.server_call.specs.Outside.{Outside, Hosting, Beside}
 use Rattle.server_call.specs.Calls as calls
 use Rattle.server_call.specs.declared.end.CallEnd.{CallEnd}
 use Rattle.server_call.specs.declared.end.CallEnd.TheVariants as call_end
-use Rattle.cluster_files.specs.Files.{Opens}
+use Rattle.slurm_top.specs.Files.{Opens}
 use Rattle.slurm_top.specs.Run.{IsEndOn, IsEndWriting, IsEndSimulating, IsEndCalling, IsEndServing, IsEndAsked, IsEndOff, IsEnd, IsNotDone, IsCallKnown, Finds, IsWholeScript, files_asked, opened_by}
 use Rattle.slurm_top.specs.Script.{IsScript}
 use Rattle.slurm_top.specs.SimulatedCluster.{simulation_of}

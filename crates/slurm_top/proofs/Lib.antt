@@ -4,3 +4,4 @@ pub mod Ends
 pub mod Scripts
 pub mod Summing
 pub mod Telling
+pub mod FileTexts

@@ -7,10 +7,10 @@ use Rattle.ctl_desk.specs.Desk.{Seat, state_of}
 use Rattle.ctl_session.specs.declared.session.How.{How}
 use Rattle.ctl_state.specs.State.{State}
 use Rattle.simulation.specs.Simulation.{Simulated, simulated, summary}
-use Rattle.cluster_files.specs.declared.cluster.ClusterRefusal.{ClusterRefusal}
+use Rattle.slurm_top.specs.declared.cluster.ClusterRefusal.{ClusterRefusal}
 use Rattle.slurm_top.specs.declared.end.End.{End}
 use Rattle.slurm_top.specs.declared.end.End.TheVariants.{Usage, NoFile, BadConf, BadAssocs, Memory, Script, Generated, WriteFault, Spent, Serving, Called}
-use Rattle.cluster_files.specs.Cluster.{opening_in}
+use Rattle.slurm_top.specs.Cluster.{opening_in}
 use Rattle.slurm_top.specs.Run.{IsEndSimulating, IsEndWriting}
 use Rattle.slurm_top.specs.SimulatedCluster.{simulated_assocs, simulated_conf, simulation_of}
 

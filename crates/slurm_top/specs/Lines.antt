@@ -4,8 +4,8 @@ use Rattle.assoc_reader.specs.Refusal
 use Rattle.assoc_reader.specs.declared.refusal.AssocKind.{AssocKind}
 use Rattle.conf_values.specs.declared.refusal.ConfKind.{ConfKind}
 use Rattle.conf_values.specs.Refusal.{kind_text}
-use Rattle.cluster_files.specs.declared.opening.OpenRefusal.{OpenRefusal}
-use Rattle.cluster_files.specs.declared.opening.OpenRefusal.TheVariants as refusal
+use Rattle.slurm_top.specs.declared.opening.OpenRefusal.{OpenRefusal}
+use Rattle.slurm_top.specs.declared.opening.OpenRefusal.TheVariants as refusal
 use Rattle.ctl_session.specs.declared.session.How.{How}
 use Rattle.ctl_session.specs.declared.session.How.TheVariants as how
 use Rattle.server_call.specs.Calls as calls

@@ -20,15 +20,15 @@ use Rattle.server_call.specs.Calls.{IsCaused, IsDecided, IsSpent}
 use Rattle.server_call.specs.Calls as calls
 use Rattle.server_call.specs.declared.end.CallEnd.{CallEnd}
 use Rattle.simulation.specs.Simulation.{Simulated, summary}
-use Rattle.cluster_files.specs.declared.cluster.ClusterRefusal.{ClusterRefusal}
-use Rattle.cluster_files.specs.declared.cluster.ClusterRefusal.TheVariants as cluster
+use Rattle.slurm_top.specs.declared.cluster.ClusterRefusal.{ClusterRefusal}
+use Rattle.slurm_top.specs.declared.cluster.ClusterRefusal.TheVariants as cluster
 use Rattle.slurm_top.specs.declared.end.End.{End}
 use Rattle.slurm_top.specs.declared.end.End.TheVariants.{Usage, NoFile, BadConf, BadAssocs, Memory, Script, Generated, WriteFault, Spent, Serving, Called}
 use Rattle.slurm_top.specs.declared.program.WordsFault.{WordsFault}
 use Rattle.slurm_top.specs.declared.program.WordsFault.TheVariants.{NotText}
 use Rattle.slurm_top.specs.declared.program.WordsFault.TheVariants as words
-use Rattle.cluster_files.specs.Cluster.{opening_in}
-use Rattle.cluster_files.specs.Files.{Opens}
+use Rattle.slurm_top.specs.Cluster.{opening_in}
+use Rattle.slurm_top.specs.Files.{Opens}
 use Rattle.slurm_top.specs.Script.{IsScript}
 use Rattle.slurm_top.specs.SimulatedCluster.{simulation_of}
 

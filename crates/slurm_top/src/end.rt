@@ -4,9 +4,9 @@ ghost use Rattle.std.specs.Prelude.{◌≡◌, ◌≤◌, ◌++◌, length, code
 ghost use Rattle.slurm_io.specs.Bytes.{Tells};
 ghost use Rattle.slurm_top.specs.Lines.{status_of, line_of, place_line, conf_line, assocs_line, call_line, unopened};
 
+use crate::OpenRefusal;
 use arrayvec::ArrayString;
 use assoc_reader::refusal::AssocKind;
-use cluster_files::OpenRefusal;
 use conf_reader::refusal::ConfKind;
 use ctl_session::How;
 use itoa::Buffer;

@@ -23,17 +23,17 @@ ghost use Rattle.server_call.specs.Outside.{beside, hosting, outside};
 ghost use Rattle.slurm_top.specs.Run.{end_without_words, IsEnd, IsEndAsked, IsEndOn, IsNotDone, IsCallKnown, Finds, IsWholeScript};
 ghost use Rattle.slurm_top.specs.Script.{IsScript};
 ghost use Rattle.slurm_top.specs.SimulatedCluster.{simulation_of};
-ghost use Rattle.cluster_files.specs.declared.cluster.ClusterRefusal.{ClusterRefusal};
+ghost use Rattle.slurm_top.specs.declared.cluster.ClusterRefusal.{ClusterRefusal};
 
 use crate::end::{End, end_unopened, tell};
 use crate::generate::write_generated;
+use crate::open_named;
 use crate::script::run_script;
 use crate::simulated::write_summary;
 use block_frame::{
     bad_texts_stay, blocks_are_cut_once, blocks_go_first, kinds_are_apart, nothing_is_partial,
     texts_are_cut,
 };
-use cluster_files::open_named;
 use program_words::{Asked, FileNames, asked_in};
 use server_call::call_server;
 use slurm_io::{Link, Shelf, Sink};

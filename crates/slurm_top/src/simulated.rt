@@ -9,7 +9,7 @@ ghost use Rattle.slurm_top.specs.SimulatedCluster.{simulated_conf, simulated_ass
 
 use crate::end::End;
 use crate::generate::write_whole;
-use cluster_files::{ClusterRefusal, open_desk};
+use crate::{ClusterRefusal, open_desk};
 use ctl_desk::own_desk::OwnDesk;
 use resource_profile::start;
 use simulation::{SimulationRefusal, simulate};

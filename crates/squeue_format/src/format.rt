@@ -3,13 +3,13 @@
 ghost use Rattle.std.specs.Prelude.{◌≡◌, ◌∷◌, ◌++◌, option_map, OnOk, IfOk, IsErrOf, None, Some};
 ghost use Rattle.squeue_format.specs.Format.{plain, column_of, width_of, column_behind, part_in, format_in, usual, usual_text};
 
+use plain_data::items::Items;
+use plain_data::ranged::Ranged;
+use request_data::query::{JobColumn, Piece};
 use small_texts::digits::{parse_number, split_digits};
 use small_texts::fields::first_field;
-use plain_data::items::Items;
 use small_texts::memory_error;
 use small_texts::memory_error::Memory;
-use request_data::query::{JobColumn, Piece};
-use plain_data::ranged::Ranged;
 use std::alloc::Global;
 use std::error::Error;
 use std::fmt;

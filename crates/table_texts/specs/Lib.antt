@@ -2,3 +2,11 @@ pub mod Field
 pub mod Sinfo
 pub mod Sprio
 pub mod Squeue
+pub mod Dependency
+pub mod Ranges
+pub mod Show
+pub mod ShowJob
+pub mod ShowNode
+pub mod ShowPartition
+pub mod ShowReservation
+pub mod Values

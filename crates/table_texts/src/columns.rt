@@ -5,17 +5,16 @@ ghost use Rattle.slurm_num.specs.Elapsed.{elapsed_text};
 ghost use Rattle.small_texts.specs.Moment.{moment_text};
 ghost use Rattle.table_texts.specs.Squeue;
 
-use slurm_num::print_elapsed;
 use host_lists::folding::fold_hosts;
+use plain_data::limit::Limit;
+use plain_data::seconds::{FOREVER, Second};
+use reply_data::view::JobRow;
+use request_data::query::JobColumn;
+use request_data::state::{Final, JobState, Reason};
+use slurm_num::print_elapsed;
 use small_texts::memory_error::Memory;
 use small_texts::moment::print_moment;
 use small_texts::pieces::{push_labelled, push_number, push_text};
-use plain_data::limit::Limit;
-use request_data::query::JobColumn;
-use plain_data::seconds::FOREVER;
-use request_data::state::{Final, JobState, Reason};
-use reply_data::view::JobRow;
-use plain_data::ranged::Ranged;
 use std::alloc::Global;
 
 /// Writes what the column tells of a job. The names of its nodes take memory beside `out` while they are folded.
@@ -99,7 +98,7 @@ pub fn push_elapsed(out: &mut Vec<u8>, seconds: u64) -> Result<(), Memory>
     push_text(out, &text[..len])
 }
 
-fn push_start(out: &mut Vec<u8>, start: Option<Ranged<0, 253402300799>>) -> Result<(), Memory>
+fn push_start(out: &mut Vec<u8>, start: Option<Second>) -> Result<(), Memory>
     ensures { OnOk result (out.new.items ≡ out.old.items ++ Squeue.start_of start) }
 {
     match start {
@@ -109,7 +108,7 @@ fn push_start(out: &mut Vec<u8>, start: Option<Ranged<0, 253402300799>>) -> Resu
 }
 
 /// Writes a moment.
-pub fn push_moment(out: &mut Vec<u8>, second: Ranged<0, 253402300799>) -> Result<(), Memory>
+pub fn push_moment(out: &mut Vec<u8>, second: Second) -> Result<(), Memory>
     ensures { OnOk result (out.new.items ≡ out.old.items ++ moment_text second) }
 {
     let mut text = [0; 19];

@@ -5,9 +5,9 @@ ghost use Rattle.std.specs.Str.{byte};
 ghost use Rattle.table_texts.specs.Field.{field, cell, left_cell};
 ghost use Rattle.table_texts.specs.Squeue.{sized};
 
+use plain_data::ranged::Ranged;
 use small_texts::memory_error::Memory;
 use small_texts::pieces::push_text;
-use plain_data::ranged::Ranged;
 
 /// Cuts what stands behind the first `start` bytes to `width` bytes and pads it with blanks, on the left where `dot`
 /// says so.

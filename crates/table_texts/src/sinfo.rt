@@ -6,15 +6,15 @@ ghost use Rattle.table_texts.specs.Field.{cell, left_cell};
 ghost use Rattle.table_texts.specs.Sinfo.{sinfo_text, sinfo_titles, sinfo_row, state_line, starred, longest_text, avail_text, group_code};
 
 use crate::field::{push_cell, push_left_cell};
-use itoa::Buffer;
-use slurm_num::print_elapsed;
 use host_lists::folding::fold_hosts;
-use small_texts::memory_error::Memory;
-use small_texts::name::Name;
-use small_texts::pieces::push_text;
+use itoa::Buffer;
 use plain_data::conf::PartState;
 use plain_data::limit::Limit;
 use reply_data::view::{NodeGroup, Row, StateRow, View};
+use slurm_num::print_elapsed;
+use small_texts::memory_error::Memory;
+use small_texts::name::Name;
+use small_texts::pieces::push_text;
 use std::alloc::Global;
 
 /// Writes a line for each row, with titles above them where they are wanted.

@@ -8,11 +8,11 @@ ghost use Rattle.table_texts.specs.Sprio.{sprio_text, sprio_titles, sprio_row, p
 use crate::columns::push_id;
 use crate::field::{fit, push_cell, push_field};
 use itoa::Buffer;
-use small_texts::memory_error::Memory;
-use small_texts::pieces::{push_labelled, push_number, push_text};
 use plain_data::nice::Nice;
 use reply_data::priority::PriorityRow;
 use reply_data::view::{Row, View};
+use small_texts::memory_error::Memory;
+use small_texts::pieces::{push_labelled, push_number, push_text};
 
 /// Writes a line for each row, with titles above them where they are wanted.
 pub fn push_sprio(out: &mut Vec<u8>, titles: bool, view: &View) -> Result<(), Memory>

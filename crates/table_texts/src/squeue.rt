@@ -5,10 +5,10 @@ ghost use Rattle.table_texts.specs.Squeue.{squeue_text, lines_of, line, row_line
 
 use crate::columns::{push_told, title};
 use crate::field::fit_if_sized;
+use reply_data::view::{JobRow, Row, View};
+use request_data::query::{JobQuery, Piece};
 use small_texts::memory_error::Memory;
 use small_texts::pieces::push_text;
-use request_data::query::{JobQuery, Piece};
-use reply_data::view::{JobRow, Row, View};
 use squeue_format::format::usual_format;
 use std::alloc::Global;
 

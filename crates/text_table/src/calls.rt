@@ -1,11 +1,11 @@
 // Calls of a server, over links in memory.
 
 use crate::words::list_of;
+use line_words::words::words_of;
 use slurm_client::{Called, client_run, fits_request, read_address};
 use slurm_io::MemLink;
 use small_texts::memory_error::Memory;
 use small_texts::name::Name;
-use line_words::words::words_of;
 use std::alloc::{AllocError, Global};
 use table_lines::answer::{Unanswered, push};
 use table_lines::fields::{LONGEST, narrow_number, number, parts};

@@ -3,8 +3,8 @@
 use crate::rows::job_row;
 use crate::views::query_text;
 use plain_data::items::Items;
-use request_data::query::{JobQuery, Piece, Query, Who};
 use reply_data::view::Row;
+use request_data::query::{JobQuery, Piece, Query, Who};
 use squeue_format::format::{FormatRefusal, read_format};
 use std::alloc::Global;
 use table_lines::answer::{Unanswered, refused};

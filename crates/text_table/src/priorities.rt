@@ -2,11 +2,11 @@
 
 use crate::numbers::{number_or_none, ranged};
 use crate::views::query_text;
-use small_texts::name::Name;
 use plain_data::nice::Nice;
 use reply_data::priority::{PriorityParts, PriorityRow};
-use request_data::query::{Query, Who};
 use reply_data::view::Row;
+use request_data::query::{Query, Who};
+use small_texts::name::Name;
 use std::alloc::Global;
 use table_lines::answer::Unanswered;
 use table_lines::fields::{narrow_number, number, parts};

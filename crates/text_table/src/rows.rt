@@ -1,16 +1,16 @@
 // Jobs as squeue shows them.
 
 use crate::numbers::{number_or_none, ranged};
-use slurm_num::parse_limit;
 use host_lists::hosts::expand_hosts;
 use plain_data::items::Items;
-use small_texts::name::{JobName, Name};
 use plain_data::limit::Limit;
 use plain_data::nice::Nice;
-use plain_data::seconds::FOREVER;
-use request_data::state::{Final, JobState, Reason};
-use reply_data::view::{EndAt, JobRow};
 use plain_data::ranged::Ranged;
+use plain_data::seconds::{FOREVER, Second};
+use reply_data::view::{EndAt, JobRow};
+use request_data::state::{Final, JobState, Reason};
+use slurm_num::parse_limit;
+use small_texts::name::{JobName, Name};
 use std::alloc::Global;
 use table_lines::answer::Unanswered;
 use table_lines::fields::{LONGEST, narrow_number, number, parts};
@@ -32,7 +32,7 @@ fn state(text: &[u8]) -> Result<(JobState, Option<Reason>), Unanswered> {
 }
 
 // A second, or `-`.
-fn start(text: &[u8]) -> Result<Option<Ranged<0, 253402300799>>, Unanswered> {
+fn start(text: &[u8]) -> Result<Option<Second>, Unanswered> {
     if text == b"-".as_slice() {
         return Ok(None);
     }
@@ -118,7 +118,7 @@ struct Standing {
     reason: Option<Reason>,
     elapsed: Ranged<0, FOREVER>,
     nodes: u64,
-    start: Option<Ranged<0, 253402300799>>,
+    start: Option<Second>,
 }
 
 // `ID/STATE/SECONDS/NODES/START`.

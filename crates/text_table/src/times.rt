@@ -1,9 +1,9 @@
 // Time limits, lengths of time, fractions and shares.
 ghost use Rattle.std.specs.Prelude.{◌<◌, ◌^◌, IfOk};
 
+use plain_data::seconds::FOREVER;
 use slurm_num::plain::Limit;
 use slurm_num::{Ratio, parse_limit, print_elapsed};
-use plain_data::seconds::FOREVER;
 use std::alloc::Global;
 use std::cmp::Ordering;
 use table_lines::answer::{Unanswered, refused, taken};

@@ -1,11 +1,11 @@
 // What is printed for who asks to be shown something.
 
-use slurm_print::text::text;
 use plain_data::items::Items;
-use request_data::query::Query;
 use reply_data::reply::Reply;
-use request_data::request::Request;
 use reply_data::view::{Row, View};
+use request_data::query::Query;
+use request_data::request::Request;
+use slurm_print::text::text;
 use std::alloc::Global;
 use table_lines::answer::Unanswered;
 

@@ -2,16 +2,16 @@
 use Rattle.std.specs.Fmt.{digits}
 use Rattle.std.specs.Str.{is_utf8, chars}
 use lib.Utf8.{encode}
-use Rattle.conf_lines.specs.Lines.{without_return, lines_of_rest}
-use Rattle.conf_lines.specs.Words.{words_in}
-use Rattle.conf_lines.specs.Pairs.{unquoted, pair_of_parts, pair_in}
+use Rattle.conf_reader.specs.Lines.{without_return, lines_of_rest}
+use Rattle.conf_reader.specs.LineWords.{words_in}
+use Rattle.conf_reader.specs.Pairs.{unquoted, pair_of_parts, pair_in}
 use Rattle.conf_values.specs.Keys.{setting_key, node_key, partition_key}
 use Rattle.conf_values.specs.Values.{number_in, names_in, nodes_in, node_start, part_state, yes_or_no, mem_per_cpu}
 use Rattle.conf_values.specs.Scheduler.{no_items}
-use Rattle.conf_entries.specs.Words.{entry_in, said_by}
-use Rattle.conf_entries.specs.SettingLines.{setting_entry, setting_word, with_setting, no_settings, setting_line, settings_of}
-use Rattle.conf_entries.specs.NodeLines.{node_name, node_entry, names_fault, entry_fault, node_word, with_entry, no_node_words, node_line, over, processors, node_conf, is_for_nodes, listed}
-use Rattle.conf_entries.specs.PartitionLines.{part_name, part_nodes, part_entry, part_fault, part_word, with_part, no_part_words, part_line, over as parts_over, part_conf, line_of, is_for_partitions}
+use Rattle.conf_reader.specs.Words.{entry_in, said_by}
+use Rattle.conf_reader.specs.SettingLines.{setting_entry, setting_word, with_setting, no_settings, setting_line, settings_of}
+use Rattle.conf_reader.specs.NodeLines.{node_name, node_entry, names_fault, entry_fault, node_word, with_entry, no_node_words, node_line, over, processors, node_conf, is_for_nodes, listed}
+use Rattle.conf_reader.specs.PartitionLines.{part_name, part_nodes, part_entry, part_fault, part_word, with_part, no_part_words, part_line, over as parts_over, part_conf, line_of, is_for_partitions}
 use Rattle.conf_reader.specs.Reader.{kind_of, with_nodes, after_node_line, after_part_line, after_line}
 use Rattle.conf_reader.specs.Reader.{nothing_said, has_unknown, first_unknown, nodes_by, conf_of_lines, whole_file, conf_in}
 use Rattle.slurm_num.specs.Elapsed.{elapsed_text}
@@ -22,7 +22,7 @@ use Rattle.small_texts.specs.Memory.{in_megabytes, megabytes_of}
 use Rattle.host_lists.specs.Hosts.{numbers_of, range_names, made_behind, made_by, few, host_items, first_bad_item, hosts_in}
 use Rattle.worked_rows.specs.Clusters.{usual_settings, usual_partition, usual_account, user_named, usual_assocs, one_node, on_one_node, small_node, four_nodes, on_four_nodes}
 use Rattle.plain_data.specs.Assocs.{greatest_depth}
-use Rattle.accounts_qos.specs.Accounts.{above, are_of_one_user, place_meant}
+use Rattle.run_limits.specs.Accounts.{above, are_of_one_user, place_meant}
 use Rattle.run_limits.specs.Counting.{counts_of, is_in}
 use Rattle.run_limits.specs.Limits.{limits_reached}
 use Rattle.run_limits.specs.Submitting.{submit_limits}
@@ -36,9 +36,9 @@ use Rattle.command_words.specs.Header.{head_in, asked_by, meaning_by, meaning_in
 use Rattle.command_words.specs.Wanted.{alone_by, wanted_by}
 use Rattle.command_words.specs.Sbatch.{sbatch_by}
 use Rattle.option_words.specs.Arguments.{parts_left}
-use Rattle.sbatch_options.specs.Table.{options}
-use Rattle.sbatch_options.specs.Entries.{value_entry, entry_in as option_entry, with_entry as with_option, no_words}
-use Rattle.sbatch_options.specs.Values.{number_in as option_number}
+use Rattle.sbatch_reader.specs.Table.{options}
+use Rattle.sbatch_reader.specs.Entries.{value_entry, entry_in as option_entry, with_entry as with_option, no_words}
+use Rattle.sbatch_reader.specs.Values.{number_in as option_number}
 use Rattle.sbatch_reader.specs.Description.{least_nodes, are_crossed, all_tasks, last_part, job_of}
 use Rattle.sbatch_reader.specs.Drafts.{nothing_said as no_option_said, after, draft_job}
 use Rattle.sbatch_reader.specs.Job.{all_said, job_in}
@@ -55,7 +55,7 @@ use Rattle.scontrol_words.specs.Keys.{scontrol_key}
 use Rattle.scontrol_words.specs.Reserving.{create_by, delete_by}
 use Rattle.scontrol_words.specs.Updating.{job_update_by, node_update_by, partition_update_by, unnamed_update_by, update_by}
 use Rattle.scontrol_words.specs.Values.{few_names, part_state as state_word}
-use Rattle.job_texts.specs.Dependency.{id_of, kind_in, item_naming, item_of, dependency_in}
+use Rattle.sbatch_reader.specs.Dependency.{id_of, kind_in, item_naming, item_of, dependency_in}
 use Rattle.scontrol_words.specs.Showing.{shown_named, job_query, name_query, shown_in, show_by}
 use Rattle.squeue_format.specs.Format.{column_of, width_of, column_by, part_in, format_in, usual}
 use Rattle.command_words.specs.Queries.{query_words, squeue_options, sinfo_options, sprio_options, squeue_by, sinfo_by, sprio_by}
@@ -63,20 +63,20 @@ use Rattle.node_pick.specs.Choosing.{numbers_from, filled_sets, sets, fits, chos
 use Rattle.resource_profile.specs.Free.{least_after}
 use Rattle.backfill_planner.specs.Giving.{capacities}
 use Rattle.backfill_planner.specs.Plans.{placement_at, first_second, placed_of, plan_beside, plan_of}
-use Rattle.partitions.specs.Partitions.{bounds_of}
+use Rattle.node_state.specs.Partitions.{bounds_of}
 use Rattle.ctl_state.specs.Ordered.{ordered_by}
 use Rattle.ctl_state.specs.Counted.{holding}
 use Rattle.ctl_state.specs.Planning.{barred_of, names_of, node_order, places_for, plan_job}
-use Rattle.dependencies.specs.Standing.{standing}
+use Rattle.job_table.specs.Standing.{standing}
 use Rattle.job_table.specs.Awaiting.{is_awaited}
 use Rattle.ctl_state.specs.Holding.{times_held, free_ids}
 use Rattle.job_table.specs.Usage.{used_by, used_when_left, used_of, charged}
-use Rattle.fair_tree.specs.Tree.{level_of, path_of}
-use Rattle.fair_tree.specs.Ranks.{rank_among, paths_of, ranks_of}
-use Rattle.ctl_rank.specs.Usage.{used_running, usage_at}
-use Rattle.ctl_rank.specs.FairShare.{tree_of, user_usage, user_count, rank_at}
-use Rattle.ctl_rank.specs.Priority.{greatest, all_cpus, greatest_factor, greatest_qos, parts_of}
-use Rattle.ctl_rank.specs.Rank.{is_above, is_higher}
+use Rattle.multifactor.specs.Tree.{level_of, path_of}
+use Rattle.multifactor.specs.Ranks.{rank_among, paths_of, ranks_of}
+use Rattle.ctl_waiting.specs.Usage.{used_running, usage_at}
+use Rattle.ctl_waiting.specs.FairShare.{tree_of, user_usage, user_count, rank_at}
+use Rattle.ctl_waiting.specs.Priority.{greatest, all_cpus, greatest_factor, greatest_qos, parts_of}
+use Rattle.ctl_waiting.specs.Rank.{is_above, is_higher}
 use Rattle.ctl_waiting.specs.Reasons.{hindrance}
 use Rattle.ctl_waiting.specs.Candidates.{candidates, needs_of, ranked}
 use Rattle.ctl_pass.specs.Readiness.{arrays_left, base_of, planned}
@@ -85,8 +85,8 @@ use Rattle.ctl_pass.specs.Passing.{is_idle}
 use Rattle.ctl_submit.specs.Submission.{is_placeable, new_jobs, terms_of, unended}
 use Rattle.ctl_jobs.specs.Actions.{job_refusal}
 use Rattle.ctl_jobs.specs.Changing.{target_refusal}
-use Rattle.ctl_report.specs.Ordering.{in_order, orders_of}
-use Rattle.record_texts.specs.Ranges.{run_text}
+use Rattle.ctl_node_side.specs.Ordering.{in_order, orders_of}
+use Rattle.table_texts.specs.Ranges.{run_text}
 use Rattle.ctl_show.specs.Showing.{highest, is_shown, row_of, is_weighed, priority_row_of, view_of}
 use Rattle.ctl_show.specs.Records.{reservation_row}
 use Rattle.ctl_show.specs.Standing.{cpus_held, names_standing, rows_of_partition, state_rows}

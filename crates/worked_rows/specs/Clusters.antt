@@ -11,7 +11,7 @@ use Rattle.plain_data.specs.declared.assoc.AssocConf.{AssocConf}
 use Rattle.plain_data.specs.declared.assoc.QosConf.{QosConf}
 use Rattle.plain_data.specs.Assocs.{AssocView}
 use Rattle.plain_data.specs.Confs.{ConfView}
-use Rattle.accounts_qos.specs.Accounts.{no_limits, no_qos_limits}
+use Rattle.run_limits.specs.Accounts.{no_limits, no_qos_limits}
 use Rattle.ctl_state.specs.State.{State, opening}
 
 -- the settings of a file that gives none

@@ -1,7 +1,7 @@
 use Rattle.std.proofs.Common.{◌≡◌, ◌+◌, ◌≤◌, length}
 use Rattle.std.specs.Option.{option_copied}
 use Rattle.small_texts.specs.Fields.{fields, fields_of_rest}
-use Rattle.assoc_values.specs.Options.{text_left}
+use Rattle.assoc_reader.specs.Options.{text_left}
 use Rattle.assoc_reader.specs.Reader.{after_lines, nothing_said}
 use Rattle.assoc_reader.proofs.reader.read_lines.Given as goal
 

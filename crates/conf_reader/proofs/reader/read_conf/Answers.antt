@@ -1,6 +1,6 @@
 use Rattle.std.proofs.Common.{◌≡◌, nat_lt, length, false, Ok, arith}
 use Rattle.std.proofs.lemmas.Bool.Decides.{nat_tests}
-use Rattle.conf_lines.specs.Lines.{logical_lines}
+use Rattle.conf_reader.specs.Lines.{logical_lines}
 use Rattle.conf_reader.specs.Reader.{whole_file, conf_in}
 use Rattle.conf_reader.proofs.ReaderLemmas.{if_ok}
 use Rattle.conf_reader.proofs.SoundLemmas.{draft-sound}

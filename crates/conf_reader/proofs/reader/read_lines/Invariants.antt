@@ -1,6 +1,6 @@
 use Rattle.std.proofs.Common.{◌≡◌, ◌+◌, ◌≤◌, length}
 use Rattle.std.specs.Option.{option_copied}
-use Rattle.conf_lines.specs.Lines.{lines_of_rest, logical_lines, bytes_left}
+use Rattle.conf_reader.specs.Lines.{lines_of_rest, logical_lines, bytes_left}
 use Rattle.conf_reader.specs.Reader.{after_lines, nothing_said}
 use Rattle.conf_reader.proofs.reader.read_lines.Given as goal
 

@@ -1,8 +1,8 @@
 use Rattle.std.proofs.Common.{◌≡◌, ◌∙◌, ap, cond, sym, inl, inr}
 use Rattle.std.proofs.lemmas.Bool.{cases_Bool, cond-false, cond-true}
 use Rattle.ctl_state.specs.State.{State, state_of}
-use Rattle.ctl_report.specs.Answering.{is_restarted}
-use Rattle.ctl_report.specs.Ordering.{orders_of}
+use Rattle.ctl_node_side.specs.Answering.{is_restarted}
+use Rattle.ctl_node_side.specs.Ordering.{orders_of}
 use Rattle.ctl_node_side.proofs.Restarted.{orders_met}
 use Rattle.ctl_node_side.proofs.restarting.orders.Goals as goal
 

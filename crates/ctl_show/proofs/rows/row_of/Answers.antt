@@ -1,7 +1,7 @@
 use Rattle.std.proofs.Common.{ap, refl, ◌∙◌}
 use Rattle.reply_data.specs.declared.priority.PriorityParts.{PriorityParts}
 use Rattle.ctl_state.specs.State.{state_of}
-use Rattle.ctl_rank.specs.Rank.{priority_of}
+use Rattle.ctl_waiting.specs.Rank.{priority_of}
 use Rattle.ctl_show.specs.Showing.{reason_shown}
 use Rattle.ctl_show.proofs.RowOf.{row-found}
 use Rattle.ctl_show.proofs.rows.row_of.Goals as goal

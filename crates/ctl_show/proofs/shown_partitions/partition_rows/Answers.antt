@@ -1,7 +1,7 @@
 use Rattle.std.proofs.Common.{◌≡◌, take, sym, refl, append-nil}
 use Rattle.std.proofs.lemmas.List.{take_all}
 use Rattle.reply_data.specs.declared.view.Row.TheVariants as shown
-use Rattle.partitions.specs.declared.record.PartRecord.{PartRecord}
+use Rattle.node_state.specs.declared.partition_record.PartRecord.{PartRecord}
 use Rattle.ctl_state.specs.State.{state_of}
 use Rattle.ctl_show.specs.Records.{partition_row}
 use Rattle.ctl_show.specs.Standing.{is_asked}

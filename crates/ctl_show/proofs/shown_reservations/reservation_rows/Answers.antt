@@ -1,7 +1,7 @@
 use Rattle.std.proofs.Common.{◌≡◌, take, sym, refl, append-nil}
 use Rattle.std.proofs.lemmas.List.{take_all}
 use Rattle.reply_data.specs.declared.view.Row.TheVariants as shown
-use Rattle.reservations.specs.declared.record.Reservation.{Reservation}
+use Rattle.node_state.specs.declared.reservation_record.Reservation.{Reservation}
 use Rattle.ctl_show.specs.Records.{is_meant, reservation_row}
 use Rattle.ctl_show.proofs.Gathered.{map-filter-more}
 use Rattle.ctl_show.proofs.shown_reservations.reservation_rows.Goals as goal

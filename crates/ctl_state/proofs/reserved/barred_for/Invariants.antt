@@ -1,5 +1,5 @@
 use Rattle.std.proofs.Common.{◌≡◌, take}
-use Rattle.reservations.specs.Reservations.{lasting}
+use Rattle.node_state.specs.Reservations.{lasting}
 use Rattle.ctl_state.specs.Planning.{barred_of}
 use Rattle.ctl_state.proofs.reserved.barred_for.Given as goal
 

@@ -1,5 +1,5 @@
 use Rattle.std.proofs.Common.{length, sym, ap, ◌∙◌}
-use Rattle.partitions.specs.Partitions.{IsOnNodes, place_meant}
+use Rattle.node_state.specs.Partitions.{IsOnNodes, place_meant}
 use Rattle.ctl_state.specs.State.{state_of}
 use Rattle.ctl_submit.specs.declared.draft.Draft.{Draft}
 use Rattle.ctl_submit.proofs.Deciding.{All-at, decided-if}

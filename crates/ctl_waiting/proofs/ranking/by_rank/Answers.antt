@@ -4,7 +4,7 @@ use Rattle.std.specs.Ordering.{is_lt}
 use Rattle.std.proofs.lemmas.Bool.Decides.{nat_tests}
 use Rattle.std.proofs.lemmas.Fn.{always_returns_same}
 use Rattle.ctl_state.specs.State.{state_of}
-use Rattle.ctl_rank.specs.Rank.{is_above}
+use Rattle.ctl_waiting.specs.Rank.{is_above}
 use Rattle.ctl_waiting.specs.declared.ranking.Candidate.{Candidate}
 use Rattle.ctl_waiting.specs.Candidates.{candidates}
 use Rattle.ctl_waiting.proofs.Orders.{above-weak, order-by_keys}

@@ -1,7 +1,7 @@
 use Rattle.std.proofs.Common.{length, sym}
 use Rattle.std.proofs.lemmas.Option.{get_or_from_slice_get, slice_get_within}
-use Rattle.partitions.specs.Partitions.{IsOnNodes}
-use Rattle.reservations.specs.Reservations.{lasting}
+use Rattle.node_state.specs.Partitions.{IsOnNodes}
+use Rattle.node_state.specs.Reservations.{lasting}
 use Rattle.ctl_waiting.proofs.ranking.need_of.Goals as goal
 
 pub plan_job-requires : goal.plan_job-requires

@@ -1,5 +1,5 @@
 use Rattle.std.proofs.Common.{length, subst, sym}
-use Rattle.partitions.specs.Partitions.{IsOnNodes}
+use Rattle.node_state.specs.Partitions.{IsOnNodes}
 use Rattle.ctl_waiting.proofs.ranking.node_orders.Goals as goal
 
 pub node_order-requires : goal.node_order-requires

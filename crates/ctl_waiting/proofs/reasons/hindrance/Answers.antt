@@ -1,6 +1,6 @@
 use Rattle.std.proofs.Common.{◌≡◌, ◌∙◌, ap, rules}
 use Rattle.std.specs.Option.{option_or}
-use Rattle.dependencies.specs.Standing.{standing}
+use Rattle.job_table.specs.Standing.{standing}
 use Rattle.ctl_state.specs.State.{partition_of, state_of}
 use Rattle.ctl_waiting.specs.Reasons.{exceeds_wall, held_reason, hindrance, hindrances_in, is_early, lacks_node, lacks_reservation, reached_beside, awaiting_reason}
 use Rattle.run_limits.specs.Limits.{first_reason, reason_if}

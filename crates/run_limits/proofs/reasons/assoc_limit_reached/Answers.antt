@@ -1,5 +1,5 @@
 use Rattle.std.proofs.Common.{◌≡◌, ◌+◌, true, false, refl, ap, sym, ◌∙◌}
-use Rattle.accounts_qos.specs.Accounts.{above}
+use Rattle.run_limits.specs.Accounts.{above}
 use Rattle.run_limits.specs.declared.counted.Group.TheVariants.{Below}
 use Rattle.run_limits.specs.Limits.{Beside, is_above, most_jobs}
 use Rattle.run_limits.proofs.Reached.{assoc_first}

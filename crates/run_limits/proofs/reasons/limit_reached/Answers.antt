@@ -1,5 +1,5 @@
 use Rattle.std.proofs.Common.{true, false, Some, None, refl, ap, sym, ◌∙◌}
-use Rattle.accounts_qos.specs.Accounts.{qos_limits_at}
+use Rattle.run_limits.specs.Accounts.{qos_limits_at}
 use Rattle.run_limits.specs.declared.counted.Group.TheVariants.{InQos, OfUser}
 use Rattle.run_limits.specs.Limits.{Beside, counts_in, first_reason, qos_limits_reached}
 use Rattle.run_limits.proofs.Reached.{all_first}

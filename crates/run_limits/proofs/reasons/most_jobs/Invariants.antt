@@ -1,6 +1,6 @@
 -- None stands at the places so far.
 use Rattle.std.proofs.Common.{◌≡◌, map, drop}
-use Rattle.accounts_qos.specs.Accounts.{limits_at}
+use Rattle.run_limits.specs.Accounts.{limits_at}
 use Rattle.run_limits.specs.Limits.{nearest}
 use Rattle.run_limits.proofs.reasons.most_jobs.Given as goal
 

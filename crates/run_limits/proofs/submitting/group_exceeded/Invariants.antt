@@ -1,7 +1,7 @@
 -- None is exceeded at the places so far.
 use Rattle.std.proofs.Common.{◌≡◌, ◌+◌, map, drop}
 use Rattle.reply_data.specs.declared.refusal.Which.TheVariants.{AssocGrpSubmitJobs}
-use Rattle.accounts_qos.specs.Accounts.{limits_at}
+use Rattle.run_limits.specs.Accounts.{limits_at}
 use Rattle.run_limits.specs.declared.counted.Group.TheVariants.{Below}
 use Rattle.run_limits.specs.Submitting.{exceeded, first_refusal}
 use Rattle.run_limits.proofs.submitting.group_exceeded.Given as goal

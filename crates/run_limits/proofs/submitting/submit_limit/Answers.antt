@@ -1,7 +1,7 @@
 use Rattle.std.proofs.Common.{◌≡◌, ◌+◌, Some, None, ap, sym, ◌∙◌}
 use Rattle.std.specs.Option.{option_or}
 use Rattle.reply_data.specs.declared.refusal.Which.TheVariants.{AssocMaxSubmitJobs}
-use Rattle.accounts_qos.specs.Accounts.{above}
+use Rattle.run_limits.specs.Accounts.{above}
 use Rattle.run_limits.specs.declared.counted.Group.TheVariants.{Below}
 use Rattle.run_limits.specs.Limits.{Beside}
 use Rattle.run_limits.specs.Submitting.{exceeded, first_refusal}

@@ -1,7 +1,7 @@
 use Rattle.std.proofs.Common.{◌≡◌, length}
 use Rattle.std.specs.List.{list_any}
 use Rattle.option_words.specs.Arguments.{parts_left}
-use Rattle.sbatch_options.specs.Table.{options}
+use Rattle.sbatch_reader.specs.Table.{options}
 use Rattle.server_call.specs.Scripts.{has_wrap, is_wrap}
 use Rattle.server_call.proofs.place.has_wrap.Given as goal
 

@@ -1,5 +1,5 @@
 use Rattle.std.proofs.Common.{◌≡◌, false, rules}
-use Rattle.conf_entries.specs.NodeLines.{is_for_nodes}
+use Rattle.conf_reader.specs.NodeLines.{is_for_nodes}
 use Rattle.conf_reader.specs.Reader.{after_node_line}
 use Rattle.conf_reader.proofs.draft.Draft.end_node_line.Goals as goal
 

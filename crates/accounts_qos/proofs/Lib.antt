@@ -1,3 +1,0 @@
-pub mod Meanings
-pub mod Numbers
-pub mod Way

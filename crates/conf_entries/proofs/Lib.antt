@@ -1,2 +1,0 @@
-pub mod ProductLemmas
-pub mod SaidLemmas

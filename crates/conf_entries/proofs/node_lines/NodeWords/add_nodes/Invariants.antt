@@ -1,7 +1,0 @@
-use Rattle.std.proofs.Common.{◌≡◌, ◌++◌, take, map}
-use Rattle.conf_entries.specs.NodeLines.{node_conf}
-use Rattle.conf_entries.proofs.node_lines.NodeWords.add_nodes.Given as goal
-
-abbrev pub invariant-loop-name : goal.invariant-loop-name
-invariant-loop-name l =
-    l.nodes ≡ l.initial.nodes ++ map (node_conf l.self) (take l.name-index l.names)

@@ -1,4 +1,0 @@
-pub mod NodeLines
-pub mod PartitionLines
-pub mod SettingLines
-pub mod Words

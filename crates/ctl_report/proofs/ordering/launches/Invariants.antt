@@ -1,6 +1,0 @@
-use Rattle.std.proofs.Common.{◌≡◌, filter_map, take}
-use Rattle.ctl_report.specs.Ordering.{launch_of}
-use Rattle.ctl_report.proofs.ordering.launches.Given as goal
-
-abbrev pub invariant-loop-job : goal.invariant-loop-job
-invariant-loop-job l = l.launches.items ≡ filter_map (launch_of l.node l.report) (take l.job-index l.jobs)

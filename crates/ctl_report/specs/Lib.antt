@@ -1,4 +1,0 @@
-pub mod Reporting
-pub mod Ordering
-pub mod Answering
-pub mod Leaving

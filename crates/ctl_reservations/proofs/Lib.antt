@@ -1,3 +1,0 @@
-pub mod Rising
-pub mod Ways
-pub mod Made

@@ -1,5 +1,0 @@
-use Rattle.ctl_worker.proofs.Ending.{end_well}
-use Rattle.ctl_worker.proofs.laws.sessions_end_well.Goals as goal
-
-pub returns : goal.returns
-returns c = end_well

@@ -1,6 +1,0 @@
-use Rattle.std.proofs.Common.{◌≡◌, map, take}
-use Rattle.dependencies.specs.Standing.{all_of, standing_by_id}
-use Rattle.dependencies.proofs.standing.standing_of_ids.Given as goal
-
-abbrev pub invariant-loop-id : goal.invariant-loop-id
-invariant-loop-id l = l.standing ≡ all_of (map (standing_by_id l.jobs l.own l.kind) (take l.id-index l.ids))

@@ -1,6 +1,0 @@
-use Rattle.std.proofs.Common.{◌≡◌, map, take}
-use Rattle.dependencies.specs.Standing.{one_of, standing_by}
-use Rattle.dependencies.proofs.standing.standing_of_one.Given as goal
-
-abbrev pub invariant-loop-item : goal.invariant-loop-item
-invariant-loop-item l = l.standing ≡ one_of (map (standing_by l.jobs l.own) (take l.item-index l.items))

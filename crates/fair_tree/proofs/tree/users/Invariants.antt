@@ -1,7 +1,0 @@
-use Rattle.std.proofs.Common.{◌≡◌, take}
-use Rattle.fair_tree.specs.Tree.{users}
-use Rattle.fair_tree.proofs.tree.users.Given as goal
-
--- the users so far
-abbrev pub invariant-loop-place : goal.invariant-loop-place
-invariant-loop-place l = l.users.items ≡ users (take l.place l.nodes)

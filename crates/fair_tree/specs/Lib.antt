@@ -1,5 +1,0 @@
-pub mod Levels
-pub mod Tree
-pub mod Ranks
-pub mod Paths
-pub mod Rows

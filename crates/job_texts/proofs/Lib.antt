@@ -1,4 +1,0 @@
-pub mod ArrayLemmas
-pub mod DependencyLemmas
-pub mod MarkLemmas
-pub mod PartLemmas

@@ -1,9 +1,0 @@
-use Rattle.std.proofs.Common.{◌≡◌, rules, sym, ◌∙◌}
-use Rattle.std.specs.List.{count_by}
-use Rattle.job_texts.proofs.MarkLemmas.{length-marked}
-use Rattle.job_texts.proofs.array.count_marked.Goals as goal
-
-pub returns : goal.returns
-returns c =
-    let counted : c.count.result ≡ count_by (λ mark. mark) c.args.marks.now = search rules in
-    counted ∙ sym (length-marked c.args.marks.now)

@@ -1,9 +1,0 @@
-use Rattle.std.proofs.Common.{ℕ, ◌≡◌, false, get_or, length, take}
-use Rattle.std.specs.List.{list_any}
-use Rattle.job_texts.specs.Array.{names}
-use Rattle.job_texts.specs.declared.array.Stretch.{Stretch}
-use Rattle.job_texts.proofs.array.make_marks.Given as goal
-
-abbrev pub invariant-loop-stretch : goal.invariant-loop-stretch
-invariant-loop-stretch l =
-    (length l.marks.items ≡ l.bound) × ((n : ℕ) → get_or l.marks.items n false ≡ list_any (λ (stretch : Stretch). names stretch n) (take l.stretch-index l.stretches))

@@ -1,6 +1,0 @@
-pub mod Array
-pub mod Dependency
-pub mod Features
-pub mod Marks
-pub mod Parts
-pub mod Refusals

@@ -1,6 +1,0 @@
-use Rattle.std.proofs.Common.{rules}
-use Rattle.locked_desk.proofs.Locking.{adds_none}
-use Rattle.locked_desk.proofs.desk.locked_desk.Goals as goal
-
-pub leave-pass-requires-clause-entries : goal.leave-pass-requires-clause-entries
-leave-pass-requires-clause-entries g c = adds_none c.enter-held.result.turn c.enter-held.result.value c.enter-held.ensures.entries

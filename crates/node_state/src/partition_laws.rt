@@ -1,0 +1,12 @@
+//! What stays true of the partitions, whatever state one is set to. A law is the contract of a function that does
+//! nothing.
+
+ghost use Rattle.node_state.specs.PartitionLaws;
+
+/// Another state of a partition leaves what slurm.conf(5) says of each, the nodes of each, and what names mean.
+pub fn a_state_leaves_the_rest()
+    ensures confs { Laws.ConfsStay }
+    ensures nodes { Laws.NodesStay }
+    ensures on_nodes { Laws.OnNodesStays }
+    ensures places { Laws.PlacesStay }
+{}

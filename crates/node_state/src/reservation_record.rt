@@ -1,0 +1,46 @@
+//! What is kept of a reservation, and tests of one.
+
+ghost use Rattle.std.specs.Prelude.{◌≡◌};
+ghost use Rattle.node_state.specs.Reservations;
+
+use cpu_ids::CpuIds;
+use plain_data::items::Items;
+use plain_data::seconds::{Moment, ReservationEnd};
+use small_texts::name::Name;
+
+/// Nodes that are kept for some users from one second to before another. "RESERVATIONS" in scontrol(1).
+#[derive(Drop)]
+pub struct Reservation {
+    pub name: Name,
+    /// The second at which it begins.
+    pub start: Moment,
+    /// The second at which it is over; a duration may lead past the last moment that can be written.
+    pub end: ReservationEnd,
+    /// The places of its nodes in the list of nodes.
+    pub nodes: CpuIds,
+    /// Who may use it.
+    pub users: Items<Name>,
+    /// Whose users may use it.
+    pub accounts: Items<Name>,
+}
+
+fn has(names: &Items<Name>, name: &Name) -> bool
+    ensures { result ≡ Reservations.has names.now name.now }
+{
+    names.iter().any(|one| name.is(one))
+}
+
+/// Whether this user, whose jobs count for this account, may use the reservation: he is named, or the account is (own).
+/// Linear in the names.
+pub fn may_use(reservation: &Reservation, user: &Name, account: &Name) -> bool
+    ensures { result ≡ Reservations.may_use user.now account.now reservation.now }
+{
+    has(&reservation.users, user) || has(&reservation.accounts, account)
+}
+
+/// Whether the reservation's time crosses the seconds from `from` on and before `until`.
+pub fn crosses(reservation: &Reservation, from: u64, until: u64) -> bool
+    ensures { result ≡ Reservations.crosses from until reservation.now }
+{
+    from < reservation.end.get() && reservation.start.get() < until
+}

@@ -1,5 +1,0 @@
-use Rattle.partitions.proofs.States.{confs-stay, nodes-stay, on_nodes-stays, places-stay}
-use Rattle.partitions.proofs.laws.a_state_leaves_the_rest.Goals as goal
-
-pub returns : goal.returns
-returns c = record { confs = confs-stay; nodes = nodes-stay; on_nodes = on_nodes-stays; places = places-stay }

@@ -1,7 +1,0 @@
--- The partitions so far.
-use Rattle.std.proofs.Common.{◌≡◌, map}
-use Rattle.partitions.specs.Partitions as spec
-use Rattle.partitions.proofs.partitions.records_of.Given as goal
-
-abbrev pub invariant-loop-conf : goal.invariant-loop-conf
-invariant-loop-conf l = l.records.items ≡ map (spec.opened l.nodes.records) l.yielded

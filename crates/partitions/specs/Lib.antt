@@ -1,2 +1,0 @@
-pub mod Partitions
-pub mod Laws

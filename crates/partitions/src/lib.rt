@@ -1,7 +1,0 @@
-//! The partitions of the cluster.
-#![tactic(auto)]
-
-pub mod bounds;
-pub mod laws;
-pub mod partitions;
-pub mod record;

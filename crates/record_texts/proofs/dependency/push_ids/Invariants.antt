@@ -1,6 +1,0 @@
-use Rattle.std.proofs.Common.{◌≡◌, ◌++◌, take, flat_map}
-use Rattle.record_texts.specs.Dependency.{id_text}
-use Rattle.record_texts.proofs.dependency.push_ids.Given as goal
-
-abbrev pub invariant-loop-id : goal.invariant-loop-id
-invariant-loop-id l = l.out.items ≡ l.initial.out.items ++ flat_map id_text (take l.id-index l.ids)

@@ -1,6 +1,0 @@
-use Rattle.std.proofs.Common.{◌≡◌, ◌++◌, take, flat_map}
-use Rattle.record_texts.specs.Dependency.{later_item}
-use Rattle.record_texts.proofs.dependency.push_later_items.Given as goal
-
-abbrev pub invariant-loop-item : goal.invariant-loop-item
-invariant-loop-item l = l.out.items ≡ l.initial.out.items ++ flat_map (later_item l.any) (take l.item-index l.items)

@@ -1,2 +1,0 @@
-pub mod Reservations
-pub mod Laws

@@ -1,3 +1,0 @@
-pub mod Intervals
-pub mod Used
-pub mod Keeping
