@@ -1,6 +1,6 @@
 //! The lock.
 
-ghost use Rattle.std.specs.Prelude.{◌≡◌, ◌<◌, ◌/◌, ◌^◌, ◌++◌, [], ℕ, length, IfOk, IfErr, IfSome, Some};
+ghost use Rattle.std.specs.Prelude.{◌≡◌, ◌<◌, ◌/◌, ◌%◌, ◌^◌, ◌++◌, [], ℕ, length, IfOk, IfErr, IfSome, Some};
 ghost use Rattle.turn_lock.specs.declared.view.Kind.TheVariants.{Look};
 ghost use Rattle.turn_lock.specs.Views.{found_word};
 ghost use Rattle.turn_lock.specs.Passes.{SeesMore, HasTurn, IsBusyBy, IsFreeBy, Adds, seen_all, another, IsRefusedBy, Meets};
@@ -123,13 +123,20 @@ impl<B: Kept<E>, E> TurnLock<B, E> {
                     },
                 ) => {
                     if word % 2 == 1 {
-                        self.table.shared.park(rt, 0, low_half(word));
+                        self.park(rt, word);
                     }
                     pass = back;
                 }
             }
         }
         unreachable!()
+    }
+
+    // Sleeps until the turn is given back, unless the word of the turn, by which somebody has it, is another by now.
+    fn park<R: Wait>(&self, rt: &R, word: u64)
+        requires taken { word % 2 ≡ 1 }
+    {
+        self.table.shared.park(rt, 0, low_half(word));
     }
 
     /// Gives the turn back with the value, whose entries may have become more. It takes no memory, and doesn't wait.
@@ -200,6 +207,8 @@ impl<B: Kept<E>, E> TurnLock<B, E> {
 }
 
 // The lower 32 bits of a word.
-fn low_half(word: u64) -> u32 {
+fn low_half(word: u64) -> u32
+    ensures { result ≡ word % 2 ^ 32 }
+{
     (word % 4_294_967_296) as u32
 }
