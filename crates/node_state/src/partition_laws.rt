@@ -5,8 +5,8 @@ ghost use Rattle.node_state.specs.PartitionLaws;
 
 /// Another state of a partition leaves what slurm.conf(5) says of each, the nodes of each, and what names mean.
 pub fn a_state_leaves_the_rest()
-    ensures confs { Laws.ConfsStay }
-    ensures nodes { Laws.NodesStay }
-    ensures on_nodes { Laws.OnNodesStays }
-    ensures places { Laws.PlacesStay }
+    ensures confs { PartitionLaws.ConfsStay }
+    ensures nodes { PartitionLaws.NodesStay }
+    ensures on_nodes { PartitionLaws.OnNodesStays }
+    ensures places { PartitionLaws.PlacesStay }
 {}
