@@ -6,25 +6,6 @@ use Rattle.std.proofs.lemmas.List.{append-nil, take-append-drop}
 use Rattle.std.proofs.lemmas.List.Elements.{All-head, All-tail, filter-append}
 use Rattle.std.proofs.lemmas.List.Folds.{drop_split}
 
-pub filter_none : {X : Type 0} (test : X → Bool) (xs : List X) → All (λ x. test x ≡ false) xs → filter test xs ≡ []
-filter_none test [] none = refl
-filter_none test (x ∷ xs) none =
-    rw (All-head (λ y. test y ≡ false) x xs none) (filter_none test xs (All-tail (λ y. test y ≡ false) x xs none))
-
--- where none is found before a place and none from another on, all that are found lie between
-pub filter_between : {X : Type 0} (test : X → Bool) (xs : List X) (first end : ℕ) → first ≤ end
-    → All (λ x. test x ≡ false) (take first xs) → All (λ x. test x ≡ false) (drop end xs)
-    → filter test (slice_range xs first end) ≡ filter test xs
-filter_between test xs first end below before behind =
-    let middle = slice_range xs first end in
-    let parts : filter test (middle ++ drop end xs) ≡ filter test middle =
-    filter-append test middle (drop end xs) ∙ ap (λ rest. filter test middle ++ rest)
-    (filter_none test (drop end xs) behind) ∙ append-nil (filter test middle) in
-    let all : filter test xs ≡ filter test (drop first xs) =
-    ap (filter test) (sym (take-append-drop first xs)) ∙ filter-append test (take first xs) (drop first xs)
-    ∙ ap (λ front. front ++ filter test (drop first xs)) (filter_none test (take first xs) before) in
-    sym (all ∙ ap (filter test) (drop_split xs first end below) ∙ parts)
-
 -- one that passes two tests passes the one among those that pass the other
 pub any_filter : {X : Type 0} (named test : X → Bool) (xs : List X)
     → list_any (λ x. named x && test x) xs ≡ list_any test (filter named xs)

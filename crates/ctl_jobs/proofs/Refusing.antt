@@ -5,11 +5,7 @@ use Rattle.std.proofs.lemmas.Bool.{cases_Bool}
 use Rattle.reply_data.specs.declared.refusal.Refusal.{Refusal}
 use Rattle.reply_data.specs.declared.refusal.Refusal.TheVariants.{InvalidJobId}
 use Rattle.ctl_jobs.specs.Changing.{refusal_of_all}
-
-pub any-map : {X Y : Type 0} (test : Y → Bool) (f : X → Y) (xs : List X)
-    → list_any test (map f xs) ≡ list_any (λ x. test (f x)) xs
-any-map test f [] = refl
-any-map test f (x ∷ xs) = ap (λ rest. test (f x) || rest) (any-map test f xs)
+use Rattle.list_lemmas.proofs.Elements.{any-map}
 
 -- one that isn't refused
 pub none_refused : {X : Type 0} (refusal : X → Option Refusal) (xs : List X)

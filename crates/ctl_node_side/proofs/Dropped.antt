@@ -112,9 +112,6 @@ left_shown giving held after now node place jobs d below apart shows gives =
     }
 
 -- what is given back of one part, or of none
-same-test : (one other : ℕ) → nat_eq one other ≡ nat_eq other one
-same-test one other = grind (arith, nat_tests)
-
 pub one_given : (held after : List Held) (part : Part) → GivesBack held part.node part.cpus part.mem after
     → GivesParts held (part ∷ []) after
 unfolding mem_held

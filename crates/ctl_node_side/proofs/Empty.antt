@@ -13,18 +13,11 @@ use Rattle.job_table.specs.Changes.{is_on}
 use Rattle.ctl_state.specs.Holding.{parts_of}
 use Rattle.ctl_node_side.specs.Ordering.{in_order, killed, launch_of, orders_of, runs_start}
 use Rattle.ctl_node_side.specs.Reporting.{is_at, reported}
+use Rattle.list_lemmas.proofs.Elements.{all-left, all-right}
 
 -- the part is elsewhere
 abbrev IsElsewhere : ℕ → Part → Type 0
 IsElsewhere node part = nat_eq node part.node ≡ false
-
-all-left : {X : Type 0} (P : X → Type 0) (xs ys : List X) → All P (xs ++ ys) → All P xs
-all-left P [] ys all = All-nil P
-all-left P (x ∷ xs) ys all = All-cons P x xs (All-head P x (xs ++ ys) all) (all-left P xs ys (All-tail P x (xs ++ ys) all))
-
-all-right : {X : Type 0} (P : X → Type 0) (xs ys : List X) → All P (xs ++ ys) → All P ys
-all-right P [] ys all = all
-all-right P (x ∷ xs) ys all = all-right P xs ys (All-tail P x (xs ++ ys) all)
 
 off : (node : ℕ) (part : Part) → IsElsewhere node part → is_on node part ≡ false
 off node part is = grind (arith, nat_tests)

@@ -22,15 +22,13 @@ use Rattle.ctl_state.specs.Planning.{room_of}
 use Rattle.ctl_state.specs.Soundness.{IsSound}
 use Rattle.ctl_state.specs.State.{State}
 use Rattle.ctl_nodes.specs.Failing.{HoldsParts, ShowsJobs, parts_lost}
+use Rattle.list_lemmas.proofs.Numbers.{same-test}
 
 pub none_given : (held : List Held) → GivesParts held [] held
 unfolding mem_held
 none_given held = record { cpus = λ node cpu. grind (arith, nat_tests); mem = λ node. omega arith }
 
 -- one part more
-same-test : (one other : ℕ) → nat_eq one other ≡ nat_eq other one
-same-test one other = grind (arith, nat_tests)
-
 both-gone : (held any on : Bool) → ((held && not any) && not on) ≡ (held && not (any || (on || false)))
 both-gone true true on = refl
 both-gone true false true = refl

@@ -16,6 +16,7 @@ use Rattle.ctl_state.specs.Refusals.{first_refusal, is_privileged, refused_if}
 use Rattle.ctl_state.specs.Soundness.{IsSound}
 use Rattle.ctl_state.specs.State.{State}
 use Rattle.ctl_nodes.specs.Reserving.{are_held, create_refusals, created, deleted, is_taken, reservation_of}
+use Rattle.list_lemmas.proofs.Filters.{filter-less as fewer-long}
 
 -- what isn't refused and has nothing in its way fits
 pub fits : (s : State) (now : ℕ) (desc : ReservationDesc)
@@ -65,13 +66,6 @@ changes_created s desc same =
     )
 
 -- a filter leaves no more, and fewer where one goes
-fewer-long : {X : Type 0} (p : X → Bool) (xs : List X) → length (filter p xs) ≤ length xs
-fewer-long p [] = omega arith
-fewer-long p (x ∷ xs) = at (p x) (fewer-long p xs) where
-  at : (b : Bool) → length (filter p xs) ≤ length xs → length (cond b (x ∷ filter p xs) (filter p xs)) ≤ length (x ∷ xs)
-  at true few = omega arith
-  at false few = omega arith
-
 one-goes : {X : Type 0} (p : X → Bool) (xs : List X) → is_none (find p xs) ≡ false
     → length (filter (λ x. not (p x)) xs) < length xs
 one-goes p [] found = absurd cc

@@ -26,8 +26,9 @@ use Rattle.ctl_pass.specs.declared.starts.DueStart.{DueStart}
 use Rattle.ctl_pass.specs.Awaiting.{IsPrepared, names_at, placements_of}
 use Rattle.ctl_pass.specs.Starting.{JobStart, part_of, start_of}
 use Rattle.ctl_pass.specs.Taking.{AreDue, FitsShare, IsReady, free_by, part_by, start_by}
-use Rattle.ctl_pass.proofs.Lists.{map-same, sum_by-none}
 use Rattle.ctl_pass.proofs.Starting.{StartLaws, after_start, can-begun, fits-first}
+use Rattle.list_lemmas.proofs.Maps.{map-same}
+use Rattle.list_lemmas.proofs.Sums.{sum_by-none}
 
 -- the room of a node that is there
 room-is : (nodes : List NodeRecord) (place : ℕ) (d : NodeRecord) → place < length nodes

@@ -11,7 +11,7 @@ use Rattle.job_table.specs.declared.record.JobRecord.{JobRecord}
 use Rattle.ctl_state.specs.State.{State}
 use Rattle.ctl_pass.specs.Starting.{begun_by, due, may_start, started}
 use Rattle.ctl_pass.specs.Taking.{CanStart, IsReady}
-use Rattle.ctl_pass.proofs.Lists.{pairs-head, pairs-tail}
+use Rattle.list_lemmas.proofs.Pairs.{pairs-head, pairs-tail}
 
 -- as many as start
 pub due-count : (s : State) (now : ℕ) (jobs : List JobRecord) (plan : List Placed)

@@ -23,9 +23,7 @@ use Rattle.ctl_pass.specs.Readiness.{goes, jobs_left, ready, base_of, planned, p
 use Rattle.ctl_pass.specs.Starting.{started, begun, start_of, may_start}
 use Rattle.ctl_pass.proofs.Planned.{few-jobs}
 use Rattle.ctl_pass.proofs.Ranks.{filter_map-less}
-
-filter-less : {X : Type 0} (p : X → Bool) (xs : List X) → length (filter p xs) ≤ length xs
-filter-less p xs = omega (arith, length-filter p xs, count_by-le-length p xs)
+use Rattle.list_lemmas.proofs.Filters.{filter-less}
 
 -- each placement starts or stays
 each-goes : (s : State) (now : ℕ) (jobs : List JobRecord) (plan : List Placed)

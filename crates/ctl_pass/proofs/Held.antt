@@ -11,7 +11,8 @@ use Rattle.resource_profile.specs.declared.NodeRoom.{NodeRoom}
 use Rattle.job_table.specs.declared.record.Part.{Part}
 use Rattle.job_table.specs.Changes.{is_on}
 use Rattle.ctl_state.specs.Holding.{cpus_of, has_cpu, times_held, free_ids, IsPartOf}
-use Rattle.ctl_pass.proofs.Lists.{sum_by-same, sum_by-none, sum_by-ones, sum_by-add, sum_by-swap, range-rises, range-below, range-rising}
+use Rattle.ctl_pass.proofs.Lists.{sum_by-ones, range-rises, range-below, range-rising}
+use Rattle.list_lemmas.proofs.Sums.{sum_by-add, sum_by-none, sum_by-same, sum_by-swap}
 
 -- how many processors of the node the parts hold, each as often as it stands in them; and how many one part has
 pub cpus_held : List NodeRoom → List Part → ℕ → ℕ

@@ -37,6 +37,7 @@ use Rattle.ctl_pass.specs.Reserved.{IsOfJob, KeepsTo, PlansKeepToReservations, i
 use Rattle.ctl_pass.proofs.Lists.{All-joined}
 use Rattle.ctl_pass.proofs.Ranks.{ranked-all, waiting}
 use Rattle.plain_data.specs.declared.seconds.TheConstants.{FOREVER}
+use Rattle.list_lemmas.proofs.Elements.{any-none as none-passes}
 
 -- the laws that this rests on
 pub record KeepingLaws : Type 0 where
@@ -117,10 +118,6 @@ clear-also one other node from until last same ends clear = rw (← same, ← en
 -- what no time bars each of them doesn't
 abbrev IsClear : ℕ → ℕ → ℕ → Barred → Type 0
 IsClear node from until time = bars node from until time ≡ false
-
-none-passes : {X : Type 0} (p : X → Bool) (xs : List X) → list_any p xs ≡ false → All (λ x. p x ≡ false) xs
-none-passes p xs none k d below =
-    false_from_ne_true (p (get_or xs k d)) (λ is. both_ways (list_any p xs) none (list_any_at p xs k d below is))
 
 each-clear : (reservations : List Reservation) (name : Option (List ℕ)) (node from until : ℕ)
     → is_barred (barred_of reservations name) node from until ≡ false

@@ -13,12 +13,9 @@ use Rattle.std.proofs.lemmas.List.FromFn.{length-range_with_len, get_or-range_wi
 use Rattle.std.specs.Cmp.Lexicographic.{pointwise}
 use Rattle.std.specs.Prelude.{slice_get, filter_map, Option, Some}
 use Rattle.std.proofs.lemmas.Option.{get_or_from_slice_get, slice_get_within}
-
-pub pairs-head : {X : Type 0} (R : X → X → Type 0) (x : X) (xs : List X) → AllPairs R (x ∷ xs) → All (R x) xs
-pairs-head R x xs pairs k d below = pairs 0 (suc k) d (omega arith) (omega (arith, below))
-
-pub pairs-tail : {X : Type 0} (R : X → X → Type 0) (x : X) (xs : List X) → AllPairs R (x ∷ xs) → AllPairs R xs
-pairs-tail R x xs pairs i j d before below = pairs (suc i) (suc j) d (omega (arith, before)) (omega (arith, below))
+use Rattle.list_lemmas.proofs.Pairs.{pairs-head, pairs-tail}
+use Rattle.list_lemmas.proofs.Sums.{sum_by-add, sum_by-larger, sum_by-none, sum_by-same}
+use Rattle.list_lemmas.proofs.Ranges.{range-within}
 
 pub pairs-take : {X : Type 0} (R : X → X → Type 0) (count : ℕ) (xs : List X) → AllPairs R xs
     → AllPairs R (take count xs)
@@ -65,17 +62,6 @@ kept-left f keep goes change (x ∷ xs) same kept idle =
     ]
 
 -- larger terms have larger sums, and one more at one place a larger one
-pub sum_by-larger : {X : Type 0} (f g : X → ℕ) (xs : List X) → All (λ x. f x ≤ g x) xs → sum_by f xs ≤ sum_by g xs
-sum_by-larger f g [] larger = omega arith
-sum_by-larger f g (x ∷ xs) larger =
-    omega (
-      arith,
-      sum_by-cons f x xs,
-      sum_by-cons g x xs,
-      All-head (λ y. f y ≤ g y) x xs larger,
-      sum_by-larger f g xs (All-tail (λ y. f y ≤ g y) x xs larger),
-    )
-
 pub sum_by-more : {X : Type 0} (f g : X → ℕ) (xs : List X) → ((x : X) → f x ≤ g x) → Any (λ x. f x < g x) xs
     → sum_by f xs < sum_by g xs
 sum_by-more f g [] larger any = absurd (omega (arith, any.2))
@@ -98,43 +84,11 @@ sum_by-more f g (x ∷ xs) larger (suc k, y, inside, is, more) =
     )
 
 -- equal terms have equal sums
-pub sum_by-same : {X : Type 0} (f g : X → ℕ) (xs : List X) → All (λ x. f x ≡ g x) xs → sum_by f xs ≡ sum_by g xs
-sum_by-same f g xs same =
-    omega (
-      arith,
-      sum_by-larger f g xs (λ k d below. omega (arith, same k d below)),
-      sum_by-larger g f xs (λ k d below. omega (arith, same k d below)),
-    )
-
-pub sum_by-none : {X : Type 0} (f : X → ℕ) (xs : List X) → All (λ x. f x ≡ 0) xs → sum_by f xs ≡ 0
-sum_by-none f [] none = refl
-sum_by-none f (x ∷ xs) none =
-    omega (
-      arith,
-      sum_by-cons f x xs,
-      All-head (λ y. f y ≡ 0) x xs none,
-      sum_by-none f xs (All-tail (λ y. f y ≡ 0) x xs none),
-    )
-
 pub sum_by-ones : {X : Type 0} (xs : List X) → sum_by (λ x. 1) xs ≡ length xs
 sum_by-ones [] = refl
 sum_by-ones (x ∷ xs) = omega (arith, sum_by-cons (λ y. 1) x xs, sum_by-ones xs)
 
-pub sum_by-add : {X : Type 0} (f g : X → ℕ) (xs : List X) → sum_by (λ x. f x + g x) xs ≡ sum_by f xs + sum_by g xs
-sum_by-add f g [] = refl
-sum_by-add f g (x ∷ xs) =
-    omega (arith, sum_by-cons f x xs, sum_by-cons g x xs, sum_by-cons (λ y. f y + g y) x xs, sum_by-add f g xs)
-
 -- a sum of sums in the other order
-pub sum_by-swap : {X Y : Type 0} (f : X → Y → ℕ) (xs : List X) (ys : List Y)
-    → sum_by (λ x. sum_by (λ y. f x y) ys) xs ≡ sum_by (λ y. sum_by (λ x. f x y) xs) ys
-sum_by-swap f [] ys = omega (arith, sum_by-none (λ y. 0) ys (λ k d below. refl))
-sum_by-swap f (x ∷ xs) ys =
-    let split = sum_by-add (λ y. f x y) (λ y. sum_by (λ z. f z y) xs) ys in
-    let each = sum_by-same (λ y. sum_by (λ z. f z y) (x ∷ xs)) (λ y. f x y + sum_by (λ z. f z y) xs) ys
-    (λ k d below. sum_by-cons (λ z. f z _) x xs) in
-    omega (arith, sum_by-cons (λ z. sum_by (λ y. f z y) ys) x xs, sum_by-swap f xs ys, split, each)
-
 pub sum_by-map : {X Y : Type 0} (f : Y → ℕ) (h : X → Y) (xs : List X) → sum_by f (map h xs) ≡ sum_by (λ x. f (h x)) xs
 sum_by-map f h xs = fold-map (λ total y. total + f y) h 0 xs
 
@@ -164,24 +118,6 @@ pub range-below : (count : ℕ) → All (λ number. number < count) (range_with_
 range-below count k d inside =
     let short : k < count = omega (arith, inside, length-range_with_len 0 count) in
     rw (get_or-range_with_len 0 count k d short) (omega (arith, short))
-
--- how often a number stands in a range that it is before, or within
-range-before : (x low count : ℕ) → x < low → sum_by (λ number. cond (eqb x number) 1 0) (range_with_len low count) ≡ 0
-range-before x low zero before = refl
-range-before x low (suc count) before =
-    grind (
-      arith,
-      nat_tests,
-      sum_by-cons (λ number. cond (eqb x number) 1 0) low (range_with_len (low + 1) count),
-      range-before x (low + 1) count,
-    )
-
-range-within : (x low count : ℕ) → low ≤ x → x < low + count
-    → sum_by (λ number. cond (eqb x number) 1 0) (range_with_len low count) ≡ 1
-range-within x low zero above below = absurd (omega (arith, above, below))
-range-within x low (suc count) above below =
-    let first = sum_by-cons (λ number. cond (eqb x number) 1 0) low (range_with_len (low + 1) count) in
-    grind (arith, nat_tests, first, range-before x (low + 1) count, range-within x (low + 1) count)
 
 -- the numbers below the bound that stand in a rising list are as many as it has, where all its numbers are below the
 -- bound
@@ -249,11 +185,6 @@ pub next : {X : Type 0} (xs : List X) (i : ℕ) (x : X) → i < length xs → x 
 next xs i x within is = drop_more xs i x within ∙ ap (λ first. first ∷ drop (i + 1) xs) (sym is)
 
 -- a list mapped by functions that agree on it
-pub map-same : {X Y : Type 0} (f g : X → Y) (xs : List X) → All (λ x. f x ≡ g x) xs → map f xs ≡ map g xs
-map-same f g [] same = refl
-map-same f g (x ∷ xs) same =
-    grind (arith, map-same f g xs (All-tail (λ y. f y ≡ g y) x xs same), All-head (λ y. f y ≡ g y) x xs same)
-
 pub All-joined : {X Y : Type 0} (P : Y → Type 0) (f : X → List Y) (xs : List X) → All P (flat_map f xs)
     → All (λ x. All P (f x)) xs
 All-joined P f xs each k e below j d inside =

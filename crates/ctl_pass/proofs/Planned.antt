@@ -57,11 +57,12 @@ use Rattle.ctl_pass.specs.Readiness.{goes, jobs_left, ready, base_of, planned, p
 use Rattle.ctl_pass.specs.Taking.{CanStart}
 use Rattle.ctl_waiting.specs.Reasons.{exceeds_wall, held_reason, hindrance, hindrances_in, is_early, is_too_late, lacks_node, most_tasks, awaiting_reason}
 use Rattle.ctl_pass.proofs.Held.{held-counted, free-counted}
-use Rattle.ctl_pass.proofs.Lists.{sum_by-larger, sum_by-map, joined-larger, length-rising, at-place, All-joins, All-joined}
+use Rattle.ctl_pass.proofs.Lists.{sum_by-map, joined-larger, length-rising, at-place, All-joins, All-joined}
 use Rattle.ctl_pass.proofs.Ranks.{IsOfCandidate, waiting, candidates-wait, ordered-agree, ranked-all, ranked-candidates, ranked-waits, ranked-apart}
 use Rattle.ctl_pass.proofs.Readied.{ReadyLaws, by_limit, goes-not_running, going, pending-left, readied, running-not_ended, sound-readied, timed_out-runs_on}
 use Rattle.ctl_pass.proofs.Tasks.{holding-left, waits-with, with-left}
 use Rattle.plain_data.specs.declared.seconds.TheConstants.{LAST_START}
+use Rattle.list_lemmas.proofs.Sums.{sum_by-larger}
 
 -- the laws of plans that a pass rests on
 abbrev pub PlanIds : Type 0

@@ -23,7 +23,7 @@ use Rattle.ctl_state.specs.State.{State, partition_of}
 use Rattle.ctl_waiting.specs.Rank.{is_higher}
 use Rattle.ctl_waiting.specs.Candidates.{is_candidate, candidates, need_in, needs_of, ranked}
 use Rattle.ctl_waiting.specs.Reasons.{hindrance}
-use Rattle.ctl_pass.proofs.Lists.{pairs-head, pairs-tail}
+use Rattle.list_lemmas.proofs.Pairs.{pairs-head, pairs-tail}
 
 -- an order of elements of which any two compare in the same way
 put-agree : {X : Type 0} (before other : X → X → Bool) → ((x y : X) → before x y ≡ other x y) → (x : X) (xs : List X)

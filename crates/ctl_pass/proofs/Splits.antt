@@ -16,8 +16,9 @@ use Rattle.ctl_state.specs.Events.{started_as}
 use Rattle.ctl_state.specs.State.{State}
 use Rattle.ctl_pass.specs.Awaiting.{Awaits, CanBegin, CountsOneMore}
 use Rattle.ctl_pass.specs.Starting.{JobStart, begun, begun_by, due, may_start, start_of, started}
-use Rattle.ctl_pass.proofs.Lists.{pairs-head, pairs-map, pairs-tail}
+use Rattle.ctl_pass.proofs.Lists.{pairs-map}
 use Rattle.ctl_pass.proofs.Tasks.{CountLaws, counted-begun, with-begun}
+use Rattle.list_lemmas.proofs.Pairs.{pairs-head, pairs-tail}
 
 -- a start changes no number, and nothing of another job
 started-id : (now id : ℕ) (parts : List Part) (names : List (List ℕ)) (job : JobRecord)

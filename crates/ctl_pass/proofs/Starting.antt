@@ -29,9 +29,10 @@ use Rattle.ctl_state.specs.State.{State}
 use Rattle.ctl_pass.specs.Starting.{JobStart, Started, WasHeldBack, part_of, start_of, begun, started, may_start, IsAsPlanned, HasStarted}
 use Rattle.ctl_pass.specs.Taking.{CanStart, IsReady}
 use Rattle.ctl_pass.proofs.Held.{cpus_in, held-counted, held-grown, free-counted, free-are}
-use Rattle.ctl_pass.proofs.Lists.{sum_by-map, pairs-take, pairs-head, pairs-tail, pairs-map, Any-kept}
+use Rattle.ctl_pass.proofs.Lists.{sum_by-map, pairs-take, pairs-map, Any-kept}
 use Rattle.ctl_pass.proofs.Readied.{no-plan}
 use Rattle.plain_data.specs.declared.seconds.TheConstants.{LAST_START}
+use Rattle.list_lemmas.proofs.Pairs.{pairs-head, pairs-tail}
 
 -- only the nodes and the accounts matter of the state beside which placements start
 pub started-same : (s : State) (now moment : ℕ) (table jobs : List JobRecord) (usage : List ℕ)

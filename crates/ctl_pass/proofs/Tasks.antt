@@ -16,8 +16,9 @@ use Rattle.ctl_state.specs.Laws.{TakenCounts}
 use Rattle.ctl_state.specs.Soundness.{pending_ids}
 use Rattle.ctl_pass.specs.Awaiting.{CountsOneMore}
 use Rattle.ctl_pass.specs.Limits.{timed_out}
-use Rattle.ctl_pass.proofs.Lists.{Any-kept, kept-left, pairs-head, pairs-tail}
+use Rattle.ctl_pass.proofs.Lists.{Any-kept, kept-left}
 use Rattle.ctl_pass.proofs.Readied.{Going, by_limit, ended-others, running-holds, running-not_ended, timed_out-id}
+use Rattle.list_lemmas.proofs.Pairs.{pairs-head, pairs-tail}
 
 abbrev lower : JobRecord → JobRecord → Type 0
 lower one other = one.id < other.id

@@ -18,69 +18,14 @@ use Rattle.ctl_state.specs.State.{State}
 use Rattle.ctl_state.specs.Soundness.{IsNode, IsSound}
 use Rattle.ctl_show.specs.Records.{cpus_at}
 use Rattle.ctl_show.specs.Standing.{cpus_in, cpus_held}
-
-pairs-head : {X : Type 0} (R : X → X → Type 0) (x : X) (xs : List X) → AllPairs R (x ∷ xs) → All (R x) xs
-pairs-head R x xs pairs k d below = pairs 0 (suc k) d (omega arith) (omega (arith, below))
-
-pairs-tail : {X : Type 0} (R : X → X → Type 0) (x : X) (xs : List X) → AllPairs R (x ∷ xs) → AllPairs R xs
-pairs-tail R x xs pairs i j d before below = pairs (suc i) (suc j) d (omega (arith, before)) (omega (arith, below))
+use Rattle.list_lemmas.proofs.Pairs.{pairs-head, pairs-tail}
+use Rattle.list_lemmas.proofs.Sums.{sum_by-add as sum-add, sum_by-same as sum-same, sum_by-swap as sum-swap}
+use Rattle.list_lemmas.proofs.Ranges.{range-within}
 
 -- larger terms have larger sums, and equal terms equal ones
-sum-larger : {X : Type 0} (f g : X → ℕ) (xs : List X) → All (λ x. f x ≤ g x) xs → sum_by f xs ≤ sum_by g xs
-sum-larger f g [] larger = omega arith
-sum-larger f g (x ∷ xs) larger =
-    omega (
-      arith,
-      sum_by-cons f x xs,
-      sum_by-cons g x xs,
-      All-head (λ y. f y ≤ g y) x xs larger,
-      sum-larger f g xs (All-tail (λ y. f y ≤ g y) x xs larger),
-    )
-
-sum-same : {X : Type 0} (f g : X → ℕ) (xs : List X) → All (λ x. f x ≡ g x) xs → sum_by f xs ≡ sum_by g xs
-sum-same f g xs same =
-    omega (
-      arith,
-      sum-larger f g xs (λ k d below. omega (arith, same k d below)),
-      sum-larger g f xs (λ k d below. omega (arith, same k d below)),
-    )
-
 sum-none : {X : Type 0} (xs : List X) → sum_by (λ x. 0) xs ≡ 0
 sum-none [] = refl
 sum-none (x ∷ xs) = omega (arith, sum_by-cons (λ y. 0) x xs, sum-none xs)
-
-sum-add : {X : Type 0} (f g : X → ℕ) (xs : List X) → sum_by (λ x. f x + g x) xs ≡ sum_by f xs + sum_by g xs
-sum-add f g [] = refl
-sum-add f g (x ∷ xs) =
-    omega (arith, sum_by-cons f x xs, sum_by-cons g x xs, sum_by-cons (λ y. f y + g y) x xs, sum-add f g xs)
-
--- a sum of sums in the other order
-sum-swap : {X Y : Type 0} (f : X → Y → ℕ) (xs : List X) (ys : List Y)
-    → sum_by (λ x. sum_by (λ y. f x y) ys) xs ≡ sum_by (λ y. sum_by (λ x. f x y) xs) ys
-sum-swap f [] ys = omega (arith, sum-none ys)
-sum-swap f (x ∷ xs) ys =
-    let split = sum-add (λ y. f x y) (λ y. sum_by (λ z. f z y) xs) ys in
-    let each = sum-same (λ y. sum_by (λ z. f z y) (x ∷ xs)) (λ y. f x y + sum_by (λ z. f z y) xs) ys
-    (λ k d below. sum_by-cons (λ z. f z _) x xs) in
-    omega (arith, sum_by-cons (λ z. sum_by (λ y. f z y) ys) x xs, sum-swap f xs ys, split, each)
-
--- how often a number stands in a range that it is before, or within
-range-before : (x low count : ℕ) → x < low → sum_by (λ number. cond (eqb x number) 1 0) (range_with_len low count) ≡ 0
-range-before x low zero before = refl
-range-before x low (suc count) before =
-    grind (
-      arith,
-      nat_tests,
-      sum_by-cons (λ number. cond (eqb x number) 1 0) low (range_with_len (low + 1) count),
-      range-before x (low + 1) count,
-    )
-
-range-within : (x low count : ℕ) → low ≤ x → x < low + count
-    → sum_by (λ number. cond (eqb x number) 1 0) (range_with_len low count) ≡ 1
-range-within x low zero above below = absurd (omega (arith, above, below))
-range-within x low (suc count) above below =
-    let first = sum_by-cons (λ number. cond (eqb x number) 1 0) low (range_with_len (low + 1) count) in
-    grind (arith, nat_tests, first, range-before x (low + 1) count, range-within x (low + 1) count)
 
 -- the numbers below a bound that stand in a list of different ones are as many as it has, where all its numbers are
 -- below the bound

@@ -16,17 +16,6 @@ pub map-filter-more : {X Y : Type 0} (f : X → Y) (p : X → Bool) (xs : List X
     → map f (filter p (take (i + 1) xs)) ≡ map f (filter p (take i xs)) ++ map f (cond (p x) (x ∷ []) [])
 map-filter-more f p xs i x below is = rw (take_more xs i x below, ← is, filter-append, map-append)
 
-one-more : {Y : Type 0} (found : Option Y) → option_to_list found ≡ cons_option found []
-one-more None = refl
-one-more (Some y) = refl
-
-pub filter_map-more : {X Y : Type 0} (h : X → Option Y) (xs : List X) (i : ℕ) (x : X) (before : List Y)
-    (found : Option Y) → i < length xs → found ≡ h (get_or xs i x)
-    → (before ++ filter_map h (take i xs)) ++ option_to_list found ≡ before ++ filter_map h (take (i + 1) xs)
-filter_map-more h xs i x before found below is =
-    rw (take_more xs i x below, filter_map-append, ← is, ← append_assoc)
-    (ap (λ last. (before ++ filter_map h (take i xs)) ++ last) (one-more found))
-
 -- nothing is found where no member passes the test
 find-none : {X : Type 0} (p : X → Bool) (xs : List X) → All (λ x. p x ≡ false) xs → find p xs ≡ None
 find-none p [] none = refl

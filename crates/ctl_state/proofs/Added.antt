@@ -24,7 +24,8 @@ use Rattle.node_state.specs.PartitionLaws.{OnNodesStays}
 use Rattle.node_state.specs.Partitions.{IsOnNodes, in_state, in_state_at}
 use Rattle.ctl_state.specs.Soundness.{AreNodes, AreOfPartitions, HasLimits, IsOfAccounts, AreUp, IsKept, IsSound, PlansPending, is_up_at, pending_ids}
 use Rattle.ctl_state.proofs.Kept.{kept-later, pending-nothing}
-use Rattle.ctl_state.proofs.Lists.{flat_map-nothing, pairs-append}
+use Rattle.ctl_state.proofs.Lists.{flat_map-nothing}
+use Rattle.list_lemmas.proofs.Pairs.{pairs-append}
 
 abbrev conf_of : NodeRecord → NodeConf
 conf_of node = node.conf

@@ -16,8 +16,8 @@ use Rattle.node_state.specs.declared.partition_record.PartRecord.{PartRecord}
 use Rattle.node_state.specs.Partitions.{IsOnNodes}
 use Rattle.node_state.specs.declared.reservation_record.Reservation.{Reservation}
 use Rattle.ctl_state.specs.Planning.{are_there, is_at, is_taken_before, is_within, may_run, must_have, node_order, nodes_among, places_for, required_first, weight_at}
-use Rattle.ctl_state.proofs.Lists.{pairs-append}
 use Rattle.ctl_state.proofs.Ordering.{ordered-moves, ordered-pairs, sorted-is_ordered}
+use Rattle.list_lemmas.proofs.Pairs.{pairs-append}
 
 -- nodes are taken by weight, then by place
 abbrev pub key_of : List NodeRecord → ℕ → ℕ × ℕ

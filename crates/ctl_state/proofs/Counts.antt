@@ -7,10 +7,9 @@ use Rattle.std.proofs.lemmas.List.Elements.{All-head, All-tail, All-map, All-fil
 use Rattle.std.proofs.lemmas.List.Folds.{map_fixed}
 use Rattle.std.proofs.lemmas.List.Kept.{AllPairs-cons, AllPairs-filter}
 use Rattle.std.proofs.lemmas.List.Sums.{sum_by-append, sum_by-cons, get_or-le-sum_by, length-filter}
-use Rattle.ctl_state.proofs.Lists.{pairs-head, pairs-tail, contains-cases}
-
-pub count-cons : {X : Type 0} (p : X → Bool) (x : X) (xs : List X) → count_by p (x ∷ xs) ≡ cond (p x) 1 0 + count_by p xs
-count-cons p x xs = sum_by-cons (λ y. cond (p y) 1 0) x xs
+use Rattle.ctl_state.proofs.Lists.{contains-cases}
+use Rattle.list_lemmas.proofs.Pairs.{pairs-head, pairs-tail}
+use Rattle.list_lemmas.proofs.Sums.{count-cons}
 
 -- where a test counts, it holds of an element
 pub Any-counted : {X : Type 0} (p : X → Bool) (xs : List X) → 1 ≤ count_by p xs → Any (λ x. p x ≡ true) xs

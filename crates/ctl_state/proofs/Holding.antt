@@ -15,7 +15,7 @@ use Rattle.run_limits.specs.declared.counted.Counted.{Counted}
 use Rattle.run_limits.specs.Tallies.{HaveSameSums}
 use Rattle.ctl_state.specs.Counted.{counted_of, holding}
 use Rattle.ctl_state.specs.Events.{started_as}
-use Rattle.ctl_state.proofs.Lists.{pairs-head, pairs-tail}
+use Rattle.list_lemmas.proofs.Pairs.{pairs-head, pairs-tail}
 
 abbrev lower : JobRecord → JobRecord → Type 0
 lower one other = one.id < other.id

@@ -16,9 +16,9 @@ use Rattle.ctl_state.specs.Holding.{has_cpu, mem_held, mem_in, parts_of, times_h
 use Rattle.ctl_state.specs.Index.{GivesParts, ShowsParts, TakesParts}
 use Rattle.ctl_state.specs.Events.{started_as, those_left}
 use Rattle.ctl_state.specs.Soundness.{IsSound, pending_ids}
-use Rattle.ctl_state.proofs.Counts.{count-cons}
 use Rattle.ctl_state.proofs.Held.{cpu_in}
 use Rattle.ctl_state.proofs.Taken.{mem-taken, times-taken}
+use Rattle.list_lemmas.proofs.Sums.{count-cons}
 
 -- a processor stands in one of the parts where it is held
 any-counted : {X : Type 0} (p : X → Bool) (xs : List X) → list_any p xs ≡ nat_lt 0 (count_by p xs)

@@ -16,7 +16,8 @@ use Rattle.job_table.specs.Changes.{changed, end_of, is_on, not_again, off_node,
 use Rattle.ctl_state.specs.Holding.{OnNodesApart, has_members}
 use Rattle.ctl_state.specs.Soundness.{IsKept, IsWellRun}
 use Rattle.ctl_state.specs.Events.{FitsChange, LetsGo}
-use Rattle.ctl_state.proofs.Lists.{filter-all, filter-filter}
+use Rattle.ctl_state.proofs.Lists.{filter-filter}
+use Rattle.list_lemmas.proofs.Filters.{filter-all}
 
 pub kept-later : (before now : ℕ) (job : JobRecord) → before ≤ now → IsKept before job → IsKept now job
 kept-later before now job later kept = search (rules, arith)

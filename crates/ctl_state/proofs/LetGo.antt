@@ -23,8 +23,9 @@ use Rattle.ctl_state.specs.Events.{LetsGo, plan_left, those_left, waits}
 use Rattle.ctl_state.specs.Soundness.{AreOfPartitions, IsOfAccounts, AreUp, IsKept, IsSound, PlansPending, is_up_at, pending_ids}
 use Rattle.ctl_state.proofs.Held.{cpu_in}
 use Rattle.ctl_state.proofs.Kept.{kept-let_go}
-use Rattle.ctl_state.proofs.Lists.{All-flat_map, All-from_flat_map, filter-all, found-passes, pairs-kept, rising-kept}
+use Rattle.ctl_state.proofs.Lists.{All-flat_map, All-from_flat_map, found-passes, pairs-kept, rising-kept}
 use Rattle.plain_data.specs.declared.seconds.TheConstants.{LAST_START}
+use Rattle.list_lemmas.proofs.Filters.{filter-all}
 
 -- what stays of a job, and of all jobs, is no more than there was
 part-less : (amount : Part → ℕ) (now : ℕ) (job after : JobRecord) → LetsGo now job after → sum_by amount after.parts ≤ sum_by amount job.parts

@@ -10,6 +10,7 @@ use Rattle.std.proofs.lemmas.List.Concat.{get_or-flat_map}
 use Rattle.std.proofs.lemmas.List.Elements.{All-nil, All-cons, All-head, All-tail, All-append, All-contains, All-filter, All-map, filter_map-append}
 use Rattle.std.proofs.lemmas.List.Folds.{length-flat_map-take}
 use Rattle.std.proofs.lemmas.List.Kept.{AllPairs-cons}
+use Rattle.list_lemmas.proofs.Pairs.{pairs-head, pairs-tail}
 
 -- what holds of each element of a joined list, by the lists that it is joined of
 pub All-flat_map : {X Y : Type 0} (P : Y → Type 0) (h : X → List Y) (xs : List X) → All (λ x. All P (h x)) xs → All P (flat_map h xs)
@@ -24,19 +25,6 @@ All-from_flat_map P h xs all k d below j e inside =
 pub flat_map-nothing : {X Y : Type 0} (h : X → List Y) (xs : List X) → All (λ x. h x ≡ []) xs → flat_map h xs ≡ []
 flat_map-nothing h [] none = refl
 flat_map-nothing h (x ∷ xs) none = rw (All-head (λ y. h y ≡ []) x xs none) (flat_map-nothing h xs (All-tail (λ y. h y ≡ []) x xs none))
-
--- what holds of each two of a list's head and tail, and of two lists put together
-pub pairs-head : {X : Type 0} (R : X → X → Type 0) (x : X) (xs : List X) → AllPairs R (x ∷ xs) → All (R x) xs
-pairs-head R x xs pairs k d below = pairs 0 (suc k) d (omega arith) (omega (arith, below))
-
-pub pairs-tail : {X : Type 0} (R : X → X → Type 0) (x : X) (xs : List X) → AllPairs R (x ∷ xs) → AllPairs R xs
-pairs-tail R x xs pairs i j d before below = pairs (suc i) (suc j) d (omega (arith, before)) (omega (arith, below))
-
-pub pairs-append : {X : Type 0} (R : X → X → Type 0) (xs ys : List X) → AllPairs R xs → AllPairs R ys → All (λ x. All (R x) ys) xs → AllPairs R (xs ++ ys)
-pairs-append R [] ys one two across = two
-pairs-append R (x ∷ xs) ys one two across =
-    AllPairs-cons R x (xs ++ ys) (All-append (R x) xs ys (pairs-head R x xs one) (All-head (λ y. All (R y) ys) x xs across))
-    (pairs-append R xs ys (pairs-tail R x xs one) two (All-tail (λ y. All (R y) ys) x xs across))
 
 -- what holds of each two by what a change leaves as it was holds of each two after it
 pub pairs-kept : {X K : Type 0} (R : K → K → Type 0) (key : X → K) (change : X → X) (xs : List X)
@@ -74,10 +62,6 @@ contains-still f p change y (x ∷ xs) stays has = elim (contains-cases f (p x) 
 ]
 
 -- a filter that keeps all, and one after another
-pub filter-all : {X : Type 0} (xs : List X) → filter (λ x. true) xs ≡ xs
-filter-all [] = refl
-filter-all (x ∷ xs) = ap (λ rest. x ∷ rest) (filter-all xs)
-
 pub filter-filter : {X : Type 0} (p q : X → Bool) (xs : List X) → filter q (filter p xs) ≡ filter (λ x. p x && q x) xs
 filter-filter p q [] = refl
 filter-filter p q (x ∷ xs) = grind (arith, nat_tests, filter-filter p q xs)
@@ -112,15 +96,3 @@ passes-with {X} f p y (x ∷ xs) rising has =
           All-cons passes x xs (λ same. absurd (omega (arith, same, less)))
           (passes-with f p y xs (pairs-tail below x xs rising) later)
     ]
-
--- what a loop has gathered of a list, with one element more
-one-more : {Y : Type 0} (found : Option Y) → option_to_list found ≡ cons_option found []
-one-more None = refl
-one-more (Some y) = refl
-
-pub filter_map-more : {X Y : Type 0} (h : X → Option Y) (xs : List X) (i : ℕ) (x : X) (before : List Y)
-    (found : Option Y) → i < length xs → found ≡ h (get_or xs i x)
-    → (before ++ filter_map h (take i xs)) ++ option_to_list found ≡ before ++ filter_map h (take (i + 1) xs)
-filter_map-more h xs i x before found below is =
-    rw (take_more xs i x below, filter_map-append, ← is, ← append_assoc)
-    (ap (λ last. (before ++ filter_map h (take i xs)) ++ last) (one-more found))

@@ -8,7 +8,7 @@ use Rattle.std.proofs.lemmas.List.Elements.{All-cons, All-head, All-filter}
 use Rattle.std.proofs.lemmas.List.Kept.{AllPairs-cons}
 use Rattle.std.proofs.lemmas.List.Sorted.{All-permutation, IsPermutation-cons, IsPermutation-middle, IsPermutation-refl, IsPermutation-sym, IsPermutation-trans, sorted_far}
 use Rattle.ctl_state.specs.Ordered.{ordered_by, put}
-use Rattle.ctl_state.proofs.Lists.{pairs-head, pairs-tail}
+use Rattle.list_lemmas.proofs.Pairs.{pairs-head, pairs-tail}
 
 module _ {X : Type 0} (before : X → X → Bool) where
   -- the elements stay

@@ -13,12 +13,3 @@ any_filter p (x ∷ xs) = elim (cases_Bool (p x)) [
 pub any_named : {X : Type 0} (p : X → Bool) (some all : List X) → filter p some ≡ filter p all
     → list_any p some ≡ list_any p all
 any_named p some all same = sym (any_filter p some) ∙ ap (list_any p) same ∙ any_filter p all
-
--- all pass, or none does
-pub filter_all : {X : Type 0} (xs : List X) → filter (λ x. true) xs ≡ xs
-filter_all [] = refl
-filter_all (x ∷ xs) = ap (λ rest. x ∷ rest) (filter_all xs)
-
-pub filter_none : {X : Type 0} (xs : List X) → filter (λ x. false) xs ≡ []
-filter_none [] = refl
-filter_none (x ∷ xs) = filter_none xs

@@ -29,12 +29,3 @@ pub order-at : (nodes : List NodeRecord) (partitions : List PartRecord) (orders 
 order-at nodes partitions orders place partition order are at is =
     is ∙ get_or_from_slice_get orders place (node_order nodes partition) order
     (rw are (slice_get-map (node_order nodes) partitions place ∙ ap (option_map (node_order nodes)) at))
-
--- all pass, or none does
-pub filter-all : {X : Type 0} (xs : List X) → filter (λ x. true) xs ≡ xs
-filter-all [] = refl
-filter-all (x ∷ xs) = ap (λ rest. x ∷ rest) (filter-all xs)
-
-pub filter-none : {X : Type 0} (xs : List X) → filter (λ x. false) xs ≡ []
-filter-none [] = refl
-filter-none (x ∷ xs) = filter-none xs

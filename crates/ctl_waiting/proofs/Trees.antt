@@ -11,9 +11,7 @@ use Rattle.run_limits.specs.Accounts.{AreFew, AreRooted}
 use Rattle.multifactor.specs.declared.tree.TreeNode.{TreeNode}
 use Rattle.multifactor.specs.Tree.{IsTree, is_same_place}
 use Rattle.ctl_waiting.specs.FairShare.{node_of}
-
-nat_eq-turned : (one other : ℕ) → nat_eq one other ≡ nat_eq other one
-nat_eq-turned one other = grind (arith, nat_tests)
+use Rattle.list_lemmas.proofs.Numbers.{same-test as nat_eq-turned}
 
 same-turned : (one other : Option ℕ) → is_same_place one other ≡ is_same_parent other one
 same-turned None None = refl

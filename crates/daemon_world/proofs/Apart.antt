@@ -12,7 +12,8 @@ use Rattle.ctl_state.specs.Holding.{has_cpu, parts_of, times_held}
 use Rattle.node_daemon.specs.Daemon.{is_same}
 use Rattle.daemon_world.specs.Claims.{Claim, Holds, IsClaimed, IsHeldAt, times_claimed, times_claiming}
 use Rattle.daemon_world.proofs.Claimed.{same_start, starts_are}
-use Rattle.daemon_world.proofs.Lists.{any_cases, any_counts, any_none, count_append, count_cons, count_no, count_yes}
+use Rattle.daemon_world.proofs.Lists.{any_cases, any_counts, any_none, count_append, count_no, count_yes}
+use Rattle.list_lemmas.proofs.Sums.{count-cons as count_cons}
 
 part-has : (place cpu : ℕ) (claim : Claim) (part : Part) → has_id claim.cpus cpu ≡ true → IsClaimed place claim part
     → has_cpu place cpu part ≡ true

@@ -9,7 +9,9 @@ use Rattle.ctl_state.specs.State.{State}
 use Rattle.node_daemon.specs.Daemon.{is_among, is_same}
 use Rattle.daemon_world.specs.Claims.{Claim, IsHeldAt, times_claiming, times_over}
 use Rattle.daemon_world.specs.Together.{Fit}
-use Rattle.daemon_world.proofs.Lists.{count_cons, count_yes, list_any_map, none_counts}
+use Rattle.daemon_world.proofs.Lists.{count_yes, none_counts}
+use Rattle.list_lemmas.proofs.Sums.{count-cons as count_cons}
+use Rattle.list_lemmas.proofs.Elements.{any-map as list_any_map}
 
 -- ---- starts
 

@@ -21,7 +21,8 @@ use Rattle.ctl_node_side.specs.Reporting.{after_told, done_of, is_at, is_last_st
 use Rattle.node_daemon.specs.Daemon.{is_among, is_same}
 use Rattle.daemon_world.specs.Claims.{Claim, Holds, IsHeldAt, claim_launch, times_claiming}
 use Rattle.daemon_world.specs.Together.{tells_over}
-use Rattle.daemon_world.proofs.Lists.{any_here, any_there, count_no, count_yes, list_any_map}
+use Rattle.daemon_world.proofs.Lists.{any_here, any_there, count_no, count_yes}
+use Rattle.list_lemmas.proofs.Elements.{any-map as list_any_map}
 
 -- ---- what the report says of a job
 

@@ -4,6 +4,7 @@ use Rattle.std.specs.List.{list_any}
 use Rattle.std.proofs.lemmas.Bool.{cases_Bool, cond_both, both_ways, or_from}
 use Rattle.std.proofs.lemmas.List.Elements.{All-cons, All-head, All-nil, All-tail}
 use Rattle.std.proofs.lemmas.List.Sums.{sum_by-append, sum_by-cons}
+use Rattle.list_lemmas.proofs.Sums.{count-cons as count_cons}
 
 -- ---- a member that has something
 
@@ -62,15 +63,6 @@ all_unmap P f (x ∷ xs) all =
     All-cons (λ x. P (f x)) x xs (All-head P (f x) (map f xs) all)
     (all_unmap P f xs (All-tail P (f x) (map f xs) all))
 
-pub all_left : {X : Type 0} (P : X → Type 0) (xs ys : List X) → All P (xs ++ ys) → All P xs
-all_left P [] ys all = All-nil P
-all_left P (x ∷ xs) ys all =
-    All-cons P x xs (All-head P x (xs ++ ys) all) (all_left P xs ys (All-tail P x (xs ++ ys) all))
-
-pub all_right : {X : Type 0} (P : X → Type 0) (xs ys : List X) → All P (xs ++ ys) → All P ys
-all_right P [] ys all = all
-all_right P (x ∷ xs) ys all = all_right P xs ys (All-tail P x (xs ++ ys) all)
-
 -- what holds of all and of one that has something holds of one
 pub any_of_all : {X : Type 0} (R P : X → Type 0) (Q : Type 0) (xs : List X) → ((x : X) → R x → P x → Q) → All R xs
     → Any P xs → Q
@@ -81,10 +73,6 @@ any_of_all R P Q (x ∷ xs) on all any = elim (any_cases P x xs any) [
 ]
 
 -- ---- counts
-
-pub count_cons : {X : Type 0} (p : X → Bool) (x : X) (xs : List X)
-    → count_by p (x ∷ xs) ≡ cond (p x) 1 0 + count_by p xs
-count_cons p x xs = sum_by-cons (λ y. cond (p y) 1 0) x xs
 
 pub count_yes : {X : Type 0} (p : X → Bool) (x : X) (xs : List X) → p x ≡ true
     → count_by p (x ∷ xs) ≡ 1 + count_by p xs
@@ -144,8 +132,3 @@ any_counts P p (x ∷ xs) on any = elim (any_cases P x xs any) [
   | inl here ↦ omega (arith, count_yes p x xs (on x here))
   | inr later ↦ omega (arith, count_cons p x xs, any_counts P p xs on later)
 ]
-
-pub list_any_map : {X Y : Type 0} (test : Y → Bool) (f : X → Y) (xs : List X)
-    → list_any test (map f xs) ≡ list_any (λ x. test (f x)) xs
-list_any_map test f [] = refl
-list_any_map test f (x ∷ xs) = ap (λ rest. test (f x) || rest) (list_any_map test f xs)

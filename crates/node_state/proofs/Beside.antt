@@ -11,14 +11,10 @@ use Rattle.std.proofs.lemmas.Slice.Eq.{bytes_eq-Decides}
 use Rattle.node_state.specs.declared.reservation_record.Reservation.{Reservation}
 use Rattle.node_state.specs.ReservationLaws.{Fewer, OneMore, LastingTwice}
 use Rattle.node_state.specs.Reservations.{is_named, overlaps}
+use Rattle.list_lemmas.proofs.Filters.{filter-less as fewer-long}
+use Rattle.list_lemmas.proofs.Elements.{any-none}
 
 -- a test that no element passes, or that finds none, fails at each
-any-none : {X : Type 0} (p : X → Bool) (xs : List X) → list_any p xs ≡ false → All (λ x. p x ≡ false) xs
-any-none p [] none = All-nil (λ x. p x ≡ false)
-any-none p (x ∷ xs) none =
-    let parts = or_parts (p x) (list_any p xs) none in
-    All-cons (λ x. p x ≡ false) x xs parts.0 (any-none p xs parts.1)
-
 find-none : {X : Type 0} (p : X → Bool) (xs : List X) → is_some (find p xs) ≡ false → All (λ x. p x ≡ false) xs
 find-none p [] none = All-nil (λ x. p x ≡ false)
 find-none p (x ∷ xs) none =
@@ -32,13 +28,6 @@ find-none p (x ∷ xs) none =
       later false none = none
 
 -- a filter leaves no more, and nothing more to filter
-fewer-long : {X : Type 0} (p : X → Bool) (xs : List X) → length (filter p xs) ≤ length xs
-fewer-long p [] = omega arith
-fewer-long p (x ∷ xs) = at (p x) (fewer-long p xs) where
-  at : (b : Bool) → length (filter p xs) ≤ length xs → length (cond b (x ∷ filter p xs) (filter p xs)) ≤ length (x ∷ xs)
-  at true few = omega arith
-  at false few = omega arith
-
 filter-twice : {X : Type 0} (p : X → Bool) (xs : List X) → filter p (filter p xs) ≡ filter p xs
 filter-twice p [] = refl
 filter-twice p (x ∷ xs) = elim (cases_Bool (p x)) as (λ _. filter p (filter p (x ∷ xs)) ≡ filter p (x ∷ xs)) [

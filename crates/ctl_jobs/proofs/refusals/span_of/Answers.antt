@@ -1,8 +1,8 @@
 use Rattle.std.proofs.Common.{◌∙◌, ap}
 use Rattle.std.specs.List.{filter}
 use Rattle.job_table.specs.Targets.{is_named}
-use Rattle.ctl_jobs.proofs.Naming.{filter_between}
 use Rattle.ctl_jobs.proofs.refusals.span_of.Goals as goal
+use Rattle.list_lemmas.proofs.Filters.{filter-between as filter_between}
 
 pub returns : goal.returns
 returns c =

@@ -2,8 +2,9 @@ use Rattle.std.proofs.Common.{All, [], ◌∷◌, arith, subst}
 use Rattle.slurm_net.specs.Host.{IsNewDoor}
 use Rattle.ctl_server.specs.declared.workers.Seat.{Seat}
 use Rattle.ctl_server.specs.Parts.{IsReady}
-use Rattle.ctl_server.proofs.Seated.{all_first, last_one, one_more, seated, still_twice}
+use Rattle.ctl_server.proofs.Seated.{last_one, one_more, seated, still_twice}
 use Rattle.ctl_server.proofs.seating.seat_all.Goals as goal
+use Rattle.list_lemmas.proofs.Elements.{all-left as all_first}
 
 pub loop-door-preserved : goal.loop-door-preserved
 loop-door-preserved g c =

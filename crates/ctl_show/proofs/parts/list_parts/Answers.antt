@@ -4,9 +4,9 @@ use Rattle.std.proofs.lemmas.Option.{slice_get_read, slice_get_past}
 use Rattle.std.proofs.lemmas.Bool.{ltb-true, ltb-false}
 use Rattle.job_table.specs.declared.record.Part.{Part}
 use Rattle.ctl_show.specs.Showing.{part_by, named_parts}
-use Rattle.ctl_show.proofs.Gathered.{filter_map-more}
 use Rattle.ctl_show.proofs.parts.list_parts.Goals as goal
 use Rattle.ctl_show.proofs.parts.list_parts.Goals.{in-Some+in_ok-part_by+in_ok-push, in_default}
+use Rattle.list_lemmas.proofs.Maps.{filter_map-more}
 
 pub loop-part-init : goal.loop-part-init
 unfolding named_parts

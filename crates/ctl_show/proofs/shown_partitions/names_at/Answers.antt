@@ -4,9 +4,9 @@ use Rattle.std.proofs.lemmas.Option.{slice_get_read, slice_get_past}
 use Rattle.std.proofs.lemmas.Bool.{ltb-true, ltb-false}
 use Rattle.node_state.specs.declared.record.NodeRecord.{NodeRecord}
 use Rattle.ctl_show.specs.Records.{names_at}
-use Rattle.ctl_show.proofs.Gathered.{filter_map-more}
 use Rattle.ctl_show.proofs.shown_partitions.names_at.Goals as goal
 use Rattle.ctl_show.proofs.shown_partitions.names_at.Goals.{in-Some+in_ok-copy+in_ok-push, in_default}
+use Rattle.list_lemmas.proofs.Maps.{filter_map-more}
 
 pub loop-place-init : goal.loop-place-init
 unfolding names_at

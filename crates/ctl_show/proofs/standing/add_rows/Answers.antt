@@ -2,9 +2,9 @@ use Rattle.std.proofs.Common.{◌≡◌, ◌∙◌, Some, None, sym, arith, appe
 use Rattle.reply_data.specs.declared.view.NodeGroup.{NodeGroup}
 use Rattle.ctl_state.specs.State.{state_of}
 use Rattle.ctl_show.specs.Standing.{groups, row_by, names_standing, rows_of_partition}
-use Rattle.ctl_show.proofs.Gathered.{filter_map-more}
 use Rattle.ctl_show.proofs.standing.add_rows.Goals as goal
 use Rattle.ctl_show.proofs.standing.add_rows.Goals.{in-Some+in_ok-push, in_default}
+use Rattle.list_lemmas.proofs.Maps.{filter_map-more}
 
 pub loop-group-preserved : goal.loop-group-preserved
 loop-group-preserved c =

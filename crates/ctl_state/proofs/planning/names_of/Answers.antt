@@ -5,9 +5,9 @@ use Rattle.std.proofs.lemmas.Bool.{ltb-true, ltb-false}
 use Rattle.job_table.specs.declared.record.Part.{Part}
 use Rattle.node_state.specs.declared.record.NodeRecord.{NodeRecord}
 use Rattle.ctl_state.specs.Planning.{names_of}
-use Rattle.ctl_state.proofs.Lists.{filter_map-more}
 use Rattle.ctl_state.proofs.planning.names_of.Goals as goal
 use Rattle.ctl_state.proofs.planning.names_of.Goals.{in-Some+in_ok-copy+in_ok-push, in_default}
+use Rattle.list_lemmas.proofs.Maps.{filter_map-more}
 
 pub loop-part-init : goal.loop-part-init
 unfolding names_of

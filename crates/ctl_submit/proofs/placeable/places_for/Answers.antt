@@ -2,8 +2,8 @@ use Rattle.std.proofs.Common.{◌∙◌, filter, sym, ap}
 use Rattle.std.specs.Prelude.{option_copied}
 use Rattle.std.proofs.lemmas.Result.{IfOk-weaker}
 use Rattle.ctl_state.specs.Planning.{is_kept_by, node_order, places_for}
-use Rattle.ctl_submit.proofs.Named.{filter_all, filter_none}
 use Rattle.ctl_submit.proofs.placeable.places_for.Goals as goal
+use Rattle.list_lemmas.proofs.Filters.{filter-all as filter_all, filter-nothing as filter_none}
 
 pub returns-in_default : goal.returns-in_default
 unfolding places_for

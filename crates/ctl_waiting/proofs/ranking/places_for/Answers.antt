@@ -2,8 +2,8 @@ use Rattle.std.proofs.Common.{◌∙◌, filter, sym, ap}
 use Rattle.std.specs.Prelude.{option_copied}
 use Rattle.std.proofs.lemmas.Result.{IfOk-weaker}
 use Rattle.ctl_state.specs.Planning.{is_kept_by, node_order, places_for}
-use Rattle.ctl_waiting.proofs.Needs.{filter-all, filter-none}
 use Rattle.ctl_waiting.proofs.ranking.places_for.Goals as goal
+use Rattle.list_lemmas.proofs.Filters.{filter-all, filter-nothing as filter-none}
 
 pub returns-in_default : goal.returns-in_default
 unfolding places_for
