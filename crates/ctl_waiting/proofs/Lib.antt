@@ -4,7 +4,7 @@ pub mod Needs
 pub mod Places
 pub mod Users
 pub mod Trees
-pub mod Ranking
+pub mod RankOrder
 pub mod Members
 pub mod Charged
 pub mod Staying

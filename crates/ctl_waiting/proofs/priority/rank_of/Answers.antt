@@ -1,6 +1,6 @@
 use Rattle.std.proofs.Common.{arith, ◌∙◌}
 use Rattle.ctl_state.specs.State.{state_of}
-use Rattle.ctl_waiting.proofs.Ranking.{rank-measured, rank_at-low}
+use Rattle.ctl_waiting.proofs.RankOrder.{rank-measured, rank_at-low}
 use Rattle.ctl_waiting.proofs.priority.rank_of.Goals as goal
 
 pub returns-clause-value : goal.returns-clause-value

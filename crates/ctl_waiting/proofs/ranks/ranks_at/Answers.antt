@@ -6,7 +6,7 @@ use Rattle.multifactor.specs.Tree.{users}
 use Rattle.ctl_state.specs.State.{state_of}
 use Rattle.ctl_waiting.specs.Usage.{usage_at}
 use Rattle.ctl_waiting.specs.FairShare.{rank_at, tree_of}
-use Rattle.ctl_waiting.proofs.Ranking.{ranks-are, usage_at-low}
+use Rattle.ctl_waiting.proofs.RankOrder.{ranks-are, usage_at-low}
 use Rattle.ctl_waiting.proofs.Users.{length-users, length-users_of}
 use Rattle.ctl_waiting.proofs.ranks.ranks_at.Goals as goal
 
