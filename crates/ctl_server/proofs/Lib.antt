@@ -5,10 +5,10 @@ pub mod Meeting
 pub mod Seated
 pub mod Served
 pub mod Sitting
-pub mod Working
+pub mod Leaving
 pub mod Locking
 pub mod Cutting
-pub mod Ending
+pub mod SessionEnds
 pub mod Following
 pub mod Timings
 pub mod Turning

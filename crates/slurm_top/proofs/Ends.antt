@@ -26,8 +26,8 @@ use Rattle.server_call.specs.Outside.{Outside, Hosting, Beside}
 use Rattle.server_call.specs.Calls as calls
 use Rattle.server_call.specs.declared.end.CallEnd.{CallEnd}
 use Rattle.server_call.specs.declared.end.CallEnd.TheVariants as call_end
-use Rattle.slurm_top.specs.Files.{Opens}
-use Rattle.slurm_top.specs.Run.{IsEndOn, IsEndWriting, IsEndSimulating, IsEndCalling, IsEndServing, IsEndAsked, IsEndOff, IsEnd, IsNotDone, IsCallKnown, Finds, IsWholeScript, files_asked, opened_by}
+use Rattle.slurm_top.specs.Files.{Opens, opened_by}
+use Rattle.slurm_top.specs.Run.{IsEndOn, IsEndWriting, IsEndSimulating, IsEndCalling, IsEndServing, IsEndAsked, IsEndOff, IsEnd, IsNotDone, IsCallKnown, Finds, IsWholeScript, files_asked}
 use Rattle.slurm_top.specs.Script.{IsScript}
 use Rattle.slurm_top.specs.SimulatedCluster.{simulation_of}
 

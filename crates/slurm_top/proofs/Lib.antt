@@ -5,3 +5,4 @@ pub mod Scripts
 pub mod Summing
 pub mod Telling
 pub mod FileTexts
+pub mod ServeCauses

@@ -1,5 +1,5 @@
 -- The two files of a cluster, and what they open.
-use Rattle.std.specs.Prelude.{◌≡◌, ℕ, List, [], take, Option, Some, IfSome, IsSomeAnd, Result, Ok, Err}
+use Rattle.std.specs.Prelude.{◌≡◌, ℕ, List, [], take, Option, Some, None, IfSome, IsSomeAnd, Result, Ok, Err}
 use Rattle.slurm_io.specs.Faults.{CountsOne}
 use Rattle.slurm_io.specs.Shelf.{ShelfFile, bytes_named}
 use Rattle.ctl_state.specs.State.{State}
@@ -41,3 +41,13 @@ IsOpening told named before after (Err (BadConf line kind)) =
 IsOpening told named before after (Err (BadAssocs line kind)) =
     Opens told named (Err (cluster.BadAssocs line kind)) × (after ≡ before)
 IsOpening told named before after (Err Memory) = after ≡ before
+
+-- how two texts open a cluster; None where one of them isn't there
+abbrev pub opened_by : Option (List ℕ) → Option (List ℕ) → Option (Result State ClusterRefusal)
+opened_by (Some conf) (Some assocs) = Some (opening_in conf assocs)
+opened_by conf assocs = None
+
+-- the shelf tells its files, and those of these names open a cluster so; None is that one of them isn't there
+abbrev pub FilesOpen : Option (List ShelfFile) → Named → Option (Result State ClusterRefusal) → Type 0
+FilesOpen told named opened = IsSomeAnd told (λ files.
+    opened_by (bytes_named files named.conf) (bytes_named files named.assocs) ≡ opened)

@@ -3,7 +3,7 @@ use Rattle.std.specs.Prelude.{◌≡◌, ◌⊎◌, ℕ, ◌≤◌, Option, Some
 use Rattle.std.specs.Io.KnownBytes.{Appends}
 use Rattle.slurm_io.specs.Bytes.{AppendsFront}
 use Rattle.slurm_io.specs.Faults.{CountsOne}
-use Rattle.slurm_io.specs.Shelf.{ShelfFile, bytes_named}
+use Rattle.slurm_io.specs.Shelf.{ShelfFile}
 use Rattle.slurm_io.specs.Wire.{Wire}
 use Rattle.block_frame.specs.declared.form.Form.TheVariants.{Plain}
 use Rattle.block_frame.specs.Grammar.{blocks_of, rest_of}
@@ -27,8 +27,7 @@ use Rattle.slurm_top.specs.declared.end.End.TheVariants.{Usage, NoFile, BadConf,
 use Rattle.slurm_top.specs.declared.program.WordsFault.{WordsFault}
 use Rattle.slurm_top.specs.declared.program.WordsFault.TheVariants.{NotText}
 use Rattle.slurm_top.specs.declared.program.WordsFault.TheVariants as words
-use Rattle.slurm_top.specs.Cluster.{opening_in}
-use Rattle.slurm_top.specs.Files.{Opens}
+use Rattle.slurm_top.specs.Files.{FilesOpen, Opens}
 use Rattle.slurm_top.specs.Script.{IsScript}
 use Rattle.slurm_top.specs.SimulatedCluster.{simulation_of}
 
@@ -147,21 +146,14 @@ abbrev pub end_without_words : WordsFault → End
 end_without_words NotText = Usage
 end_without_words words.Memory = Memory
 
--- how two texts open a run; None where one of them isn't there
-abbrev pub opened_by : Option (List ℕ) → Option (List ℕ) → Option (Result State ClusterRefusal)
-opened_by (Some conf) (Some assocs) = Some (opening_in conf assocs)
-opened_by conf assocs = None
-
 -- the files of the script that words ask for
 abbrev pub files_asked : Option Asked → Option Named
 files_asked (Some (asks.Script named)) = Some named
 files_asked asked = None
 
--- the words name files, the shelf tells its files, and these open a run so: None is that one of them isn't there
+-- the words name files, the shelf tells its files, and these open a cluster so: None is that one of them isn't there
 abbrev pub Finds : List (List ℕ) → Option (List ShelfFile) → Option (Result State ClusterRefusal) → Type 0
-Finds words told opened =
-    IsSomeAnd (files_asked (asked_in words)) (λ named. IsSomeAnd told (λ files.
-    opened_by (bytes_named files named.conf) (bytes_named files named.assocs) ≡ opened))
+Finds words told opened = IsSomeAnd (files_asked (asked_in words)) (λ named. FilesOpen told named opened)
 
 -- what is left is told, and is whole blocks, no more than one session answers
 abbrev pub IsWholeScript : Option (List ℕ) → Type 0

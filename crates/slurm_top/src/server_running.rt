@@ -1,11 +1,15 @@
 //! A run of the program as a server.
 
-ghost use Rattle.std.specs.Prelude.{◌≡◌, ◌≤◌, [], OnOk, IfErr, Result};
+ghost use Rattle.std.specs.Prelude.{◌≡◌, ◌⊎◌, ◌≤◌, [], Ok, Result, Some};
+ghost use Rattle.std.specs.Io.KnownBytes.{Appends};
+ghost use Rattle.ctl_server.specs.Line.{serving_line};
+ghost use Rattle.ctl_state.specs.State.{State};
 ghost use Rattle.program_words.specs.Words.{named_by};
 ghost use Rattle.slurm_io.specs.Bytes.{Tells};
-ghost use Rattle.slurm_top.specs.Lines.{line_of, status_of};
+ghost use Rattle.slurm_io.specs.Faults.{CountsNone, CountsOne};
+ghost use Rattle.slurm_top.specs.Files.{FilesOpen, Opens};
 ghost use Rattle.slurm_top.specs.declared.end.End.{End as AnEnd};
-ghost use Rattle.slurm_top.specs.Serving.{IsRun, IsServing, around, line_by, status_by};
+ghost use Rattle.slurm_top.specs.Serving.{HasServed, IsRun, IsServing, around, line_by, status_by};
 
 use crate::gates::no_gates;
 use crate::{End, end_unopened, open_named, tell};
@@ -130,6 +134,8 @@ pub fn run_server<
 where
     H::Door: Send + Drop,
     <H::Door as Door>::Link: Send,
+    // The run has one of the ends, and leaves what that says; the status is that end's, and so is the line that the errors
+    // took.
     ensures ran { (ran : Result (Unit {0}) AnEnd) × (result ≡ status_by ran)
         × Tells (E.taken errors.old) (E.taken errors.new) (E.write_faults errors.old) (E.write_faults errors.new)
         (line_by ran)
@@ -138,6 +144,21 @@ where
         (around (K.taken output.old) (K.write_faults output.old) (H.host_faults host.old))
         (around (K.taken output.new) (K.write_faults output.new) (H.host_faults host.new))
         ran }
+
+    // After 0 the cluster of the two files was served until a shutdown was accepted. 6 and 10 come only where a write of the
+    // line failed, and where the host counted a fault.
+    ensures shut { (result ≡ 0) → (opening : State) × Opens (Q.files shelf.old) (named_by words.now.files) (Ok opening)
+        × HasServed opening words.now.workers (C.course clock.old) (H.closed host.new)
+        × Appends (K.taken output.old) (K.taken output.new) (serving_line words.now.port) }
+    ensures write_fault { (result ≡ 6) → CountsOne (K.write_faults output.old) (K.write_faults output.new) }
+    ensures door_fault { (result ≡ 10) → CountsOne (H.host_faults host.old) (H.host_faults host.new) }
+
+    // Over good files it ends with 0, unless a count of faults rises or memory is wanting.
+    ensures complete { (opening : State) → FilesOpen (Q.files shelf.old) (named_by words.now.files) (Some (Ok opening))
+        → 1 ≤ words.now.workers → words.now.workers ≤ 64
+        → CountsNone (Q.shelf_faults shelf.old) (Q.shelf_faults shelf.new)
+        → CountsNone (K.write_faults output.old) (K.write_faults output.new)
+        → CountsNone (H.host_faults host.old) (H.host_faults host.new) → (result ≡ 0) ⊎ (result ≡ 8) }
 {
     match open_and_serve(rt, alloc, words, shelf, output, clock, host) {
         Ok(()) => 0,

@@ -1,6 +1,6 @@
 use Rattle.std.proofs.Common.{refl}
 use Rattle.ctl_server.proofs.Cutting.{serves}
-use Rattle.ctl_server.proofs.Ending.{all_end_well, end_well}
+use Rattle.ctl_server.proofs.SessionEnds.{all_end_well, end_well}
 use Rattle.ctl_server.proofs.laws.doors_keep_what_was_served.Goals as goal
 
 pub returns : goal.returns

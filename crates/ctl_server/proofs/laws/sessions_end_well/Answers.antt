@@ -1,4 +1,4 @@
-use Rattle.ctl_server.proofs.Ending.{end_well}
+use Rattle.ctl_server.proofs.SessionEnds.{end_well}
 use Rattle.ctl_server.proofs.laws.sessions_end_well.Goals as goal
 
 pub returns : goal.returns

@@ -1,4 +1,4 @@
-use Rattle.ctl_server.proofs.Working.{left_by}
+use Rattle.ctl_server.proofs.Leaving.{left_by}
 use Rattle.ctl_server.proofs.workers.work.Goals as goal
 
 pub returns : goal.returns
