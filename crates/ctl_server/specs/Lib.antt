@@ -11,3 +11,4 @@ pub mod Serving
 pub mod Standing
 pub mod Worked
 pub mod Beside
+pub mod Due

@@ -1,8 +1,9 @@
 //! The planner's part of a server: its turns, one after another.
 
-ghost use Rattle.std.specs.Prelude.{◌≡◌, true};
-ghost use Rattle.ctl_desk.specs.Desk.{GoesOn, history_of};
+ghost use Rattle.std.specs.Prelude.{◌≡◌, true, length, if◌then◌else◌, Some};
+ghost use Rattle.ctl_desk.specs.Desk.{GoesOn, history_of, seen};
 ghost use Rattle.ctl_desk.specs.History.{present};
+ghost use Rattle.ctl_server.specs.Due;
 
 use crate::planning::planner_turn;
 use ctl_desk::desk::Desk;
@@ -20,7 +21,9 @@ struct LastTurn {
 }
 
 // Whether a turn is due: so many seconds have passed since the last one, or entries have come.
-fn is_due(last: Option<&LastTurn>, now: u64, interval: u32, seen: u64) -> bool {
+fn is_due(last: Option<LastTurn>, now: u64, interval: u32, seen: u64) -> bool
+    ensures { result ≡ Due.is_due last now interval seen }
+{
     match last {
         Some(last) => seen > last.seen || now.saturating_sub(last.moment) >= interval as u64,
         None => true,
@@ -29,7 +32,9 @@ fn is_due(last: Option<&LastTurn>, now: u64, interval: u32, seen: u64) -> bool {
 
 // Makes a turn; one for which memory was wanting is passed over.
 fn make_turn<D: Desk, G: Gate>(alloc: Global, desk: &mut D, now: u64, gate: &mut G) -> LastTurn
-    ensures { GoesOn (D.sight desk.old) (D.sight desk.new) }
+    ensures goes_on { GoesOn (D.sight desk.old) (D.sight desk.new) }
+    ensures moment { result.moment ≡ now }
+    ensures seen { result.seen ≡ length (seen (D.sight desk.new)) }
 {
     let mut outside = start();
     let mut inside = start();
@@ -50,9 +55,11 @@ fn turn_if_due<D: Desk, G: Gate>(
     last: Option<LastTurn>,
     gate: &mut G,
 ) -> Option<LastTurn>
-    ensures { GoesOn (D.sight desk.old) (D.sight desk.new) }
+    ensures goes_on { GoesOn (D.sight desk.old) (D.sight desk.new) }
+    ensures made { result ≡ (if Due.is_due last now interval (length (seen (D.sight desk.old)))
+        then Some (record { moment = now; seen = length (seen (D.sight desk.new)) }) else last) }
 {
-    if is_due(last.as_ref(), now, interval, desk.seen_len()) {
+    if is_due(last, now, interval, desk.seen_len()) {
         return Some(make_turn(alloc, desk, now, gate));
     }
     last
