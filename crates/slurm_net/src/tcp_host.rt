@@ -12,9 +12,14 @@ use std::alloc::Global;
 use std::net::{Ipv4Addr, Net, OpenListener, SocketAddr};
 use std::time::Clock;
 
+/// How many seconds a read or a write of a link that was dialled waits for the other side, at the most (own): longer than
+/// a server takes to come to the connection and to answer, where its workers have others to serve.
+const LONGEST_WAIT: u64 = 60;
+
 /// This machine's loopback network: doors at 127.0.0.1, and links to there. The doors of one `listen` share one
-/// listener, which doesn't wait; the doors do, by the runtime's clock. A dial that a signal interrupts (`ErrorKind::Interrupted`) is tried again, up to 1,024
-/// times in all; each other error, and the last interruption, is a fault.
+/// listener, which doesn't wait; the doors do, by the runtime's clock. A dial that a signal interrupts
+/// (`ErrorKind::Interrupted`) is tried again, up to 1,024 times in all; each other error, and the last interruption, is a
+/// fault.
 #[derive(Drop)]
 pub struct TcpHost<R> {
     pub net: R,
@@ -81,10 +86,13 @@ fn open_doors<R: Net + Clock + Copy>(
 }
 
 // Dials, again where a signal interrupts.
-fn dial_through<R: Net>(net: &R, port: u16) -> Result<R::Stream, Failed> {
+fn dial_through<R: Net>(net: &R, port: u16) -> Result<TcpLink<R::Stream>, Failed>
+    ensures read_faults { IfOk result (λ link. link.read_faults ≡ 0) }
+    ensures write_faults { IfOk result (λ link. link.write_faults ≡ 0) }
+{
     for _ in 0..MOST_TRIES {
         match net.connect(loopback(port)) {
-            Ok(stream) => return Ok(stream),
+            Ok(stream) => return TcpLink::limited(stream, LONGEST_WAIT),
             Err(error) if is_interrupted(&error) => {}
             Err(_) => return Err(Failed),
         }
@@ -140,7 +148,7 @@ impl<R: Net + Clock + Copy> Host for TcpHost<R> {
 
     fn dial(&mut self, port: u16) -> Result<TcpLink<R::Stream>, Failed> {
         match dial_through(&self.net, port) {
-            Ok(stream) => Ok(TcpLink::new(stream)),
+            Ok(link) => Ok(link),
             Err(Failed) => {
                 self.faults = self.faults.saturating_add(1);
                 Err(Failed)
@@ -151,5 +159,6 @@ impl<R: Net + Clock + Copy> Host for TcpHost<R> {
     fn hang_up(&mut self, link: TcpLink<R::Stream>) {
         self.link_reads = count_if(link.read_faults > 0, self.link_reads);
         self.link_writes = count_if(link.write_faults > 0, self.link_writes);
+        link.close();
     }
 }
