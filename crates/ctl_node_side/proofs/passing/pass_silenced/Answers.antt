@@ -1,4 +1,5 @@
 use Rattle.std.proofs.Common.{◌≡◌, ◌∙◌, ◌&&◌, ap, arith, count_by, subst, sym}
+use Rattle.std.specs.Prelude.{option_copied}
 use Rattle.cpu_ids.specs.Rows.{has_id}
 use Rattle.job_table.specs.declared.record.JobRecord.{JobRecord}
 use Rattle.job_table.specs.JobStates.{is_running}
@@ -93,22 +94,22 @@ returns-in-Err-clause-indexed g c =
     c.fall_silent.ensures.after c.requires.indexed)
 
 pub returns-in_err-before-clause-over : goal.returns-in_err-before-clause-over
-returns-in_err-before-clause-over g c = not-over c.args.kept.now (state_of c.args.cluster.now) c.args.moment c.args.steps.now
+returns-in_err-before-clause-over g c = not-over (option_copied c.args.older) (state_of c.args.cluster.now) c.args.moment c.args.steps.now
 
 pub returns-in-Ok-clause-over : goal.returns-in-Ok-clause-over
 returns-in-Ok-clause-over g c =
     let s = state_of c.args.cluster.now in
-    over-found c.args.kept.now s (state_of c.fall_silent.new.cluster) c.args.moment c.args.steps.now c.decide.new.steps
+    over-found (option_copied c.args.older) s (state_of c.fall_silent.new.cluster) c.args.moment c.args.steps.now c.decide.new.steps
     (c.fall_silent.ensures.after ∙ sym (silenced_some s c.args.moment c.requires.some)) c.in-Ok.ensures.over
 
 pub returns-in-Ok-2-clause-over : goal.returns-in-Ok-2-clause-over
 returns-in-Ok-2-clause-over g c =
     let s = state_of c.args.cluster.now in
-    over-found c.args.kept.now s (state_of c.fall_silent.new.cluster) c.args.moment c.args.steps.now c.decide.new.steps
+    over-found (option_copied c.args.older) s (state_of c.fall_silent.new.cluster) c.args.moment c.args.steps.now c.decide.new.steps
     (c.fall_silent.ensures.after ∙ sym (silenced_some s c.args.moment c.requires.some)) c.in-Ok.ensures.over
 
 pub returns-in-Err-clause-over : goal.returns-in-Err-clause-over
 returns-in-Err-clause-over g c =
     let s = state_of c.args.cluster.now in
-    over-found c.args.kept.now s (state_of c.fall_silent.new.cluster) c.args.moment c.args.steps.now c.decide.new.steps
+    over-found (option_copied c.args.older) s (state_of c.fall_silent.new.cluster) c.args.moment c.args.steps.now c.decide.new.steps
     (c.fall_silent.ensures.after ∙ sym (silenced_some s c.args.moment c.requires.some)) c.in-Err.ensures.over
