@@ -5,16 +5,17 @@ use Rattle.resource_profile.specs.Counts.{IsTickedUpTo}
 use Rattle.request_data.specs.declared.request.Request.{Request}
 use Rattle.request_data.specs.declared.request.Request.TheVariants.{Pass}
 use Rattle.reply_data.specs.declared.refusal.Refusal.{Refusal}
+use Rattle.reply_data.specs.declared.refusal.Refusal.TheVariants.{MomentTooLarge, ShuttingDown}
 use Rattle.reply_data.specs.declared.reply.Reply.{Reply}
 use Rattle.reply_data.specs.declared.reply.Reply.TheVariants.{Refused}
 use Rattle.backfill_planner.specs.Plans.{PlannedView}
 use Rattle.ctl_state.specs.State.{State, last_moment}
 use Rattle.ctl_node_side.specs.Passes.{pass_input}
 use Rattle.ctl_core.specs.declared.reply.Answered.{Answered}
-use Rattle.ctl_core.specs.Answering.{HasPlanned, IsCounted}
-use Rattle.ctl_core.specs.Step.{has_planned, is_closed, is_made, kept_after, nearest, raised, reply_of, steps_of}
+use Rattle.ctl_core.specs.Answering.{Answers, HasPlanned, IsCounted}
+use Rattle.ctl_core.specs.Step.{has_planned, is_closed, is_made, kept_after, nearest, raised, reply_of, steps_of, worked}
 use Rattle.ctl_core.proofs.Hinted.{not-hinted}
-use Rattle.ctl_core.proofs.Stamping.{steps-worked}
+use Rattle.ctl_core.proofs.Stamping.{reply-worked, steps-worked}
 
 -- a refused request makes no plan, nor does any but a pass
 made-refused : (request : Request) (reply : Reply) (refusal : Refusal) → reply ≡ Refused refusal
@@ -38,21 +39,23 @@ kept-others s kept now user Pass other = absurd (other refl)
 kept-others s kept now user request other = refl
 
 -- a request that was worked keeps the plan of a pass that was made
-kept-worked : {E : Type 0} (request : Request) (s : State) (moment : ℕ) (user : List ℕ)
+kept-worked : (E : Type 0) (request : Request) (s : State) (moment : ℕ) (user : List ℕ)
     (older kept kept' : Option PlannedView) (steps steps' : ℕ) (answered : Answered)
     → HasPlanned {E = E} request s moment user older kept kept' steps steps' (Ok answered)
     → kept' ≡ (if has_planned request answered.reply then Some (pass_input s moment) else kept)
-kept-worked Pass s moment user older kept kept' steps steps' answered has = has.kept
-kept-worked request s moment user older kept kept' steps steps' answered has = has.0
+kept-worked E Pass s moment user older kept kept' steps steps' answered has = has.kept
+kept-worked E request s moment user older kept kept' steps steps' answered has = has.0
 
-pub kept-as : {E : Type 0} (request : Request) (s : State) (now : ℕ) (user : List ℕ)
+pub kept-as : (E : Type 0) (request : Request) (s middle : State) (now : ℕ) (user : List ℕ)
     (older kept kept' : Option PlannedView) (steps steps' : ℕ) (answered : Answered)
-    → answered.reply ≡ reply_of s now user request
+    → nat_lt last_moment now ≡ false → is_closed s request ≡ false
+    → Answers s middle (worked s (raised s now) user request) answered
     → HasPlanned {E = E} request s (raised s now) user older kept kept' steps steps' (Ok answered)
     → kept' ≡ kept_after s kept now user request
-kept-as request s now user older kept kept' steps steps' answered replied has =
-    kept-worked request s (raised s now) user older kept kept' steps steps' answered has
-    ∙ ap (λ (reply : Reply). if has_planned request reply then Some (pass_input s (raised s now)) else kept) replied
+kept-as E request s middle now user older kept kept' steps steps' answered early accepts answers has =
+    kept-worked E request s (raised s now) user older kept kept' steps steps' answered has
+    ∙ ap (λ (reply : Reply). if has_planned request reply then Some (pass_input s (raised s now)) else kept)
+    (reply-worked s middle now user request answered early accepts answers)
 
 -- and after want of memory the one that was kept
 pub kept-err : {E : Type 0} (request : Request) (s : State) (moment : ℕ) (user : List ℕ)
@@ -91,3 +94,14 @@ pub over-kept : (hint kept : Option PlannedView) (P : PlannedView → Type 0)
     → IfSome (nearest hint kept) P → IfNone hint (IfSome kept P)
 over-kept None kept P over = over
 over-kept (Some one) kept P over = tt
+
+-- a request that is refused before all else keeps the plan
+pub late-keeps : (s : State) (kept : Option PlannedView) (now : ℕ) (user : List ℕ) (request : Request)
+    → nat_lt last_moment now ≡ true → kept ≡ kept_after s kept now user request
+late-keeps s kept now user request late =
+    refused-keeps s kept now user request MomentTooLarge (rw late refl)
+
+pub closed-keeps : (s : State) (kept : Option PlannedView) (now : ℕ) (user : List ℕ) (request : Request)
+    → nat_lt last_moment now ≡ false → is_closed s request ≡ true → kept ≡ kept_after s kept now user request
+closed-keeps s kept now user request early closed =
+    refused-keeps s kept now user request ShuttingDown (rw (early, closed) refl)

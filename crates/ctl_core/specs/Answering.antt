@@ -20,21 +20,21 @@ pub record Answers (s s' : State) (verdict : Verdict) (answered : Answered) : Ty
 
 -- what a request does to the plan that is kept and to the counter of steps, where it is worked: a pass over an older plan
 -- keeps its own, unless it is refused
-pub record IsPlanning {E : Type 0} (s : State) (moment : ℕ) (user : List ℕ) (older kept kept' : Option PlannedView)
-    (steps steps' : ℕ) (result : Result Answered E) : Type 0 where
-  pub kept : IfOk result (λ answered. kept' ≡ (if is_made answered.reply then Some (pass_input s moment) else kept))
-  pub kept_err : OnErr result (kept' ≡ kept)
-  pub steps : IsTickedUpTo (if is_privileged s user then planned_by_pass s moment else 0) steps steps'
-  pub over : IfSome older (λ old. IsPassedOver old s moment steps steps')
+pub record IsPlanning {E : Type 0} (s : State) (moment : ℕ) (user : List ℕ) (older was is : Option PlannedView)
+    (before after : ℕ) (result : Result Answered E) : Type 0 where
+  pub kept : IfOk result (λ answered. is ≡ (if is_made answered.reply then Some (pass_input s moment) else was))
+  pub kept_err : OnErr result (is ≡ was)
+  pub steps : IsTickedUpTo (if is_privileged s user then planned_by_pass s moment else 0) before after
+  pub over : IfSome older (λ old. IsPassedOver old s moment before after)
 
 abbrev pub HasPlanned : {E : Type 0} → Request → State → ℕ → List ℕ → Option PlannedView → Option PlannedView
     → Option PlannedView → ℕ → ℕ → Result Answered E → Type 0
-HasPlanned Pass s moment user older kept kept' steps steps' result =
-    IsPlanning s moment user older kept kept' steps steps' result
-HasPlanned request s moment user older kept kept' steps steps' result = (kept' ≡ kept) × (steps' ≡ steps)
+HasPlanned Pass s moment user older was is before after result =
+    IsPlanning s moment user older was is before after result
+HasPlanned request s moment user older was is before after result = (is ≡ was) × (after ≡ before)
 
 -- how many steps a request counts
 abbrev pub IsCounted : Request → State → ℕ → List ℕ → Option PlannedView → ℕ → ℕ → Type 0
-IsCounted Pass s now user older steps steps' =
-    IsTickedUpTo (steps_of s now user) steps steps' × IfSome older (λ old. IsHinted old s now steps steps')
-IsCounted request s now user older steps steps' = steps' ≡ steps
+IsCounted Pass s now user older before after =
+    IsTickedUpTo (steps_of s now user) before after × IfSome older (λ old. IsHinted old s now before after)
+IsCounted request s now user older before after = after ≡ before

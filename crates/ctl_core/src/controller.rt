@@ -182,11 +182,12 @@ impl Ctl {
             (IfSome self.old.kept (λ kept. IsHinted kept self.old.state now steps.old steps.new)) }
         ensures sound { IsSound self.old.state × IsSound self.new.state }
     {
+        let older = hint.as_ref();
         ask(
             self.alloc,
             &mut self.cluster,
             &mut self.kept,
-            hint.as_ref(),
+            older,
             now,
             user,
             &Request::Pass,
