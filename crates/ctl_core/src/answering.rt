@@ -199,7 +199,17 @@ fn answer<L>(
         return Ok(stamp(cluster, moment, 0, refused(Refusal::ShuttingDown)));
     }
     let size = room_for(cluster, request);
-    let answered = work(alloc, cluster, kept, hint, moment, user, request, size.is_some(), steps)?;
+    let answered = work(
+        alloc,
+        cluster,
+        kept,
+        hint,
+        moment,
+        user,
+        request,
+        size.is_some(),
+        steps,
+    )?;
     Ok(stamp(cluster, moment, size.unwrap_or(0), answered))
 }
 

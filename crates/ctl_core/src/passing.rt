@@ -95,8 +95,9 @@ pub(crate) fn pass<L>(
         return Ok(refused(refusal));
     }
     let older = nearest(hint, kept.as_ref());
-    let PassMade { outcome, plan } =
-        ctl_node_side::pass(alloc, cluster, older, moment, room, steps)?;
+    let PassMade { outcome, plan } = ctl_node_side::pass(
+        alloc, cluster, older, moment, room, steps,
+    )?;
     keep(kept, plan);
     Ok(match outcome {
         PassOutcome::Idle => idle(),
