@@ -1,5 +1,9 @@
+ghost use Rattle.std.specs.Prelude.{◌≡◌, IfOk};
+
 use plain_data::items::Items;
 use resource_profile::{Hold, NodeRoom};
+use small_texts::memory_error::Memory;
+use std::alloc::Global;
 use std::marker::Model;
 
 /// What a plan begins with: the nodes' rooms, what the running jobs hold of them, and the last second at which a start
@@ -23,4 +27,17 @@ impl Model for Base {
     ghost view = { λ base. record { rooms = base.rooms; holds = base.holds; horizon = base.horizon } };
 
     ghost invariant = { λ base. AreWithin base.rooms base.holds × (base.horizon ≤ LAST_START) };
+}
+
+impl Base {
+    /// An equal base. Linear in its rooms and holds.
+    pub fn copy(&self, alloc: Global) -> Result<Base, Memory>
+        ensures { IfOk result (λ base. base ≡ self.now) }
+    {
+        Ok(Base {
+            rooms: Items::from_vec(Vec::from_slice(alloc, self.rooms.as_slice())?),
+            holds: Items::from_vec(Vec::from_slice(alloc, self.holds.as_slice())?),
+            horizon: self.horizon,
+        })
+    }
 }

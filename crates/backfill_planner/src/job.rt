@@ -134,6 +134,25 @@ pub struct PlanJob {
 }
 
 impl PlanJob {
+    /// An equal job, which shares the nodes and the times with this one. Constant time; it copies none of them.
+    pub fn copy(&self) -> Result<PlanJob, Memory>
+        ensures { IfOk result (λ job. job ≡ self.now) }
+    {
+        let nodes = self.nodes.share()?;
+        let barred = self.barred.share()?;
+        Ok(PlanJob {
+            id: self.id,
+            need: self.need,
+            cpus_per_task: self.cpus_per_task,
+            per_node: self.per_node,
+            mem_ask: self.mem_ask,
+            exclusive: self.exclusive,
+            nodes,
+            barred,
+            seconds: self.seconds,
+        })
+    }
+
     /// It does nothing: its contract tells what the type keeps of every job, which the laws of plans ask for.
     pub fn tell_plannable(&self)
         ensures { IsPlannable self.now }

@@ -46,6 +46,28 @@ fn at(placements: &[Placed], index: usize) -> Option<&Placed>
     placements.get(index)
 }
 
+// Equal jobs, in their order.
+fn copy_jobs(alloc: Global, jobs: &[PlanJob]) -> Result<Vec<PlanJob>, Memory>
+    ensures { IfOk result (λ copies. copies.items ≡ jobs.now) }
+{
+    let mut copies = Vec::with_capacity(alloc, jobs.len())?;
+    for job in jobs {
+        copies.push(job.copy()?)?;
+    }
+    Ok(copies)
+}
+
+// Equal placements, in their order.
+fn copy_placements(alloc: Global, placements: &[Placed]) -> Result<Vec<Placed>, Memory>
+    ensures { IfOk result (λ copies. copies.items ≡ placements.now) }
+{
+    let mut copies = Vec::with_capacity(alloc, placements.len())?;
+    for placed in placements {
+        copies.push(placed.copy(alloc)?)?;
+    }
+    Ok(copies)
+}
+
 impl Planned {
     // The plan of these parts.
     pub(crate) fn of(
@@ -65,6 +87,22 @@ impl Planned {
             placements,
             counts,
         }
+    }
+
+    /// An equal plan. Linear in the jobs, the parts of the placements, and the rooms and holds of the base: a job shares
+    /// its nodes and times with its copy.
+    pub fn copy(&self, alloc: Global) -> Result<Planned, Memory>
+        ensures { IfOk result (λ planned. planned ≡ self.now) }
+    {
+        let ranked = copy_jobs(alloc, self.ranked.as_slice())?;
+        let placements = copy_placements(alloc, self.placements.as_slice())?;
+        Ok(Planned {
+            base: self.base.copy(alloc)?,
+            ranked,
+            moment: self.moment,
+            placements,
+            counts: Vec::from_slice(alloc, self.counts.as_slice())?,
+        })
     }
 
     /// The placements, in the order of the list.
