@@ -6,3 +6,4 @@ pub mod Stepping
 pub mod Partitions
 pub mod Changed
 pub mod Hinted
+pub mod Keeping

@@ -1,5 +1,5 @@
 -- One step of the controller: the reply to a request, and the state after it.
-use Rattle.std.specs.Prelude.{◌≡◌, ℕ, ◌+◌, Bool, true, false, ◌&&◌, not, if◌then◌else◌, nat_lt, max, min, List, [], ◌∷◌, Option, Some, IfSome}
+use Rattle.std.specs.Prelude.{◌≡◌, ℕ, ◌+◌, Bool, true, false, ◌&&◌, not, if◌then◌else◌, nat_lt, max, min, List, [], ◌∷◌, Option, Some, None, IfSome}
 use Rattle.request_data.specs.declared.request.Request.{Request}
 use Rattle.request_data.specs.declared.request.Request.TheVariants.{Submit, Cancel, Hold, Release, Requeue, UpdateJob, UpdateNode, UpdatePartition, CreateReservation, DeleteReservation, Report, Pass, Shutdown, Show}
 use Rattle.reply_data.specs.declared.refusal.Refusal.{Refusal}
@@ -147,6 +147,28 @@ steps_of s now user =
 -- Over a hinted plan a pass counts at most one step for each job that it plans and that doesn't stand as it stood there.
 abbrev pub IsHinted : PlannedView → State → ℕ → ℕ → ℕ → Type 0
 IsHinted hint s now before after = IsPassedOver hint s (raised s now) before after
+
+-- whether a pass was made that was answered so: it passed, or was idle
+abbrev pub is_made : Reply → Bool
+is_made (Passed ended started planned) = true
+is_made Idle = true
+is_made reply = false
+
+-- whether a request that was answered so has made a plan: a pass that was made
+abbrev pub has_planned : Request → Reply → Bool
+has_planned Pass reply = is_made reply
+has_planned request reply = false
+
+-- the plan that is kept after a user's request: that of a pass which passed or was idle, as what it was made of; any
+-- other request leaves the one that was kept
+abbrev pub kept_after : State → Option PlannedView → ℕ → List ℕ → Request → Option PlannedView
+kept_after s kept now user request =
+    if has_planned request (reply_of s now user request) then Some (pass_input s (raised s now)) else kept
+
+-- the plan over which a pass is made: a hint, or else the kept one
+abbrev pub nearest : Option PlannedView → Option PlannedView → Option PlannedView
+nearest (Some hint) kept = Some hint
+nearest None kept = kept
 
 -- the moment for which an input is made: a moment past the last one counts as that
 abbrev pub input_moment : State → ℕ → ℕ

@@ -1,14 +1,12 @@
 //! One step: a request is judged, and where it is accepted the cluster changes and bears its moment.
 
-ghost use Rattle.std.specs.Prelude.{◌≡◌, ◌+◌, ◌^◌, ◌<◌, ◌≤◌, IfOk, IfSome, OnOk, OnErr, if◌then◌else◌, Some, None};
-ghost use Rattle.request_data.specs.declared.request.Request.TheVariants.{Pass};
-ghost use Rattle.resource_profile.specs.Counts.{IsTickedUpTo};
+ghost use Rattle.std.specs.Prelude.{◌≡◌, ◌+◌, ◌^◌, ◌<◌, ◌≤◌, IfOk, OnOk, OnErr, if◌then◌else◌, Some, None, option_copied};
 ghost use Rattle.ctl_state.specs.State.{state_of, last_moment};
 ghost use Rattle.ctl_state.specs.Index.{IsIndexed};
 ghost use Rattle.ctl_state.specs.Soundness.{IsSound};
-ghost use Rattle.ctl_core.specs.Answering.{Answers};
+ghost use Rattle.ctl_core.specs.Answering.{Answers, HasPlanned, IsCounted};
 ghost use Rattle.ctl_core.specs.Sizes.{has_room};
-ghost use Rattle.ctl_core.specs.Step.{IsHinted, reply_of, state_after, entered, is_closed, is_entered, raised, steps_of, worked};
+ghost use Rattle.ctl_core.specs.Step.{reply_of, state_after, kept_after, entered, is_closed, is_entered, nearest, raised, worked};
 
 use crate::changing::{cancel_jobs, change_job, change_jobs};
 use crate::laws::a_step_keeps_all_sound;
@@ -27,7 +25,7 @@ use ctl_state::cluster::Cluster;
 use reply_data::refusal::Refusal;
 use reply_data::reply::Reply;
 use request_data::request::Request;
-use resource_profile::{Steps, start};
+use resource_profile::Steps;
 use small_texts::memory_error::Memory;
 use small_texts::name::Name;
 use std::alloc::Global;
@@ -56,14 +54,17 @@ fn stamp(cluster: &mut Cluster, moment: u64, size: u64, answered: Answered) -> D
     }
 }
 
-// What a request comes to at its raised moment.
-fn work(
+// What a request comes to at its raised moment. A pass is made over the hint, or else over the kept plan.
+fn work<L>(
     alloc: Global,
     cluster: &mut Cluster,
+    kept: &mut Option<Planned>,
+    hint: Option<&Planned>,
     moment: u64,
     user: &Name,
     request: &Request,
     room: bool,
+    steps: &mut Steps<L>,
 ) -> Result<Answered, Memory>
     requires sound { IsSound (state_of cluster.old) }
     requires raised { cluster.old.moment ≤ moment }
@@ -73,6 +74,8 @@ fn work(
     ensures ok { IfOk result (Answers (state_of cluster.old) (state_of cluster.new)
         (worked (state_of cluster.old) moment user.now request.now)) }
     ensures err { OnErr result (state_of cluster.new ≡ state_of cluster.old) }
+    ensures planned { HasPlanned request.now (state_of cluster.old) moment user.now
+        (nearest (option_copied hint.entry) kept.old) kept.old kept.new steps.old steps.new result }
     ensures indexed { IsIndexed cluster.new }
 {
     match request {
@@ -115,7 +118,7 @@ fn work(
         Request::DeleteReservation { name } => Ok(delete_reservation(cluster, user, name, room)),
         Request::Shutdown => Ok(shut_down(cluster, user)),
         Request::Report(told) => report(alloc, cluster, moment, user, told, room),
-        Request::Pass => pass(alloc, cluster, &mut None, moment, user, room, &mut start()),
+        Request::Pass => pass(alloc, cluster, kept, hint, moment, user, room, steps),
         Request::Show(query) => show(alloc, cluster, moment, user, query),
     }
 }
@@ -163,13 +166,16 @@ pub(crate) fn refused(refusal: Refusal) -> Answered
     }
 }
 
-// Answers a request.
-fn answer(
+// Answers a request. A pass counts its steps, and its plan is kept unless it is refused.
+fn answer<L>(
     alloc: Global,
     cluster: &mut Cluster,
+    kept: &mut Option<Planned>,
+    hint: Option<&Planned>,
     now: u64,
     user: &Name,
     request: &Request,
+    steps: &mut Steps<L>,
 ) -> Result<Decided, Memory>
     requires sound { IsSound (state_of cluster.old) }
     requires indexed { IsIndexed cluster.old }
@@ -179,6 +185,10 @@ fn answer(
     ensures moment { IfOk result (λ decided. decided.moment ≡ raised (state_of cluster.old) now) }
     ensures after { OnOk result (state_of cluster.new ≡ state_after (state_of cluster.old) now user.now request.now) }
     ensures err { OnErr result (state_of cluster.new ≡ state_of cluster.old) }
+    ensures kept { OnOk result (kept.new ≡ kept_after (state_of cluster.old) kept.old now user.now request.now) }
+    ensures kept_err { OnErr result (kept.new ≡ kept.old) }
+    ensures counted { IsCounted request.now (state_of cluster.old) now user.now
+        (nearest (option_copied hint.entry) kept.old) steps.old steps.new }
     ensures indexed { IsIndexed cluster.new }
 {
     let moment = cluster.moment.max(now);
@@ -189,50 +199,31 @@ fn answer(
         return Ok(stamp(cluster, moment, 0, refused(Refusal::ShuttingDown)));
     }
     let size = room_for(cluster, request);
-    let answered = work(alloc, cluster, moment, user, request, size.is_some())?;
+    let answered = work(
+        alloc,
+        cluster,
+        kept,
+        hint,
+        moment,
+        user,
+        request,
+        size.is_some(),
+        steps,
+    )?;
     Ok(stamp(cluster, moment, size.unwrap_or(0), answered))
 }
 
-// Answers a pass, and counts its steps.
-fn answer_pass<L>(
+/// Answers a request, and keeps all sound and the index right. A pass is made over the hint, or else over the plan that
+/// is kept; its own is kept then, unless it is refused. It counts its steps; nothing else does.
+pub(crate) fn ask<L>(
     alloc: Global,
     cluster: &mut Cluster,
     kept: &mut Option<Planned>,
-    now: u64,
-    user: &Name,
-    steps: &mut Steps<L>,
-) -> Result<Decided, Memory>
-    requires sound { IsSound (state_of cluster.old) }
-    requires indexed { IsIndexed cluster.old }
-    ensures reply { IfOk result (λ decided. decided.reply ≡ reply_of (state_of cluster.old) now user.now Pass) }
-    ensures entered { IfOk result (λ decided.
-        decided.entered ≡ (if is_entered decided.reply then Some decided.reply else None)) }
-    ensures moment { IfOk result (λ decided. decided.moment ≡ raised (state_of cluster.old) now) }
-    ensures after { OnOk result (state_of cluster.new ≡ state_after (state_of cluster.old) now user.now Pass) }
-    ensures err { OnErr result (state_of cluster.new ≡ state_of cluster.old) }
-    ensures steps { IsTickedUpTo (steps_of (state_of cluster.old) now user.now) steps.old steps.new }
-    ensures over { IfSome kept.old (λ old. IsHinted old (state_of cluster.old) now steps.old steps.new) }
-    ensures indexed { IsIndexed cluster.new }
-{
-    let moment = cluster.moment.max(now);
-    if now > LAST_MOMENT {
-        return Ok(stamp(cluster, moment, 0, refused(Refusal::MomentTooLarge)));
-    }
-    if cluster.is_shut {
-        return Ok(stamp(cluster, moment, 0, refused(Refusal::ShuttingDown)));
-    }
-    let size = room_for(cluster, &Request::Pass);
-    let answered = pass(alloc, cluster, kept, moment, user, size.is_some(), steps)?;
-    Ok(stamp(cluster, moment, size.unwrap_or(0), answered))
-}
-
-/// Answers a request, and keeps all sound.
-pub(crate) fn ask(
-    alloc: Global,
-    cluster: &mut Cluster,
+    hint: Option<&Planned>,
     now: u64,
     user: &Name,
     request: &Request,
+    steps: &mut Steps<L>,
 ) -> Result<Decided, Memory>
     requires sound { IsSound (state_of cluster.old) }
     requires indexed { IsIndexed cluster.old }
@@ -242,36 +233,14 @@ pub(crate) fn ask(
     ensures moment { IfOk result (λ decided. decided.moment ≡ raised (state_of cluster.old) now) }
     ensures after { OnOk result (state_of cluster.new ≡ state_after (state_of cluster.old) now user.now request.now) }
     ensures err { OnErr result (state_of cluster.new ≡ state_of cluster.old) }
+    ensures kept { OnOk result (kept.new ≡ kept_after (state_of cluster.old) kept.old now user.now request.now) }
+    ensures kept_err { OnErr result (kept.new ≡ kept.old) }
+    ensures counted { IsCounted request.now (state_of cluster.old) now user.now
+        (nearest (option_copied hint.entry) kept.old) steps.old steps.new }
     ensures sound { IsSound (state_of cluster.new) }
     ensures indexed { IsIndexed cluster.new }
 {
     a_step_keeps_all_sound();
     in_range(request);
-    answer(alloc, cluster, now, user, request)
-}
-
-/// Answers a pass, counts its steps, and keeps all sound.
-pub(crate) fn ask_pass<L>(
-    alloc: Global,
-    cluster: &mut Cluster,
-    kept: &mut Option<Planned>,
-    now: u64,
-    user: &Name,
-    steps: &mut Steps<L>,
-) -> Result<Decided, Memory>
-    requires sound { IsSound (state_of cluster.old) }
-    requires indexed { IsIndexed cluster.old }
-    ensures reply { IfOk result (λ decided. decided.reply ≡ reply_of (state_of cluster.old) now user.now Pass) }
-    ensures entered { IfOk result (λ decided.
-        decided.entered ≡ (if is_entered decided.reply then Some decided.reply else None)) }
-    ensures moment { IfOk result (λ decided. decided.moment ≡ raised (state_of cluster.old) now) }
-    ensures after { OnOk result (state_of cluster.new ≡ state_after (state_of cluster.old) now user.now Pass) }
-    ensures err { OnErr result (state_of cluster.new ≡ state_of cluster.old) }
-    ensures steps { IsTickedUpTo (steps_of (state_of cluster.old) now user.now) steps.old steps.new }
-    ensures over { IfSome kept.old (λ old. IsHinted old (state_of cluster.old) now steps.old steps.new) }
-    ensures sound { IsSound (state_of cluster.new) }
-    ensures indexed { IsIndexed cluster.new }
-{
-    a_step_keeps_all_sound();
-    answer_pass(alloc, cluster, kept, now, user, steps)
+    answer(alloc, cluster, kept, hint, now, user, request, steps)
 }

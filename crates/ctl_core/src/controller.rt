@@ -1,13 +1,13 @@
 //! The controller.
 
-ghost use Rattle.std.specs.Prelude.{◌≡◌, IfOk, IfSome, OnOk, OnErr, if◌then◌else◌, Some, None, map, All};
+ghost use Rattle.std.specs.Prelude.{◌≡◌, IfOk, IfSome, IfNone, OnOk, OnErr, if◌then◌else◌, Some, None, map, All};
 ghost use Rattle.request_data.specs.declared.request.Request.TheVariants.{Pass};
 ghost use Rattle.resource_profile.specs.Counts.{IsTickedUpTo};
 ghost use Rattle.ctl_state.specs.State.{opening, state_of};
 ghost use Rattle.ctl_state.specs.Soundness.{IsSound, IsLimit, IsNode, HasLimits, HasRanges};
-ghost use Rattle.ctl_core.specs.Step.{IsHinted, input_at, reply_of, state_after, is_entered, raised, steps_of};
+ghost use Rattle.ctl_core.specs.Step.{IsHinted, input_at, kept_after, reply_of, state_after, is_entered, raised, steps_of};
 
-use crate::answering::{ask, ask_pass};
+use crate::answering::ask;
 use crate::inputs::find_input;
 use crate::reply::Decided;
 use backfill_planner::Planned;
@@ -23,19 +23,21 @@ use plain_data::assoc::AssocFile;
 use plain_data::conf::{Conf, Settings};
 use plain_data::limit::Limit;
 use request_data::request::Request;
-use resource_profile::Steps;
+use resource_profile::{Steps, start};
 use run_limits::assocs::Assocs;
 use small_texts::memory_error::Memory;
 use small_texts::name::Name;
 use std::alloc::Global;
 use std::marker::Model;
 
-/// The controller of one cluster. A contract sees the state of the cluster, and not the index of what is held.
+/// The controller of one cluster. A contract sees the state of the cluster and the plan that is kept, and not the index
+/// of what is held.
 #[derive(Drop)]
 pub struct Ctl {
     alloc: Global,
     cluster: Cluster,
-    // The plan of the last pass, over which the next one is made. Whichever is kept, a pass does the same.
+    // The plan of the last pass that passed or was idle, over which the next one is made. Whichever is kept, a pass does
+    // the same.
     kept: Option<Planned>,
 }
 
@@ -47,7 +49,7 @@ impl Model for Ctl {
 
     ghost Value = { CtlView };
 
-    ghost view = { λ c. record { state = state_of c.cluster } };
+    ghost view = { λ c. record { state = state_of c.cluster; kept = c.kept } };
 
     ghost invariant = { λ c. IsSound (state_of c.cluster) × IsIndexed c.cluster };
 }
@@ -56,6 +58,7 @@ impl Ctl {
     /// The opening state of the cluster that the two files describe. Linear in them.
     pub fn new(alloc: Global, conf: Conf, assocs: AssocFile) -> Result<Ctl, Memory>
         ensures opening { IfOk result (λ ctl. ctl.state ≡ opening conf assocs) }
+        ensures kept { IfOk result (λ ctl. ctl.kept ≡ None) }
         ensures sound { IfOk result (λ ctl. IsSound ctl.state) }
     {
         settings_in_range(&conf.settings);
@@ -102,10 +105,20 @@ impl Ctl {
             decided.entered ≡ (if is_entered decided.reply then Some decided.reply else None)) }
         ensures moment { IfOk result (λ decided. decided.moment ≡ raised self.old.state now) }
         ensures after { OnOk result (self.new.state ≡ state_after self.old.state now user.now request.now) }
+        ensures kept { OnOk result (self.new.kept ≡ kept_after self.old.state self.old.kept now user.now request.now) }
         ensures err { OnErr result (self.new ≡ self.old) }
         ensures sound { IsSound self.old.state × IsSound self.new.state }
     {
-        ask(self.alloc, &mut self.cluster, now, user, request)
+        ask(
+            self.alloc,
+            &mut self.cluster,
+            &mut self.kept,
+            None,
+            now,
+            user,
+            request,
+            &mut start(),
+        )
     }
 
     /// Whether a shutdown was accepted. It takes no memory.
@@ -145,9 +158,10 @@ impl Ctl {
         &self.cluster
     }
 
-    /// A pass, whatever plan is at hand: it is made over the hint, else over the plan of the last pass, and is the same.
-    /// It counts a step for each job that it searches for: at most one for each that it plans, where it is allowed, and
-    /// over a hint none for those which stand as they stood in it.
+    /// A pass, whatever plan is at hand: it is made over the hint, else over the plan that is kept, and is the same; its own
+    /// plan is kept then, unless it is refused. It counts a step for each job that it searches for: at most one for each
+    /// that it plans, where it is allowed, and over a hint, else over the plan that was kept, none for those which stand as
+    /// they stood in it.
     pub fn pass<L>(
         &mut self,
         now: u64,
@@ -160,40 +174,36 @@ impl Ctl {
             decided.entered ≡ (if is_entered decided.reply then Some decided.reply else None)) }
         ensures moment { IfOk result (λ decided. decided.moment ≡ raised self.old.state now) }
         ensures after { OnOk result (self.new.state ≡ state_after self.old.state now user.now Pass) }
+        ensures kept { OnOk result (self.new.kept ≡ kept_after self.old.state self.old.kept now user.now Pass) }
         ensures err { OnErr result (self.new ≡ self.old) }
         ensures steps { IsTickedUpTo (steps_of self.old.state now user.now) steps.old steps.new }
         ensures over { IfSome hint (λ hint. IsHinted hint self.old.state now steps.old steps.new) }
+        ensures over_kept { IfNone hint
+            (IfSome self.old.kept (λ kept. IsHinted kept self.old.state now steps.old steps.new)) }
         ensures sound { IsSound self.old.state × IsSound self.new.state }
     {
-        take_hint(&mut self.kept, hint);
-        ask_pass(
+        let older = hint.as_ref();
+        ask(
             self.alloc,
             &mut self.cluster,
             &mut self.kept,
+            older,
             now,
             user,
+            &Request::Pass,
             steps,
         )
     }
 
     /// What a pass by a privileged user at a moment would make its plan of; a moment past the last one counts as that.
-    /// The plan of the last pass goes with it, and the next pass that is given no hint plans from nothing. It costs what
-    /// a pass costs before its plan; where nodes fall silent by then it copies the jobs that hold something of them.
+    /// A copy of the plan that is kept goes with it. It costs what a pass costs before its plan, beside the copy; where nodes fall silent by then it copies the jobs that hold something of them.
     pub fn input(&mut self, now: u64) -> Result<PlanInput, Memory>
-        ensures input { IfOk result (λ input. input ≡ input_at self.old.state now) }
+        ensures input { IfOk result (λ input. input.parts ≡ input_at self.old.state now) }
+        ensures kept { IfOk result (λ input. input.kept ≡ self.old.kept) }
         ensures stays { self.new ≡ self.old }
         ensures sound { IsSound self.old.state }
     {
-        find_input(self.alloc, &mut self.cluster, &mut self.kept, now)
-    }
-}
-
-// A hint takes the place of the plan that is kept. What a pass does depends on neither.
-fn take_hint(kept: &mut Option<Planned>, hint: Option<Planned>)
-    ensures { IfSome hint (λ one. kept.new ≡ Some one) }
-{
-    if hint.is_some() {
-        *kept = hint;
+        find_input(self.alloc, &mut self.cluster, self.kept.as_ref(), now)
     }
 }
 

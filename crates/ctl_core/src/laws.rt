@@ -1,14 +1,16 @@
 //! What holds of every step. A law is the contract of a function that does nothing.
 
-ghost use Rattle.std.specs.Prelude.{◌≡◌, ◌≢◌, ℕ, Bool, List, Some};
+ghost use Rattle.std.specs.Prelude.{◌≡◌, ◌≢◌, ℕ, Bool, List, Option, Some};
 ghost use Rattle.request_data.specs.declared.request.Request.{Request};
 ghost use Rattle.request_data.specs.declared.request.Request.TheVariants.{Pass};
 ghost use Rattle.request_data.specs.declared.request.NodeOrder.{NodeOrder};
 ghost use Rattle.reply_data.specs.declared.reply.Reply.{Reply};
-ghost use Rattle.reply_data.specs.declared.reply.Reply.TheVariants.{Idle};
+ghost use Rattle.reply_data.specs.declared.reply.Reply.TheVariants.{Idle, Refused};
+ghost use Rattle.reply_data.specs.declared.refusal.Refusal.{Refusal};
 ghost use Rattle.plain_data.specs.declared.conf.PartState.{PartState};
 ghost use Rattle.job_table.specs.declared.record.JobRecord.{JobRecord};
 ghost use Rattle.resource_profile.specs.Counts.{IsTickedUpTo};
+ghost use Rattle.backfill_planner.specs.Plans.{PlannedView};
 ghost use Rattle.ctl_state.specs.State.{State};
 ghost use Rattle.ctl_state.specs.Soundness.{IsSound};
 ghost use Rattle.ctl_state.specs.Verdicts.{Stays, Makes};
@@ -17,7 +19,7 @@ ghost use Rattle.ctl_jobs.specs.declared.action.Action.{Action};
 ghost use Rattle.ctl_jobs.specs.Changing.{change_after, change_made};
 ghost use Rattle.ctl_nodes.specs.Updating.{update_after, update_made};
 ghost use Rattle.ctl_core.specs.Operating.{partition_after, partition_made};
-ghost use Rattle.ctl_core.specs.Step.{verdict_of, reply_of, state_after, steps_of, raised, input_at, ChangesNothing, IsHinted, IsInRange};
+ghost use Rattle.ctl_core.specs.Step.{verdict_of, reply_of, state_after, kept_after, steps_of, raised, input_at, ChangesNothing, IsHinted, IsInRange};
 
 use ctl_jobs::laws::{what_users_do_keeps_all_sound, where_no_job_changes_nothing_does};
 use ctl_node_side::laws::{
@@ -81,6 +83,14 @@ pub fn idle_requests_change_nothing()
     making_and_taking_reservations_changes_the_state();
     an_idle_whole_pass_changes_nothing();
 }
+
+/// A refused pass leaves the plan that is kept, and so does every other request.
+pub fn only_a_pass_that_is_made_changes_the_kept_plan()
+    ensures refused { (s : State) (kept : Option PlannedView) (now : ℕ) (user : List ℕ) (refusal : Refusal)
+        → reply_of s now user Pass ≡ Refused refusal → kept_after s kept now user Pass ≡ kept }
+    ensures others { (s : State) (kept : Option PlannedView) (now : ℕ) (user : List ℕ) (request : Request)
+        → request ≢ Pass → kept_after s kept now user request ≡ kept }
+{}
 
 /// A pass over the very plan of what it would plan counts nothing.
 pub fn a_pass_with_its_own_hint_counts_nothing()

@@ -12,7 +12,7 @@ use Rattle.ctl_core.specs.Step.{IsHinted, reply_of, is_entered, steps_of}
 use Rattle.ctl_desk.specs.declared.entry.Answer.{Answer}
 use Rattle.ctl_desk.specs.declared.entry.Entry.{Entry}
 use Rattle.ctl_desk.specs.Desk.{Sight, GoesOn, IsAnswered, seen, later, sight_of, history_of, state_at}
-use Rattle.ctl_desk.specs.History.{History, after_all, present, entry_of}
+use Rattle.ctl_desk.specs.History.{BookState, History, after_all, history_in, present, entry_of}
 use Rattle.ctl_desk.proofs.Entering.{where_true, where_false}
 
 -- a desk that was made at a book of so many entries
@@ -222,3 +222,9 @@ pub not-hinted : (hint : Option PlannedView) (s : State) (now count : ℕ)
     → IfSome hint (λ old. IsHinted old s now count count)
 not-hinted None s now count = tt
 not-hinted (Some old) s now count = λ steady are. none-ticked _ count
+
+-- a book that is as it was has the history that it had
+pub stays_past : {A E : Type 0} (result : Result A E) (old new : BookState) → OnErr result (new ≡ old)
+    → OnErr result (history_in new ≡ history_in old)
+stays_past (Ok answer) old new stays = tt
+stays_past (Err error) old new stays = ap (λ (book : BookState). history_in book) stays

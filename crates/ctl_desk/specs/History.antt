@@ -1,7 +1,8 @@
 -- The history: the accepted requests, in order.
-use Rattle.std.specs.Prelude.{◌≡◌, ℕ, ◌≤◌, true, ◌==◌, List, [], ◌∷◌, take, filter, slice_get, IfSome}
+use Rattle.std.specs.Prelude.{◌≡◌, ℕ, ◌≤◌, true, ◌==◌, List, [], ◌∷◌, take, filter, slice_get, Option, IfSome}
 use Rattle.request_data.specs.declared.request.Request.{Request}
 use Rattle.request_data.specs.declared.request.Request.TheVariants.{Pass}
+use Rattle.backfill_planner.specs.Plans.{PlannedView}
 use Rattle.ctl_state.specs.State.{State}
 use Rattle.ctl_state.specs.Soundness.{IsSound}
 use Rattle.ctl_node_side.specs.Passes.{PassIsFree}
@@ -51,6 +52,16 @@ of_session number entries = filter (λ e. e.session == number) entries
 pub record History : Type 0 where
   pub opening : State
   pub entries : List Entry
+
+-- a book: a history, and the plan that its controller keeps
+pub record BookState : Type 0 where
+  pub opening : State
+  pub entries : List Entry
+  pub kept : Option PlannedView
+
+-- the history of a book
+abbrev pub history_in : BookState → History
+history_in book = record { opening = book.opening; entries = book.entries }
 
 -- the state now
 abbrev pub present : History → State

@@ -1,11 +1,11 @@
 //! The book: the controller with its history.
 
-ghost use Rattle.std.specs.Prelude.{◌≡◌, ◌<◌, ◌++◌, ◌∷◌, [], IfOk, IfSome, OnOk, OnErr, if◌then◌else◌, length, Some, None, vec_len, vec_capacity};
+ghost use Rattle.std.specs.Prelude.{◌≡◌, ◌<◌, ◌++◌, ◌∷◌, [], IfOk, IfSome, IfNone, OnOk, OnErr, if◌then◌else◌, length, Some, None, vec_len, vec_capacity};
 ghost use Rattle.request_data.specs.declared.request.Request.TheVariants.{Pass};
 ghost use Rattle.resource_profile.specs.Counts.{IsTickedUpTo};
 ghost use Rattle.ctl_state.specs.Soundness.{IsSound};
-ghost use Rattle.ctl_core.specs.Step.{IsHinted, input_at, reply_of, is_entered, steps_of};
-ghost use Rattle.ctl_desk.specs.History.{entry_of, present, IsHistory};
+ghost use Rattle.ctl_core.specs.Step.{IsHinted, input_at, kept_after, reply_of, is_entered, steps_of};
+ghost use Rattle.ctl_desk.specs.History.{entry_of, history_in, present, IsHistory};
 
 use crate::entry::{Answer, Entry};
 use backfill_planner::Planned;
@@ -21,7 +21,7 @@ use small_texts::name::Name;
 use std::alloc::Global;
 use std::marker::Model;
 
-/// The controller, its opening and its history. A contract sees the opening and the entries.
+/// The controller, its opening and its history. A contract sees the opening, the entries and the plan that is kept.
 #[derive(Drop)]
 pub struct Book {
     ctl: Ctl,
@@ -31,11 +31,11 @@ pub struct Book {
 
 impl Model for Book {
     ghost use Rattle.std.specs.Prelude.{◌≡◌};
-    ghost use Rattle.ctl_desk.specs.History.{History, IsHistory, after_all};
+    ghost use Rattle.ctl_desk.specs.History.{BookState, IsHistory, after_all};
 
-    ghost Value = { History };
+    ghost Value = { BookState };
 
-    ghost view = { λ b. record { opening = b.opening.state; entries = b.entries.items } };
+    ghost view = { λ b. record { opening = b.opening.state; entries = b.entries.items; kept = b.ctl.kept } };
 
     ghost invariant = { λ b. IsHistory (record { opening = b.opening.state; entries = b.entries.items })
         × (b.ctl.state ≡ after_all b.opening.state b.entries.items) };
@@ -48,6 +48,7 @@ impl Book {
         requires sound { IsSound opening.state }
         ensures opening { result.opening ≡ opening.state }
         ensures entries { result.entries ≡ [] }
+        ensures kept { result.kept ≡ ctl.kept }
     {
         Book {
             ctl,
@@ -59,14 +60,14 @@ impl Book {
     /// How many entries there are.
     pub fn len(&self) -> u64
         ensures len { result ≡ length self.now.entries }
-        ensures history { IsHistory self.now }
+        ensures history { IsHistory (history_in self.now) }
     {
         self.entries.len() as u64
     }
 
     /// The controller, as the entries have left it. It takes no memory.
     pub fn ctl(&self) -> &Ctl
-        ensures { result.now.state ≡ present self.now }
+        ensures { result.now.state ≡ present (history_in self.now) }
     {
         &self.ctl
     }
@@ -74,7 +75,7 @@ impl Book {
     /// The entries, in order. It takes no memory.
     pub fn entries(&self) -> &[Entry]
         ensures value { result.now ≡ self.now.entries }
-        ensures history { IsHistory self.now }
+        ensures history { IsHistory (history_in self.now) }
     {
         self.entries.as_slice()
     }
@@ -87,12 +88,14 @@ impl Book {
         user: &Name,
         request: Request,
     ) -> Result<Answer, Memory>
-        ensures reply { IfOk result (λ answer. answer.reply ≡ reply_of (present self.old) now user.now request) }
+        ensures reply { IfOk result (λ answer. answer.reply ≡ reply_of (present (history_in self.old)) now user.now request) }
         ensures place { IfOk result (λ answer. answer.place ≡ length self.old.entries) }
         ensures entries { IfOk result (λ answer. self.new.entries ≡ (if is_entered answer.reply
-            then self.old.entries ++ entry_of (present self.old) session now user.now request ∷ []
+            then self.old.entries ++ entry_of (present (history_in self.old)) session now user.now request ∷ []
             else self.old.entries)) }
         ensures opening { self.new.opening ≡ self.old.opening }
+        ensures kept { OnOk result
+            (self.new.kept ≡ kept_after (present (history_in self.old)) self.old.kept now user.now request) }
         ensures err { OnErr result (self.new ≡ self.old) }
     {
         raised_moments_decide_alike();
@@ -113,15 +116,19 @@ impl Book {
         hint: Option<Planned>,
         steps: &mut Steps<L>,
     ) -> Result<Answer, Memory>
-        ensures reply { IfOk result (λ answer. answer.reply ≡ reply_of (present self.old) now user.now Pass) }
+        ensures reply { IfOk result (λ answer. answer.reply ≡ reply_of (present (history_in self.old)) now user.now Pass) }
         ensures place { IfOk result (λ answer. answer.place ≡ length self.old.entries) }
         ensures entries { IfOk result (λ answer. self.new.entries ≡ (if is_entered answer.reply
-            then self.old.entries ++ entry_of (present self.old) session now user.now Pass ∷ []
+            then self.old.entries ++ entry_of (present (history_in self.old)) session now user.now Pass ∷ []
             else self.old.entries)) }
         ensures opening { self.new.opening ≡ self.old.opening }
+        ensures kept { OnOk result
+            (self.new.kept ≡ kept_after (present (history_in self.old)) self.old.kept now user.now Pass) }
         ensures err { OnErr result (self.new ≡ self.old) }
-        ensures steps { IsTickedUpTo (steps_of (present self.old) now user.now) steps.old steps.new }
-        ensures over { IfSome hint (λ hint. IsHinted hint (present self.old) now steps.old steps.new) }
+        ensures steps { IsTickedUpTo (steps_of (present (history_in self.old)) now user.now) steps.old steps.new }
+        ensures over { IfSome hint (λ hint. IsHinted hint (present (history_in self.old)) now steps.old steps.new) }
+        ensures over_kept { IfNone hint (IfSome self.old.kept (λ kept.
+            IsHinted kept (present (history_in self.old)) now steps.old steps.new)) }
     {
         raised_moments_decide_alike();
         passes_are_free();
@@ -131,12 +138,13 @@ impl Book {
         Ok(enter(&mut self.entries, session, name, Request::Pass, decided))
     }
 
-    /// What a pass by a privileged user at a moment would make its plan of, with the plan that the controller keeps, of
-    /// which none stays. The cost is the controller's.
+    /// What a pass by a privileged user at a moment would make its plan of, with a copy of the plan that the controller
+    /// keeps. The cost is the controller's.
     pub fn input(&mut self, now: u64) -> Result<PlanInput, Memory>
-        ensures input { IfOk result (λ input. input ≡ input_at (present self.old) now) }
+        ensures input { IfOk result (λ input. input.parts ≡ input_at (present (history_in self.old)) now) }
+        ensures kept { IfOk result (λ input. input.kept ≡ self.old.kept) }
         ensures stays { self.new ≡ self.old }
-        ensures history { IsHistory self.old }
+        ensures history { IsHistory (history_in self.old) }
     {
         self.ctl.input(now)
     }

@@ -53,13 +53,13 @@ pub trait Desk {
         ensures over_err { OnErr result (IfSome hint (λ hint.
             IsHinted hint (present (history_of (sight self.new))) now steps.old steps.new)) };
 
-    /// What a pass by a privileged user at a moment would make its plan of, after all that the desk has seen then. The
-    /// plan that the controller keeps goes with it: a pass that is given it, or a plan made over it, as its hint searches
-    /// for little, and one that is given none plans from nothing. It costs what a pass costs before its plan.
+    /// What a pass by a privileged user at a moment would make its plan of, after all that the desk has seen then. A copy
+    /// of the plan that the controller keeps goes with it: a plan made over that searches for little. It costs what a
+    /// pass costs before its plan, beside the copy.
     fn input(&mut self, now: u64) -> Result<PlanInput, Memory>
         ensures goes_on { GoesOn (sight self.old) (sight self.new) }
         ensures mine { (sight self.new).mine ≡ (sight self.old).mine }
-        ensures input { IfOk result (λ input. input ≡ input_at (present (history_of (sight self.new))) now) };
+        ensures input { IfOk result (λ input. input.parts ≡ input_at (present (history_of (sight self.new))) now) };
 
     /// How many entries the desk has seen.
     fn seen_len(&self) -> u64

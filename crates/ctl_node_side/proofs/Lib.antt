@@ -6,6 +6,7 @@ pub mod Running
 pub mod Back
 pub mod Coming
 pub mod Over
+pub mod Made
 pub mod Heard
 pub mod InOrder
 pub mod ReportPlaces

@@ -1,5 +1,6 @@
 -- What has come of a pass.
-use Rattle.std.specs.Prelude.{◌≡◌, ℕ, Bool, true, false, length}
+use Rattle.std.specs.Prelude.{◌≡◌, ℕ, Bool, true, false, length, Option, Some, None}
+use Rattle.backfill_planner.specs.Plans.{PlannedView}
 use Rattle.ctl_state.specs.State.{State}
 use Rattle.ctl_pass.specs.Passing.{outcome}
 use Rattle.ctl_node_side.specs.declared.passing.PassOutcome.{PassOutcome}
@@ -17,3 +18,9 @@ Came s s' now room (Passed ended started planned) =
     × (started ≡ length (outcome (silenced s now) now).starts)
     × (planned ≡ length (outcome (silenced s now) now).stays)
     × (s' ≡ after_pass s now)
+
+-- the plan that a pass has made of these parts: none where there was no room for it
+abbrev pub plan_made : PassOutcome → PlannedView → Option PlannedView
+plan_made Idle parts = Some parts
+plan_made Full parts = None
+plan_made (Passed ended started planned) parts = Some parts

@@ -1,6 +1,6 @@
 //! What a whole pass plans, once it has seen to silent nodes.
 
-ghost use Rattle.std.specs.Prelude.{◌≡◌, ◌≤◌, ℕ, true, false, IfOk};
+ghost use Rattle.std.specs.Prelude.{◌≡◌, ◌≤◌, ℕ, true, false, IfOk, option_copied};
 ghost use Rattle.cpu_ids.specs.Rows.{has_id};
 ghost use Rattle.ctl_state.specs.Index.{IsIndexed};
 ghost use Rattle.ctl_state.specs.Soundness.{IsSound};
@@ -22,14 +22,15 @@ use std::alloc::Global;
 fn input_heard(
     alloc: Global,
     cluster: &Cluster,
-    kept: &mut Option<Planned>,
+    kept: Option<&Planned>,
     moment: u64,
 ) -> Result<PlanInput, Memory>
     requires sound { IsSound (state_of cluster.now) }
     requires raised { cluster.now.moment ≤ moment }
     requires in_time { moment ≤ last_moment }
     requires heard { any_silent (state_of cluster.now) moment ≡ false }
-    ensures { IfOk result (λ input. input ≡ pass_input (state_of cluster.now) moment) }
+    ensures input { IfOk result (λ input. input.parts ≡ pass_input (state_of cluster.now) moment) }
+    ensures kept { IfOk result (λ input. input.kept ≡ option_copied kept.entry) }
 {
     plan_input(alloc, cluster, kept, moment)
 }
@@ -38,7 +39,7 @@ fn input_heard(
 fn input_silenced(
     alloc: Global,
     cluster: &mut Cluster,
-    kept: &mut Option<Planned>,
+    kept: Option<&Planned>,
     moment: u64,
     silent: &CpuIds,
 ) -> Result<PlanInput, Memory>
@@ -48,7 +49,8 @@ fn input_silenced(
     requires indexed { IsIndexed cluster.old }
     requires places { (place : ℕ) → has_id silent.now place ≡ silent_at (state_of cluster.old) moment place }
     requires some { any_silent (state_of cluster.old) moment ≡ true }
-    ensures input { IfOk result (λ input. input ≡ pass_input (state_of cluster.old) moment) }
+    ensures input { IfOk result (λ input. input.parts ≡ pass_input (state_of cluster.old) moment) }
+    ensures kept { IfOk result (λ input. input.kept ≡ option_copied kept.entry) }
     ensures stays { state_of cluster.new ≡ state_of cluster.old }
     ensures indexed { IsIndexed cluster.new }
 {
@@ -61,20 +63,20 @@ fn input_silenced(
     input
 }
 
-/// What a whole pass at its raised moment plans; all stays as it was. The plan that is kept goes with it, and none
-/// stays. Where no node falls silent it costs what `ctl_pass::plan_input` costs, beside a look at each node; where some
+/// What a whole pass at its raised moment plans, with a copy of the plan that is kept; all stays as it was. Where no node falls silent it costs what `ctl_pass::plan_input` costs, beside a look at each node; where some
 /// do it copies the jobs that hold something of them too, and walks over all jobs twice more.
 pub fn input(
     alloc: Global,
     cluster: &mut Cluster,
-    kept: &mut Option<Planned>,
+    kept: Option<&Planned>,
     moment: u64,
 ) -> Result<PlanInput, Memory>
     requires sound { IsSound (state_of cluster.old) }
     requires raised { cluster.old.moment ≤ moment }
     requires in_time { moment ≤ last_moment }
     requires indexed { IsIndexed cluster.old }
-    ensures input { IfOk result (λ input. input ≡ pass_input (state_of cluster.old) moment) }
+    ensures input { IfOk result (λ input. input.parts ≡ pass_input (state_of cluster.old) moment) }
+    ensures kept { IfOk result (λ input. input.kept ≡ option_copied kept.entry) }
     ensures stays { state_of cluster.new ≡ state_of cluster.old }
     ensures indexed { IsIndexed cluster.new }
 {

@@ -17,5 +17,5 @@ mod silence;
 mod starts;
 
 pub use inputs::input;
-pub use passing::{PassOutcome, pass};
+pub use passing::{PassMade, PassOutcome, pass};
 pub use restarting::{accept, orders};

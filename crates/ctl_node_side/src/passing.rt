@@ -1,14 +1,15 @@
 //! A whole pass: it sees to the nodes that fall silent, and then plans and starts.
 
-ghost use Rattle.std.specs.Prelude.{◌≡◌, ◌≢◌, ◌≤◌, ◌+◌, ◌<◌, ◌^◌, ℕ, true, false, IfOk, IfSome, OnOk, OnErr, length};
+ghost use Rattle.std.specs.Prelude.{◌≡◌, ◌≢◌, ◌≤◌, ◌+◌, ◌<◌, ◌^◌, ℕ, true, false, IfOk, IfSome, OnErr, Some, length, option_copied};
 ghost use Rattle.cpu_ids.specs.Rows.{has_id};
 ghost use Rattle.resource_profile.specs.Counts.{IsTickedUpTo};
 ghost use Rattle.ctl_state.specs.Index.{IsIndexed};
 ghost use Rattle.ctl_state.specs.Soundness.{IsSound};
 ghost use Rattle.ctl_state.specs.State.{state_of, last_moment};
 ghost use Rattle.ctl_pass.specs.Passing as pass;
-ghost use Rattle.ctl_node_side.specs.Passes.{IsPassedOver, planned_by_pass};
-ghost use Rattle.ctl_node_side.specs.Came.{Came};
+ghost use Rattle.ctl_pass.specs.Inputs.{input_of};
+ghost use Rattle.ctl_node_side.specs.Passes.{IsPassedOver, pass_input, planned_by_pass};
+ghost use Rattle.ctl_node_side.specs.Came.{Came, plan_made};
 ghost use Rattle.ctl_node_side.specs.Silence.{any_silent, silent_at, silenced};
 
 use crate::kept::{keep, put_back};
@@ -40,17 +41,26 @@ pub enum PassOutcome {
     },
 }
 
+/// A pass that isn't refused for who asks it.
+#[derive(Drop)]
+pub struct PassMade {
+    pub outcome: PassOutcome,
+    /// Its plan, over which a later one can be made; None where the history has no room.
+    pub plan: Option<Planned>,
+}
+
 // Does what was decided, beside so many jobs that failed with their nodes.
-fn finish(cluster: &mut Cluster, moment: u64, failed: u32, decided: Decided) -> PassOutcome
+fn finish(cluster: &mut Cluster, moment: u64, failed: u32, decided: Decided) -> PassMade
     requires sound { IsSound (state_of cluster.old) }
     requires raised { cluster.old.moment ≤ moment }
     requires in_time { moment ≤ last_moment }
     requires indexed { IsIndexed cluster.old }
     requires decided { pass.IsDecided (state_of cluster.old) moment decided }
     requires few { failed + decided.ended < 2 ^ 32 }
-    ensures passed { result ≡ PassOutcome.Passed (failed + decided.ended)
+    ensures passed { result.outcome ≡ PassOutcome.Passed (failed + decided.ended)
         (length (pass.outcome (state_of cluster.old) moment).starts)
         (length (pass.outcome (state_of cluster.old) moment).stays) }
+    ensures plan { result.plan ≡ Some (input_of (state_of cluster.old) moment) }
     ensures after { state_of cluster.new ≡ pass.pass_after (state_of cluster.old) moment }
     ensures indexed { IsIndexed cluster.new }
 {
@@ -58,11 +68,14 @@ fn finish(cluster: &mut Cluster, moment: u64, failed: u32, decided: Decided) -> 
     let ended = failed + decided.ended;
     let started = decided.starts.len() as u32;
     let planned = decided.stays.len() as u32;
-    act(cluster, moment, decided);
-    PassOutcome::Passed {
-        ended,
-        started,
-        planned,
+    let plan = act(cluster, moment, decided);
+    PassMade {
+        outcome: PassOutcome::Passed {
+            ended,
+            started,
+            planned,
+        },
+        plan: Some(plan),
     }
 }
 
@@ -70,29 +83,37 @@ fn finish(cluster: &mut Cluster, moment: u64, failed: u32, decided: Decided) -> 
 fn pass_heard<L>(
     alloc: Global,
     cluster: &mut Cluster,
-    kept: &mut Option<Planned>,
+    older: Option<&Planned>,
     moment: u64,
     room: bool,
     steps: &mut Steps<L>,
-) -> Result<PassOutcome, Memory>
+) -> Result<PassMade, Memory>
     requires sound { IsSound (state_of cluster.old) }
     requires raised { cluster.old.moment ≤ moment }
     requires in_time { moment ≤ last_moment }
     requires indexed { IsIndexed cluster.old }
     requires heard { any_silent (state_of cluster.old) moment ≡ false }
-    ensures came { IfOk result (Came (state_of cluster.old) (state_of cluster.new) moment room) }
+    ensures came { IfOk result (λ made. Came (state_of cluster.old) (state_of cluster.new) moment room made.outcome) }
+    ensures plan { IfOk result (λ made. made.plan ≡ plan_made made.outcome (pass_input (state_of cluster.old) moment)) }
     ensures err { OnErr result (state_of cluster.new ≡ state_of cluster.old) }
     ensures steps { IsTickedUpTo (planned_by_pass (state_of cluster.old) moment) steps.old steps.new }
-    ensures over { IfSome kept.old (λ old. IsPassedOver old (state_of cluster.old) moment steps.old steps.new) }
+    ensures over { IfSome (option_copied older.entry) (λ old.
+        IsPassedOver old (state_of cluster.old) moment steps.old steps.new) }
     ensures indexed { IsIndexed cluster.new }
 {
     there_are_few_jobs();
-    let decided = decide(alloc, cluster, kept, moment, steps)?;
+    let decided = decide(alloc, cluster, older, moment, steps)?;
     if is_idle(cluster, moment, &decided) {
-        return Ok(PassOutcome::Idle);
+        return Ok(PassMade {
+            outcome: PassOutcome::Idle,
+            plan: Some(decided.planned),
+        });
     }
     if !room {
-        return Ok(PassOutcome::Full);
+        return Ok(PassMade {
+            outcome: PassOutcome::Full,
+            plan: None,
+        });
     }
     Ok(finish(cluster, moment, 0, decided))
 }
@@ -101,22 +122,24 @@ fn pass_heard<L>(
 fn pass_silenced<L>(
     alloc: Global,
     cluster: &mut Cluster,
-    kept: &mut Option<Planned>,
+    older: Option<&Planned>,
     moment: u64,
     silent: &CpuIds,
     room: bool,
     steps: &mut Steps<L>,
-) -> Result<PassOutcome, Memory>
+) -> Result<PassMade, Memory>
     requires sound { IsSound (state_of cluster.old) }
     requires raised { cluster.old.moment ≤ moment }
     requires in_time { moment ≤ last_moment }
     requires indexed { IsIndexed cluster.old }
     requires places { (place : ℕ) → has_id silent.now place ≡ silent_at (state_of cluster.old) moment place }
     requires some { any_silent (state_of cluster.old) moment ≡ true }
-    ensures came { IfOk result (Came (state_of cluster.old) (state_of cluster.new) moment room) }
+    ensures came { IfOk result (λ made. Came (state_of cluster.old) (state_of cluster.new) moment room made.outcome) }
+    ensures plan { IfOk result (λ made. made.plan ≡ plan_made made.outcome (pass_input (state_of cluster.old) moment)) }
     ensures err { OnErr result (state_of cluster.new ≡ state_of cluster.old) }
     ensures steps { IsTickedUpTo (planned_by_pass (state_of cluster.old) moment) steps.old steps.new }
-    ensures over { IfSome kept.old (λ old. IsPassedOver old (state_of cluster.old) moment steps.old steps.new) }
+    ensures over { IfSome (option_copied older.entry) (λ old.
+        IsPassedOver old (state_of cluster.old) moment steps.old steps.new) }
     ensures indexed { IsIndexed cluster.new }
 {
     silence_keeps_all_sound();
@@ -125,11 +148,14 @@ fn pass_silenced<L>(
     let before = keep(alloc, cluster, silent)?;
     let failed = count_failing(silent, cluster.jobs.records()) as u32;
     fall_silent(cluster, moment, silent);
-    match decide(alloc, cluster, kept, moment, steps) {
+    match decide(alloc, cluster, older, moment, steps) {
         Ok(decided) if room => Ok(finish(cluster, moment, failed, decided)),
         Ok(_) => {
             put_back(cluster, before);
-            Ok(PassOutcome::Full)
+            Ok(PassMade {
+                outcome: PassOutcome::Full,
+                plan: None,
+            })
         }
         Err(memory) => {
             put_back(cluster, before);
@@ -140,31 +166,32 @@ fn pass_silenced<L>(
 
 /// A whole pass at its raised moment, where the history has room for it or not. Where no node falls silent it costs what
 /// `ctl_pass::decide` and `act` cost, beside a look at each node; where some do it copies the jobs that hold something of
-/// them too, and walks over all jobs once more. Its plan is made over the kept one, if any, and kept in its place; it
-/// counts at most a step for each job that it plans, and over a plan that is kept none for those which stand as they stood
-/// in it. SlurmdTimeout in slurm.conf(5).
+/// them too, and walks over all jobs once more. Its plan is made over an older one, if any; it counts at most a step for
+/// each job that it plans, and over an older plan none for those which stand as they stood in it. SlurmdTimeout in slurm.conf(5).
 pub fn pass<L>(
     alloc: Global,
     cluster: &mut Cluster,
-    kept: &mut Option<Planned>,
+    older: Option<&Planned>,
     moment: u64,
     room: bool,
     steps: &mut Steps<L>,
-) -> Result<PassOutcome, Memory>
+) -> Result<PassMade, Memory>
     requires sound { IsSound (state_of cluster.old) }
     requires raised { cluster.old.moment ≤ moment }
     requires in_time { moment ≤ last_moment }
     requires indexed { IsIndexed cluster.old }
-    ensures came { IfOk result (Came (state_of cluster.old) (state_of cluster.new) moment room) }
+    ensures came { IfOk result (λ made. Came (state_of cluster.old) (state_of cluster.new) moment room made.outcome) }
+    ensures plan { IfOk result (λ made. made.plan ≡ plan_made made.outcome (pass_input (state_of cluster.old) moment)) }
     ensures err { OnErr result (state_of cluster.new ≡ state_of cluster.old) }
     ensures steps { IsTickedUpTo (planned_by_pass (state_of cluster.old) moment) steps.old steps.new }
-    ensures over { IfSome kept.old (λ old. IsPassedOver old (state_of cluster.old) moment steps.old steps.new) }
+    ensures over { IfSome (option_copied older.entry) (λ old.
+        IsPassedOver old (state_of cluster.old) moment steps.old steps.new) }
     ensures indexed { IsIndexed cluster.new }
 {
     let silent = silent_places(cluster, moment);
     if silent.is_empty() {
-        pass_heard(alloc, cluster, kept, moment, room, steps)
+        pass_heard(alloc, cluster, older, moment, room, steps)
     } else {
-        pass_silenced(alloc, cluster, kept, moment, &silent, room, steps)
+        pass_silenced(alloc, cluster, older, moment, &silent, room, steps)
     }
 }

@@ -1,9 +1,9 @@
 -- Over the plan that a pass makes itself each job stands as it stood.
-use Rattle.std.proofs.Common.{◌≡◌, ◌≢◌, ℕ, zero, suc, ◌≤◌, ◌<◌, Bool, true, List, [], ◌∷◌, length, get_or, AllPairs, Option, Some, None, IfSome, refl, sym, subst, arith}
+use Rattle.std.proofs.Common.{◌≡◌, ◌≢◌, ℕ, zero, suc, ◌≤◌, ◌<◌, true, List, [], ◌∷◌, length, get_or, AllPairs, Option, Some, None, IfSome, refl, sym, subst, arith}
 use Rattle.std.proofs.lemmas.List.{get_or_default}
 use Rattle.resource_profile.specs.declared.NodeRoom.{NodeRoom}
 use Rattle.resource_profile.specs.declared.Hold.{Hold}
-use Rattle.resource_profile.specs.Counts.{IsTickedUpTo, ticked}
+use Rattle.resource_profile.specs.Counts.{ticked}
 use Rattle.backfill_planner.specs.declared.Placed.{Placed}
 use Rattle.backfill_planner.specs.declared.job.PlanJob.{PlanJob}
 use Rattle.backfill_planner.specs.Bases.{BaseView}
@@ -15,7 +15,7 @@ use Rattle.ctl_state.specs.Laws.{OrderKeepsApart}
 use Rattle.ctl_state.specs.Soundness.{IsSound}
 use Rattle.ctl_state.specs.State.{State}
 use Rattle.ctl_waiting.specs.Candidates.{ranked}
-use Rattle.ctl_pass.specs.Inputs.{IsSteppedOver, input_of}
+use Rattle.ctl_pass.specs.Inputs.{CountsOver, IsSteppedOver, input_of}
 use Rattle.ctl_pass.specs.Readiness.{RankedStays, base_of, ready}
 use Rattle.ctl_pass.proofs.Ranks.{ranked-apart}
 
@@ -89,10 +89,7 @@ not-over (Some old) s now count = λ steady are. record { times = 0; few = omega
 -- what a plan counts over an older one, where it is that of a pass
 pub over-input : (kept : Option PlannedView) (s : State) (now before after : ℕ) (input : PlannedView)
     → input ≡ input_of s now
-    → IfSome kept (λ old. (steady : ℕ → Bool) → AreSteady old input.base input.ranked input.moment steady
-    → IsTickedUpTo (others steady (length input.ranked)) before after)
+    → IfSome kept (λ old. CountsOver old input before after)
     → IfSome kept (λ old. IsSteppedOver old s now before after)
 over-input kept s now before after input is over =
-    subst (λ (one : PlannedView). IfSome kept (λ old. (steady : ℕ → Bool)
-    → AreSteady old one.base one.ranked one.moment steady
-    → IsTickedUpTo (others steady (length one.ranked)) before after)) is over
+    subst (λ (one : PlannedView). IfSome kept (λ old. CountsOver old one before after)) is over

@@ -9,3 +9,4 @@ pub mod Taking
 pub mod Reserved
 pub mod Freedom
 pub mod Inputs
+pub mod Views

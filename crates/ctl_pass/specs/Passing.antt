@@ -16,6 +16,7 @@ use Rattle.ctl_pass.specs.Awaiting.{IsPrepared, placements_of}
 use Rattle.ctl_pass.specs.Live.{has_array}
 use Rattle.ctl_pass.specs.Limits.{is_over}
 use Rattle.ctl_waiting.specs.Candidates.{ranked}
+use Rattle.ctl_pass.specs.Inputs.{input_of}
 use Rattle.ctl_pass.specs.Readiness.{arrays_left, jobs_left, ready, placements}
 use Rattle.ctl_pass.specs.Starting.{Started, due, started}
 use Rattle.ctl_pass.specs.SamePlans.{same_plans}
@@ -54,7 +55,7 @@ jobs_planned s now = length (ranked (ready s now) now)
 pub record HasArrays (jobs : List JobRecord) (arrays : LiveArrays) : Type 0 where
   pub each : (array : ℕ) → has_array arrays array ≡ list_any (is_task_of array) jobs
 
--- what was decided is what the pass makes, and the starts are prepared
+-- what was decided is what the pass makes, with its plan, and the starts are prepared
 pub record IsDecided (s : State) (now : ℕ) (decided : Decided) : Type 0 where
   pub ended : decided.ended ≡ count_by (is_over now) s.jobs
   pub starts : placements_of decided.starts.items ≡ placements_due s now
@@ -63,3 +64,4 @@ pub record IsDecided (s : State) (now : ℕ) (decided : Decided) : Type 0 where
   pub stays : decided.stays.items ≡ (outcome s now).stays
   pub arrays : HasArrays (jobs_left s now) decided.arrays
   pub awaited : ShowsAwaited decided.awaited s.jobs
+  pub planned : decided.planned ≡ input_of s now

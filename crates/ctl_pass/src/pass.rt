@@ -1,6 +1,6 @@
 //! A pass: what it decides, and what it does.
 
-ghost use Rattle.std.specs.Prelude.{◌≡◌, ◌≤◌, ◌<◌, ◌&&◌, not, nat_eq, nat_lt, IfOk, IfSome, filter, length};
+ghost use Rattle.std.specs.Prelude.{◌≡◌, ◌≤◌, ◌<◌, ◌&&◌, not, nat_eq, nat_lt, IfOk, IfSome, filter, length, option_copied};
 ghost use Rattle.std.specs.List.{list_all, list_any};
 ghost use Rattle.resource_profile.specs.Counts.{IsTickedUpTo};
 ghost use Rattle.ctl_state.specs.State.{state_of, last_moment};
@@ -15,7 +15,7 @@ ghost use Rattle.run_limits.specs.Tallies.{Shows};
 ghost use Rattle.ctl_state.specs.Counted.{holding};
 ghost use Rattle.ctl_pass.specs.Readiness.{jobs_left, placements, ready};
 ghost use Rattle.ctl_pass.specs.SamePlans.{same_plans};
-ghost use Rattle.ctl_pass.specs.Inputs.{IsSteppedOver};
+ghost use Rattle.ctl_pass.specs.Inputs.{IsSteppedOver, input_of};
 ghost use Rattle.ctl_pass.specs.Passing;
 
 use crate::beginning::begin;
@@ -54,6 +54,8 @@ pub struct Decided {
     pub arrays: LiveArrays,
     /// The jobs for which pending ones wait: their records stay.
     pub awaited: Awaited,
+    /// The whole plan, over which a later one can be made.
+    pub planned: Planned,
 }
 
 /// Why a pass is refused, if it is.
@@ -78,18 +80,18 @@ fn copy_all(alloc: Global, placements: &[Placed]) -> Result<Vec<Placed>, Memory>
     Ok(copies)
 }
 
-/// What a pass at its raised moment does. Its plan is made over the one that is kept, if any, and kept then in its place;
-/// whichever was kept, the pass does the same. Linear in jobs, parts and
+/// What a pass at its raised moment does. Its plan is made over an older one, if any; whichever that is, the pass does the
+/// same. Linear in jobs, parts and
 /// nodes, and for each candidate in the nodes that it may have, beside what its plan costs; the nodes of each partition
 /// are sorted, and so are the users by what they have used and the candidates by rank, each once. What priorities rest on
 /// is found once. The jobs that hold processors are counted once, in one walk over all; each of them, each pending job
 /// and each placement that begins now costs its association's way up to root besides.
-/// It counts a step for each job that it searches for: at most one for each that it plans, and over a plan that is kept
-/// none for those which stand as they stood in it.
+/// It counts a step for each job that it searches for: at most one for each that it plans, and over an older plan none
+/// for those which stand as they stood in it.
 pub fn decide<L>(
     alloc: Global,
     cluster: &Cluster,
-    kept: &mut Option<Planned>,
+    older: Option<&Planned>,
     now: u64,
     steps: &mut Steps<L>,
 ) -> Result<Decided, Memory>
@@ -98,17 +100,16 @@ pub fn decide<L>(
     requires in_time { now ≤ last_moment }
     ensures decided { IfOk result (Passing.IsDecided (state_of cluster.now) now) }
     ensures steps { IsTickedUpTo (Passing.jobs_planned (state_of cluster.now) now) steps.old steps.new }
-    ensures over { IfSome kept.old (λ old. IsSteppedOver old (state_of cluster.now) now steps.old steps.new) }
+    ensures over { IfSome (option_copied older.entry) (λ old.
+        IsSteppedOver old (state_of cluster.now) now steps.old steps.new) }
 {
     who_is_awaited_stays();
     let awaited = Awaited::of(alloc, &cluster.jobs)?;
     let tally = count_holding(alloc, &cluster.assocs, cluster.jobs.records())?;
     let input = find_input(alloc, cluster, now, &awaited, &tally)?;
-    let planned = plan_over(alloc, kept.as_ref(), input, steps)?;
+    let planned = plan_over(alloc, older, input, steps)?;
     let plan = copy_all(alloc, planned.placements())?;
-    let decided = decide_with(alloc, cluster, now, awaited, tally, plan)?;
-    *kept = Some(planned);
-    Ok(decided)
+    decide_with(alloc, cluster, now, awaited, tally, plan, planned)
 }
 
 // What a pass with this plan does.
@@ -119,6 +120,7 @@ fn decide_with(
     awaited: Awaited,
     tally: Tally,
     plan: Vec<Placed>,
+    planned: Planned,
 ) -> Result<Decided, Memory>
     requires sound { IsSound (state_of cluster.now) }
     requires raised { cluster.now.moment ≤ now }
@@ -126,6 +128,7 @@ fn decide_with(
     requires awaited { ShowsAwaited awaited cluster.now.jobs.records }
     requires counted { Shows cluster.now.assocs.records tally (holding cluster.now.jobs.records) }
     requires plan { plan.items ≡ placements (state_of cluster.now) now }
+    requires planned { planned ≡ input_of (state_of cluster.now) now }
     ensures { IfOk result (Passing.IsDecided (state_of cluster.now) now) }
 {
     who_is_awaited_stays();
@@ -137,6 +140,7 @@ fn decide_with(
         stays,
         arrays: live_arrays(alloc, age, now, &awaited, cluster.jobs.records())?,
         awaited,
+        planned,
     })
 }
 
@@ -203,15 +207,16 @@ fn make_ready(cluster: &mut Cluster, now: u64, live: &LiveArrays, awaited: &Awai
     cluster.reservations.drop_ended(now);
 }
 
-/// Does what was decided. Linear in the jobs, the arrays, the reservations and the starts' parts, of which each looks at its node's
+/// Does what was decided, and gives the plan back. Linear in the jobs, the arrays, the reservations and the starts' parts, of which each looks at its node's
 /// processors; it takes no memory.
-pub fn act(cluster: &mut Cluster, now: u64, decided: Decided)
+pub fn act(cluster: &mut Cluster, now: u64, decided: Decided) -> Planned
     requires sound { IsSound (state_of cluster.old) }
     requires raised { cluster.old.moment ≤ now }
     requires in_time { now ≤ last_moment }
     requires indexed { IsIndexed cluster.old }
     requires decided { Passing.IsDecided (state_of cluster.old) now decided }
     ensures after { state_of cluster.new ≡ Passing.pass_after (state_of cluster.old) now }
+    ensures planned { result ≡ input_of (state_of cluster.old) now }
     ensures indexed { IsIndexed cluster.new }
 {
     what_is_due_can_start();
@@ -220,4 +225,5 @@ pub fn act(cluster: &mut Cluster, now: u64, decided: Decided)
     make_ready(cluster, now, &decided.arrays, &decided.awaited);
     begin(now, cluster, decided.starts);
     cluster.plan = decided.stays;
+    decided.planned
 }

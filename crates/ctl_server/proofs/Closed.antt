@@ -17,7 +17,7 @@ use Rattle.slurm_net.specs.Course.{Course}
 use Rattle.slurm_net.specs.Session.{LinkSession}
 use Rattle.ctl_state.specs.State.{State}
 use Rattle.ctl_desk.specs.declared.entry.Entry.{Entry}
-use Rattle.ctl_desk.specs.History.{History, of_session, after_all, present}
+use Rattle.ctl_desk.specs.History.{after_all, BookState, history_in, of_session, present}
 use Rattle.ctl_server.specs.Locked.{BookView}
 use Rattle.ctl_server.specs.declared.working.WorkerEnd.TheVariants.{Shut, DoorFault, Memory}
 use Rattle.ctl_server.specs.declared.workers.Worked.{Worked}
@@ -38,7 +38,7 @@ of_workers {A} P (one ∷ all) holds =
     (of_workers P all (All-tail P one.pass (map (λ (one : Worked A). one.pass) all) holds))
 
 module _ {A : Type 0} (lock : TableId) (faults_of : A → ℕ) (sessions_of : A → Option (List LinkSession))
-    (opening : State) (course : Option Course) (book : History) where
+    (opening : State) (course : Option Course) (book : BookState) where
   -- a worker's sessions by the book
   abbrev Sits : Worked A → Type 0
   Sits one = IsLeft lock faults_of sessions_of opening course one × (one.end ≢ Memory) × IsWhole opening one.pass book
@@ -53,14 +53,14 @@ module _ {A : Type 0} (lock : TableId) (faults_of : A → ℕ) (sessions_of : A 
       let here = All-head Sits one all sits in
       let told : sessions_of one.door ≡ Some list = cc in
       let others : map (λ (list : List LinkSession). Some list) lists ≡ map (λ (one : Worked A). sessions_of one.door) all = cc in
-      let served = subst (λ (o : Option (List LinkSession)). IfSome o (λ sessions. (book : History)
+      let served = subst (λ (o : Option (List LinkSession)). IfSome o (λ sessions. (book : BookState)
       → IsWhole opening one.pass book → AreOfWorker course book one.pass.number sessions)) told (here.0.served here.1) in (
         served book here.2,
         each_served all lists (All-tail Sits one all sits) others,
       )
 
 -- the whole history by each pass, where the book is as a pass that met them says
-wholes : {A : Type 0} (opening : State) (book : History) (all : List (Worked A))
+wholes : {A : Type 0} (opening : State) (book : BookState) (all : List (Worked A))
     → book.opening ≡ opening
     → All (λ (one : Worked A). StartsWith book.entries one.pass.seen) all
     → All (λ (one : Worked A). one.pass.mine ≡ of_session one.pass.number book.entries) all
@@ -85,7 +85,7 @@ shut_apart all shut = λ k d inside is. let both : Shut ≡ Memory = sym (shut k
 
 pub served_by : {A : Type 0} (lock : TableId) (faults_of : A → ℕ) (sessions_of : A → Option (List LinkSession))
     (opening : State) (course : Option Course) (all : List (Worked A)) (beside : List BookView) (doors : List A)
-    (lists : List (List LinkSession)) (own pass : BookView) (book : History)
+    (lists : List (List LinkSession)) (own pass : BookView) (book : BookState)
     → All (IsLeft lock faults_of sessions_of opening course) all → All (λ (one : Worked A). one.end ≡ Shut) all
     → HasMet own (map (λ (one : Worked A). one.pass) all ++ beside) pass → own.taken ≡ [] → IsBookOf pass book
     → book.opening ≡ opening → doors ≡ map (λ (one : Worked A). one.door) all
@@ -151,7 +151,7 @@ behind_all P (x ∷ xs) ys holds = behind_all P xs ys (All-tail P x (xs ++ ys) h
 
 if_kept : {A : Type 0} (lock : TableId) (faults_of : A → ℕ) (sessions_of : A → Option (List LinkSession))
     (opening : State) (course : Option Course) (n : ℕ) (all : List (Worked A)) (beside : List BookView) (doors : List A)
-    (own pass : BookView) (book : History) (closed : Option (List (List LinkSession)))
+    (own pass : BookView) (book : BookState) (closed : Option (List (List LinkSession)))
     → All (IsLeft lock faults_of sessions_of opening course) all → All (λ (one : Worked A). one.end ≡ Shut) all
     → HasMet own (map (λ (one : Worked A). one.pass) all ++ beside) pass → own.taken ≡ [] → IsBookOf pass book
     → book.opening ≡ opening → doors ≡ map (λ (one : Worked A). one.door) all → length all ≡ n
@@ -169,18 +169,18 @@ if_kept {A} lock faults_of sessions_of opening course n all beside doors own pas
 -- how the server ends by the shutdown
 pub ends_shut : {A : Type 0} (lock : TableId) (faults_of : A → ℕ) (sessions_of : A → Option (List LinkSession))
     (opening : State) (course : Option Course) (n : ℕ) (all : List (Worked A)) (planner reporter : BookView) (doors : List A)
-    (own pass : BookView) (book : History) (closed : Option (List (List LinkSession))) → StaysShut
+    (own pass : BookView) (book : BookState) (closed : Option (List (List LinkSession))) → StaysShut
     → BeganWith opening own → HasSeenShut opening planner
     → All (IsLeft lock faults_of sessions_of opening course) all → All (λ (one : Worked A). one.end ≡ Shut) all
     → HasMet own (map (λ (one : Worked A). one.pass) all ++ planner ∷ reporter ∷ []) pass → own.taken ≡ []
     → IsBookOf pass book → doors ≡ map (λ (one : Worked A). one.door) all → length all ≡ n
     → KeepsSessions closed (map sessions_of doors)
-    → (book.opening ≡ opening) × ((present book).is_shut ≡ true)
+    → (book.opening ≡ opening) × ((present (history_in book)).is_shut ≡ true)
     × IfSome closed (λ lists. (length lists ≡ n) × AreServed course book lists)
 ends_shut {A} lock faults_of sessions_of opening course n all planner reporter doors own pass book closed stays began seen_shut left shut met alone is closing count keeps =
     let first : pass.first ≡ Some began.0 = met.same.1 ∙ began.1 in
     let opens : book.opening ≡ opening =
-    subst (λ (o : Option History). IfSome o (λ first. book.opening ≡ first.opening)) first is.begins ∙ began.2 in
+    subst (λ (o : Option BookState). IfSome o (λ first. book.opening ≡ first.opening)) first is.begins ∙ began.2 in
     let P : BookView → Type 0 = λ (other : BookView). StartsWith pass.seen other.seen in
     let by_planner : StartsWith pass.seen planner.seen =
     All-head P planner (reporter ∷ [])

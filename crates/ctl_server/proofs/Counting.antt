@@ -12,7 +12,7 @@ use Rattle.ctl_core.specs.Step.{IsHinted, input_at, is_entered, reply_of, steps_
 use Rattle.ctl_desk.specs.declared.entry.Answer.{Answer}
 use Rattle.ctl_desk.specs.declared.entry.Entry.{Entry}
 use Rattle.ctl_desk.specs.Desk.{Sight, GoesOn, IsAnswered, history_of, later, seen, state_at}
-use Rattle.ctl_desk.specs.History.{History, IsHistory, after_all, entry_of, of_session, present}
+use Rattle.ctl_desk.specs.History.{after_all, entry_of, IsHistory, of_session, present}
 use Rattle.ctl_server.specs.Beside.{IsPlannedBeside, input_there}
 
 abbrev pub OwnHintCountsNothing : Type 0

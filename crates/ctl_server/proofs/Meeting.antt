@@ -7,7 +7,7 @@ use Rattle.turn_lock.specs.declared.view.Claim.{Claim}
 use Rattle.turn_lock.specs.Views.{Differ, StartsWith}
 use Rattle.turn_lock.specs.Passes.{HasTurn, Meets, IsKnown}
 use Rattle.ctl_desk.specs.declared.entry.Entry.{Entry}
-use Rattle.ctl_desk.specs.History.{History, of_session}
+use Rattle.ctl_desk.specs.History.{BookState, of_session}
 use Rattle.ctl_server.specs.Locked.{BookView}
 use Rattle.ctl_server.specs.Parts.{HasMet, IsBookOf, claim_of, claims_of}
 
@@ -125,17 +125,17 @@ met_two old middle later new others one two met first second =
     (met_one old later new (others ++ one ∷ []) two (met_one old middle later others one met first) second)
 
 -- the book that is taken from a lock
-pub book_of : (pass turn : BookView) (value book : History)
-    → HasTurn (λ (book : History). book.entries) (λ (first book : History). book.opening ≡ first.opening) pass turn value
+pub book_of : (pass turn : BookView) (value book : BookState)
+    → HasTurn (λ (book : BookState). book.entries) (λ (first book : BookState). book.opening ≡ first.opening) pass turn value
     → IsKnown (λ (entry : Entry). entry.session) turn → book ≡ value → IsBookOf pass book
 book_of pass turn value book took known is =
-    let whole : turn.seen ≡ book.entries = sym (ap (λ (h : History). h.entries) is ∙ took.entries) in
+    let whole : turn.seen ≡ book.entries = sym (ap (λ (h : BookState). h.entries) is ∙ took.entries) in
     let taken : turn.taken ≡ pass.taken = ap (λ (p : BookView). p.taken) took.sees.same in
     let first : turn.first ≡ pass.first = ap (λ (p : BookView). p.first) took.sees.same in record {
       seen = subst (λ (es : List Entry). StartsWith es pass.seen) whole took.sees.seen;
       claims = subst (λ (cs : List (Claim Entry)). All (λ (claim : Claim Entry). claim.entries ≡ of_session claim.number book.entries) cs)
           taken (subst (λ (es : List Entry). All (λ (claim : Claim Entry). claim.entries ≡ of_session claim.number es) turn.taken) whole known.taken);
       differ = subst Differ taken known.differ.1;
-      begins = subst (λ (h : History). IfSome pass.first (λ first. h.opening ≡ first.opening)) (sym is)
-          (subst (λ (o : Option History). IfSome o (λ first. value.opening ≡ first.opening)) first took.begins);
+      begins = subst (λ (h : BookState). IfSome pass.first (λ first. h.opening ≡ first.opening)) (sym is)
+          (subst (λ (o : Option BookState). IfSome o (λ first. value.opening ≡ first.opening)) first took.begins);
     }

@@ -5,7 +5,7 @@ use Rattle.slurm_io.specs.Faults.{CountsOne}
 use Rattle.slurm_net.specs.Course.{Course}
 use Rattle.slurm_net.specs.Session.{LinkSession}
 use Rattle.ctl_state.specs.State.{State}
-use Rattle.ctl_desk.specs.History.{present}
+use Rattle.ctl_desk.specs.History.{history_in, present}
 use Rattle.ctl_server.specs.declared.ending.ServeEnd.{ServeEnd}
 use Rattle.ctl_server.specs.declared.ending.ServeEnd.TheVariants.{Shut, DoorFault, WriteFault, Memory}
 use Rattle.ctl_server.specs.Ends.{EndsServing, IfShut, Writes}
@@ -21,7 +21,7 @@ module _ (opening : State) (course : Option Course) (n : ℕ) (closed : Option (
     of_opening Memory ends = tt
 
     pub of_shut : (end : ServeEnd) → EndsServing opening course n end closed faults faults'
-        → IfShut end (λ book. (present book).is_shut ≡ true)
+        → IfShut end (λ book. (present (history_in book)).is_shut ≡ true)
     of_shut (Shut book) ends = ends.1
     of_shut DoorFault ends = tt
     of_shut WriteFault ends = tt

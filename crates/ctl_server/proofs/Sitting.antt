@@ -7,7 +7,7 @@ use Rattle.turn_lock.specs.Passes.{IsKnown, SeesMore}
 use Rattle.ctl_state.specs.State.{State}
 use Rattle.ctl_desk.specs.declared.entry.Entry.{Entry}
 use Rattle.ctl_desk.specs.Desk.{Sight, GoesOn, history_of, later, seen}
-use Rattle.ctl_desk.specs.History.{History, of_session, present}
+use Rattle.ctl_desk.specs.History.{BookState, History, of_session, present}
 use Rattle.ctl_server.specs.Locked.{BookView, LockedSeat, sight_at, sight_by, sight_there}
 use Rattle.ctl_server.specs.Parts.{BeganWith, HasSeenShut, seen_by}
 
@@ -69,7 +69,7 @@ sat pass pass' desk desk' sees goes back known =
 pub opened : (opening : State) (pass : BookView) (desk : State) → BeganWith opening pass
     → IfSome pass.first (λ first. desk ≡ first.opening) → desk ≡ opening
 opened opening pass desk began opens =
-    subst (λ (o : Option History). IfSome o (λ first. desk ≡ first.opening)) began.1 opens ∙ began.2
+    subst (λ (o : Option BookState). IfSome o (λ first. desk ≡ first.opening)) began.1 opens ∙ began.2
 
 -- the history that it has seen in the end, by the pass
 pub seen_history : (opening : State) (pass pass' : BookView) (desk desk' : Sight) → Sat pass pass' desk desk'

@@ -11,7 +11,7 @@ use Rattle.turn_lock.specs.Passes.{IsKnown, SeesMore}
 use Rattle.ctl_state.specs.State.{State}
 use Rattle.ctl_desk.specs.declared.entry.Entry.{Entry}
 use Rattle.ctl_desk.specs.Desk.{Sight, GoesOn, seen}
-use Rattle.ctl_desk.specs.History.{History, of_session}
+use Rattle.ctl_desk.specs.History.{BookState, of_session}
 use Rattle.ctl_server.specs.Locked.{BookView, LockedSeat, sight_at, sight_there}
 use Rattle.ctl_session.specs.Clock.{Timing, Gives, timing}
 use Rattle.ctl_server.specs.declared.working.WorkerEnd.{WorkerEnd}
@@ -78,7 +78,7 @@ pub record Did (opening : State) (pass pass' : BookView) (desk desk' : LockedSea
   pub follows : FollowsCourse new.clock.course new.clock.moments
 
 module _ {opening : State} {pass pass' : BookView} {desk desk' : LockedSeat} {old new : Standing} {end : WorkerEnd}
-    {servings : List Serving} (did : Did opening pass pass' desk desk' old new end servings) (book : History)
+    {servings : List Serving} (did : Did opening pass pass' desk desk' old new end servings) (book : BookState)
     (whole : IsWhole opening pass' book) where
   starts : StartsWith book.entries (seen new.desk)
   starts = subst (StartsWith book.entries) (sym did.sat.seen_is) whole.seen
@@ -176,7 +176,7 @@ left_by lock out_of faults_of sessions_of moments course_of opening course seat 
           let cause = subst (λ (end : WorkerEnd). IsCause end servings old new) is worked.1.cause in
           subst (λ (n : ℕ). 0 < n) (sym (cause.2.0 ∙ ap next_count ready.unfailed)) counted;
       served = λ apart. if_added old.sessions new.sessions (sessions_in servings)
-          (λ sessions. (book : History) → IsWhole opening pass book → AreOfWorker course book pass.number sessions)
+          (λ sessions. (book : BookState) → IsWhole opening pass book → AreOfWorker course book pass.number sessions)
           worked.1.sessions ready.unserved
           (λ book whole. of_worker did book whole course ready.course_is ready.tells apart);
     }

@@ -6,13 +6,13 @@ use Rattle.slurm_io.specs.Faults.{CountsOne}
 use Rattle.slurm_net.specs.Course.{Course}
 use Rattle.slurm_net.specs.Session.{LinkSession}
 use Rattle.ctl_state.specs.State.{State}
-use Rattle.ctl_desk.specs.History.{History, present}
+use Rattle.ctl_desk.specs.History.{BookState, history_in, present}
 use Rattle.ctl_server.specs.declared.ending.ServeEnd.{ServeEnd}
 use Rattle.ctl_server.specs.declared.ending.ServeEnd.TheVariants.{Shut, DoorFault, WriteFault, Memory}
 use Rattle.ctl_server.specs.Numbered.{AreServed}
 
 -- a fact about the book with which a server ended
-abbrev pub IfShut : ServeEnd → (History → Type 0) → Type 0
+abbrev pub IfShut : ServeEnd → (BookState → Type 0) → Type 0
 IfShut (Shut book) fact = fact book
 IfShut end fact = Unit {0}
 
@@ -28,7 +28,7 @@ Writes end old new faults faults' line = ((new ≡ old) ⊎ Appends old new line
 -- doors had failed.
 abbrev pub EndsServing : State → Option Course → ℕ → ServeEnd → Option (List (List LinkSession)) → ℕ → ℕ → Type 0
 EndsServing opening course workers (Shut book) closed faults faults' =
-    (book.opening ≡ opening) × ((present book).is_shut ≡ true)
+    (book.opening ≡ opening) × ((present (history_in book)).is_shut ≡ true)
     × IfSome closed (λ lists. (length lists ≡ workers) × AreServed course book lists)
 EndsServing opening course workers DoorFault closed faults faults' = CountsOne faults faults'
 EndsServing opening course workers WriteFault closed faults faults' = ⊥

@@ -8,11 +8,11 @@ use Rattle.ctl_core.specs.Step.{reply_of, is_entered}
 use Rattle.ctl_desk.specs.declared.entry.Answer.{Answer}
 use Rattle.ctl_desk.specs.declared.entry.Entry.{Entry}
 use Rattle.ctl_desk.specs.Desk.{Sight}
-use Rattle.ctl_desk.specs.History.{History, IsHistory, entry_of, present}
+use Rattle.ctl_desk.specs.History.{BookState, entry_of, history_in, IsHistory, present}
 
 -- a pass of the lock of a book
 abbrev pub BookView : Type 0
-BookView = PassView History Entry
+BookView = PassView BookState Entry
 
 -- A desk at a lock: the state before the first entry, how many entries there were when the desk was made, and its pass.
 pub record LockedSeat : Type 0 where
@@ -56,12 +56,12 @@ HasPass lock opening before len is_shut (Some pass) = IsAtDesk lock opening befo
 HasPass lock opening before len is_shut None = ⊥
 
 -- A book worked a request for the session of this number, or memory was wanting, and it is as it was.
-pub record IsWorked {E : Type 0} (number : ℕ) (old new : History) (now : ℕ) (user : List ℕ) (request : Request)
+pub record IsWorked {E : Type 0} (number : ℕ) (old new : BookState) (now : ℕ) (user : List ℕ) (request : Request)
     (result : Result Answer E) : Type 0 where
   pub opening : new.opening ≡ old.opening
-  pub reply : IfOk result (λ answer. answer.reply ≡ reply_of (present old) now user request)
+  pub reply : IfOk result (λ answer. answer.reply ≡ reply_of (present (history_in old)) now user request)
   pub place : IfOk result (λ answer. answer.place ≡ length old.entries)
   pub entries : IfOk result (λ answer. new.entries ≡ (if is_entered answer.reply
-      then old.entries ++ entry_of (present old) number now user request ∷ []
+      then old.entries ++ entry_of (present (history_in old)) number now user request ∷ []
       else old.entries))
   pub err : OnErr result (new ≡ old)

@@ -4,7 +4,7 @@ use Rattle.std.specs.List.{AllZip}
 use Rattle.slurm_net.specs.Course.{Course, first_moments}
 use Rattle.slurm_net.specs.Session.{LinkSession}
 use Rattle.ctl_desk.specs.declared.entry.Entry.{Entry}
-use Rattle.ctl_desk.specs.History.{History}
+use Rattle.ctl_desk.specs.History.{BookState}
 use Rattle.ctl_server.specs.Served.{IsWithin, KeepsServed}
 use Rattle.ctl_server.specs.Serving.{readings_of}
 
@@ -16,14 +16,14 @@ StandWithin number entries sessions =
 -- The sessions of one worker, whose pass has this number, by the history of the book: its entries stand within them;
 -- and where the clock tells its course, and wasn't read more often than it tells, they were served so at the first
 -- moments of that course.
-pub record AreOfWorker (course : Option Course) (book : History) (number : ℕ) (sessions : List LinkSession)
+pub record AreOfWorker (course : Option Course) (book : BookState) (number : ℕ) (sessions : List LinkSession)
     : Type 0 where
   pub within : StandWithin number book.entries sessions
   pub served : IfSome course (λ course. readings_of sessions < 2 ^ 64 - 1
       → KeepsServed number book.opening book.entries (first_moments course (readings_of sessions)) sessions)
 
 -- To each list of sessions belongs the number of a pass, and these numbers all differ.
-pub record AreServed (course : Option Course) (book : History) (lists : List (List LinkSession)) : Type 0 where
+pub record AreServed (course : Option Course) (book : BookState) (lists : List (List LinkSession)) : Type 0 where
   pub numbers : List ℕ
   pub differ : AllPairs (λ one other. one ≢ other) numbers
   pub each : AllZip (AreOfWorker course book) numbers lists

@@ -8,7 +8,7 @@ use Rattle.turn_lock.specs.declared.view.Claim.{Claim}
 use Rattle.turn_lock.specs.Views.{Differ, StartsWith}
 use Rattle.ctl_state.specs.State.{State}
 use Rattle.ctl_desk.specs.declared.entry.Entry.{Entry}
-use Rattle.ctl_desk.specs.History.{History, of_session, present}
+use Rattle.ctl_desk.specs.History.{BookState, History, of_session, present}
 use Rattle.ctl_server.specs.Locked.{BookView}
 use Rattle.ctl_server.specs.declared.working.WorkerEnd.{WorkerEnd}
 use Rattle.ctl_server.specs.declared.working.WorkerEnd.TheVariants.{Shut, DoorFault, Memory}
@@ -22,7 +22,7 @@ seen_by opening pass = record { opening = opening; entries = pass.seen }
 
 -- a pass of a lock whose book began with this state
 abbrev pub BeganWith : State → BookView → Type 0
-BeganWith opening pass = (first : History) × (pass.first ≡ Some first) × (first.opening ≡ opening)
+BeganWith opening pass = (first : BookState) × (pass.first ≡ Some first) × (first.opening ≡ opening)
 
 -- A pass that a part begins with: it has made nothing.
 pub record IsNewPass (lock : TableId) (opening : State) (pass : BookView) : Type 0 where
@@ -31,7 +31,7 @@ pub record IsNewPass (lock : TableId) (opening : State) (pass : BookView) : Type
   pub mine : pass.mine ≡ []
 
 -- The whole history, by a pass: it goes on from what the pass has seen, and no further entry bears its number.
-pub record IsWhole (opening : State) (pass : BookView) (book : History) : Type 0 where
+pub record IsWhole (opening : State) (pass : BookView) (book : BookState) : Type 0 where
   pub opening_is : book.opening ≡ opening
   pub seen : StartsWith book.entries pass.seen
   pub mine : pass.mine ≡ of_session pass.number book.entries
@@ -63,7 +63,7 @@ pub record IsLeft {A : Type 0} (lock : TableId) (faults_of : A → ℕ) (session
     (opening : State) (course : Option Course) (worked : Worked A) : Type 0 where
   pub own : worked.pass.lock ≡ lock
   pub failed : worked.end ≡ DoorFault → 0 < faults_of worked.door
-  pub served : worked.end ≢ Memory → IfSome (sessions_of worked.door) (λ sessions. (book : History)
+  pub served : worked.end ≢ Memory → IfSome (sessions_of worked.door) (λ sessions. (book : BookState)
       → IsWhole opening worked.pass book → AreOfWorker course book worked.pass.number sessions)
 
 -- the claim that a pass makes where another one takes it in
@@ -115,7 +115,7 @@ IsStill old new = new ≡ record old { found = new.found }
 
 -- The book of a lock, by a pass of it: it goes on from what the pass has seen, under the opening with which the lock was
 -- made; each pass that it took in made just the entries that bear its number; and these numbers differ.
-pub record IsBookOf (pass : BookView) (book : History) : Type 0 where
+pub record IsBookOf (pass : BookView) (book : BookState) : Type 0 where
   pub seen : StartsWith book.entries pass.seen
   pub claims : All (λ (claim : Claim Entry). claim.entries ≡ of_session claim.number book.entries) pass.taken
   pub differ : Differ pass.taken

@@ -1,10 +1,10 @@
 -- What is made before the doors of a server are opened.
 use Rattle.std.specs.Prelude.{◌≡◌, ℕ, ◌≤◌, [], vec_capacity, vec_len, Some}
-use Rattle.ctl_desk.specs.History.{History}
+use Rattle.ctl_desk.specs.History.{BookState}
 use Rattle.ctl_server.specs.declared.serving.Prepared.{Prepared}
 
 -- a lock that keeps a book, with its first pass, and room for so many workers
-pub record IsPrepared {A C G : Type 0} (book : History) (workers : ℕ) (prepared : Prepared A C G) : Type 0 where
+pub record IsPrepared {A C G : Type 0} (book : BookState) (workers : ℕ) (prepared : Prepared A C G) : Type 0 where
   pub lock : prepared.pass.lock ≡ prepared.lock
   pub first : prepared.pass.first ≡ Some book
   pub alone : prepared.pass.taken ≡ []

@@ -4,7 +4,7 @@ ghost use Rattle.std.specs.Prelude.{◌≡◌, ◌<◌, ◌^◌, IfSome, length}
 ghost use Rattle.request_data.specs.declared.request.Request.TheVariants.{Pass};
 ghost use Rattle.resource_profile.specs.Counts.{IsTickedUpTo};
 ghost use Rattle.ctl_core.specs.Step.{IsHinted, steps_of};
-ghost use Rattle.ctl_desk.specs.History.{present};
+ghost use Rattle.ctl_desk.specs.History.{history_in, present};
 ghost use Rattle.ctl_server.specs.Locked.{IsWorked};
 
 use backfill_planner::Planned;
@@ -55,8 +55,8 @@ pub fn pass_book(
     requires { length book.old.entries < 2 ^ 62 }
     ensures worked { IsWorked session book.old book.new now user.now Pass result }
     ensures short { length book.new.entries < 2 ^ 62 }
-    ensures steps { IsTickedUpTo (steps_of (present book.old) now user.now) steps.old steps.new }
-    ensures over { IfSome hint (λ hint. IsHinted hint (present book.old) now steps.old steps.new) }
+    ensures steps { IsTickedUpTo (steps_of (present (history_in book.old)) now user.now) steps.old steps.new }
+    ensures over { IfSome hint (λ hint. IsHinted hint (present (history_in book.old)) now steps.old steps.new) }
 {
     if book.len() >= MOST_ENTRIES {
         drop_hint(hint);

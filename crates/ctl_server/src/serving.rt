@@ -5,7 +5,7 @@ ghost use Rattle.std.specs.Io.KnownBytes.{Appends};
 ghost use Rattle.slurm_io.specs.Faults.{CountsOne};
 ghost use Rattle.slurm_net.specs.Host.{IsNewDoor};
 ghost use Rattle.ctl_state.specs.State.{State};
-ghost use Rattle.ctl_desk.specs.History.{present};
+ghost use Rattle.ctl_desk.specs.History.{history_in, present};
 ghost use Rattle.ctl_server.specs.declared.ending.ServeEnd.TheVariants.{DoorFault};
 ghost use Rattle.ctl_server.specs.Ends.{EndsServing, IfShut, IsUnopened, Writes};
 ghost use Rattle.ctl_server.specs.Line.{serving_line};
@@ -188,7 +188,7 @@ where
     requires workers { (1 ≤ workers) × (workers ≤ 64) }
     requires gates { vec_len gates ≡ workers + 1 }
     ensures opening { IfShut result (λ end. end.opening ≡ book.opening) }
-    ensures shut { IfShut result (λ end. (present end).is_shut ≡ true) }
+    ensures shut { IfShut result (λ end. (present (history_in end)).is_shut ≡ true) }
     ensures doors { IfShut result (λ end. IfSome (H.closed host.new) (λ lists. length lists ≡ workers)) }
     ensures served { IfShut result (λ end. IfSome (H.closed host.new)
         (λ lists. AreServed (C.course clock.old) end lists)) }

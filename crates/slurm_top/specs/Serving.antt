@@ -7,7 +7,7 @@ use Rattle.slurm_io.specs.Shelf.{ShelfFile}
 use Rattle.slurm_net.specs.Course.{Course}
 use Rattle.slurm_net.specs.Session.{LinkSession}
 use Rattle.ctl_state.specs.State.{State}
-use Rattle.ctl_desk.specs.History.{History, IsHistory, present}
+use Rattle.ctl_desk.specs.History.{BookState, history_in, IsHistory, present}
 use Rattle.program_words.specs.Asked.{Named}
 use Rattle.slurm_top.specs.Files.{Opens}
 use Rattle.slurm_top.specs.declared.cluster.ClusterRefusal.TheVariants as cluster
@@ -33,10 +33,10 @@ around output output_faults host_faults =
 -- and they are those of workers at that history.
 pub record HasServed (opening : State) (workers : ℕ) (course : Option Course)
     (closed : Option (List (List LinkSession))) : Type 0 where
-  pub book : History
+  pub book : BookState
   pub opens : book.opening ≡ opening
-  pub history : IsHistory book
-  pub shut : (present book).is_shut ≡ true
+  pub history : IsHistory (history_in book)
+  pub shut : (present (history_in book)).is_shut ≡ true
   pub doors : IfSome closed (λ lists. length lists ≡ workers)
   pub served : IfSome closed (λ lists. AreServed course book lists)
 

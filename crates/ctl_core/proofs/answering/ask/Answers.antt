@@ -4,7 +4,7 @@ use Rattle.ctl_core.proofs.Stepping.{sound-either}
 use Rattle.ctl_core.proofs.answering.ask.Goals as goal
 
 pub returns-clause-sound : goal.returns-clause-sound
-returns-clause-sound c =
+returns-clause-sound g c =
     let s = state_of c.args.cluster.now in
     sound-either c.answer.result (state_of c.answer.new.cluster) s
     (state_after s c.args.now c.args.user.now c.args.request.now)

@@ -1,4 +1,5 @@
 use Rattle.std.proofs.Common.{◌≡◌, ◌∙◌, ◌&&◌, ap, arith, count_by, subst, sym}
+use Rattle.std.specs.Prelude.{option_copied}
 use Rattle.cpu_ids.specs.Rows.{has_id}
 use Rattle.job_table.specs.declared.record.JobRecord.{JobRecord}
 use Rattle.job_table.specs.JobStates.{is_running}
@@ -9,6 +10,7 @@ use Rattle.ctl_nodes.specs.Failing.{loses}
 use Rattle.ctl_node_side.specs.Came.{Came}
 use Rattle.ctl_node_side.proofs.Back.{index_back, state_back}
 use Rattle.ctl_node_side.proofs.Coming.{busy_silenced, came_fallen, failing_alike, few_ended, few_failed}
+use Rattle.ctl_node_side.proofs.Made.{made-there}
 use Rattle.ctl_node_side.proofs.Over.{not-over, over-found}
 use Rattle.ctl_node_side.proofs.Silent.{silenced_some}
 use Rattle.ctl_node_side.proofs.passing.pass_silenced.Goals as goal
@@ -93,22 +95,29 @@ returns-in-Err-clause-indexed g c =
     c.fall_silent.ensures.after c.requires.indexed)
 
 pub returns-in_err-before-clause-over : goal.returns-in_err-before-clause-over
-returns-in_err-before-clause-over g c = not-over c.args.kept.now (state_of c.args.cluster.now) c.args.moment c.args.steps.now
+returns-in_err-before-clause-over g c = not-over (option_copied c.args.older) (state_of c.args.cluster.now) c.args.moment c.args.steps.now
 
 pub returns-in-Ok-clause-over : goal.returns-in-Ok-clause-over
 returns-in-Ok-clause-over g c =
     let s = state_of c.args.cluster.now in
-    over-found c.args.kept.now s (state_of c.fall_silent.new.cluster) c.args.moment c.args.steps.now c.decide.new.steps
+    over-found (option_copied c.args.older) s (state_of c.fall_silent.new.cluster) c.args.moment c.args.steps.now c.decide.new.steps
     (c.fall_silent.ensures.after ∙ sym (silenced_some s c.args.moment c.requires.some)) c.in-Ok.ensures.over
 
 pub returns-in-Ok-2-clause-over : goal.returns-in-Ok-2-clause-over
 returns-in-Ok-2-clause-over g c =
     let s = state_of c.args.cluster.now in
-    over-found c.args.kept.now s (state_of c.fall_silent.new.cluster) c.args.moment c.args.steps.now c.decide.new.steps
+    over-found (option_copied c.args.older) s (state_of c.fall_silent.new.cluster) c.args.moment c.args.steps.now c.decide.new.steps
     (c.fall_silent.ensures.after ∙ sym (silenced_some s c.args.moment c.requires.some)) c.in-Ok.ensures.over
 
 pub returns-in-Err-clause-over : goal.returns-in-Err-clause-over
 returns-in-Err-clause-over g c =
     let s = state_of c.args.cluster.now in
-    over-found c.args.kept.now s (state_of c.fall_silent.new.cluster) c.args.moment c.args.steps.now c.decide.new.steps
+    over-found (option_copied c.args.older) s (state_of c.fall_silent.new.cluster) c.args.moment c.args.steps.now c.decide.new.steps
     (c.fall_silent.ensures.after ∙ sym (silenced_some s c.args.moment c.requires.some)) c.in-Err.ensures.over
+
+pub returns-in-Ok-clause-plan : goal.returns-in-Ok-clause-plan
+returns-in-Ok-clause-plan g c =
+    let s = state_of c.args.cluster.now in
+    made-there s (state_of c.fall_silent.new.cluster) c.args.moment c.finish.result.outcome _ c.finish.result.plan
+    (c.fall_silent.ensures.after ∙ sym (silenced_some s c.args.moment c.requires.some)) c.finish.ensures.passed
+    c.finish.ensures.plan

@@ -1,4 +1,5 @@
-use Rattle.std.proofs.Common.{◌≡◌, ◌∙◌, refl, rules}
+use Rattle.std.proofs.Common.{◌∙◌, refl, rules}
+use Rattle.std.specs.Prelude.{option_copied}
 use Rattle.ctl_state.specs.State.{state_of}
 use Rattle.ctl_waiting.specs.Candidates.{ranked}
 use Rattle.ctl_pass.specs.Readiness.{base_of, ready}
@@ -14,12 +15,7 @@ decide_with-requires-clause-plan g c =
     (c.in_ok-planned.ensures.plan ∙ c.in_ok-input.ensures) refl refl in
     search (rules, plan)
 
-pub returns-in_err-decided-clause-over : goal.returns-in_err-decided-clause-over
-returns-in_err-decided-clause-over g c =
-    over-input c.args.kept.now (state_of c.args.cluster.now) c.args.now c.args.steps.now c.plan_over.new.steps
-    c.in_ok-input.input c.in_ok-input.ensures (rw c.as_ref.ensures.value at c.in_ok-planned.ensures.over)
-
 pub returns-clause-over : goal.returns-clause-over
 returns-clause-over g c =
-    over-input c.args.kept.now (state_of c.args.cluster.now) c.args.now c.args.steps.now c.plan_over.new.steps
-    c.in_ok-input.input c.in_ok-input.ensures (rw c.as_ref.ensures.value at c.in_ok-planned.ensures.over)
+    over-input (option_copied c.args.older) (state_of c.args.cluster.now) c.args.now c.args.steps.now
+    c.plan_over.new.steps c.in_ok-input.input.parts c.in_ok-input.ensures c.in_ok-planned.ensures.over

@@ -1,8 +1,8 @@
 use Rattle.std.proofs.Common.{rules, ◌≡◌, Option, Some, IfOk, refl, sym, ap, ◌∙◌, subst}
-use Rattle.backfill_planner.specs.Plans.{PlannedView}
+use Rattle.ctl_pass.specs.Views.{InputView}
 use Rattle.ctl_state.specs.State.{State}
 use Rattle.ctl_core.specs.Step.{input_at}
-use Rattle.ctl_desk.specs.History.{History}
+use Rattle.ctl_desk.specs.History.{BookState}
 use Rattle.ctl_server.specs.Locked.{BookView, LockedSeat}
 use Rattle.ctl_server.proofs.Locking.{adds_none, turn_asked, keeps_desk, seat_goes_on, seat_mine, seen_present}
 use Rattle.ctl_server.proofs.desk.LockedDeskDesk.input.Goals as goal
@@ -10,7 +10,7 @@ use Rattle.ctl_server.proofs.desk.LockedDeskDesk.input.Goals as goal
 pub leave-pass-requires-clause-entries : goal.leave-pass-requires-clause-entries
 leave-pass-requires-clause-entries g c =
     adds_none c.enter-held.result.turn c.input-input.new.self
-    (ap (λ (h : History). h.entries) c.input-input.ensures.stays ∙ c.enter-held.ensures.entries)
+    (ap (λ (h : BookState). h.entries) c.input-input.ensures.stays ∙ c.enter-held.ensures.entries)
 
 pub invariant_of-self : goal.invariant_of-self
 invariant_of-self g c =
@@ -37,5 +37,5 @@ pub returns-clause-input : goal.returns-clause-input
 returns-clause-input g c =
     let is : c.self.inside.pass ≡ Some c.in-Some.pass = search rules in
     let t = turn_asked _ _ _ _ _ c.self.inside.pass c.in-Some.pass c.enter-held.result.turn c.leave-pass.result c.enter-held.result.value c.input-input.new.self c.self.invariant is c.enter-held.ensures c.number.ensures.known c.input-input.ensures.stays c.leave-pass.ensures in
-    subst (λ (s : State). IfOk c.input-input.result (λ (input : PlannedView). input ≡ input_at s c.args.now))
+    subst (λ (s : State). IfOk c.input-input.result (λ (input : InputView). input.parts ≡ input_at s c.args.now))
     (sym (seen_present t refl)) c.input-input.ensures.input
