@@ -13,7 +13,7 @@ use Rattle.ctl_state.specs.State.{State, last_moment}
 use Rattle.ctl_node_side.specs.Passes.{pass_input}
 use Rattle.ctl_core.specs.declared.reply.Answered.{Answered}
 use Rattle.ctl_core.specs.Answering.{Answers, HasPlanned, IsCounted}
-use Rattle.ctl_core.specs.Step.{has_planned, is_closed, is_made, kept_after, nearest, raised, reply_of, steps_of, worked}
+use Rattle.ctl_core.specs.Step.{has_planned, is_closed, is_made, kept_after, nearest, raised, reply_of, worked}
 use Rattle.ctl_core.proofs.Hinted.{not-hinted}
 use Rattle.ctl_core.proofs.Stamping.{reply-worked, steps-worked}
 

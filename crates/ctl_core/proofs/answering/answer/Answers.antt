@@ -3,7 +3,7 @@ use Rattle.std.specs.Prelude.{nat_lt, option_copied}
 use Rattle.std.proofs.lemmas.Bool.{le-ltb}
 use Rattle.ctl_state.specs.State.{state_of, last_moment}
 use Rattle.ctl_core.specs.Sizes.{has_room, size_of}
-use Rattle.ctl_core.specs.Step.{is_closed, nearest, raised, reply_of}
+use Rattle.ctl_core.specs.Step.{is_closed, nearest, raised}
 use Rattle.ctl_core.proofs.Keeping.{counted-worked, kept-as}
 use Rattle.ctl_core.proofs.Sized.{same-size}
 use Rattle.ctl_core.proofs.Stamping.{size-asked, size-fits, state-worked}
