@@ -122,7 +122,7 @@ fn report_job(
 }
 
 // The start of the job at a place is told to be over on the node.
-#[tactic(auto, using(crate::proofs::Places::length_map_at))]
+#[tactic(auto, using(crate::proofs::ReportPlaces::length_map_at))]
 fn finish(nodes: &mut Nodes, jobs: &mut Jobs, place: usize, now: u64, node: u32, done: Done)
     requires there { place < length jobs.old.records }
     requires on { HoldsAt (λ job. AreOnNodes (length nodes.old.records) job.parts) jobs.old.records place }
