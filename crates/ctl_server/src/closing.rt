@@ -73,12 +73,12 @@ where
     ensures kept { (H.next_left host.new ≡ H.next_left host.old)
         × (H.last_taken host.new ≡ H.last_taken host.old) }
 {
-    what_is_shut_stays_shut();
     let mut pass = pass;
     let mut doors = doors;
     let end = meet_all(&lock, &mut pass, worked, planner, reporter, &mut doors);
     host.close_doors(doors);
     let book = take_book(rt, lock, pass);
+    what_is_shut_stays_shut();
     match end {
         WorkerEnd::Shut => ServeEnd::Shut(book),
         WorkerEnd::DoorFault => ServeEnd::DoorFault,

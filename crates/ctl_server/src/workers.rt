@@ -52,10 +52,6 @@ fn work<R: Wait, A: Door, C: Clock + Drop, G: Gate + Drop>(
         mut clock,
         mut gate,
     } = seat;
-    connections_stand_in_histories();
-    entries_stand_within_cuts();
-    doors_keep_what_was_served();
-    moments_are_the_first_of_a_course();
     let mut desk = locked_desk(rt, lock, pass);
     let end = worker(
         rt,
@@ -67,6 +63,10 @@ fn work<R: Wait, A: Door, C: Clock + Drop, G: Gate + Drop>(
         &mut start(),
     );
     let pass = desk.into_pass();
+    connections_stand_in_histories();
+    entries_stand_within_cuts();
+    doors_keep_what_was_served();
+    moments_are_the_first_of_a_course();
     Worked { door, pass, end }
 }
 

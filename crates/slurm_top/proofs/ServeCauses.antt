@@ -4,20 +4,21 @@ use Rattle.std.specs.Io.KnownBytes.{Appends}
 use Rattle.assoc_reader.specs.declared.refusal.AssocKind.{AssocKind}
 use Rattle.conf_values.specs.declared.refusal.ConfKind.{ConfKind}
 use Rattle.ctl_server.specs.Line.{serving_line}
-use Rattle.ctl_session.specs.declared.session.How.{How}
 use Rattle.ctl_state.specs.State.{State}
 use Rattle.program_words.specs.Asked.{Named}
-use Rattle.server_call.specs.declared.end.CallEnd.{CallEnd}
 use Rattle.server_call.specs.declared.end.CallEnd.TheVariants as call
 use Rattle.slurm_io.specs.Faults.{CountsNone, CountsOne}
 use Rattle.slurm_io.specs.Shelf.{ShelfFile, bytes_named}
 use Rattle.slurm_net.specs.Course.{Course}
 use Rattle.slurm_net.specs.Session.{LinkSession}
-use Rattle.slurm_top.specs.Files.{FilesOpen, Opens, opened_by}
-use Rattle.slurm_top.specs.Serving.{Around, HasServed, IsRun, status_by}
+use Rattle.slurm_top.specs.Files.{FilesOpen, IsOpening, Opens, opened_by}
+use Rattle.slurm_top.specs.Lines.{unopened}
+use Rattle.slurm_top.specs.Serving.{Around, HasServed, IsRun, IsServing, status_by}
 use Rattle.slurm_top.specs.declared.cluster.ClusterRefusal.{ClusterRefusal}
 use Rattle.slurm_top.specs.declared.end.End.{End}
 use Rattle.slurm_top.specs.declared.end.End.TheVariants.{Usage, NoFile, BadConf, BadAssocs, Memory, Script, Generated, WriteFault, Spent, Serving, Called}
+use Rattle.slurm_top.specs.declared.opening.OpenRefusal.{OpenRefusal}
+use Rattle.slurm_top.specs.declared.opening.OpenRefusal.TheVariants as refusal
 
 -- what the files of a shelf open is what two texts of them open
 opens_told : (told : Option (List ShelfFile)) (named : Named) (found : Option (Result State ClusterRefusal))
@@ -58,6 +59,37 @@ module _ (files : Option (List ShelfFile)) (named : Named) (port workers : ℕ) 
   ends P shut usage no_file conf assocs memory write door (Err (Called call.BadReply)) is = absurd is.3
   ends P shut usage no_file conf assocs memory write door (Err (Called call.Memory)) is = absurd is.3
   ends P shut usage no_file conf assocs memory write door (Err (Called call.Spent)) is = absurd is.3
+
+  -- what serving comes to over good files is a run
+  pub served : (opening : State) → Opens files named (Ok opening) → faults' ≡ faults
+      → (ran : Result (Unit {0}) End) → IsServing opening port workers course closed old new ran → Ran ran
+  served opening opens kept (Ok done) is = (opening, opens, kept, is)
+  served opening opens kept (Err Usage) is = (opening, opens, kept, is)
+  served opening opens kept (Err WriteFault) is = (opening, opens, kept, is)
+  served opening opens kept (Err (Called call.DoorFault)) is = (opening, opens, kept, is)
+  served opening opens kept (Err Memory) is = (is, kept)
+  served opening opens kept (Err NoFile) is = absurd is
+  served opening opens kept (Err (BadConf line kind)) is = absurd is
+  served opening opens kept (Err (BadAssocs line kind)) is = absurd is
+  served opening opens kept (Err (Script how)) is = absurd is
+  served opening opens kept (Err Generated) is = absurd is
+  served opening opens kept (Err Spent) is = absurd is
+  served opening opens kept (Err Serving) is = absurd is
+  served opening opens kept (Err (Called (call.Replied status))) is = absurd is
+  served opening opens kept (Err (Called call.ReadFault)) is = absurd is
+  served opening opens kept (Err (Called call.WriteFault)) is = absurd is
+  served opening opens kept (Err (Called call.BadReply)) is = absurd is
+  served opening opens kept (Err (Called call.Memory)) is = absurd is
+  served opening opens kept (Err (Called call.Spent)) is = absurd is
+
+  -- and so is what comes of a cluster that isn't opened
+  pub refused : (refusal : OpenRefusal) → IsOpening files named faults faults' (Err refusal) → new ≡ old
+      → Ran (Err (unopened refusal))
+  refused refusal.NoFile is same = (is, same)
+  refused (refusal.BadConf line kind) is same = (is.0, is.1, same)
+  refused (refusal.BadAssocs line kind) is same = (is.0, is.1, same)
+  refused refusal.Memory is same =
+      ((inl (ap (λ (met : Around). met.output) same), ap (λ (met : Around). met.output_faults) same), is)
 
   pub shut_cause : (ran : Result (Unit {0}) End) → Ran ran → status_by ran ≡ 0
       → (opening : State) × Opens files named (Ok opening) × HasServed opening workers course closed
