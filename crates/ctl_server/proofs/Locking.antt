@@ -144,7 +144,7 @@ module _ {lock : TableId} {opening : State} {before len : ℕ} {is_shut : Bool} 
       → IsAtDesk lock opening before len' is_shut' after
   keeps_desk len' is_shut' known history count shut =
       let begin : new.opening ≡ opening = t.begins ∙ opened in
-      let whole : new ≡ record { opening = opening; entries = after.seen } = λ i. record { opening = begin i; entries = sym after_is i } in record {
+      let whole : history_in new ≡ record { opening = opening; entries = after.seen } = λ i. record { opening = begin i; entries = sym after_is i } in record {
         own = ap (λ (p : BookView). p.lock) t.left ∙ (ap (λ (p : BookView). p.lock) t.took.sees.same ∙ t.desk.own);
         first = subst (λ (o : Option BookState). IfSome o (λ g. opening ≡ g.opening)) (sym (ap (λ (p : BookView). p.first) t.left ∙ first_is)) t.desk.first;
         known = known;

@@ -12,7 +12,7 @@ loop-preserved g c =
     (g.D.Desk.sight c.refresh.new.self) c.loop.invariant.goes_on c.refresh.ensures.goes_on in
     record {
       goes_on = goes_further (g.D.Desk.sight c.args.desk.now) (g.D.Desk.sight c.refresh.new.self)
-          (g.D.Desk.sight c.turn_if_due-last.new.desk) looked c.turn_if_due-last.ensures;
+          (g.D.Desk.sight c.turn_if_due-last.new.desk) looked c.turn_if_due-last.ensures.goes_on;
       next = tt;
       finite = tt;
     }
