@@ -9,10 +9,6 @@ use std::alloc::{AllocError, Global};
 pub(crate) fn no_gates(alloc: Global, workers: u32) -> Result<Vec<NoGate>, AllocError>
     ensures { IfOk result (λ gates. vec_len gates ≡ workers + 1) }
 {
-    let mut gates = Vec::with_capacity(alloc, workers as usize + 1)?;
-    gates.push(NoGate)?;
-    for _ in 0..workers {
-        gates.push(NoGate)?;
-    }
+    let gates = vec![in alloc; NoGate; workers as usize + 1]?;
     Ok(gates)
 }
