@@ -105,7 +105,10 @@ where
         Ok(desk) => desk,
         Err(refusal) => return Err(end_unopened(refusal)),
     };
-    if words.workers < 1 || words.workers > MOST_WORKERS {
+    if words.workers < 1 {
+        return Err(End::Usage);
+    }
+    if words.workers > MOST_WORKERS {
         return Err(End::Usage);
     }
     serve_book(rt, alloc, desk.into_book(), words, output, clock, host)
