@@ -28,7 +28,7 @@ use Rattle.ctl_node_side.specs.Reporting.{heard_of, heard_nodes}
 use Rattle.ctl_node_side.specs.Answering.{is_restarted, node_of, last_heard, staleness}
 use Rattle.ctl_node_side.specs.Passes.{after_pass, made_by_pass, pass_is_idle}
 use Rattle.ctl_node_side.specs.Restarting.{made_by_report, met}
-use Rattle.ctl_submit.specs.Submission.{made_under, submit_made, terms_of}
+use Rattle.ctl_submit.specs.Submission.{made_under, submit_made, basis_of}
 use Rattle.ctl_jobs.specs.declared.action.Action.{Action}
 use Rattle.ctl_jobs.specs.declared.action.Action.TheVariants as act
 use Rattle.ctl_jobs.specs.Changing.{are_meant, are_naming, change_after, change_made, goes}
@@ -278,9 +278,9 @@ partition-idle s state (Some place) idle =
 made-idle : IdleKeeps → (s : State) (moment : ℕ) (user : List ℕ) (request : Request)
     → reply_by (made s moment user request) ≡ Idle → ChangesNothing s moment user request
 made-idle keeps s moment user (Submit desc) idle =
-    elim (terms_of s user desc)
-    as (λ terms. reply_by (made_under s moment user desc terms) ≡ Idle → ⊥)
-    [ None ↦ λ idle. absurd (cc) | Some terms ↦ λ idle. absurd (cc) ] idle
+    elim (basis_of s user desc)
+    as (λ basis. reply_by (made_under s moment user desc basis) ≡ Idle → ⊥)
+    [ None ↦ λ idle. absurd (cc) | Some basis ↦ λ idle. absurd (cc) ] idle
 made-idle keeps s moment user (Cancel targets) idle =
     jobs-idle keeps s moment user act.Cancel (are_meant targets) idle
 made-idle keeps s moment user (Hold targets for_owner) idle =

@@ -31,9 +31,9 @@ names-opened (conf ∷ confs) = ap (λ names. conf.name ∷ names) (names-opened
 
 pub sound-opening : (s : State) → HasRanges s.settings → AreNodes s.nodes
     → All (IsOnNodes (length s.nodes)) s.partitions → All HasLimits s.partitions → s.jobs ≡ [] → s.plan ≡ []
-    → s.reservations ≡ []
+    → s.reservations ≡ [] → length s.usage ≡ length s.assocs
     → (1 ≤ s.next_id) × (s.next_id ≤ last_job_id) → s.size ≡ 0 → s.moment ≡ 0 → IsSound s
-sound-opening s ranges nodes on_nodes limits no_jobs no_plan unreserved next size moment = record {
+sound-opening s ranges nodes on_nodes limits no_jobs no_plan unreserved usage next size moment = record {
   settings = ranges;
   nodes = nodes;
   partitions = on_nodes;
@@ -46,6 +46,7 @@ sound-opening s ranges nodes on_nodes limits no_jobs no_plan unreserved next siz
     apart = λ i j d before within. absurd (omega (arith, within));
     few = omega arith;
   });
+  usage = usage;
   rising = rw no_jobs (λ i j d before within. absurd (omega (arith, within)));
   below_next = rw no_jobs (λ k d within. absurd (omega (arith, within)));
   together = rw no_jobs (record {
@@ -54,7 +55,7 @@ sound-opening s ranges nodes on_nodes limits no_jobs no_plan unreserved next siz
   });
   size = omega (arith, size);
   accepts = λ is_open. omega (arith, size);
-  next = (omega (arith, next), omega (arith, next));
+  next = omega (arith, next);
   moment = omega (arith, moment);
   jobs = rw no_jobs (λ k d within. absurd (omega (arith, within)));
   held = rw no_jobs (none-held (map room_of s.nodes));

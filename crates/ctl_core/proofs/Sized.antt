@@ -14,7 +14,7 @@ use Rattle.ctl_node_side.specs.Answering.{is_restarted, node_of}
 use Rattle.ctl_node_side.specs.Passes.{pass_is_idle}
 use Rattle.ctl_node_side.specs.Restarting.{made_by_report, met}
 use Rattle.ctl_node_side.specs.Silence.{any_silent, silenced}
-use Rattle.ctl_submit.specs.Submission.{made_under, terms_of}
+use Rattle.ctl_submit.specs.Submission.{made_under, basis_of}
 use Rattle.ctl_jobs.specs.declared.action.Action.{Action}
 use Rattle.ctl_jobs.specs.declared.action.Action.TheVariants as act
 use Rattle.ctl_jobs.specs.Changing.{are_meant, are_naming, change_made, goes}
@@ -50,8 +50,8 @@ silenced-sized s moment =
 
 made-sized : (s : State) (moment : ℕ) (user : List ℕ) (request : Request) → KeepsSize s (made s moment user request)
 made-sized s moment user (Submit desc) =
-    elim (terms_of s user desc) as (λ terms. KeepsSize s (made_under s moment user desc terms))
-    [ None ↦ tt | Some terms ↦ refl ]
+    elim (basis_of s user desc) as (λ basis. KeepsSize s (made_under s moment user desc basis))
+    [ None ↦ tt | Some basis ↦ refl ]
 made-sized s moment user (Cancel targets) = jobs-sized s moment user act.Cancel (are_meant targets)
 made-sized s moment user (Hold targets for_owner) = jobs-sized s moment user (act.Hold for_owner) (are_naming targets)
 made-sized s moment user (Release targets) = jobs-sized s moment user act.Release (are_naming targets)

@@ -178,6 +178,16 @@ input_moment s now = raised s (min now last_moment)
 abbrev pub input_at : State → ℕ → PlannedView
 input_at s now = pass_input s (input_moment s now)
 
+-- The requests that may want memory. What is done to jobs, what is said of nodes and of partitions, a reservation that is
+-- taken back and a shutdown take none.
+abbrev pub takes_memory : Request → Bool
+takes_memory (Submit desc) = true
+takes_memory (CreateReservation desc) = true
+takes_memory (Report report) = true
+takes_memory Pass = true
+takes_memory (Show query) = true
+takes_memory request = false
+
 -- the request is in its ranges, as its type keeps them
 abbrev pub IsInRange : Request → Type 0
 IsInRange (Submit desc) = IsAsked desc × IfSome desc.limit IsLimit

@@ -6,7 +6,7 @@ ghost use Rattle.ctl_state.specs.Index.{IsIndexed};
 ghost use Rattle.ctl_state.specs.Soundness.{IsSound};
 ghost use Rattle.ctl_core.specs.Answering.{Answers, HasPlanned, IsCounted};
 ghost use Rattle.ctl_core.specs.Sizes.{has_room};
-ghost use Rattle.ctl_core.specs.Step.{reply_of, state_after, kept_after, entered, is_closed, is_entered, nearest, raised, worked};
+ghost use Rattle.ctl_core.specs.Step.{reply_of, state_after, kept_after, entered, is_closed, is_entered, nearest, raised, takes_memory, worked};
 
 use crate::changing::{cancel_jobs, change_job, change_jobs};
 use crate::laws::a_step_keeps_all_sound;
@@ -74,6 +74,7 @@ fn work<L>(
     ensures ok { IfOk result (Answers (state_of cluster.old) (state_of cluster.new)
         (worked (state_of cluster.old) moment user.now request.now)) }
     ensures err { OnErr result (state_of cluster.new ≡ state_of cluster.old) }
+    ensures memory { OnErr result (takes_memory request.now ≡ true) }
     ensures planned { HasPlanned request.now (state_of cluster.old) moment user.now
         (nearest (option_copied hint.entry) kept.old) kept.old kept.new steps.old steps.new result }
     ensures indexed { IsIndexed cluster.new }
@@ -185,6 +186,7 @@ fn answer<L>(
     ensures moment { IfOk result (λ decided. decided.moment ≡ raised (state_of cluster.old) now) }
     ensures after { OnOk result (state_of cluster.new ≡ state_after (state_of cluster.old) now user.now request.now) }
     ensures err { OnErr result (state_of cluster.new ≡ state_of cluster.old) }
+    ensures memory { OnErr result (takes_memory request.now ≡ true) }
     ensures kept { OnOk result (kept.new ≡ kept_after (state_of cluster.old) kept.old now user.now request.now) }
     ensures kept_err { OnErr result (kept.new ≡ kept.old) }
     ensures counted { IsCounted request.now (state_of cluster.old) now user.now
@@ -233,6 +235,7 @@ pub(crate) fn ask<L>(
     ensures moment { IfOk result (λ decided. decided.moment ≡ raised (state_of cluster.old) now) }
     ensures after { OnOk result (state_of cluster.new ≡ state_after (state_of cluster.old) now user.now request.now) }
     ensures err { OnErr result (state_of cluster.new ≡ state_of cluster.old) }
+    ensures memory { OnErr result (takes_memory request.now ≡ true) }
     ensures kept { OnOk result (kept.new ≡ kept_after (state_of cluster.old) kept.old now user.now request.now) }
     ensures kept_err { OnErr result (kept.new ≡ kept.old) }
     ensures counted { IsCounted request.now (state_of cluster.old) now user.now

@@ -5,7 +5,7 @@ ghost use Rattle.request_data.specs.declared.request.Request.TheVariants.{Pass};
 ghost use Rattle.resource_profile.specs.Counts.{IsTickedUpTo};
 ghost use Rattle.ctl_state.specs.State.{opening, state_of};
 ghost use Rattle.ctl_state.specs.Soundness.{IsSound, IsLimit, IsNode, HasLimits, HasRanges};
-ghost use Rattle.ctl_core.specs.Step.{IsHinted, input_at, kept_after, reply_of, state_after, is_entered, raised, steps_of};
+ghost use Rattle.ctl_core.specs.Step.{IsHinted, input_at, kept_after, reply_of, state_after, is_entered, raised, steps_of, takes_memory};
 
 use crate::answering::ask;
 use crate::inputs::find_input;
@@ -107,6 +107,7 @@ impl Ctl {
         ensures after { OnOk result (self.new.state ≡ state_after self.old.state now user.now request.now) }
         ensures kept { OnOk result (self.new.kept ≡ kept_after self.old.state self.old.kept now user.now request.now) }
         ensures err { OnErr result (self.new ≡ self.old) }
+        ensures memory { OnErr result (takes_memory request.now ≡ true) }
         ensures sound { IsSound self.old.state × IsSound self.new.state }
     {
         ask(

@@ -58,21 +58,21 @@ twice now user Release job = refl
 twice now user Requeue job = left-twice now user job job.state refl
 twice now user (Update limit nice) job = updated-twice limit nice job
 
--- What stays of a job: its number, its array, its own indices and its parts.
+-- What stays of a job: its number, its array, its index and its parts.
 record Stays (job after : JobRecord) : Type 0 where
   id : after.id ≡ job.id
   array : after.array ≡ job.array
-  indices : after.desc.array ≡ job.desc.array
+  index : after.index ≡ job.index
   parts : after.parts ≡ job.parts
 
 stays-same : (job : JobRecord) → Stays job job
-stays-same job = record { id = refl; array = refl; indices = refl; parts = refl }
+stays-same job = record { id = refl; array = refl; index = refl; parts = refl }
 
 stays-cancelled : (now : ℕ) (job : JobRecord) (state : JobState) → Stays job (cancelled_in now job state)
 stays-cancelled now job state = record {
   id = grind (arith, nat_tests);
   array = grind (arith, nat_tests);
-  indices = grind (arith, nat_tests);
+  index = grind (arith, nat_tests);
   parts = grind (arith, nat_tests);
 }
 
@@ -81,21 +81,21 @@ stays-left : (now : ℕ) (user : List ℕ) (job : JobRecord) (state : JobState) 
 stays-left now user job state is = record {
   id = grind (arith, nat_tests);
   array = grind (arith, nat_tests);
-  indices = grind (arith, nat_tests);
+  index = grind (arith, nat_tests);
   parts = grind (arith, nat_tests);
 }
 
 stays-updated : (limit : Option Limit) (nice : Option Nice) (job : JobRecord)
     → Stays job (with_nice nice (with_limit limit job))
 stays-updated None None job = stays-same job
-stays-updated None (Some nice) job = record { id = refl; array = refl; indices = refl; parts = refl }
-stays-updated (Some limit) None job = record { id = refl; array = refl; indices = refl; parts = refl }
-stays-updated (Some limit) (Some nice) job = record { id = refl; array = refl; indices = refl; parts = refl }
+stays-updated None (Some nice) job = record { id = refl; array = refl; index = refl; parts = refl }
+stays-updated (Some limit) None job = record { id = refl; array = refl; index = refl; parts = refl }
+stays-updated (Some limit) (Some nice) job = record { id = refl; array = refl; index = refl; parts = refl }
 
 stays-done : (now : ℕ) (user : List ℕ) (action : Action) (job : JobRecord) → Stays job (done_to now user action job)
 stays-done now user Cancel job = stays-cancelled now job job.state
-stays-done now user (Hold for_owner) job = record { id = refl; array = refl; indices = refl; parts = refl }
-stays-done now user Release job = record { id = refl; array = refl; indices = refl; parts = refl }
+stays-done now user (Hold for_owner) job = record { id = refl; array = refl; index = refl; parts = refl }
+stays-done now user Release job = record { id = refl; array = refl; index = refl; parts = refl }
 stays-done now user Requeue job = stays-left now user job job.state refl
 stays-done now user (Update limit nice) job = stays-updated limit nice job
 
@@ -109,7 +109,7 @@ stays-where s now user action named job =
 named-by : (id : ℕ) (index : Option ℕ) (one job : JobRecord) → Stays job one
     → is_named_by id index one ≡ is_named_by id index job
 named-by id None one job stays = rw (stays.id, stays.array) refl
-named-by id (Some index) one job stays = rw (stays.array, stays.indices) refl
+named-by id (Some index) one job stays = rw (stays.array, stays.index) refl
 
 named-alike : (one job : JobRecord) (targets : List Target) → Stays job one → are_naming targets one ≡ are_naming targets job
 named-alike one job [] stays = refl

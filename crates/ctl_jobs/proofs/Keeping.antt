@@ -81,7 +81,7 @@ sound_changed changing charging plans later laws s now user action named sound i
     let lets : All (λ job. LetsGo now job (change job)) s.jobs =
     λ k d below. lets-one (get_or s.jobs k d) (later s.moment now (get_or s.jobs k d) raised (sound.jobs k d below)) in
     charging (record s { jobs = map change s.jobs; plan = plan_left (map change s.jobs) s.plan; moment = now })
-    (charged now s.jobs (map change s.jobs) s.usage)
+    now s.jobs (map change s.jobs)
     (changing s now change (plan_left (map change s.jobs) s.plan) sound in_time lets (plans s now change sound lets))
 
 -- a job that doesn't change stays

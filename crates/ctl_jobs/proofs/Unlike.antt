@@ -17,7 +17,7 @@ use Rattle.ctl_state.specs.Refusals.{first_refusal, refused_if}
 use Rattle.ctl_state.specs.State.{State}
 use Rattle.ctl_jobs.specs.declared.action.Action.{Action}
 use Rattle.ctl_jobs.specs.declared.action.Action.TheVariants.{Cancel, Hold, Release, Requeue, Update}
-use Rattle.ctl_jobs.specs.Actions.{asks_for, cancelled, cancelled_in, done_to, has_limit, has_nice, held_after, is_barred, is_denied, is_done, is_late, is_untimely, job_refusal, leaves, same_holder, same_limit, same_nice, with_limit, with_nice}
+use Rattle.ctl_jobs.specs.Actions.{cancelled, cancelled_in, done_to, has_limit, has_nice, held_after, is_barred, is_denied, is_done, is_late, is_untimely, job_refusal, leaves, same_holder, same_limit, same_nice, with_limit, with_nice}
 use Rattle.ctl_jobs.specs.Changing.{change_after, changes, done_if, goes, may_do}
 
 -- what is told the same is the same
@@ -37,10 +37,6 @@ nice-is (Lower one) (Lower other) same = ap Lower (eqb-true one other same)
 nice-is (Raise one) (Raise other) same = ap Raise (eqb-true one other same)
 nice-is one other same = absurd cc
 
-asks-is : (limit : Limit) (asked : Option Limit) → asks_for limit asked ≡ true → asked ≡ Some limit
-asks-is limit None asks = absurd cc
-asks-is limit (Some asked) asks = ap Some (limit-is asked limit asks)
-
 -- and the other way round
 holder-same : (one : HeldBy) → same_holder one one ≡ true
 holder-same held.Nobody = refl
@@ -59,16 +55,12 @@ nice-same (Raise number) = eq-eqb number number refl
 limited-alone : (limit : Option Limit) (job : JobRecord) → has_limit limit job ≡ true → with_limit limit job ≡ job
 limited-alone None job has = refl
 limited-alone (Some limit) job has =
-    let both = and_parts (same_limit job.limit limit) (asks_for limit job.desc.limit) has in
-    let own = limit-is job.limit limit both.0 in
-    let asked = asks-is limit job.desc.limit both.1 in
-    ap (λ other. record job { limit = other; desc = record job.desc { limit = Some limit } }) (sym own)
-    ∙ ap (λ other. record job { desc = record job.desc { limit = other } }) (sym asked)
+    ap (λ other. record job { limit = other }) (sym (limit-is job.limit limit has))
 
 nice-alone : (nice : Option Nice) (job : JobRecord) → has_nice nice job ≡ true → with_nice nice job ≡ job
 nice-alone None job has = refl
 nice-alone (Some nice) job has =
-    ap (λ other. record job { desc = record job.desc { nice = other } }) (sym (nice-is job.desc.nice nice has))
+    ap (λ other. record job { nice = other }) (sym (nice-is job.nice nice has))
 
 updated-alone : (limit : Option Limit) (nice : Option Nice) (job : JobRecord)
     → (has_limit limit job && has_nice nice job) ≡ true → with_nice nice (with_limit limit job) ≡ job
@@ -87,23 +79,22 @@ left-alone now user Requeue job same = absurd cc
 left-alone now user (Update limit nice) job same = updated-alone limit nice job same
 
 -- a job that has become what it was has its limit and its nice value
-limit-had : (limit : Limit) (job : JobRecord) → limit ≡ job.limit → Some limit ≡ job.desc.limit
-    → has_limit (Some limit) job ≡ true
-limit-had limit job own asked = rw (sym own, sym asked, limit-same limit) refl
+limit-had : (limit : Limit) (job : JobRecord) → limit ≡ job.limit → has_limit (Some limit) job ≡ true
+limit-had limit job own = rw (sym own) (limit-same limit)
 
 limited-had : (limit : Option Limit) (nice : Option Nice) (job : JobRecord)
     → with_nice nice (with_limit limit job) ≡ job → has_limit limit job ≡ true
 limited-had None nice job same = refl
 limited-had (Some limit) None job same =
-    limit-had limit job (ap (λ (one : JobRecord). one.limit) same) (ap (λ (one : JobRecord). one.desc.limit) same)
+    limit-had limit job (ap (λ (one : JobRecord). one.limit) same)
 limited-had (Some limit) (Some nice) job same =
-    limit-had limit job (ap (λ (one : JobRecord). one.limit) same) (ap (λ (one : JobRecord). one.desc.limit) same)
+    limit-had limit job (ap (λ (one : JobRecord). one.limit) same)
 
 nice-had : (limit : Option Limit) (nice : Option Nice) (job : JobRecord)
     → with_nice nice (with_limit limit job) ≡ job → has_nice nice job ≡ true
 nice-had limit None job same = refl
-nice-had None (Some nice) job same = rw (sym (ap (λ (one : JobRecord). one.desc.nice) same)) (nice-same nice)
-nice-had (Some limit) (Some nice) job same = rw (sym (ap (λ (one : JobRecord). one.desc.nice) same)) (nice-same nice)
+nice-had None (Some nice) job same = rw (sym (ap (λ (one : JobRecord). one.nice) same)) (nice-same nice)
+nice-had (Some limit) (Some nice) job same = rw (sym (ap (λ (one : JobRecord). one.nice) same)) (nice-same nice)
 
 -- what may be done isn't too late, and the job's state allows it
 free-of : (a b c d : Bool)

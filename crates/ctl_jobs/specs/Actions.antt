@@ -1,5 +1,5 @@
 -- What users do to jobs: why one may not be done, and what becomes of a job.
-use Rattle.std.specs.Prelude.{ℕ, Bool, true, false, ◌&&◌, ◌||◌, not, is_some, nat_eq, if◌then◌else◌, unwrap_or, List, [], ◌∷◌, bytes_eq, Option, Some, None}
+use Rattle.std.specs.Prelude.{ℕ, Bool, true, false, ◌&&◌, ◌||◌, not, is_some, nat_eq, if◌then◌else◌, List, [], ◌∷◌, bytes_eq, Option, Some, None}
 use Rattle.plain_data.specs.declared.limit.Limit.{Limit}
 use Rattle.plain_data.specs.declared.limit.Limit.TheVariants.{Minutes, Unlimited}
 use Rattle.plain_data.specs.declared.nice.Nice.{Nice}
@@ -75,7 +75,7 @@ is_untimely (Update limit nice) state = is_some nice && is_running state
 
 -- the job may be started again
 abbrev pub may_restart : JobRecord → Bool
-may_restart job = unwrap_or job.desc.requeue false
+may_restart job = job.terms.requeue
 
 abbrev pub is_barred : Action → JobRecord → Bool
 is_barred Requeue job = not (may_restart job)
@@ -144,18 +144,14 @@ same_nice (Lower one) (Lower other) = nat_eq one other
 same_nice (Raise one) (Raise other) = nat_eq one other
 same_nice one other = false
 
--- the job is to have this limit already: it has it, and asks for it
-abbrev pub asks_for : Limit → Option Limit → Bool
-asks_for limit None = false
-asks_for limit (Some asked) = same_limit asked limit
-
+-- the job is to have this limit already
 abbrev pub has_limit : Option Limit → JobRecord → Bool
 has_limit None job = true
-has_limit (Some limit) job = same_limit job.limit limit && asks_for limit job.desc.limit
+has_limit (Some limit) job = same_limit job.limit limit
 
 abbrev pub has_nice : Option Nice → JobRecord → Bool
 has_nice None job = true
-has_nice (Some nice) job = same_nice job.desc.nice nice
+has_nice (Some nice) job = same_nice job.nice nice
 
 -- this leaves a job as it is to which it may be done
 abbrev pub leaves : List ℕ → Action → JobRecord → Bool

@@ -54,22 +54,12 @@ fn same_nice(one: &Nice, other: &Nice) -> bool
     }
 }
 
-// Whether a limit that was asked for, if one was, is this one.
-fn asks_for(limit: &Limit, asked: &Option<Limit>) -> bool
-    ensures { result ≡ Actions.asks_for limit.now asked.now }
-{
-    match asked {
-        Some(asked) => same_limit(asked, limit),
-        None => false,
-    }
-}
-
 // Whether the job has this limit, if one is given.
 fn has_limit(limit: &Option<Limit>, job: &JobRecord) -> bool
     ensures { result ≡ Actions.has_limit limit.now job.now }
 {
     match limit {
-        Some(limit) => same_limit(&job.limit, limit) && asks_for(limit, &job.desc.limit),
+        Some(limit) => same_limit(&job.limit, limit),
         None => true,
     }
 }
@@ -79,7 +69,7 @@ fn has_nice(nice: &Option<Nice>, job: &JobRecord) -> bool
     ensures { result ≡ Actions.has_nice nice.now job.now }
 {
     match nice {
-        Some(nice) => same_nice(&job.desc.nice, nice),
+        Some(nice) => same_nice(&job.nice, nice),
         None => true,
     }
 }

@@ -217,7 +217,7 @@ fn is_barred(action: &Action, job: &JobRecord) -> bool
     ensures { result ≡ Actions.is_barred action.now job.now }
 {
     match action {
-        Action::Requeue => !job.desc.requeue.unwrap_or(false),
+        Action::Requeue => !job.terms().requeue,
         _ => false,
     }
 }

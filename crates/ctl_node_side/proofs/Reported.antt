@@ -152,6 +152,6 @@ sound-reported changing charging later nodes confs none_down rests s now node re
     lets-reported rests now node report (get_or s.jobs k d)
     (later s.moment now (get_or s.jobs k d) raised (sound.jobs k d below)) in
     nodes (record (become now (map change s.jobs) s) { moment = now }) (heard_nodes now node report s.nodes)
-    (charging (record s { jobs = map change s.jobs; moment = now }) (charged now s.jobs (map change s.jobs) s.usage)
+    (charging (record s { jobs = map change s.jobs; moment = now }) now s.jobs (map change s.jobs)
     (changing s now change s.plan sound in_time lets plan)) (confs node _ s.nodes)
     (up-after s.nodes (heard_nodes now node report s.nodes) (none_down node _ _ s.nodes))

@@ -53,8 +53,8 @@ launch_part node job part = record {
   start = start_of job;
   cpus = part.cpus;
   mem = part.mem;
-  run = if is_batch_host node job.parts then Some job.desc.run else None;
-  exit = if is_batch_host node job.parts then Some job.desc.exit else None;
+  run = if is_batch_host node job.parts then Some job.terms.run else None;
+  exit = if is_batch_host node job.parts then Some job.terms.exit else None;
 }
 
 -- the launch of a running job that holds something of the node and of whose start the report says nothing

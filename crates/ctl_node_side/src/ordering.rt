@@ -142,7 +142,7 @@ fn launch_part(job: &JobRecord, node: u32, part: &Part) -> Result<Launch, Memory
         start: start_of(job),
         cpus: part.cpus.copy(),
         mem: part.mem,
-        run: is_batch_host.then_some(job.desc.run.get() as u32),
-        exit: is_batch_host.then_some(job.desc.exit.get() as u32),
+        run: is_batch_host.then_some(job.terms().run.get() as u32),
+        exit: is_batch_host.then_some(job.terms().exit.get() as u32),
     })
 }

@@ -61,7 +61,7 @@ lets-left now lost final job [] kept completing is =
       keep = λ part. not (lost part.node);
       parts = is;
       some = settled.0;
-      asked = kept.asked;
+      terms = kept.terms;
       limit = kept.limit;
       run = settled.1;
     }
@@ -75,7 +75,7 @@ lets-left now lost final job (part ∷ later) kept completing is = record {
   keep = λ part. not (lost part.node);
   parts = is;
   some = rw completing refl;
-  asked = kept.asked;
+  terms = kept.terms;
   limit = kept.limit;
   run = search rules;
 }
@@ -155,7 +155,7 @@ sound_lost changing charging later rests s now lost sound raised in_time =
     let lets : All (λ job. LetsGo now job (change job)) s.jobs = λ k d below.
     lets-loss rests now lost (get_or s.jobs k d)
     (later s.moment now (get_or s.jobs k d) raised (sound.jobs k d below)) in
-    charging (record s { jobs = map change s.jobs; moment = now }) (charged now s.jobs (map change s.jobs) s.usage)
+    charging (record s { jobs = map change s.jobs; moment = now }) now s.jobs (map change s.jobs)
     (changing s now change s.plan sound in_time lets plan)
 
 -- nothing is held of lost nodes any more

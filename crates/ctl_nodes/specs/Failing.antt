@@ -1,5 +1,5 @@
 -- Nodes that are lost, which are told by their places: what becomes of the jobs that hold something of them.
-use Rattle.std.specs.Prelude.{◌≡◌, ℕ, ◌<◌, ◌≤◌, Bool, false, not, unwrap_or, if◌then◌else◌, List, map, filter, find, All, Option, None, option_map}
+use Rattle.std.specs.Prelude.{◌≡◌, ℕ, ◌<◌, ◌≤◌, Bool, false, not, if◌then◌else◌, List, map, filter, find, All, Option, None, option_map}
 use Rattle.std.specs.List.{list_any}
 use Rattle.request_data.specs.declared.state.Final.{Final}
 use Rattle.request_data.specs.declared.state.Final.TheVariants.{NodeFail, Requeue}
@@ -18,7 +18,7 @@ use Rattle.ctl_state.specs.State.{State}
 
 -- a job that fails with its node starts again where it may be requeued
 abbrev pub failing : JobRecord → Final
-failing job = if unwrap_or job.desc.requeue false then Requeue else NodeFail
+failing job = if job.terms.requeue then Requeue else NodeFail
 
 -- the job once it has failed, if it ran: its script ended with no code
 abbrev pub failed : ℕ → JobRecord → JobRecord

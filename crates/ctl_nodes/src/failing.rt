@@ -28,7 +28,7 @@ use request_data::state::{Final, JobState};
 fn failing(job: &JobRecord) -> Final
     ensures { result ≡ Failing.failing job.now }
 {
-    if job.desc.requeue.unwrap_or(false) {
+    if job.terms().requeue {
         Final::Requeue
     } else {
         Final::NodeFail

@@ -17,6 +17,7 @@ use ctl_state::cluster::Cluster;
 use node_state::nodes::Nodes;
 use node_state::reservation_record::Reservation;
 use plain_data::items::Items;
+use plain_data::ranged::Ranged;
 use reply_data::refusal::Refusal;
 use request_data::reservation::ReservationDesc;
 use small_texts::memory_error::Memory;
@@ -80,7 +81,7 @@ fn reservation_of(nodes: &Nodes, desc: &ReservationDesc) -> Result<Reservation, 
     Ok(Reservation {
         name: desc.name.copy()?,
         start: desc.start,
-        end: desc.end,
+        end: Ranged::new(desc.end.get()),
         nodes: places_among(nodes, desc.nodes.as_slice()),
         users: desc.users.copy()?,
         accounts: desc.accounts.copy()?,

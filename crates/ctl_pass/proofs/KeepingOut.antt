@@ -71,7 +71,7 @@ plan-all Q R base now each holds (job ∷ later) all =
 -- what is needed is what this job needs beside these reservations
 record IsNeedOf (reservations : List Reservation) (need : PlanJob) (job : JobRecord) : Type 0 where
   pub id : job.id ≡ need.id
-  pub barred : need.barred ≡ barred_of reservations job.desc.reservation
+  pub barred : need.barred ≡ barred_of reservations job.terms.reservation
   pub seconds : need.seconds ≡ seconds_of job.limit
 
 abbrev IsNeedOfAny : List Reservation → List JobRecord → PlanJob → Type 0
@@ -93,7 +93,7 @@ ranked-needs moves s now reservations same =
       get_or_default s.jobs k (get_or s.jobs k d) d below,
       record {
         id = refl;
-        barred = ap (λ (some : List Reservation). barred_of some (get_or s.jobs k d).desc.reservation) same;
+        barred = ap (λ (some : List Reservation). barred_of some (get_or s.jobs k d).terms.reservation) same;
         seconds = refl;
       },
     ) in
@@ -167,15 +167,15 @@ second-keeps name reservation node from until second clear here low high counts 
 
 -- so a placement that is clear of what the reservations bar keeps to them
 placed-keeps : (reservations : List Reservation) (job : JobRecord) (placed : Placed)
-    → All (λ (share : Share). is_barred (barred_of reservations job.desc.reservation) share.node placed.start
+    → All (λ (share : Share). is_barred (barred_of reservations job.terms.reservation) share.node placed.start
     (limit_end job.limit placed.start) ≡ false) placed.parts
     → All (KeepsTo job placed) reservations
 placed-keeps reservations job placed clear =
     let until = limit_end job.limit placed.start in
     λ i d below j e within here second is.
     let node = (get_or placed.parts j e).node in
-    second-keeps job.desc.reservation (get_or reservations i d) node placed.start until second
-    (each-clear reservations job.desc.reservation node placed.start until (clear j e within) i d below)
+    second-keeps job.terms.reservation (get_or reservations i d) node placed.start until second
+    (each-clear reservations job.terms.reservation node placed.start until (clear j e within) i d below)
     here is.from is.before is.last
 
 need-keeps : (reservations : List Reservation) (need : PlanJob) (job : JobRecord) (placed : Placed)
@@ -185,7 +185,7 @@ need-keeps : (reservations : List Reservation) (need : PlanJob) (job : JobRecord
     → All (KeepsTo job placed) reservations
 need-keeps reservations need job placed is clear =
     placed-keeps reservations job placed
-    (λ k d below. clear-also need.barred (barred_of reservations job.desc.reservation)
+    (λ k d below. clear-also need.barred (barred_of reservations job.terms.reservation)
     (get_or placed.parts k d).node placed.start (window_end need placed.start) (limit_end job.limit placed.start)
     is.barred (window-is need job.limit placed.start is.seconds) (clear k d below))
 

@@ -18,7 +18,7 @@ use Rattle.backfill_planner.specs.declared.job.PlanJob.{PlanJob}
 use Rattle.backfill_planner.specs.Bases.{BaseView}
 use Rattle.backfill_planner.specs.Placements.{IsPlannable, IsOnRooms, AreParts, StartsFit}
 use Rattle.backfill_planner.specs.Plans.{plan_of, PlannedView}
-use Rattle.node_state.specs.Partitions.{IsOnNodes, bounds_of}
+use Rattle.node_state.specs.Partitions.{IsOnNodes}
 use Rattle.small_texts.specs.Options.{◌>>=◌}
 use Rattle.node_state.specs.declared.reservation_record.Reservation.{Reservation}
 use Rattle.node_state.specs.ReservationLaws.{LastingTwice}
@@ -41,7 +41,7 @@ use Rattle.ctl_state.specs.Counted.{counted_of, holding}
 use Rattle.ctl_state.specs.Holding.{parts_of, mem_held, IsPartOf}
 use Rattle.ctl_state.specs.Laws.{JobNodes, OrderMoves, OrderKeepsApart}
 use Rattle.ctl_state.specs.Ordered.{ordered_by}
-use Rattle.ctl_state.specs.Planning.{barred_of, plan_job, room_of, seconds_of}
+use Rattle.ctl_state.specs.Planning.{barred_of, bounds_in, plan_job, room_of, seconds_of}
 use Rattle.ctl_state.specs.Soundness.{IsSound, IsKept, IsLimit, pending_ids}
 use Rattle.ctl_state.specs.State.{State, partition_of, last_moment, last_job_id}
 use Rattle.ctl_waiting.specs.FairShare.{rank_at, user_count, user_usage}
@@ -179,13 +179,13 @@ unfolding plan_job
 ranked-planned moves job_nodes s now sound = ranked-all moves (CanBePlanned s) s now (λ k d below partition bounds is.
     let job = get_or (waiting s.jobs) k d in
     let kept = All-filter (λ (one : JobRecord). is_pending one.state) (IsKept s.moment) s.jobs sound.jobs k d below in
-    let kept_out = barred_of (lasting now s.reservations) job.desc.reservation in
+    let kept_out = barred_of (lasting now s.reservations) job.terms.reservation in
     let nodes = job_nodes s.nodes (lasting now s.reservations) partition kept_out bounds job
     (at-place (IsOnNodes (length s.nodes)) s.partitions job.partition partition sound.partitions is) in
     record {
-      tasks = kept.asked.tasks.0;
+      tasks = kept.terms.tasks.0;
       nodes = λ i node inside. omega (arith, nodes.0 i node inside, length-map s.nodes room_of);
-      plannable = record { once = nodes.1; cpus = kept.asked.cpus.0; seconds = seconds job.limit kept.limit };
+      plannable = record { once = nodes.1; cpus = kept.terms.cpus.0; seconds = seconds job.limit kept.limit };
     })
   where
     seconds : (limit : Limit) → IsLimit limit → IfSome (seconds_of limit) (λ seconds. 1 ≤ seconds)
@@ -266,7 +266,7 @@ hindered s now job counted stands reservations =
     ++ (reason_if (exceeds_wall s job) QosMaxWallDurationPerJobLimit
     ∷ (limits_reached beside (counted_of job) (most_tasks job)
     ++ (reason_if (unwrap_or (option_map (λ name. is_too_late (reservation_named name reservations) now job.limit)
-    job.desc.reservation) false) Unreserved
+    job.terms.reservation) false) Unreserved
     ∷ reason_if (lacks_node s job) ReqNodeNotAvail ∷ [])))))))
 
 -- the laws of ranks, of dependencies and of reservations that a pass rests on
@@ -286,7 +286,8 @@ timed_out-others now job =
       id = refl;
       array = refl;
       user = refl;
-      desc = refl;
+      index = refl;
+      terms = refl;
       starts = refl;
       ended = sym others.0;
       final = λ ended. absurd (both_ways (is_ended job.state) others.0 ended);
@@ -295,7 +296,8 @@ timed_out-others now job =
       id = refl;
       array = refl;
       user = refl;
-      desc = refl;
+      index = refl;
+      terms = refl;
       starts = refl;
       ended = refl;
       final = λ ended. refl;
@@ -338,7 +340,7 @@ higher-ready laws s now =
 needs-ready : RankLaws → (s : State) (now : ℕ) (job : JobRecord) → needs_of (ready s now) now job ≡ needs_of s now job
 unfolding needs_of
 needs-ready laws s now job =
-    ap (λ some. partition_of s job >>= λ partition. bounds_of partition job.desc >>= λ bounds.
+    ap (λ some. partition_of s job >>= λ partition. bounds_in partition job.terms >>= λ bounds.
     Some (need_in s some partition bounds job)) (laws.lasting_twice now s.reservations)
 
 filter_map-agree : {X Y : Type 0} (f g : X → Option Y) → ((x : X) → f x ≡ g x) → (xs : List X)
@@ -386,7 +388,7 @@ few-jobs s sound =
       arith,
       length-rising (λ (job : JobRecord). job.id) 0 s.next_id s.jobs (omega arith) sound.rising
           (λ k d below. omega arith) sound.below_next,
-      sound.next.1,
+      sound.next,
     )
 
 -- a pending job waits as it did before the first steps

@@ -9,14 +9,13 @@ use Rattle.std.proofs.lemmas.List.Kept.{AllPairs-cons, AllPairs-filter}
 use Rattle.std.proofs.lemmas.List.Sorted.{All-permutation}
 use Rattle.backfill_planner.specs.declared.job.PlanJob.{PlanJob}
 use Rattle.node_state.specs.declared.partition_record.PartRecord.{PartRecord}
-use Rattle.node_state.specs.Partitions.{bounds_of}
 use Rattle.small_texts.specs.Options.{◌>>=◌}
 use Rattle.job_table.specs.declared.record.JobRecord.{JobRecord}
 use Rattle.job_table.specs.JobStates.{is_pending}
 use Rattle.ctl_state.specs.Ordered.{put, ordered_by}
 use Rattle.ctl_state.specs.Laws.{OrderMoves, OrderKeepsApart}
 use Rattle.node_state.specs.Reservations.{lasting}
-use Rattle.ctl_state.specs.Planning.{plan_job}
+use Rattle.ctl_state.specs.Planning.{bounds_in, plan_job}
 use Rattle.ctl_state.specs.Soundness.{pending_ids}
 use Rattle.job_table.specs.Table.{HaveRisingIds}
 use Rattle.ctl_state.specs.State.{State, partition_of}
@@ -94,10 +93,10 @@ needs-all P s now job each = by (partition_of s job) refl
     by_bounds partition (Some bounds) is = each partition bounds is
 
     by : (some : Option PartRecord) → slice_get s.partitions job.partition ≡ some
-        → IfSome (some >>= λ partition. bounds_of partition job.desc >>= λ bounds.
+        → IfSome (some >>= λ partition. bounds_in partition job.terms >>= λ bounds.
         Some (need_in s (lasting now s.reservations) partition bounds job)) P
     by None is = tt
-    by (Some partition) is = by_bounds partition (bounds_of partition job.desc) is
+    by (Some partition) is = by_bounds partition (bounds_in partition job.terms) is
 
 -- what holds of what each candidate may need
 ranked-of : OrderMoves JobRecord → (P : PlanJob → Type 0) (s : State) (now : ℕ)

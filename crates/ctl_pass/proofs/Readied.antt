@@ -26,17 +26,16 @@ use Rattle.node_state.specs.ReservationLaws.{Fewer}
 use Rattle.node_state.specs.Reservations.{lasting}
 use Rattle.ctl_state.specs.Laws.{Charging, LettingGo, ChangesLetGo, LetsGoNothing, KeptLater, Reserving}
 use Rattle.ctl_state.specs.Soundness.{IsSound, IsKept, PlansPending, pending_ids, HasItsParts}
-use Rattle.ctl_state.specs.State.{State, last_moment}
+use Rattle.ctl_state.specs.State.{State, last_moment, last_second}
 use Rattle.ctl_pass.specs.Limits.{deadline, is_over, timed_out, holds_of_job}
 use Rattle.ctl_pass.specs.Readiness.{goes, jobs_left, ready}
-use Rattle.plain_data.specs.declared.seconds.TheConstants.{LAST_START}
 
 -- no plan names nobody
 pub no-plan : (jobs : List JobRecord) → PlansPending jobs []
 no-plan jobs = record {
   pending = All-nil (λ (placed : Placed). Contains (pending_ids jobs) placed.id);
   once = λ i j d before below. absurd (omega (arith, below));
-  last = All-nil (λ (placed : Placed). placed.start ≤ LAST_START);
+  last = All-nil (λ (placed : Placed). placed.start ≤ last_second);
 }
 
 -- the laws of letting go that a pass rests on
@@ -79,7 +78,7 @@ sound-readied laws s now sound raised in_time =
     (All-weaker (IsKept s.moment) (λ job. LetsGo now job (timed_out now job))
     (λ job kept. lets job (laws.later s.moment now job raised kept)) s.jobs sound.jobs)
     (no-plan (those_left (timed_out now) old s.jobs)) in
-    let charged_left = laws.charging left (ready s now).usage lets_go in
+    let charged_left = laws.charging left now s.jobs (map (timed_out now) s.jobs) lets_go in
     laws.reserving (record left { usage = (ready s now).usage }) (lasting now s.reservations) charged_left
     (laws.fewer (λ (one : Reservation). ltb now one.end) s.reservations sound.reservations)
   where

@@ -25,13 +25,12 @@ use Rattle.ctl_state.specs.Holding.{cpus_of, times_held, free_ids, IsPartOf, par
 use Rattle.ctl_state.specs.Laws.{Taking, TakenTimes, TakenMem, OthersWait, Planning}
 use Rattle.ctl_state.specs.Planning.{names_of, room_of}
 use Rattle.ctl_state.specs.Soundness.{IsSound, PlansPending, is_up_at, pending_ids}
-use Rattle.ctl_state.specs.State.{State}
+use Rattle.ctl_state.specs.State.{State, last_second}
 use Rattle.ctl_pass.specs.Starting.{JobStart, Started, WasHeldBack, part_of, start_of, begun, started, may_start, IsAsPlanned, HasStarted}
 use Rattle.ctl_pass.specs.Taking.{CanStart, IsReady}
 use Rattle.ctl_pass.proofs.Held.{cpus_in, held-counted, held-grown, free-counted, free-are}
 use Rattle.ctl_pass.proofs.Lists.{sum_by-map, pairs-take, pairs-map, Any-kept}
 use Rattle.ctl_pass.proofs.Readied.{no-plan}
-use Rattle.plain_data.specs.declared.seconds.TheConstants.{LAST_START}
 use Rattle.list_lemmas.proofs.Pairs.{pairs-head, pairs-tail}
 
 -- only the nodes and the accounts matter of the state beside which placements start
@@ -260,7 +259,8 @@ module _ (laws : StartLaws) where
                   sound.plan.pending;
               once = AllPairs-cons (λ (one other : Placed). one.id ≢ other.id) placed rest.stays
                   (all-stay (λ (one : Placed). placed.id ≢ one.id) s s.moment jobs later apart) sound.plan.once;
-              last = All-cons (λ (one : Placed). one.start ≤ LAST_START) placed rest.stays first.last sound.plan.last;
+              last = All-cons (λ (one : Placed). one.start ≤ last_second) placed rest.stays
+                  (omega (arith, first.last)) sound.plan.last;
             } in
             rw stays (laws.planned (record s { jobs = rest.jobs; plan = rest.stays }) (placed ∷ rest.stays) sound
             planned)

@@ -29,7 +29,7 @@ KeepsTo job placed reservation =
     All
     (λ (share : Share). has_id reservation.nodes share.node ≡ true
     → (second : ℕ) → IsOfJob job placed second
-    → is_in_time second reservation ≡ is_theirs job.desc.reservation reservation)
+    → is_in_time second reservation ≡ is_theirs job.terms.reservation reservation)
     placed.parts
 
 -- each placement of a pass keeps its job to the reservations that aren't over

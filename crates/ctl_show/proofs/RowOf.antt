@@ -1,35 +1,33 @@
 -- A row from what is found for each of its columns.
-use Rattle.std.proofs.Common.{◌≡◌, ℕ, ◌-◌, Bool, false, List, Option, refl}
-use Rattle.std.specs.Prelude.{unwrap_or, codes}
+use Rattle.std.proofs.Common.{◌≡◌, ℕ, ◌-◌, List, Option, refl}
 use Rattle.plain_data.specs.declared.dependency.DepSpec.{DepSpec}
 use Rattle.request_data.specs.declared.state.Reason.{Reason}
 use Rattle.reply_data.specs.declared.view.EndAt.{EndAt}
 use Rattle.reply_data.specs.declared.view.JobRow.{JobRow}
 use Rattle.reply_data.specs.declared.view.NamedPart.{NamedPart}
 use Rattle.job_table.specs.declared.record.JobRecord.{JobRecord}
-use Rattle.job_table.specs.Targets.{index_of}
+use Rattle.job_table.specs.declared.terms.Terms.{Terms}
 use Rattle.ctl_state.specs.State.{State}
 use Rattle.ctl_waiting.specs.Rank.{priority_of}
 use Rattle.ctl_show.specs.Showing.{partition_name, elapsed_of, nodes_of, node_names, reason_shown, start_shown, cpus_of, end_shown, named_parts, row_of}
 
-pub row-found : (s : State) (now : ℕ) (job : JobRecord) (index : Option ℕ) (name user account partition qos : List ℕ)
+pub row-found : (s : State) (now : ℕ) (job : JobRecord) (terms : Terms) (name user account partition qos : List ℕ)
     (elapsed nodes : ℕ) (names : List (List ℕ)) (reason : Option Reason) (start : Option ℕ) (priority cpus : ℕ)
-    (tasks : ℕ) (dependency : Option DepSpec) (requeue : Bool) (restarts submit eligible : ℕ) (end : EndAt)
+    (tasks : ℕ) (dependency : Option DepSpec) (restarts submit eligible : ℕ) (end : EndAt)
     (parts : List NamedPart)
-    → index ≡ index_of job → name ≡ job.desc.name → user ≡ job.user
-    → account ≡ unwrap_or job.desc.account (codes "root") → partition ≡ partition_name s job
-    → qos ≡ unwrap_or job.desc.qos (codes "normal") → elapsed ≡ elapsed_of now job → nodes ≡ nodes_of job
+    → terms ≡ job.terms → name ≡ terms.name → user ≡ job.user → account ≡ terms.account
+    → partition ≡ partition_name s job → qos ≡ terms.qos → elapsed ≡ elapsed_of now job → nodes ≡ nodes_of job
     → names ≡ node_names s job
     → reason ≡ reason_shown s now job → start ≡ start_shown s job
     → priority ≡ priority_of s now job → cpus ≡ cpus_of job
-    → tasks ≡ job.desc.tasks → dependency ≡ job.desc.dependency → requeue ≡ unwrap_or job.desc.requeue false
+    → tasks ≡ terms.tasks → dependency ≡ terms.dependency
     → restarts ≡ job.starts - 1 → submit ≡ job.submit → eligible ≡ job.eligible → end ≡ end_shown job
     → parts ≡ named_parts s.nodes job.parts
     → ◌≡◌ {A = JobRow}
     (record {
       id = job.id;
       array = job.array;
-      index = index;
+      index = job.index;
       name = name;
       user = user;
       account = account;
@@ -45,9 +43,9 @@ pub row-found : (s : State) (now : ℕ) (job : JobRecord) (index : Option ℕ) (
       limit = job.limit;
       cpus = cpus;
       tasks = tasks;
-      nice = job.desc.nice;
+      nice = job.nice;
       dependency = dependency;
-      requeue = requeue;
+      requeue = terms.requeue;
       restarts = restarts;
       exit = job.exit;
       submit = submit;
@@ -57,6 +55,6 @@ pub row-found : (s : State) (now : ℕ) (job : JobRecord) (index : Option ℕ) (
     })
     (row_of s now job)
 unfolding row_of
-row-found s now job index name user account partition qos elapsed nodes names reason start priority cpus tasks dependency
-    requeue restarts submit eligible end parts i n u a p q e c ns r st pr k t d re ag su el en pa =
-    rw (i, n, u, a, p, q, e, c, ns, r, st, pr, k, t, d, re, ag, su, el, en, pa) refl
+row-found s now job terms name user account partition qos elapsed nodes names reason start priority cpus tasks
+    dependency restarts submit eligible end parts its n u a p q e c ns r st pr k t d ag su el en pa =
+    rw (n, u, a, p, q, e, c, ns, r, st, pr, k, t, d, ag, su, el, en, pa, its) refl

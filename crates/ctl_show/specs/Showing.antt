@@ -1,5 +1,5 @@
 -- What is shown of the state.
-use Rattle.std.specs.Prelude.{ℕ, ◌+◌, ◌-◌, ◌*◌, ◌^◌, min, Bool, true, false, ◌&&◌, ◌||◌, not, nat_eq, is_none, if◌then◌else◌, unwrap_or, List, [], ◌∷◌, map, length, filter, filter_map, sum_by, find, slice_get, bytes_eq, codes, Option, Some, None, option_map}
+use Rattle.std.specs.Prelude.{ℕ, ◌+◌, ◌-◌, ◌*◌, ◌^◌, min, Bool, true, false, ◌&&◌, ◌||◌, not, nat_eq, is_none, if◌then◌else◌, unwrap_or, List, [], ◌∷◌, map, length, filter, filter_map, sum_by, find, slice_get, bytes_eq, Option, Some, None, option_map}
 use Rattle.std.specs.List.{list_any}
 use Rattle.plain_data.specs.declared.limit.Limit.{Limit}
 use Rattle.plain_data.specs.declared.limit.Limit.TheVariants.{Minutes, Unlimited}
@@ -34,7 +34,7 @@ use Rattle.node_state.specs.Partitions.{place_meant}
 use Rattle.job_table.specs.declared.record.Part.{Part}
 use Rattle.job_table.specs.declared.record.JobRecord.{JobRecord}
 use Rattle.job_table.specs.JobStates.{is_pending, is_running, is_completing, is_ended, is_holding}
-use Rattle.job_table.specs.Targets.{index_of, is_named}
+use Rattle.job_table.specs.Targets.{is_named}
 use Rattle.node_state.specs.Reservations.{reservation_named}
 use Rattle.ctl_state.specs.Planning.{names_of}
 use Rattle.ctl_state.specs.Refusals.{refused_if}
@@ -123,7 +123,7 @@ elapsed_of now job =
 -- how many nodes a job has, or needs at least; one that has ended had those of its last start
 abbrev pub nodes_of : JobRecord → ℕ
 nodes_of job =
-    if is_pending job.state then job.desc.min_nodes
+    if is_pending job.state then job.terms.min_nodes
     else (if is_ended job.state then length job.last_nodes else length job.parts)
 
 abbrev pub node_names : State → JobRecord → List (List ℕ)
@@ -134,7 +134,7 @@ node_names s job =
 -- how many processors a job holds, as far as they are counted, or asks for
 abbrev pub cpus_of : JobRecord → ℕ
 cpus_of job =
-    if is_pending job.state then job.desc.tasks * job.desc.cpus_per_task
+    if is_pending job.state then job.terms.tasks * job.terms.cpus_per_task
     else min (sum_by (λ (part : Part). length part.cpus) job.parts) (2 ^ 64 - 1)
 
 -- only pending jobs wait, and have a start that is planned
@@ -171,12 +171,12 @@ unfoldable pub row_of : State → ℕ → JobRecord → JobRow
 row_of s now job = record {
   id = job.id;
   array = job.array;
-  index = index_of job;
-  name = job.desc.name;
+  index = job.index;
+  name = job.terms.name;
   user = job.user;
-  account = unwrap_or job.desc.account (codes "root");
+  account = job.terms.account;
   partition = partition_name s job;
-  qos = unwrap_or job.desc.qos (codes "normal");
+  qos = job.terms.qos;
   state = job.state;
   elapsed = elapsed_of now job;
   nodes = nodes_of job;
@@ -186,10 +186,10 @@ row_of s now job = record {
   priority = priority_of s now job;
   limit = job.limit;
   cpus = cpus_of job;
-  tasks = job.desc.tasks;
-  nice = job.desc.nice;
-  dependency = job.desc.dependency;
-  requeue = unwrap_or job.desc.requeue false;
+  tasks = job.terms.tasks;
+  nice = job.nice;
+  dependency = job.terms.dependency;
+  requeue = job.terms.requeue;
   restarts = job.starts - 1;
   exit = job.exit;
   submit = job.submit;
@@ -220,7 +220,7 @@ unfoldable pub priority_row_of : State → ℕ → JobRecord → PriorityRow
 priority_row_of s now job = record {
   id = job.id;
   array = job.array;
-  index = index_of job;
+  index = job.index;
   partition = partition_name s job;
   user = job.user;
   parts = parts_of s now job;

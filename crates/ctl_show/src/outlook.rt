@@ -3,7 +3,7 @@
 ghost use Rattle.std.specs.Prelude.{◌≡◌, ◌≢◌, ◌≤◌, ℕ, IfOk, All, AllPairs, nat_eq};
 ghost use Rattle.std.specs.HashMap.{get};
 ghost use Rattle.backfill_planner.specs.declared.Placed.{Placed};
-ghost use Rattle.ctl_state.specs.State.{state_of};
+ghost use Rattle.ctl_state.specs.State.{last_second, state_of};
 ghost use Rattle.ctl_state.specs.Soundness.{IsSound};
 ghost use Rattle.ctl_show.specs.Found.{IsOutlook};
 ghost use Rattle.ctl_show.specs.Showing;
@@ -13,7 +13,7 @@ use ctl_state::cluster::Cluster;
 use ctl_state::counting::count_holding;
 use ctl_waiting::{Factors, highest, measure};
 use plain_data::ranged::Ranged;
-use plain_data::seconds::{LAST_START, Second};
+use plain_data::seconds::Second;
 use run_limits::tally::Tally;
 use small_texts::memory_error::Memory;
 use std::alloc::Global;
@@ -35,7 +35,7 @@ pub(crate) struct Outlook {
 // The seconds that the plan gives, by the numbers of the jobs. Linear in the plan.
 fn starts_of(alloc: Global, plan: &[Placed]) -> Result<HashMap<u32, Second>, Memory>
     requires once { AllPairs (λ (one other : Placed). one.id ≢ other.id) plan.now }
-    requires last { All (λ (placed : Placed). placed.start ≤ LAST_START) plan.now }
+    requires last { All (λ (placed : Placed). placed.start ≤ last_second) plan.now }
     ensures { IfOk result (λ starts. (id : ℕ) → get nat_eq starts id ≡ Showing.planned_start plan.now id) }
 {
     let mut starts = HashMap::with_capacity(alloc, plan.len())?;

@@ -11,7 +11,6 @@ use crate::rows::partition_name;
 use ctl_state::cluster::Cluster;
 use ctl_waiting::{Factors, measure, priority_of};
 use job_table::record::JobRecord;
-use job_table::targets::index_of;
 use plain_data::items::Items;
 use reply_data::priority::PriorityRow;
 use reply_data::view::Row;
@@ -32,7 +31,7 @@ fn row_of(cluster: &Cluster, factors: &Factors, job: &JobRecord) -> Result<Prior
     Ok(PriorityRow {
         id: job.id,
         array: job.array,
-        index: index_of(job),
+        index: job.index,
         partition: partition_name(cluster, job)?,
         user: job.user.copy()?,
         parts: priority_of(factors, cluster, job),

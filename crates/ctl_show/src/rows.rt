@@ -15,7 +15,6 @@ use ctl_state::jobs::is_pending;
 use ctl_state::planning::names_of;
 use ctl_waiting::{hindrance, priority_of};
 use job_table::record::JobRecord;
-use job_table::targets::index_of;
 use job_table::usage::cpus_in;
 use plain_data::Plain;
 use plain_data::items::Items;
@@ -31,16 +30,6 @@ use std::alloc::Global;
 
 // How long a job runs or ran, in seconds.
 type Elapsed = Ranged<0, FOREVER>;
-
-// The name, or this text as one, which is a name. A text that is none comes out as want of memory.
-fn name_or(alloc: Global, name: &Option<Name>, other: &[u8]) -> Result<Name, Memory>
-    ensures { IfOk result (λ copy. copy ≡ unwrap_or name.now other.now) }
-{
-    match name {
-        Some(name) => name.copy(),
-        None => Name::read(alloc, other).map_err(|_| Memory),
-    }
-}
 
 /// The name of the job's partition.
 pub(crate) fn partition_name(cluster: &Cluster, job: &JobRecord) -> Result<Name, Memory>
@@ -80,7 +69,7 @@ fn nodes_of(job: &JobRecord) -> u64
     ensures { result ≡ Showing.nodes_of job.now }
 {
     match job.state {
-        JobState::Pending => job.desc.min_nodes.get(),
+        JobState::Pending => job.terms().min_nodes.get(),
         JobState::Running | JobState::Completing(_) => job.parts.as_slice().len() as u64,
         JobState::Ended(_) => job.last_nodes.as_slice().len() as u64,
     }
@@ -105,7 +94,7 @@ fn cpus_of(job: &JobRecord) -> u64
     ensures { result ≡ Showing.cpus_of job.now }
 {
     if is_pending(job) {
-        job.desc.tasks.get() * job.desc.cpus_per_task.get()
+        job.terms().tasks.get() * job.terms().cpus_per_task.get()
     } else {
         cpus_in(job.parts.as_slice())
     }
@@ -203,15 +192,16 @@ pub(crate) fn row_of(
     requires eligible { job.now.eligible ≤ last_moment }
     ensures { IfOk result (λ row. row ≡ Showing.row_of (state_of cluster.now) moment job.now) }
 {
+    let terms = job.terms();
     Ok(JobRow {
         id: job.id,
         array: job.array,
-        index: index_of(job),
-        name: job.desc.name.copy()?,
+        index: job.index,
+        name: terms.name.copy()?,
         user: job.user.copy()?,
-        account: name_or(alloc, &job.desc.account, b"root")?,
+        account: terms.account.copy()?,
         partition: partition_name(cluster, job)?,
-        qos: name_or(alloc, &job.desc.qos, b"normal")?,
+        qos: terms.qos.copy()?,
         state: job.state,
         elapsed: elapsed_of(moment, job),
         nodes: nodes_of(job),
@@ -221,10 +211,10 @@ pub(crate) fn row_of(
         priority: priority_of(&outlook.factors, cluster, job).sum,
         limit: job.limit,
         cpus: cpus_of(job),
-        tasks: job.desc.tasks.get(),
-        nice: job.desc.nice,
-        dependency: job.desc.dependency.copy()?,
-        requeue: job.desc.requeue.unwrap_or(false),
+        tasks: terms.tasks.get(),
+        nice: job.nice,
+        dependency: terms.dependency.copy()?,
+        requeue: terms.requeue,
         restarts: job.starts.saturating_sub(1),
         exit: job.exit,
         submit: Ranged::new(job.submit),

@@ -10,7 +10,7 @@ use Rattle.std.proofs.lemmas.List.Elements.{All-append, All-filter, All-head, Al
 use Rattle.std.proofs.lemmas.List.Kept.{AllPairs-filter}
 use Rattle.std.proofs.lemmas.List.Sorted.{All-permutation}
 use Rattle.std.proofs.lemmas.Option.{slice_get-get_or}
-use Rattle.plain_data.specs.declared.job.JobDesc.{JobDesc}
+use Rattle.job_table.specs.declared.terms.Terms.{Terms}
 use Rattle.node_state.specs.declared.record.NodeRecord.{NodeRecord}
 use Rattle.node_state.specs.declared.partition_record.PartRecord.{PartRecord}
 use Rattle.node_state.specs.Partitions.{IsOnNodes}
@@ -55,12 +55,12 @@ unfolding node_order
 order-once nodes partition on = ordered-pairs (is_taken_before nodes) (λ one other. one ≢ other) (λ one other differ same. differ (sym same)) partition.nodes on.once
 
 -- a job that says nothing of its nodes takes them as they stand
-runs-anywhere : (desc : JobDesc) (node : NodeRecord) → desc.excluded ≡ [] → desc.features ≡ None → may_run desc node ≡ true
-runs-anywhere desc node none any = rw (none, any) refl
+runs-anywhere : (terms : Terms) (node : NodeRecord) → terms.excluded ≡ [] → terms.features ≡ None → may_run terms node ≡ true
+runs-anywhere terms node none any = rw (none, any) refl
 
-must-nowhere : (nodes : List NodeRecord) (desc : JobDesc) (place : ℕ) → desc.required ≡ [] → is_at (must_have desc) nodes place ≡ false
-must-nowhere nodes desc place none =
-    elim (slice_get nodes place) as (λ node. unwrap_or (option_map (must_have desc) node) false ≡ false) [ None ↦ refl | Some node ↦ rw none refl ]
+must-nowhere : (nodes : List NodeRecord) (terms : Terms) (place : ℕ) → terms.required ≡ [] → is_at (must_have terms) nodes place ≡ false
+must-nowhere nodes terms place none =
+    elim (slice_get nodes place) as (λ node. unwrap_or (option_map (must_have terms) node) false ≡ false) [ None ↦ refl | Some node ↦ rw none refl ]
 
 at-place : (test : NodeRecord → Bool) (nodes : List NodeRecord) (place : ℕ) → ((node : NodeRecord) → test node ≡ true) → place < length nodes
     → is_at test nodes place ≡ true
@@ -76,54 +76,54 @@ filter-none : (xs : List ℕ) → filter (λ x. false) xs ≡ []
 filter-none [] = refl
 filter-none (x ∷ xs) = filter-none xs
 
-first-none : (nodes : List NodeRecord) (desc : JobDesc) (places : List ℕ) → desc.required ≡ [] → required_first nodes desc places ≡ places
-first-none nodes desc places none =
-    let must = is_at (must_have desc) nodes in
-    let first : filter must places ≡ [] = filter_agree must (λ place. false) (λ place. must-nowhere nodes desc place none) places ∙ filter-none places in
-    rw first (filter-passing (λ place. not (must place)) places (λ k d below. rw (must-nowhere nodes desc (get_or places k d) none) refl))
+first-none : (nodes : List NodeRecord) (terms : Terms) (places : List ℕ) → terms.required ≡ [] → required_first nodes terms places ≡ places
+first-none nodes terms places none =
+    let must = is_at (must_have terms) nodes in
+    let first : filter must places ≡ [] = filter_agree must (λ place. false) (λ place. must-nowhere nodes terms place none) places ∙ filter-none places in
+    rw first (filter-passing (λ place. not (must place)) places (λ k d below. rw (must-nowhere nodes terms (get_or places k d) none) refl))
 
-pub any-among : (nodes : List NodeRecord) (desc : JobDesc) (order : List ℕ)
-    → (desc.required ≡ []) × (desc.excluded ≡ []) × (desc.features ≡ None)
-    → All (λ place. place < length nodes) order → nodes_among nodes desc order ≡ order
-any-among nodes desc order says there =
-    let may = is_at (may_run desc) nodes in
+pub any-among : (nodes : List NodeRecord) (terms : Terms) (order : List ℕ)
+    → (terms.required ≡ []) × (terms.excluded ≡ []) × (terms.features ≡ None)
+    → All (λ place. place < length nodes) order → nodes_among nodes terms order ≡ order
+any-among nodes terms order says there =
+    let may = is_at (may_run terms) nodes in
     let all : filter may order ≡ order =
-    filter-passing may order (λ k d below. at-place (may_run desc) nodes _ (λ node. runs-anywhere desc node says.1 says.2) (there k d below)) in
-    let known : are_there nodes desc (filter may order) ≡ true = rw says.0 refl in
-    rw (known, all) (first-none nodes desc order says.0)
+    filter-passing may order (λ k d below. at-place (may_run terms) nodes _ (λ node. runs-anywhere terms node says.1 says.2) (there k d below)) in
+    let known : are_there nodes terms (filter may order) ≡ true = rw says.0 refl in
+    rw (known, all) (first-none nodes terms order says.0)
 
 -- those that a job may get are nodes that there are, each once
-pub among-there : (nodes : List NodeRecord) (desc : JobDesc) (order : List ℕ) → All (λ place. place < length nodes) order
-    → All (λ place. place < length nodes) (nodes_among nodes desc order)
-among-there nodes desc order within =
+pub among-there : (nodes : List NodeRecord) (terms : Terms) (order : List ℕ) → All (λ place. place < length nodes) order
+    → All (λ place. place < length nodes) (nodes_among nodes terms order)
+among-there nodes terms order within =
     let there : ℕ → Type 0 = λ place. place < length nodes in
-    let must : ℕ → Bool = is_at (must_have desc) nodes in
+    let must : ℕ → Bool = is_at (must_have terms) nodes in
     let rest : ℕ → Bool = λ place. not (must place) in
-    let places = filter (is_at (may_run desc) nodes) order in
-    let all = All-filter (is_at (may_run desc) nodes) there order within in
-    cond_both (are_there nodes desc places) (required_first nodes desc places) [] (All there)
+    let places = filter (is_at (may_run terms) nodes) order in
+    let all = All-filter (is_at (may_run terms) nodes) there order within in
+    cond_both (are_there nodes terms places) (required_first nodes terms places) [] (All there)
     (λ known. All-append there (filter must places) (filter rest places) (All-filter must there places all) (All-filter rest there places all))
     (λ unknown. All-nil there)
 
 -- those of the places at which it may run, the required ones first
-pub first-once : (nodes : List NodeRecord) (desc : JobDesc) (order : List ℕ) → AllPairs (λ one other. one ≢ other) order
-    → AllPairs (λ one other. one ≢ other) (required_first nodes desc (filter (is_at (may_run desc) nodes) order))
-first-once nodes desc order differs =
+pub first-once : (nodes : List NodeRecord) (terms : Terms) (order : List ℕ) → AllPairs (λ one other. one ≢ other) order
+    → AllPairs (λ one other. one ≢ other) (required_first nodes terms (filter (is_at (may_run terms) nodes) order))
+first-once nodes terms order differs =
     let differ : ℕ → ℕ → Type 0 = λ one other. one ≢ other in
-    let must : ℕ → Bool = is_at (must_have desc) nodes in
+    let must : ℕ → Bool = is_at (must_have terms) nodes in
     let rest : ℕ → Bool = λ place. not (must place) in
-    let places = filter (is_at (may_run desc) nodes) order in
-    let once = AllPairs-filter differ (is_at (may_run desc) nodes) order differs in
+    let places = filter (is_at (may_run terms) nodes) order in
+    let once = AllPairs-filter differ (is_at (may_run terms) nodes) order differs in
     pairs-append differ (filter must places) (filter rest places) (AllPairs-filter differ must places once) (AllPairs-filter differ rest places once)
     (λ k d below j e within same. both_ways (must (get_or (filter must places) k d)) (ap must same ∙ not-true _ (filter_passes rest places j e within))
     (filter_passes must places k d below))
 
-pub among-once : (nodes : List NodeRecord) (desc : JobDesc) (order : List ℕ) → AllPairs (λ one other. one ≢ other) order
-    → AllPairs (λ one other. one ≢ other) (nodes_among nodes desc order)
-among-once nodes desc order differs =
-    let places = filter (is_at (may_run desc) nodes) order in
-    cond_both (are_there nodes desc places) (required_first nodes desc places) [] (AllPairs (λ one other. one ≢ other))
-    (λ known. first-once nodes desc order differs)
+pub among-once : (nodes : List NodeRecord) (terms : Terms) (order : List ℕ) → AllPairs (λ one other. one ≢ other) order
+    → AllPairs (λ one other. one ≢ other) (nodes_among nodes terms order)
+among-once nodes terms order differs =
+    let places = filter (is_at (may_run terms) nodes) order in
+    cond_both (are_there nodes terms places) (required_first nodes terms places) [] (AllPairs (λ one other. one ≢ other))
+    (λ known. first-once nodes terms order differs)
     (λ unknown i j d before below. absurd (omega (arith, below)))
 
 -- those left of a partition's nodes by reservations

@@ -45,7 +45,7 @@ all-stay now job after same task whose by with of held kept =
       keep = keep;
       parts = parts;
       some = kept.parts.some;
-      asked = kept.asked;
+      terms = kept.terms;
       limit = kept.limit;
       run = kept.run;
     }
@@ -67,7 +67,7 @@ lets_go-twice now job middle after one two =
       keep = keep;
       parts = parts;
       some = two.some;
-      asked = two.asked;
+      terms = two.terms;
       limit = two.limit;
       run = two.run;
     }
@@ -91,7 +91,7 @@ leaves-node now node final job [] kept completing off =
       keep = λ part. not (is_on node part);
       parts = off;
       some = settled.0;
-      asked = kept.asked;
+      terms = kept.terms;
       limit = kept.limit;
       run = settled.1;
     }
@@ -106,7 +106,7 @@ leaves-node now node final job (part ∷ later) kept completing off =
       keep = λ part. not (is_on node part);
       parts = off;
       some = rw completing refl;
-      asked = kept.asked;
+      terms = kept.terms;
       limit = kept.limit;
       run = search rules;
     }
@@ -149,10 +149,9 @@ changed-lets_go now (DropPart node moment) job at kept = rw at (off_node-lets_go
 changed-lets_go now (SetHold by) job fits kept =
     all-stay now job (record job { held_by = by }) refl refl refl refl refl refl refl (search rules)
 changed-lets_go now (SetLimit limit) job fits kept =
-    let after : JobRecord = record job { limit = limit; desc = record job.desc { limit = Some limit } } in
-    all-stay now job after refl refl refl refl refl refl refl (search rules)
+    all-stay now job (record job { limit = limit }) refl refl refl refl refl refl refl (search rules)
 changed-lets_go now (SetNice nice) job fits kept =
-    all-stay now job (record job { desc = record job.desc { nice = nice } }) refl refl refl refl refl refl refl (search rules)
+    all-stay now job (record job { nice = nice }) refl refl refl refl refl refl refl (search rules)
 
 pub kept-started : (now : ℕ) (parts : List Part) (names : List (List ℕ)) (job : JobRecord) → has_members parts ≡ true
     → OnNodesApart parts → IsKept now job

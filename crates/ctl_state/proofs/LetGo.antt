@@ -16,7 +16,7 @@ use Rattle.job_table.specs.Targets.{AreTogether}
 use Rattle.ctl_state.specs.declared.record.ArrayRecord.{ArrayRecord}
 use Rattle.run_limits.specs.declared.record.AssocRecord.{AssocRecord}
 use Rattle.run_limits.specs.declared.record.QosRecord.{QosRecord}
-use Rattle.ctl_state.specs.State.{State, last_moment}
+use Rattle.ctl_state.specs.State.{State, last_moment, last_second}
 use Rattle.ctl_state.specs.Holding.{IsHeldOnce, IsPartOf, mem_held, mem_in, parts_of, times_held}
 use Rattle.ctl_state.specs.Planning.{room_of}
 use Rattle.ctl_state.specs.Events.{LetsGo, plan_left, those_left, waits}
@@ -24,7 +24,6 @@ use Rattle.ctl_state.specs.Soundness.{AreOfPartitions, IsOfAccounts, AreUp, IsKe
 use Rattle.ctl_state.proofs.Held.{cpu_in}
 use Rattle.ctl_state.proofs.Kept.{kept-let_go}
 use Rattle.ctl_state.proofs.Lists.{All-flat_map, All-from_flat_map, found-passes, pairs-kept, rising-kept}
-use Rattle.plain_data.specs.declared.seconds.TheConstants.{LAST_START}
 use Rattle.list_lemmas.proofs.Filters.{filter-all}
 
 -- what stays of a job, and of all jobs, is no more than there was
@@ -153,5 +152,5 @@ plan-left jobs before plan planned =
     record {
       pending = pending;
       once = AllPairs-filter (λ (one other : Placed). one.id ≢ other.id) stays plan planned.once;
-      last = All-filter stays (λ (placed : Placed). placed.start ≤ LAST_START) plan planned.last;
+      last = All-filter stays (λ (placed : Placed). placed.start ≤ last_second) plan planned.last;
     }

@@ -8,7 +8,7 @@ use Rattle.ctl_state.specs.State.{State}
 
 -- how many processors limits count for a job: those of its tasks, whatever it holds
 abbrev pub cpus_counted : JobRecord → ℕ
-cpus_counted job = job.desc.tasks * job.desc.cpus_per_task
+cpus_counted job = job.terms.tasks * job.terms.cpus_per_task
 
 -- what a job counts as
 abbrev pub counted_of : JobRecord → Counted

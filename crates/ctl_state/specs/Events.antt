@@ -12,7 +12,7 @@ use Rattle.job_table.specs.Usage.{charged}
 use Rattle.ctl_state.specs.Holding.{IsPartOf, OnNodesApart, has_members, times_held, mem_held, mem_of, parts_of}
 use Rattle.ctl_state.specs.Planning.{room_of}
 use Rattle.ctl_state.specs.State.{State}
-use Rattle.ctl_state.specs.Soundness.{AreUp, IsAsked, IsLimit, IsWellRun, pending_ids}
+use Rattle.ctl_state.specs.Soundness.{AreUp, IsSettled, IsLimit, IsWellRun, pending_ids}
 
 -- What an event that starts nothing may make of a job: it keeps its number, its array, its user with his association,
 -- its quality of service, its partition and some of its parts.
@@ -26,7 +26,7 @@ pub record LetsGo (now : ℕ) (job after : JobRecord) : Type 0 where
   pub keep : Part → Bool
   pub parts : after.parts ≡ filter keep job.parts
   pub some : has_members after.parts ≡ is_holding after.state
-  pub asked : IsAsked after.desc
+  pub terms : IsSettled after.terms
   pub limit : IsLimit after.limit
   pub run : IsWellRun now after
 

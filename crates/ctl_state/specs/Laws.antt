@@ -18,6 +18,7 @@ use Rattle.ctl_state.specs.State.{State, last_moment, last_job_id, last_size, sh
 use Rattle.job_table.specs.JobStates.{is_pending}
 use Rattle.job_table.specs.Changes.{changed}
 use Rattle.job_table.specs.Targets.{AreTogether}
+use Rattle.job_table.specs.Usage.{charged}
 use Rattle.ctl_state.specs.Holding.{parts_of, times_held, mem_held}
 use Rattle.ctl_state.specs.Index.{ShowsParts, TakesParts, GivesParts}
 use Rattle.node_state.specs.declared.record.Held.{Held}
@@ -131,9 +132,10 @@ abbrev pub Sizing : Type 0
 Sizing = (s : State) (size : ℕ) → IsSound s → size ≤ last_size + shutdown_size → (s.is_shut ≡ false → size ≤ last_size)
     → IsSound (record s { size = size })
 
--- What associations have used may be anything.
+-- Whoever is charged, all stays sound.
 abbrev pub Charging : Type 0
-Charging = (s : State) (usage : List ℕ) → IsSound s → IsSound (record s { usage = usage })
+Charging = (s : State) (now : ℕ) (before after : List JobRecord)
+    → IsSound s → IsSound (record s { usage = charged now before after s.usage })
 
 -- The plan without those that no longer wait is a plan of pending jobs.
 abbrev pub PlansLeft : Type 0
@@ -166,7 +168,7 @@ abbrev pub JobNodes : Type 0
 JobNodes = (nodes : List NodeRecord) (reservations : List Reservation) (partition : PartRecord) (barred : List Barred)
     (bounds : ℕ × ℕ) (job : JobRecord)
     → IsOnNodes (length nodes) partition
-    → let places = places_for nodes reservations partition job.desc.reservation in
+    → let places = places_for nodes reservations partition job.terms.reservation in
     All (λ node. node < length nodes) (plan_job nodes partition places barred bounds job).nodes
     × AllPairs (λ one other. one ≢ other) (plan_job nodes partition places barred bounds job).nodes
 

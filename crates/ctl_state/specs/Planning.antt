@@ -3,9 +3,7 @@ use Rattle.std.specs.Prelude.{ℕ, ◌*◌, Bool, true, false, ◌&&◌, ◌||�
 use Rattle.std.specs.List.{list_all, list_any}
 use Rattle.plain_data.specs.declared.limit.Limit.{Limit}
 use Rattle.plain_data.specs.declared.limit.Limit.TheVariants.{Minutes, Unlimited}
-use Rattle.plain_data.specs.declared.mem_ask.MemAsk.TheVariants.{All}
 use Rattle.plain_data.specs.declared.features.FeatureExpr.{FeatureExpr}
-use Rattle.plain_data.specs.declared.job.JobDesc.{JobDesc}
 use Rattle.resource_profile.specs.declared.NodeRoom.{NodeRoom}
 use Rattle.backfill_planner.specs.declared.job.Barred.{Barred}
 use Rattle.backfill_planner.specs.declared.job.PlanJob.{PlanJob}
@@ -15,8 +13,10 @@ use Rattle.cpu_ids.specs.Rows.{has_id}
 use Rattle.node_state.specs.declared.record.NodeRecord.{NodeRecord}
 use Rattle.node_state.specs.Nodes.{is_available, is_named, has_features}
 use Rattle.node_state.specs.declared.partition_record.PartRecord.{PartRecord}
+use Rattle.node_state.specs.Partitions.{bounds_of}
 use Rattle.job_table.specs.declared.record.JobRecord.{JobRecord}
 use Rattle.job_table.specs.declared.record.Part.{Part}
+use Rattle.job_table.specs.declared.terms.Terms.{Terms}
 use Rattle.ctl_state.specs.Ordered.{ordered_by}
 use Rattle.plain_data.specs.declared.seconds.TheConstants.{FOREVER}
 
@@ -52,29 +52,33 @@ has_wanted None node = true
 has_wanted (Some features) node = has_features features node
 
 -- the job may run on the node, as far as it says
-abbrev pub may_run : JobDesc → NodeRecord → Bool
-may_run desc node = not (has desc.excluded node.conf.name) && has_wanted desc.features node
+abbrev pub may_run : Terms → NodeRecord → Bool
+may_run terms node = not (has terms.excluded node.conf.name) && has_wanted terms.features node
 
 -- the job must have the node
-abbrev pub must_have : JobDesc → NodeRecord → Bool
-must_have desc node = has desc.required node.conf.name
+abbrev pub must_have : Terms → NodeRecord → Bool
+must_have terms node = has terms.required node.conf.name
 
 -- those of the places at which the job may run, in their order: those that it must have first
-abbrev pub required_first : List NodeRecord → JobDesc → List ℕ → List ℕ
-required_first nodes desc places =
-    filter (is_at (must_have desc) nodes) places ++ filter (λ place. not (is_at (must_have desc) nodes place)) places
+abbrev pub required_first : List NodeRecord → Terms → List ℕ → List ℕ
+required_first nodes terms places =
+    filter (is_at (must_have terms) nodes) places ++ filter (λ place. not (is_at (must_have terms) nodes place)) places
 
 -- each node that the job must have is at one of the places
-abbrev pub are_there : List NodeRecord → JobDesc → List ℕ → Bool
-are_there nodes desc places = list_all (λ name. list_any (is_at (is_named name) nodes) places) desc.required
+abbrev pub are_there : List NodeRecord → Terms → List ℕ → Bool
+are_there nodes terms places = list_all (λ name. list_any (is_at (is_named name) nodes) places) terms.required
 
 -- The places of the job's nodes among those of a partition, in the order in which it takes them; none where it must
 -- have one that it can't have.
-abbrev pub nodes_among : List NodeRecord → JobDesc → List ℕ → List ℕ
-nodes_among nodes desc order =
-    if are_there nodes desc (filter (is_at (may_run desc) nodes) order)
-    then required_first nodes desc (filter (is_at (may_run desc) nodes) order)
+abbrev pub nodes_among : List NodeRecord → Terms → List ℕ → List ℕ
+nodes_among nodes terms order =
+    if are_there nodes terms (filter (is_at (may_run terms) nodes) order)
+    then required_first nodes terms (filter (is_at (may_run terms) nodes) order)
     else []
+
+-- how many nodes a job on these terms may have in a partition, at least and at most
+abbrev pub bounds_in : PartRecord → Terms → Option (ℕ × ℕ)
+bounds_in partition terms = bounds_of partition terms.tasks terms.min_nodes terms.max_nodes
 
 -- a limit in seconds
 abbrev pub seconds_of : Limit → Option ℕ
@@ -127,12 +131,12 @@ barred_of reservations name = flat_map (barred_by name) reservations
 unfoldable pub plan_job : List NodeRecord → PartRecord → List ℕ → List Barred → ℕ × ℕ → JobRecord → PlanJob
 plan_job nodes partition places barred bounds job = record {
   id = job.id;
-  need = record { tasks = job.desc.tasks; least = bounds.0; most = bounds.1; required = length job.desc.required };
-  cpus_per_task = job.desc.cpus_per_task;
-  per_node = unwrap_or job.desc.tasks_per_node job.desc.tasks;
-  mem_ask = unwrap_or job.desc.mem_ask All;
-  exclusive = job.desc.exclusive || partition.conf.exclusive;
-  nodes = nodes_among nodes job.desc places;
+  need = record { tasks = job.terms.tasks; least = bounds.0; most = bounds.1; required = length job.terms.required };
+  cpus_per_task = job.terms.cpus_per_task;
+  per_node = unwrap_or job.terms.tasks_per_node job.terms.tasks;
+  mem_ask = job.terms.mem;
+  exclusive = job.terms.exclusive || partition.conf.exclusive;
+  nodes = nodes_among nodes job.terms places;
   seconds = seconds_of job.limit;
   barred = barred;
 }

@@ -13,17 +13,17 @@ use Rattle.node_state.specs.declared.partition_record.PartRecord.{PartRecord}
 use Rattle.node_state.specs.Partitions.{IsOnNodes}
 use Rattle.job_table.specs.declared.record.Part.{Part}
 use Rattle.job_table.specs.declared.record.JobRecord.{JobRecord}
+use Rattle.job_table.specs.declared.terms.Terms.{Terms}
 use Rattle.run_limits.specs.declared.record.AssocRecord.{AssocRecord}
 use Rattle.run_limits.specs.declared.record.QosRecord.{QosRecord}
 use Rattle.run_limits.specs.Accounts.{is_of_user}
 use Rattle.node_state.specs.Reservations.{AreReservations}
-use Rattle.ctl_state.specs.State.{State, last_job_id, last_moment, last_size, shutdown_size}
+use Rattle.ctl_state.specs.State.{State, last_job_id, last_moment, last_second, last_size, shutdown_size}
 use Rattle.job_table.specs.Table.{HaveRisingIds}
 use Rattle.job_table.specs.Targets.{AreTogether}
 use Rattle.job_table.specs.JobStates.{is_pending, is_completing, is_ended, is_holding}
 use Rattle.ctl_state.specs.Holding.{IsHeldOnce, OnNodesApart, has_members, parts_of}
 use Rattle.ctl_state.specs.Planning.{is_at, room_of}
-use Rattle.plain_data.specs.declared.seconds.TheConstants.{LAST_START}
 
 -- a limit is a minute at least, and at most a hundred years; or none
 abbrev pub IsLimit : Limit → Type 0
@@ -40,13 +40,21 @@ pub record IsNode (node : NodeRecord) : Type 0 where
   pub cpus : (1 ≤ node.conf.cpus) × (node.conf.cpus ≤ 1024)
   pub mem : (1 ≤ node.conf.mem) × (node.conf.mem ≤ 16777216)
 
--- what a job asks for is in its ranges
+-- what a submission asks for is in its ranges
 pub record IsAsked (desc : JobDesc) : Type 0 where
   pub tasks : (1 ≤ desc.tasks) × (desc.tasks ≤ 1048576)
   pub cpus : (1 ≤ desc.cpus_per_task) × (desc.cpus_per_task ≤ 1024)
   pub run : (1 ≤ desc.run) × (desc.run ≤ 2000000000)
   pub exit : desc.exit ≤ 255
   pub begin : unwrap_or desc.begin 0 ≤ last_moment
+
+-- what is settled for a job is in its ranges
+pub record IsSettled (terms : Terms) : Type 0 where
+  pub tasks : (1 ≤ terms.tasks) × (terms.tasks ≤ 1048576)
+  pub cpus : (1 ≤ terms.cpus_per_task) × (terms.cpus_per_task ≤ 1024)
+  pub run : (1 ≤ terms.run) × (terms.run ≤ 2000000000)
+  pub exit : terms.exit ≤ 255
+  pub begin : unwrap_or terms.begin 0 ≤ last_moment
 
 -- The job's times fit its state: what runs or completes has a start, what has left Running has an end, none comes
 -- before the other or lies ahead.
@@ -67,7 +75,7 @@ pub record HasItsParts (job : JobRecord) : Type 0 where
 
 -- what is kept of each job by itself
 pub record IsKept (moment : ℕ) (job : JobRecord) : Type 0 where
-  pub asked : IsAsked job.desc
+  pub terms : IsSettled job.terms
   pub limit : IsLimit job.limit
   pub run : IsWellRun moment job
   pub parts : HasItsParts job
@@ -76,11 +84,11 @@ pub record IsKept (moment : ℕ) (job : JobRecord) : Type 0 where
 abbrev pub pending_ids : List JobRecord → List ℕ
 pending_ids jobs = map (λ (job : JobRecord). job.id) (filter (λ (job : JobRecord). is_pending job.state) jobs)
 
--- the plan names pending jobs alone, each at most once, and no second after the last one at which a start is tried
+-- the plan names pending jobs alone, each at most once, and no second after the last one that can be printed
 pub record PlansPending (jobs : List JobRecord) (plan : List Placed) : Type 0 where
   pub pending : All (λ (placed : Placed). Contains (pending_ids jobs) placed.id) plan
   pub once : AllPairs (λ (one other : Placed). one.id ≢ other.id) plan
-  pub last : All (λ (placed : Placed). placed.start ≤ LAST_START) plan
+  pub last : All (λ (placed : Placed). placed.start ≤ last_second) plan
 
 -- there are at most 1,024 nodes, each in its ranges and named once
 pub record AreNodes (nodes : List NodeRecord) : Type 0 where
@@ -116,12 +124,14 @@ pub record IsSound (s : State) : Type 0 where
   pub limits : All HasLimits s.partitions
   pub of_partitions : AreOfPartitions s.partitions s.jobs
   pub of_accounts : All (IsOfAccounts s.assocs s.qos) s.jobs
+  -- what is used is counted for each association
+  pub usage : length s.usage ≡ length s.assocs
   pub reservations : AreReservations s.reservations
   -- the numbers of the jobs rise, and are below the next one
   pub rising : HaveRisingIds s.jobs
   pub below_next : All (λ (job : JobRecord). job.id < s.next_id) s.jobs
   pub together : AreTogether s.jobs
-  pub next : (1 ≤ s.next_id) × (s.next_id ≤ last_job_id + 1)
+  pub next : s.next_id ≤ last_job_id + 1
   -- only a shutdown may lead past the greatest sum of sizes
   pub size : s.size ≤ last_size + shutdown_size
   pub accepts : s.is_shut ≡ false → s.size ≤ last_size

@@ -49,6 +49,10 @@ pub record State : Type 0 where
 abbrev pub last_moment : ℕ
 last_moment = 250000000000
 
+-- the last second that can be printed
+abbrev pub last_second : ℕ
+last_second = 253402300799
+
 -- the last number that a job can have
 abbrev pub last_job_id : ℕ
 last_job_id = 67043328

@@ -20,7 +20,7 @@ pub fn counted_of(job: &JobRecord) -> Counted
         array: job.array,
         assoc: job.assoc,
         qos: job.qos,
-        cpus: job.desc.tasks.get() * job.desc.cpus_per_task.get(),
+        cpus: job.terms().tasks.get() * job.terms().cpus_per_task.get(),
     }
 }
 

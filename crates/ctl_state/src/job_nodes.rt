@@ -7,10 +7,10 @@ ghost use Rattle.node_state.specs.Reservations.{has};
 ghost use Rattle.ctl_state.specs.Planning.{are_there, is_at, may_run, must_have, nodes_among, required_first};
 
 use backfill_planner::NodeList;
+use job_table::terms::Terms;
 use node_state::record::NodeRecord;
 use node_state::standing::has_features;
 use plain_data::items::Items;
-use plain_data::job::JobDesc;
 use small_texts::memory_error::Memory;
 use small_texts::name::Name;
 use std::alloc::Global;
@@ -23,30 +23,30 @@ fn has(names: &Items<Name>, name: &Name) -> bool
 }
 
 // Whether the job may run on the node, as far as it says.
-fn may_run(desc: &JobDesc, node: &NodeRecord) -> bool
-    ensures { result ≡ may_run desc.now node.now }
+fn may_run(terms: &Terms, node: &NodeRecord) -> bool
+    ensures { result ≡ may_run terms.now node.now }
 {
-    let may = !has(&desc.excluded, &node.conf.name);
-    match &desc.features {
+    let may = !has(&terms.excluded, &node.conf.name);
+    match &terms.features {
         Some(features) => may && has_features(node, features),
         None => may,
     }
 }
 
-fn may_run_at(nodes: &[NodeRecord], desc: &JobDesc, place: u32) -> bool
-    ensures { result ≡ is_at (may_run desc.now) nodes.now place }
+fn may_run_at(nodes: &[NodeRecord], terms: &Terms, place: u32) -> bool
+    ensures { result ≡ is_at (may_run terms.now) nodes.now place }
 {
     nodes
         .get(place as usize)
-        .is_some_and(|node| may_run(desc, node))
+        .is_some_and(|node| may_run(terms, node))
 }
 
-fn must_have_at(nodes: &[NodeRecord], desc: &JobDesc, place: u32) -> bool
-    ensures { result ≡ is_at (must_have desc.now) nodes.now place }
+fn must_have_at(nodes: &[NodeRecord], terms: &Terms, place: u32) -> bool
+    ensures { result ≡ is_at (must_have terms.now) nodes.now place }
 {
     nodes
         .get(place as usize)
-        .is_some_and(|node| has(&desc.required, &node.conf.name))
+        .is_some_and(|node| has(&terms.required, &node.conf.name))
 }
 
 fn is_named_at(nodes: &[NodeRecord], name: &Name, place: u32) -> bool
@@ -61,16 +61,16 @@ fn is_named_at(nodes: &[NodeRecord], name: &Name, place: u32) -> bool
 fn allowed(
     alloc: Global,
     nodes: &[NodeRecord],
-    desc: &JobDesc,
+    terms: &Terms,
     order: &[u32],
 ) -> Result<Vec<u32>, Memory>
-    ensures { IfOk result (λ places. places.items ≡ filter (is_at (may_run desc.now) nodes.now) order.now) }
+    ensures { IfOk result (λ places. places.items ≡ filter (is_at (may_run terms.now) nodes.now) order.now) }
 {
     Ok(
         order
             .iter()
             .copied()
-            .filter(|place| may_run_at(nodes, desc, *place))
+            .filter(|place| may_run_at(nodes, terms, *place))
             .collect(alloc)?,
     )
 }
@@ -83,10 +83,11 @@ fn is_there(nodes: &[NodeRecord], name: &Name, places: &[u32]) -> bool
 }
 
 // Whether each node that the job must have is at one of the places.
-fn are_there(nodes: &[NodeRecord], desc: &JobDesc, places: &[u32]) -> bool
-    ensures { result ≡ are_there nodes.now desc.now places.now }
+fn are_there(nodes: &[NodeRecord], terms: &Terms, places: &[u32]) -> bool
+    ensures { result ≡ are_there nodes.now terms.now places.now }
 {
-    desc.required
+    terms
+        .required
         .iter()
         .all(|name| is_there(nodes, name, places))
 }
@@ -95,29 +96,29 @@ fn are_there(nodes: &[NodeRecord], desc: &JobDesc, places: &[u32]) -> bool
 fn required_first(
     alloc: Global,
     nodes: &[NodeRecord],
-    desc: &JobDesc,
+    terms: &Terms,
     places: &[u32],
 ) -> Result<Vec<u32>, Memory>
-    ensures { IfOk result (λ first. first.items ≡ required_first nodes.now desc.now places.now) }
+    ensures { IfOk result (λ first. first.items ≡ required_first nodes.now terms.now places.now) }
 {
     let required = places
         .iter()
         .copied()
-        .filter(|place| must_have_at(nodes, desc, *place));
+        .filter(|place| must_have_at(nodes, terms, *place));
     let others = places
         .iter()
         .copied()
-        .filter(|place| !must_have_at(nodes, desc, *place));
+        .filter(|place| !must_have_at(nodes, terms, *place));
     Ok(required.chain(others).collect(alloc)?)
 }
 
 // Whether the job says nothing of its nodes.
-fn takes_any(desc: &JobDesc) -> bool
-    ensures { IsTrue result ↔ ((desc.now.required ≡ []) × (desc.now.excluded ≡ []) × (desc.now.features ≡ None)) }
+fn takes_any(terms: &Terms) -> bool
+    ensures { IsTrue result ↔ ((terms.now.required ≡ []) × (terms.now.excluded ≡ []) × (terms.now.features ≡ None)) }
 {
-    desc.required.as_slice().is_empty()
-        && desc.excluded.as_slice().is_empty()
-        && desc.features.is_none()
+    terms.required.as_slice().is_empty()
+        && terms.excluded.as_slice().is_empty()
+        && terms.features.is_none()
 }
 
 /// The places of the job's nodes among those of a partition in their order, in the order in which it takes them. A job
@@ -126,18 +127,18 @@ fn takes_any(desc: &JobDesc) -> bool
 pub(crate) fn nodes_among(
     alloc: Global,
     nodes: &[NodeRecord],
-    desc: &JobDesc,
+    terms: &Terms,
     order: &NodeList,
 ) -> Result<NodeList, Memory>
     requires { All (λ place. place < length nodes.now) order.now }
-    ensures { IfOk result (λ places. places ≡ nodes_among nodes.now desc.now order.now) }
+    ensures { IfOk result (λ places. places ≡ nodes_among nodes.now terms.now order.now) }
 {
-    if takes_any(desc) {
+    if takes_any(terms) {
         return order.share();
     }
-    let places = allowed(alloc, nodes, desc, order.as_slice())?;
-    if !are_there(nodes, desc, &places) {
+    let places = allowed(alloc, nodes, terms, order.as_slice())?;
+    if !are_there(nodes, terms, &places) {
         return NodeList::from_vec(Vec::new(alloc));
     }
-    NodeList::from_vec(required_first(alloc, nodes, desc, &places)?)
+    NodeList::from_vec(required_first(alloc, nodes, terms, &places)?)
 }

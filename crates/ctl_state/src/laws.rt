@@ -74,7 +74,7 @@ pub fn sizes_keep_all_sound()
     ensures { Laws.Sizing }
 {}
 
-/// What associations have used may be anything.
+/// Whoever is charged, all stays sound.
 pub fn charging_keeps_all_sound()
     ensures { Laws.Charging }
 {}

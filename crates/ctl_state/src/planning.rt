@@ -1,19 +1,19 @@
 //! What the planner is told of nodes and jobs.
 
-ghost use Rattle.std.specs.Prelude.{◌≡◌, ◌≤◌, ◌<◌, length, map, IfOk, All};
+ghost use Rattle.std.specs.Prelude.{◌≡◌, ◌≤◌, ◌<◌, ◌||◌, length, map, unwrap_or, IfOk, All};
 ghost use Rattle.node_state.specs.Partitions.{IsOnNodes};
 ghost use Rattle.ctl_state.specs.Planning;
 
 use crate::job_nodes::nodes_among;
 use backfill_planner::{BarredList, NodeList, PlanJob};
 use job_table::record::{JobRecord, Part};
+use job_table::terms::Terms;
 use node_pick::Need;
+use node_state::bounds::bounds_of;
 use node_state::partition_record::PartRecord;
 use node_state::record::NodeRecord;
 use node_state::standing::is_available;
-use plain_data::job::JobDesc;
 use plain_data::limit::Limit;
-use plain_data::mem_ask::MemAsk;
 use plain_data::ranged::Ranged;
 use resource_profile::NodeRoom;
 use small_texts::memory_error::Memory;
@@ -86,18 +86,44 @@ pub fn node_order(
     NodeList::from_vec(sorted_places(alloc, nodes, partition)?)
 }
 
-fn need_of(desc: &JobDesc, bounds: (u32, u32)) -> Result<Need, Memory>
-    ensures { IfOk result (λ need. need
-        ≡ record { tasks = desc.now.tasks; least = bounds.0; most = bounds.1; required = length desc.now.required }) }
+/// How many nodes a job on these terms may have in the partition, at least and at most: None where no number will do.
+/// `--nodes` in sbatch(1), `MinNodes` and `MaxNodes` in slurm.conf(5).
+pub fn bounds_in(partition: &PartRecord, terms: &Terms) -> Option<(u32, u32)>
+    ensures { result ≡ Planning.bounds_in partition.now terms.now }
+{
+    bounds_of(partition, terms.tasks, terms.min_nodes, terms.max_nodes)
+}
+
+fn need_of(terms: &Terms, bounds: (u32, u32)) -> Result<Need, Memory>
+    ensures tasks { IfOk result (λ need. 1 ≤ need.tasks) }
+    ensures need { IfOk result (λ need. need
+        ≡ record { tasks = terms.now.tasks; least = bounds.0; most = bounds.1; required = length terms.now.required }) }
 {
     let (least, most) = bounds;
-    let required = u32::try_from(desc.required.as_slice().len()).map_err(|_| Memory)?;
+    let required = u32::try_from(terms.required.as_slice().len()).map_err(|_| Memory)?;
     Ok(Need {
-        tasks: desc.tasks.get() as u32,
+        tasks: terms.tasks.get() as u32,
         least,
         most,
         required,
     })
+}
+
+// How many of its tasks run on one node, at most.
+fn most_on_one(terms: &Terms) -> u32
+    ensures { result ≡ unwrap_or terms.now.tasks_per_node terms.now.tasks }
+{
+    match terms.tasks_per_node {
+        Some(count) => count.get() as u32,
+        None => terms.tasks.get() as u32,
+    }
+}
+
+// Whether the job has its nodes for itself.
+fn is_alone(partition: &PartRecord, terms: &Terms) -> bool
+    ensures { result ≡ (terms.now.exclusive || partition.now.conf.exclusive) }
+{
+    terms.exclusive || partition.conf.exclusive
 }
 
 fn seconds_of(limit: Limit) -> Option<Ranged<1, 3153600000>>
@@ -128,17 +154,15 @@ pub fn plan_job(
     ensures nodes { IfOk result (λ plan. All (λ node. node < length nodes.now) plan.nodes) }
     ensures tasks { IfOk result (λ plan. 1 ≤ plan.need.tasks) }
 {
-    let desc = &job.desc;
+    let terms = job.terms();
     Ok(PlanJob {
         id: job.id,
-        need: need_of(desc, bounds)?,
-        cpus_per_task: desc.cpus_per_task,
-        per_node: desc
-            .tasks_per_node
-            .map_or(desc.tasks.get() as u32, |count| count.get() as u32),
-        mem_ask: desc.mem_ask.unwrap_or(MemAsk::All),
-        exclusive: desc.exclusive || partition.conf.exclusive,
-        nodes: nodes_among(alloc, nodes, desc, places)?,
+        need: need_of(terms, bounds)?,
+        cpus_per_task: terms.cpus_per_task,
+        per_node: most_on_one(terms),
+        mem_ask: terms.mem,
+        exclusive: is_alone(partition, terms),
+        nodes: nodes_among(alloc, nodes, terms, places)?,
         seconds: seconds_of(job.limit),
         barred,
     })

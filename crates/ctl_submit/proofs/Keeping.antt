@@ -18,7 +18,7 @@ use Rattle.ctl_state.specs.Laws.{Adding}
 use Rattle.ctl_state.specs.Refusals.{first_refusal, refused_if}
 use Rattle.ctl_state.specs.Soundness.{HasLimits, IsOfAccounts, IsAsked, IsKept, IsLimit, IsSound}
 use Rattle.ctl_state.specs.Verdicts.{Makes, stamped}
-use Rattle.ctl_submit.specs.Submission.{Terms, account_at, is_closed, made_under, new_arrays, new_job, new_jobs, refusals_by, refusals_under, submit_after, takes_none, terms_by}
+use Rattle.ctl_submit.specs.Submission.{Basis, account_at, is_closed, made_under, new_arrays, new_job, new_jobs, refusals_by, refusals_under, submit_after, takes_none, basis_by}
 use Rattle.ctl_submit.proofs.Deciding.{All-at, can-add}
 use Rattle.ctl_submit.proofs.Refused.{none-first}
 use Rattle.ctl_submit.proofs.Made.{All-new_jobs, AllPairs-new_jobs, length-new_jobs}
@@ -31,15 +31,21 @@ limit-in None (Some limit) longest range left most = left
 limit-in (Some limit) unasked longest range left most = range
 
 -- a job that a submission makes in a partition that there is
-kept-new_job : (s : State) (moment : ℕ) (user : List ℕ) (desc : JobDesc) (terms : Terms) (id : ℕ) (of : Option ℕ)
-    (own : Option ArraySpec) → moment ≤ last_moment → HasLimits terms.partition → IsAsked desc
+kept-new_job : (s : State) (moment : ℕ) (user : List ℕ) (desc : JobDesc) (basis : Basis) (id : ℕ) (of : Option ℕ)
+    (own : Option ℕ) → moment ≤ last_moment → HasLimits basis.partition → IsAsked desc
     → IfSome desc.limit IsLimit
-    → IsKept moment (new_job s moment user desc terms id of own)
-kept-new_job s moment user desc terms id of own in_time limits asked range =
-    let conf = terms.partition.conf in
+    → IsKept moment (new_job s moment user desc basis id of own)
+kept-new_job s moment user desc basis id of own in_time limits asked range =
+    let conf = basis.partition.conf in
     let early : max moment (unwrap_or desc.begin 0) ≤ last_moment = omega (arith, in_time, asked.begin) in
     record {
-      asked = record { tasks = asked.tasks; cpus = asked.cpus; run = asked.run; exit = asked.exit; begin = asked.begin };
+      terms = record {
+        tasks = asked.tasks;
+        cpus = asked.cpus;
+        run = asked.run;
+        exit = asked.exit;
+        begin = asked.begin;
+      };
       limit = limit-in desc.limit conf.default_time conf.max_time range limits.unasked limits.longest;
       run = search (rules, tests);
       parts = record { some = refl; apart = λ i j d before within. absurd (omega (arith, within)) };
@@ -54,40 +60,40 @@ array-from : (of : Option ℕ) (next : ℕ) → IfSome of (λ first. first ≡ n
 array-from None next first = tt
 array-from (Some array) next first = omega (arith, first)
 
--- a submission that isn't refused, under its terms
-submitted : Adding → (s : State) (now : ℕ) (user : List ℕ) (desc : JobDesc) (terms : Terms) → IsSound s → s.moment ≤ now
+-- a submission that isn't refused, under its basis
+submitted : Adding → (s : State) (now : ℕ) (user : List ℕ) (desc : JobDesc) (basis : Basis) → IsSound s → s.moment ≤ now
     → now ≤ last_moment → IsAsked desc → IfSome desc.limit IsLimit
-    → option_map (is_of_user user) (slice_get s.assocs terms.assoc) ≡ Some true → terms.qos < length s.qos
-    → slice_get s.partitions terms.place ≡ Some terms.partition
-    → first_refusal (refusals_under s now user desc terms) ≡ None
-    → IsSound (stamped now (submit_after s (new_jobs s now user desc terms desc.array) (new_arrays s desc.array)))
-submitted adding s now user desc terms sound later in_time asked range his good there none =
-    let limits = All-at HasLimits s.partitions terms.place terms.partition sound.limits there in
-    let within = slice_get_within s.partitions terms.place terms.partition there in
-    let added = can-add s now user desc terms none in
-    let count = length-new_jobs s now user desc terms desc.array in
-    let next : ℕ = s.next_id + length (new_jobs s now user desc terms desc.array) in
-    adding s now next (new_jobs s now user desc terms desc.array) _ sound later in_time
-    (All-new_jobs (λ (job : JobRecord). job.partition < length s.partitions) s now user desc terms desc.array
+    → option_map (is_of_user user) (slice_get s.assocs basis.assoc) ≡ Some true → basis.qos < length s.qos
+    → slice_get s.partitions basis.place ≡ Some basis.partition
+    → first_refusal (refusals_under s now user desc basis) ≡ None
+    → IsSound (stamped now (submit_after s (new_jobs s now user desc basis desc.array) (new_arrays s desc.array)))
+submitted adding s now user desc basis sound later in_time asked range his good there none =
+    let limits = All-at HasLimits s.partitions basis.place basis.partition sound.limits there in
+    let within = slice_get_within s.partitions basis.place basis.partition there in
+    let added = can-add s now user desc basis none in
+    let count = length-new_jobs s now user desc basis desc.array in
+    let next : ℕ = s.next_id + length (new_jobs s now user desc basis desc.array) in
+    adding s now next (new_jobs s now user desc basis desc.array) _ sound later in_time
+    (All-new_jobs (λ (job : JobRecord). job.partition < length s.partitions) s now user desc basis desc.array
     (λ id of own least below first. within))
-    (All-new_jobs (IsOfAccounts s.assocs s.qos) s now user desc terms desc.array
+    (All-new_jobs (IsOfAccounts s.assocs s.qos) s now user desc basis desc.array
     (λ id of own least below first. record { assoc = his; qos = good }))
-    (All-new_jobs (IsKept now) s now user desc terms desc.array
-    (λ id of own least below first. kept-new_job s now user desc terms id of own in_time limits asked range))
-    (All-new_jobs (λ (job : JobRecord). is_pending job.state ≡ true) s now user desc terms desc.array
+    (All-new_jobs (IsKept now) s now user desc basis desc.array
+    (λ id of own least below first. kept-new_job s now user desc basis id of own in_time limits asked range))
+    (All-new_jobs (λ (job : JobRecord). is_pending job.state ≡ true) s now user desc basis desc.array
     (λ id of own least below first. refl))
     added.rising added.above
-    (All-new_jobs (λ (job : JobRecord). job.id + 1 ≤ next) s now user desc terms desc.array
+    (All-new_jobs (λ (job : JobRecord). job.id + 1 ≤ next) s now user desc basis desc.array
     (λ id of own least below first. omega (arith, below, count)))
     (omega arith) added.numbers
     (record {
-      after = All-new_jobs (λ (job : JobRecord). IfSome job.array (λ array. array ≤ job.id)) s now user desc terms
+      after = All-new_jobs (λ (job : JobRecord). IfSome job.array (λ array. array ≤ job.id)) s now user desc basis
           desc.array (λ id of own least below first. array-is of id s.next_id least first);
       together = AllPairs-new_jobs
           (λ (one other : JobRecord). IfSome other.array (λ array. array ≤ one.id → one.array ≡ Some array))
-          s now user desc terms desc.array (λ one other own others before at_most. refl);
+          s now user desc basis desc.array (λ one other own others before at_most. refl);
     })
-    (All-new_jobs (λ (job : JobRecord). IfSome job.array (λ array. s.next_id ≤ array)) s now user desc terms desc.array
+    (All-new_jobs (λ (job : JobRecord). IfSome job.array (λ array. s.next_id ≤ array)) s now user desc basis desc.array
     (λ id of own least below first. array-from of s.next_id first))
 
 -- the state that is made
@@ -103,9 +109,9 @@ pub sound-made : Adding → (s after : State) (now : ℕ) (user : List ℕ) (des
     → option_and_then (slice_get s.partitions) place ≡ partition
     → first_refusal (refused_if (is_none assoc) InvalidAccount
     ∷ refused_if (is_none partition) InvalidPartition ∷ refused_if (takes_none partition) PartitionClosed
-    ∷ refused_if (is_none qos) InvalidQos ∷ refusals_by s now user desc (terms_by s assoc qos place partition))
+    ∷ refused_if (is_none qos) InvalidQos ∷ refusals_by s now user desc (basis_by s assoc qos place partition))
     ≡ None
-    → made_under s now user desc (terms_by s assoc qos place partition) ≡ Makes reply after
+    → made_under s now user desc (basis_by s assoc qos place partition) ≡ Makes reply after
     → IsSound (stamped now after)
 sound-made adding s after now user desc reply None qos place its sound later in_time asked range his good there none
     made = absurd (cc)
@@ -117,7 +123,7 @@ sound-made adding s after now user desc reply (Some by) (Some of) (Some place) N
     good there none made = absurd (cc)
 sound-made adding s after now user desc reply (Some by) (Some of) (Some place) (Some its) sound later in_time asked
     range his good there none made =
-    let terms : Terms = record {
+    let basis : Basis = record {
       account = account_at s.assocs by;
       assoc = by;
       qos = of;
@@ -126,23 +132,23 @@ sound-made adding s after now user desc reply (Some by) (Some of) (Some place) (
     } in
     let closed = none-first PartitionClosed (is_closed its.state) _ none in
     subst (λ (left : State). IsSound (stamped now left)) (made-after made)
-    (submitted adding s now user desc terms sound later in_time asked range his good there closed.1)
+    (submitted adding s now user desc basis sound later in_time asked range his good there closed.1)
 
 -- one member more is another list
 more-arrays : (arrays : List ArrayRecord) (array : ArrayRecord) → arrays ++ array ∷ [] ≢ arrays
 more-arrays arrays array same =
     omega (arith, ap (λ (all : List ArrayRecord). length all) same, length-append arrays (array ∷ []))
 
-changed : (s : State) (now : ℕ) (user : List ℕ) (desc : JobDesc) (terms : Terms) (array : Option ArraySpec)
-    → submit_after s (new_jobs s now user desc terms array) (new_arrays s array) ≢ s
-changed s now user desc terms None same =
-    omega (arith, ap (λ (t : State). t.next_id) same, length-new_jobs s now user desc terms None)
-changed s now user desc terms (Some array) same =
+changed : (s : State) (now : ℕ) (user : List ℕ) (desc : JobDesc) (basis : Basis) (array : Option ArraySpec)
+    → submit_after s (new_jobs s now user desc basis array) (new_arrays s array) ≢ s
+changed s now user desc basis None same =
+    omega (arith, ap (λ (t : State). t.next_id) same, length-new_jobs s now user desc basis None)
+changed s now user desc basis (Some array) same =
     more-arrays s.arrays (record { id = s.next_id; indices = array.indices }) (ap (λ (t : State). t.arrays) same)
 
 -- An accepted submission makes another state.
-pub changed-made : (s after : State) (now : ℕ) (user : List ℕ) (desc : JobDesc) (reply : Reply) (by : Option Terms)
+pub changed-made : (s after : State) (now : ℕ) (user : List ℕ) (desc : JobDesc) (reply : Reply) (by : Option Basis)
     → made_under s now user desc by ≡ Makes reply after → after ≢ s
 changed-made s after now user desc reply None made same = absurd (cc)
-changed-made s after now user desc reply (Some terms) made same =
-    changed s now user desc terms desc.array (made-after made ∙ same)
+changed-made s after now user desc reply (Some basis) made same =
+    changed s now user desc basis desc.array (made-after made ∙ same)

@@ -34,6 +34,7 @@ use Rattle.run_limits.specs.Counting.{is_in}
 use Rattle.run_limits.specs.Limits.{Beside}
 use Rattle.run_limits.specs.Submitting.{submit_limits}
 use Rattle.job_table.specs.declared.record.JobRecord.{JobRecord}
+use Rattle.job_table.specs.declared.terms.Terms.{Terms}
 use Rattle.job_table.specs.JobStates.{is_ended}
 use Rattle.job_table.specs.Table.{HaveRisingIds}
 use Rattle.job_table.specs.Targets.{is_named_by}
@@ -101,44 +102,62 @@ memory_in s partition desc =
 
 -- What a submission is settled with: its account, the places of its association, its quality of service and its
 -- partition, and the partition.
-pub record Terms : Type 0 where
+pub record Basis : Type 0 where
   pub account : List ℕ
   pub assoc : ℕ
   pub qos : ℕ
   pub place : ℕ
   pub partition : PartRecord
 
--- what a job asks for, settled; the array of a task has its own index alone
-abbrev pub settled : State → Terms → JobDesc → Option ArraySpec → JobDesc
-settled s terms desc array = record desc {
-  account = Some terms.account;
-  partition = Some terms.partition.conf.name;
-  qos = Some (quality_of desc);
-  mem_ask = Some (memory_in s terms.partition desc);
-  limit = Some (limit_in terms.partition desc);
-  held = false;
-  requeue = Some (unwrap_or desc.requeue s.settings.job_requeue);
-  array = array;
-  parsable = false;
+-- how many tasks of its array a job may have hold processors at once
+abbrev pub at_once_of : JobDesc → Option ℕ
+at_once_of desc = option_and_then (λ (array : ArraySpec). array.most) desc.array
+
+-- what is settled for the jobs that a submission makes
+abbrev pub settled : State → Basis → JobDesc → Terms
+settled s basis desc = record {
+  name = desc.name;
+  account = basis.account;
+  qos = quality_of desc;
+  reservation = desc.reservation;
+  tasks = desc.tasks;
+  cpus_per_task = desc.cpus_per_task;
+  tasks_per_node = desc.tasks_per_node;
+  min_nodes = desc.min_nodes;
+  max_nodes = desc.max_nodes;
+  mem = memory_in s basis.partition desc;
+  exclusive = desc.exclusive;
+  begin = desc.begin;
+  requeue = unwrap_or desc.requeue s.settings.job_requeue;
+  features = desc.features;
+  required = desc.required;
+  excluded = desc.excluded;
+  at_once = at_once_of desc;
+  dependency = desc.dependency;
+  run = desc.run;
+  exit = desc.exit;
 }
 
 -- who holds a job back that is handed in
 abbrev pub held_at_first : JobDesc → HeldBy
 held_at_first desc = if desc.held then User else Nobody
 
--- the job with this number that a submission makes, a task of the array with that number
-abbrev pub new_job : State → ℕ → List ℕ → JobDesc → Terms → ℕ → Option ℕ → Option ArraySpec → JobRecord
-new_job s moment user desc terms id array task = record {
+-- the job with this number that a submission makes on these terms, the task with this index of the array with that
+-- number
+abbrev pub job_on : Terms → ℕ → List ℕ → JobDesc → Basis → ℕ → Option ℕ → Option ℕ → JobRecord
+job_on terms moment user desc basis id array index = record {
   id = id;
   array = array;
+  index = index;
   user = user;
-  desc = settled s terms desc task;
-  assoc = terms.assoc;
-  qos = terms.qos;
-  partition = terms.place;
+  terms = terms;
+  assoc = basis.assoc;
+  qos = basis.qos;
+  partition = basis.place;
   submit = moment;
   eligible = max moment (unwrap_or desc.begin 0);
-  limit = limit_in terms.partition desc;
+  limit = limit_in basis.partition desc;
+  nice = desc.nice;
   held_by = held_at_first desc;
   state = Pending;
   starts = 0;
@@ -149,21 +168,24 @@ new_job s moment user desc terms id array task = record {
   last_nodes = [];
 }
 
+-- the same, on the terms that are settled for it
+abbrev pub new_job : State → ℕ → List ℕ → JobDesc → Basis → ℕ → Option ℕ → Option ℕ → JobRecord
+new_job s moment user desc basis id array index = job_on (settled s basis desc) moment user desc basis id array index
+
 -- the job that a submission makes that is no array
-abbrev pub lone_job : State → ℕ → List ℕ → JobDesc → Terms → JobRecord
-lone_job s moment user desc terms = new_job s moment user desc terms s.next_id None None
+abbrev pub lone_job : State → ℕ → List ℕ → JobDesc → Basis → JobRecord
+lone_job s moment user desc basis = new_job s moment user desc basis s.next_id None None
 
 -- a task of an array, by its place among the indices and its index
-abbrev pub task : State → ℕ → List ℕ → JobDesc → Terms → Option ℕ → ℕ × ℕ → JobRecord
-task s moment user desc terms most (place, index) =
-    new_job s moment user desc terms (s.next_id + place) (Some s.next_id)
-    (Some (record { indices = index ∷ []; most = most }))
+abbrev pub task : State → ℕ → List ℕ → JobDesc → Basis → ℕ × ℕ → JobRecord
+task s moment user desc basis (place, index) =
+    new_job s moment user desc basis (s.next_id + place) (Some s.next_id) (Some index)
 
 -- the jobs that a submission makes: one, or the tasks of its array in the order of their indices
-unfoldable pub new_jobs : State → ℕ → List ℕ → JobDesc → Terms → Option ArraySpec → List JobRecord
-new_jobs s moment user desc terms None = lone_job s moment user desc terms ∷ []
-new_jobs s moment user desc terms (Some array) =
-    map (task s moment user desc terms array.most) (enumerate_from 0 array.indices)
+unfoldable pub new_jobs : State → ℕ → List ℕ → JobDesc → Basis → Option ArraySpec → List JobRecord
+new_jobs s moment user desc basis None = lone_job s moment user desc basis ∷ []
+new_jobs s moment user desc basis (Some array) =
+    map (task s moment user desc basis) (enumerate_from 0 array.indices)
 
 -- how many there are
 abbrev pub count_of_jobs : Option ArraySpec → ℕ
@@ -175,16 +197,16 @@ abbrev pub new_arrays : State → Option ArraySpec → List ArrayRecord
 new_arrays s None = []
 new_arrays s (Some array) = record { id = s.next_id; indices = array.indices } ∷ []
 
--- how many nodes a submission may have by itself, whatever its partition asks for and allows
-abbrev pub own_bounds : JobDesc → ℕ × ℕ
-own_bounds desc = (desc.min_nodes, min desc.tasks (unwrap_or desc.max_nodes desc.tasks))
+-- how many nodes a job may have by itself, whatever its partition asks for and allows
+abbrev pub own_bounds : Terms → ℕ × ℕ
+own_bounds terms = (terms.min_nodes, min terms.tasks (unwrap_or terms.max_nodes terms.tasks))
 
 -- some nodes of the partition could run the job if all were free and available, those of its reservation if it names
 -- one, at whatever time; one second is as good as any
 unfoldable pub is_placeable : State → PartRecord → JobRecord → Bool
 is_placeable s partition job =
-    let places = places_for s.nodes s.reservations partition job.desc.reservation in
-    let need = plan_job s.nodes partition places [] (own_bounds job.desc) job in
+    let places = places_for s.nodes s.reservations partition job.terms.reservation in
+    let need = plan_job s.nodes partition places [] (own_bounds job.terms) job in
     is_some (placed_of (map open_room s.nodes) [] need 0 0)
 
 -- the nice value is negative
@@ -272,37 +294,37 @@ refusals_of_room s count =
 abbrev pub refusals_of_count : State → JobRecord → Option ArraySpec → List (Option Refusal)
 refusals_of_count s job array =
     refused_if (is_too_large s array) ArrayTooLarge
-    ∷ (refused_if (is_bad_dependency s array job.desc.dependency) BadDependency
+    ∷ (refused_if (is_bad_dependency s array job.terms.dependency) BadDependency
     ∷ (submit_limits (beside_unended s) (counted_of job) (count_of_jobs array)
     ++ refusals_of_room s (count_of_jobs array)))
 
--- why a submission may be refused under its terms, in their order
-abbrev pub refusals_under : State → ℕ → List ℕ → JobDesc → Terms → List (Option Refusal)
-refusals_under s moment user desc terms =
-    refused_if (not (takes_jobs_of terms.partition terms.account (quality_of desc))) NotAllowedHere
-    ∷ refused_if (may_not_use s user terms.account desc) InvalidReservation
+-- why a submission may be refused under its basis, in their order
+abbrev pub refusals_under : State → ℕ → List ℕ → JobDesc → Basis → List (Option Refusal)
+refusals_under s moment user desc basis =
+    refused_if (not (takes_jobs_of basis.partition basis.account (quality_of desc))) NotAllowedHere
+    ∷ refused_if (may_not_use s user basis.account desc) InvalidReservation
     ∷ refused_if (may_not_raise s user desc) AccessDenied
     ∷ refused_if (names_unknown s desc) UnknownNode
-    ∷ refused_if (not (is_placeable s terms.partition (lone_job s moment user desc terms))) NodesNotAvailable
-    ∷ refusals_of_count s (lone_job s moment user desc terms) desc.array
+    ∷ refused_if (not (is_placeable s basis.partition (lone_job s moment user desc basis))) NodesNotAvailable
+    ∷ refusals_of_count s (lone_job s moment user desc basis) desc.array
 
--- the terms of a submission, for the association at a place, in the quality of service at one, to the partition at one
-abbrev pub terms_by : State → Option ℕ → Option ℕ → Option ℕ → Option PartRecord → Option Terms
-terms_by s (Some assoc) (Some qos) (Some place) (Some partition) = Some (record {
+-- the basis of a submission, for the association at a place, in the quality of service at one, to the partition at one
+abbrev pub basis_by : State → Option ℕ → Option ℕ → Option ℕ → Option PartRecord → Option Basis
+basis_by s (Some assoc) (Some qos) (Some place) (Some partition) = Some (record {
   account = account_at s.assocs assoc;
   assoc = assoc;
   qos = qos;
   place = place;
   partition = partition;
 })
-terms_by s assoc qos place partition = None
+basis_by s assoc qos place partition = None
 
-unfoldable pub terms_of : State → List ℕ → JobDesc → Option Terms
-terms_of s user desc = terms_by s (assoc_for s user desc) (qos_for s desc) (place_for s desc) (partition_for s desc)
+unfoldable pub basis_of : State → List ℕ → JobDesc → Option Basis
+basis_of s user desc = basis_by s (assoc_for s user desc) (qos_for s desc) (place_for s desc) (partition_for s desc)
 
-abbrev pub refusals_by : State → ℕ → List ℕ → JobDesc → Option Terms → List (Option Refusal)
+abbrev pub refusals_by : State → ℕ → List ℕ → JobDesc → Option Basis → List (Option Refusal)
 refusals_by s moment user desc None = []
-refusals_by s moment user desc (Some terms) = refusals_under s moment user desc terms
+refusals_by s moment user desc (Some basis) = refusals_under s moment user desc basis
 
 -- why a submission may be refused, in their order
 abbrev pub submit_refusals : State → ℕ → List ℕ → JobDesc → List (Option Refusal)
@@ -311,7 +333,7 @@ submit_refusals s moment user desc =
     ∷ refused_if (is_none (partition_for s desc)) InvalidPartition
     ∷ refused_if (takes_none (partition_for s desc)) PartitionClosed
     ∷ refused_if (is_none (qos_for s desc)) InvalidQos
-    ∷ refusals_by s moment user desc (terms_of s user desc)
+    ∷ refusals_by s moment user desc (basis_of s user desc)
 
 -- the state with these jobs
 abbrev pub submit_after : State → List JobRecord → List ArrayRecord → State
@@ -322,14 +344,14 @@ submit_after s jobs arrays = record s {
 }
 
 -- what an accepted submission makes
-abbrev pub made_under : State → ℕ → List ℕ → JobDesc → Option Terms → Verdict
+abbrev pub made_under : State → ℕ → List ℕ → JobDesc → Option Basis → Verdict
 made_under s moment user desc None = Refuses InvalidPartition
-made_under s moment user desc (Some terms) =
+made_under s moment user desc (Some basis) =
     Makes (Submitted s.next_id)
-    (submit_after s (new_jobs s moment user desc terms desc.array) (new_arrays s desc.array))
+    (submit_after s (new_jobs s moment user desc basis desc.array) (new_arrays s desc.array))
 
 abbrev pub submit_made : State → ℕ → List ℕ → JobDesc → Verdict
-submit_made s moment user desc = made_under s moment user desc (terms_of s user desc)
+submit_made s moment user desc = made_under s moment user desc (basis_of s user desc)
 
 -- the jobs can be added: their numbers follow the last one, they hold nothing, and there is room for them
 pub record CanAdd (s : State) (jobs : List JobRecord) : Type 0 where

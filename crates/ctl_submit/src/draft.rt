@@ -1,10 +1,10 @@
-//! A submission with its terms.
+//! A submission with its basis.
 
 use node_state::partition_record::PartRecord;
 use plain_data::job::JobDesc;
 use small_texts::name::Name;
 
-/// What a user hands in at a moment, with its terms: what it counts for, and its partition (own).
+/// What a user hands in at a moment, with its basis: what it counts for, and its partition (own).
 #[derive(Drop)]
 pub(crate) struct Draft<'a> {
     pub moment: u64,

@@ -13,20 +13,20 @@ use ctl_state::laws::jobs_get_nodes_that_are_there;
 use ctl_state::planning::{node_order, open_rooms_of, plan_job};
 use ctl_state::reserved::places_in;
 use job_table::record::JobRecord;
+use job_table::terms::Terms;
 use node_state::partition_record::PartRecord;
 use plain_data::items::Items;
-use plain_data::job::JobDesc;
 use resource_profile::{Profile, start};
 use small_texts::memory_error::Memory;
 use std::alloc::Global;
 
-// How many nodes a submission may have by itself, at least and at most. `--nodes` in sbatch(1).
-fn own_bounds(desc: &JobDesc) -> (u32, u32)
-    ensures { result ≡ Submission.own_bounds desc.now }
+// How many nodes a job may have by itself, at least and at most. `--nodes` in sbatch(1).
+fn own_bounds(terms: &Terms) -> (u32, u32)
+    ensures { result ≡ Submission.own_bounds terms.now }
 {
-    let tasks = desc.tasks.get() as u32;
-    let most = desc.max_nodes.map_or(tasks, |most| most.get() as u32);
-    (desc.min_nodes.get() as u32, tasks.min(most))
+    let tasks = terms.tasks.get() as u32;
+    let most = terms.max_nodes.map_or(tasks, |most| most.get() as u32);
+    (terms.min_nodes.get() as u32, tasks.min(most))
 }
 
 // Those of the partition's nodes that the job may have by the reservation that it names, in the order in which it takes
@@ -36,14 +36,14 @@ fn places_for(
     alloc: Global,
     cluster: &Cluster,
     partition: &PartRecord,
-    desc: &JobDesc,
+    terms: &Terms,
 ) -> Result<NodeList, Memory>
     requires { IsOnNodes (length cluster.now.nodes.records) partition.now }
     ensures { IfOk result (λ places. places
-        ≡ Planning.places_for cluster.now.nodes.records cluster.now.reservations partition.now desc.now.reservation) }
+        ≡ Planning.places_for cluster.now.nodes.records cluster.now.reservations partition.now terms.now.reservation) }
 {
     let order = node_order(alloc, cluster.nodes.records(), partition)?;
-    let Some(name) = &desc.reservation else {
+    let Some(name) = &terms.reservation else {
         return Ok(order);
     };
     match cluster.reservations.find(name) {
@@ -67,8 +67,8 @@ pub(crate) fn is_placeable(
 {
     jobs_get_nodes_that_are_there();
     let nodes = cluster.nodes.records();
-    let places = places_for(alloc, cluster, partition, &job.desc)?;
-    let bounds = own_bounds(&job.desc);
+    let places = places_for(alloc, cluster, partition, job.terms())?;
+    let bounds = own_bounds(job.terms());
     let anytime = BarredList::from_vec(Vec::new(alloc))?;
     let job = plan_job(alloc, nodes, partition, &places, anytime, bounds, job)?;
     let base = Base {

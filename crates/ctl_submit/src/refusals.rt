@@ -1,4 +1,4 @@
-//! Why a submission is refused under its terms.
+//! Why a submission is refused under its basis.
 
 ghost use Rattle.std.specs.Prelude.{◌≡◌, ◌≤◌, IfOk, length, nat_le};
 ghost use Rattle.std.specs.List.{list_any};
@@ -124,7 +124,7 @@ fn refusal_of_count(
     if is_too_large(cluster, array) {
         return Some(Refusal::ArrayTooLarge);
     }
-    if is_bad_dependency(cluster, array, &job.desc.dependency) {
+    if is_bad_dependency(cluster, array, &job.terms().dependency) {
         return Some(Refusal::BadDependency);
     }
     let count = count_of_jobs(array);

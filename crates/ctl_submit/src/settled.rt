@@ -1,4 +1,4 @@
-//! What a job asks for, settled.
+//! What is settled for a job.
 
 ghost use Rattle.std.specs.Prelude.{◌≡◌, IfOk, codes, unwrap_or};
 ghost use Rattle.ctl_state.specs.State.{state_of};
@@ -7,12 +7,13 @@ ghost use Rattle.ctl_submit.specs.Submission;
 
 use crate::draft::Draft;
 use ctl_state::cluster::Cluster;
+use job_table::terms::Terms;
 use node_state::partition_record::PartRecord;
 use plain_data::Plain;
-use plain_data::array::ArraySpec;
 use plain_data::job::JobDesc;
 use plain_data::limit::Limit;
 use plain_data::mem_ask::MemAsk;
+use plain_data::ranged::Ranged;
 use small_texts::memory_error::Memory;
 use small_texts::name::Name;
 use std::alloc::Global;
@@ -46,44 +47,39 @@ fn qos_of(alloc: Global, desc: &JobDesc) -> Result<Name, Memory>
     }
 }
 
-/// What a job of the draft asks for, settled; a task of an array with its own index. Linear in its texts, whatever
-/// indices the array has.
-pub(crate) fn settled(
-    alloc: Global,
-    cluster: &Cluster,
-    draft: &Draft<'_>,
-    array: Option<ArraySpec>,
-) -> Result<JobDesc, Memory>
-    ensures { IfOk result (λ desc. desc
-        ≡ Submission.settled (state_of cluster.now) (terms_in draft.now) draft.now.desc.now array) }
+// How many tasks of the job's array may hold processors at once: the number after `%`. `--array` in sbatch(1).
+fn at_once_of(desc: &JobDesc) -> Option<Ranged<1, 4294967295>>
+    ensures { result ≡ Submission.at_once_of desc.now }
+{
+    desc.array.as_ref()?.most
+}
+
+/// What is settled for the jobs of the draft. Linear in its texts, whatever indices its array has.
+pub(crate) fn settled(alloc: Global, cluster: &Cluster, draft: &Draft<'_>) -> Result<Terms, Memory>
+    ensures { IfOk result (λ terms. terms ≡ terms_in (state_of cluster.now) draft.now) }
 {
     let desc = draft.desc;
     let partition = draft.partition;
-    Ok(JobDesc {
+    Ok(Terms {
         name: desc.name.copy()?,
-        account: Some(draft.account.copy()?),
-        partition: Some(partition.conf.name.copy()?),
-        qos: Some(qos_of(alloc, desc)?),
+        account: draft.account.copy()?,
+        qos: qos_of(alloc, desc)?,
         reservation: desc.reservation.copy()?,
         tasks: desc.tasks,
         cpus_per_task: desc.cpus_per_task,
         tasks_per_node: desc.tasks_per_node,
         min_nodes: desc.min_nodes,
         max_nodes: desc.max_nodes,
-        mem_ask: Some(memory_in(cluster, partition, desc)),
+        mem: memory_in(cluster, partition, desc),
         exclusive: desc.exclusive,
-        limit: Some(limit_in(partition, desc)),
         begin: desc.begin,
-        nice: desc.nice,
-        held: false,
-        requeue: Some(desc.requeue.unwrap_or(cluster.settings.job_requeue)),
+        requeue: desc.requeue.unwrap_or(cluster.settings.job_requeue),
         features: desc.features.copy()?,
         required: desc.required.copy()?,
         excluded: desc.excluded.copy()?,
-        array,
+        at_once: at_once_of(desc),
         dependency: desc.dependency.copy()?,
         run: desc.run,
         exit: desc.exit,
-        parsable: false,
     })
 }

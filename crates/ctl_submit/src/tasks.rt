@@ -1,9 +1,9 @@
 //! The jobs that a submission makes.
 
-ghost use Rattle.std.specs.Prelude.{◌≡◌, ◌+◌, ◌≤◌, ◌<◌, ◌^◌, ◌∷◌, [], All, IfOk, None, Some, length, map, max, unwrap_or};
+ghost use Rattle.std.specs.Prelude.{◌≡◌, ◌+◌, ◌≤◌, ◌<◌, ◌^◌, ◌∷◌, [], IfOk, None, Some, length, map, max, unwrap_or};
 ghost use Rattle.std.specs.List.{enumerate_from};
 ghost use Rattle.ctl_state.specs.State.{state_of, last_job_id};
-ghost use Rattle.ctl_submit.specs.Drafts.{HasMade, job_in, lone_in, task_in};
+ghost use Rattle.ctl_submit.specs.Drafts.{HasMade, job_by, lone_in, task_by, terms_in};
 ghost use Rattle.ctl_submit.specs.Submission.{count_of_jobs, held_at_first};
 
 use crate::draft::Draft;
@@ -12,10 +12,10 @@ use crate::settled::{limit_in, settled};
 use ctl_state::cluster::Cluster;
 use ctl_state::record::ArrayRecord;
 use job_table::record::JobRecord;
-use plain_data::array::{ArraySpec, Indices};
+use job_table::terms::SharedTerms;
+use plain_data::array::ArraySpec;
 use plain_data::items::Items;
 use plain_data::job::JobDesc;
-use plain_data::ranged::Ranged;
 use request_data::state::{HeldBy, JobState};
 use small_texts::memory_error::Memory;
 use std::alloc::Global;
@@ -38,29 +38,31 @@ fn eligible_from(moment: u64, desc: &JobDesc) -> u64
     moment.max(desc.begin.map_or(0, |begin| begin.get()))
 }
 
-// A job with this number, a task of the array with that number. Linear in the texts of the submission.
+// A job with this number on these terms, the task with this index of the array with that number.
 fn new_job(
     alloc: Global,
-    cluster: &Cluster,
     draft: &Draft<'_>,
+    terms: SharedTerms,
     id: u32,
     array: Option<u32>,
-    task: Option<ArraySpec>,
+    index: Option<u32>,
 ) -> Result<JobRecord, Memory>
-    ensures { IfOk result (λ job. job ≡ job_in (state_of cluster.now) draft.now id array task) }
+    ensures { IfOk result (λ job. job ≡ job_by draft.now terms id array index) }
 {
     let desc = draft.desc;
     Ok(JobRecord {
         id,
         array,
+        index,
         user: draft.user.copy()?,
-        desc: settled(alloc, cluster, draft, task)?,
+        terms,
         assoc: draft.assoc,
         qos: draft.qos,
         partition: draft.place,
         submit: draft.moment,
         eligible: eligible_from(draft.moment, desc),
         limit: limit_in(draft.partition, desc),
+        nice: desc.nice,
         held_by: held_at_first(desc),
         state: JobState::Pending,
         starts: 0,
@@ -72,7 +74,7 @@ fn new_job(
     })
 }
 
-/// The job that the draft makes where it is no array.
+/// The job that the draft makes where it is no array. Linear in the texts of the submission.
 pub(crate) fn lone_job(
     alloc: Global,
     cluster: &Cluster,
@@ -80,51 +82,41 @@ pub(crate) fn lone_job(
 ) -> Result<JobRecord, Memory>
     ensures { IfOk result (λ job. job ≡ lone_in (state_of cluster.now) draft.now) }
 {
-    new_job(alloc, cluster, draft, cluster.next_id, None, None)
+    let terms = SharedTerms::of(alloc, settled(alloc, cluster, draft)?)?;
+    new_job(alloc, draft, terms, cluster.next_id, None, None)
 }
 
-// The task at a place among the indices, with this index. It keeps its own index alone.
+// The task at a place among the indices, with this index, of the array with this number. It shares the terms.
 fn task(
     alloc: Global,
-    cluster: &Cluster,
     draft: &Draft<'_>,
-    most: Option<Ranged<1, 4294967295>>,
+    terms: &SharedTerms,
+    array: u32,
     place: u32,
     index: u32,
 ) -> Result<JobRecord, Memory>
-    requires fits { cluster.now.next_id + place < 2 ^ 32 }
-    requires small { index ≤ 99999 }
-    ensures { IfOk result (λ job. job ≡ task_in (state_of cluster.now) draft.now most (place, index)) }
+    requires { array + place < 2 ^ 32 }
+    ensures { IfOk result (λ job. job ≡ task_by draft.now terms.now array (place, index)) }
 {
-    let indices = Indices::from_vec(vec![in alloc; index]?);
-    let array = ArraySpec { indices, most };
-    let id = cluster.next_id + place;
-    new_job(
-        alloc,
-        cluster,
-        draft,
-        id,
-        Some(cluster.next_id),
-        Some(array),
-    )
+    let id = array + place;
+    new_job(alloc, draft, terms.share()?, id, Some(array), Some(index))
 }
 
-// The tasks with these indices, in their order. Linear in them.
+// The tasks with these indices, in their order, of the array with this number. They share the terms. Linear in them.
 fn tasks_of(
     alloc: Global,
-    cluster: &Cluster,
     draft: &Draft<'_>,
-    most: Option<Ranged<1, 4294967295>>,
+    terms: &SharedTerms,
+    array: u32,
     indices: &[u32],
 ) -> Result<Vec<JobRecord>, Memory>
-    requires numbers { cluster.now.next_id + length indices.now ≤ last_job_id + 1 }
-    requires small { All (λ index. index ≤ 99999) indices.now }
+    requires { array + length indices.now ≤ last_job_id + 1 }
     ensures { IfOk result (λ tasks. tasks.items
-        ≡ map (task_in (state_of cluster.now) draft.now most) (enumerate_from 0 indices.now)) }
+        ≡ map (task_by draft.now terms.now array) (enumerate_from 0 indices.now)) }
 {
     let mut tasks = Vec::with_capacity(alloc, indices.len())?;
     for (place, index) in indices.iter().enumerate() {
-        tasks.push(task(alloc, cluster, draft, most, place as u32, *index)?)?;
+        tasks.push(task(alloc, draft, terms, array, place as u32, *index)?)?;
     }
     Ok(tasks)
 }
@@ -135,14 +127,16 @@ fn handed_array(
     alloc: Global,
     cluster: &Cluster,
     draft: &Draft<'_>,
+    terms: &SharedTerms,
     array: &ArraySpec,
 ) -> Result<Handed, Memory>
+    requires terms { terms.now ≡ terms_in (state_of cluster.now) draft.now }
     requires numbers { cluster.now.next_id + length array.now.indices ≤ last_job_id + 1 }
     requires same { draft.now.desc.now.array ≡ Some array.now }
     ensures { IfOk result (HasMade (state_of cluster.now) draft.now) }
 {
     let indices = array.indices.iter().as_slice();
-    let jobs = tasks_of(alloc, cluster, draft, array.most, indices)?;
+    let jobs = tasks_of(alloc, draft, terms, cluster.next_id, indices)?;
     let record = ArrayRecord {
         id: cluster.next_id,
         indices: array.indices.copy()?,
@@ -161,8 +155,8 @@ fn handed_job(alloc: Global, lone: JobRecord) -> Result<Handed, Memory>
     Ok(Handed { jobs, array: None })
 }
 
-/// What the draft makes, of which `lone` is the one job where it is no array. Linear in the tasks, and for each in the
-/// texts of the submission; the index list is kept once for all of them.
+/// What the draft makes, of which `lone` is the one job where it is no array. Linear in the tasks; the terms and the
+/// index list are kept once for all of them.
 #[tactic(auto, unfolding(crate::specs::Submission::new_jobs))]
 pub(crate) fn hand_in(
     alloc: Global,
@@ -175,7 +169,7 @@ pub(crate) fn hand_in(
     ensures { IfOk result (HasMade (state_of cluster.now) draft.now) }
 {
     match &draft.desc.array {
-        Some(array) => handed_array(alloc, cluster, draft, array),
+        Some(array) => handed_array(alloc, cluster, draft, &lone.terms, array),
         None => handed_job(alloc, lone),
     }
 }

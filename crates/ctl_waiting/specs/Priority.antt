@@ -68,6 +68,6 @@ parts_of s now job = record {
   job_size = job_size_term s job;
   partition = partition_term s job;
   qos = qos_term s job;
-  nice = job.desc.nice;
-  sum = priority_of (sum (terms s now job)) job.desc.nice;
+  nice = job.nice;
+  sum = priority_of (sum (terms s now job)) job.nice;
 }

@@ -1,7 +1,6 @@
 -- Why a pending job can't be planned.
-use Rattle.std.specs.Prelude.{ℕ, Bool, true, false, not, nat_lt, is_none, unwrap_or, List, [], ◌∷◌, ◌++◌, max, nat_le, Option, Some, None, option_map, option_and_then}
+use Rattle.std.specs.Prelude.{ℕ, Bool, true, false, not, nat_lt, is_none, unwrap_or, List, [], ◌∷◌, ◌++◌, max, nat_le, Option, Some, None, option_map}
 use Rattle.std.specs.List.{list_any}
-use Rattle.plain_data.specs.declared.array.ArraySpec.{ArraySpec}
 use Rattle.plain_data.specs.declared.conf.PartState.{PartState}
 use Rattle.plain_data.specs.declared.conf.PartState.TheVariants.{Up, Down, Drain, Inactive}
 use Rattle.plain_data.specs.declared.limit.Limit.{Limit}
@@ -10,7 +9,6 @@ use Rattle.request_data.specs.declared.state.Reason.TheVariants.{JobHeldAdmin, J
 use Rattle.request_data.specs.declared.state.HeldBy.{HeldBy}
 use Rattle.request_data.specs.declared.state.HeldBy.TheVariants as held
 use Rattle.node_state.specs.declared.partition_record.PartRecord.{PartRecord}
-use Rattle.node_state.specs.Partitions.{bounds_of}
 use Rattle.job_table.specs.declared.record.JobRecord.{JobRecord}
 use Rattle.node_state.specs.declared.record.NodeRecord.{NodeRecord}
 use Rattle.node_state.specs.Nodes.{is_available, place_named}
@@ -24,7 +22,7 @@ use Rattle.node_state.specs.Reservations.{lasting, reservation_named}
 use Rattle.ctl_state.specs.Counted.{beside, counted_of}
 use Rattle.ctl_state.specs.Holds.{limit_end}
 use Rattle.ctl_state.specs.Limits.{exceeds}
-use Rattle.ctl_state.specs.Planning.{is_at}
+use Rattle.ctl_state.specs.Planning.{bounds_in, is_at}
 use Rattle.ctl_state.specs.State.{State, partition_of}
 
 abbrev pub is_inactive : PartState → Bool
@@ -58,7 +56,7 @@ awaiting_reason Never = Some DependencyNeverSatisfied
 
 -- the job isn't to begin yet
 abbrev pub is_early : ℕ → JobRecord → Bool
-is_early now job = nat_lt now (unwrap_or job.desc.begin 0)
+is_early now job = nat_lt now (unwrap_or job.terms.begin 0)
 
 -- what may hinder a job in its partition, in its order
 abbrev pub hindrances_in : Option PartRecord → JobRecord → List (Option Reason)
@@ -67,12 +65,12 @@ hindrances_in (Some partition) job =
     reason_if (is_inactive partition.state) PartitionInactive
     ∷ reason_if (is_down partition.state) PartitionDown
     ∷ reason_if (exceeds job.limit partition.conf.max_time) PartitionTimeLimit
-    ∷ reason_if (is_none (bounds_of partition job.desc)) PartitionNodeLimit
+    ∷ reason_if (is_none (bounds_in partition job.terms)) PartitionNodeLimit
     ∷ []
 
 -- how many tasks of the job's array may hold processors at once
 abbrev pub most_tasks : JobRecord → Option ℕ
-most_tasks job = option_and_then (λ (array : ArraySpec). array.most) job.desc.array
+most_tasks job = job.terms.at_once
 
 -- the limits that the job reaches beside those of these jobs that hold processors, in their order
 abbrev pub reached_beside : State → List JobRecord → JobRecord → List (Option Reason)
@@ -89,7 +87,7 @@ is_unavailable nodes name =
 
 -- a node that the job must have isn't available
 abbrev pub lacks_node : State → JobRecord → Bool
-lacks_node s job = list_any (is_unavailable s.nodes) job.desc.required
+lacks_node s job = list_any (is_unavailable s.nodes) job.terms.required
 
 -- a job of this limit that begins at the moment, or when the reservation does where that is later, is over by its end
 abbrev pub has_time_in : Kept → ℕ → Limit → Bool
@@ -106,7 +104,7 @@ lacks_reservation s now job =
     unwrap_or
     (option_map
     (λ name. is_too_late (reservation_named name (lasting now s.reservations)) now job.limit)
-    job.desc.reservation)
+    job.terms.reservation)
     false
 
 -- what may hinder a job at a moment, in its order

@@ -53,7 +53,7 @@ fn job_size_term(factors: &Factors, cluster: &Cluster, job: &JobRecord) -> Term
     requires measured { IsMeasured (state_of cluster.now) factors.now }
     ensures { value_of result ≡ spec.job_size_term (state_of cluster.now) job.now }
 {
-    let cpus = job.desc.tasks.get() * job.desc.cpus_per_task.get();
+    let cpus = job.terms().tasks.get() * job.terms().cpus_per_task.get();
     Term {
         weight: cluster.settings.weight_job_size,
         num: cpus.min(factors.cpus),
@@ -127,6 +127,6 @@ pub fn priority_of(factors: &Factors, cluster: &Cluster, job: &JobRecord) -> Pri
             partition_term(factors, cluster, job),
             qos_term(factors, cluster, job),
         ],
-        nice: job.desc.nice,
+        nice: job.nice,
     })
 }

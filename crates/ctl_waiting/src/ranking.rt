@@ -24,14 +24,14 @@ use backfill_planner::{BarredList, NodeList, PlanJob};
 use ctl_state::cluster::Cluster;
 use ctl_state::jobs::is_pending;
 use ctl_state::laws::{a_stable_sort_makes_the_order, jobs_get_nodes_that_are_there};
-use ctl_state::planning::{node_order, plan_job};
+use ctl_state::planning::{bounds_in, node_order, plan_job};
 use ctl_state::reserved::{barred_for, lasting_named, places_in};
 use job_table::record::JobRecord;
-use node_state::bounds::bounds_of;
 use node_state::partition_record::PartRecord;
 use node_state::record::NodeRecord;
 use run_limits::tally::Tally;
 use small_texts::memory_error::Memory;
+use small_texts::name::Name;
 use std::alloc::Global;
 use std::cmp::Ordering;
 
@@ -123,7 +123,7 @@ fn node_orders(
     Ok(orders)
 }
 
-// Those of a partition's nodes, in this order, that the job may have by the reservation that it names.
+// Those of a partition's nodes, in this order, that a job may have by the reservation that it names.
 #[tactic(auto, unfolding(ctl_state::specs::Planning::places_for))]
 fn places_for(
     alloc: Global,
@@ -131,13 +131,13 @@ fn places_for(
     moment: u64,
     partition: &PartRecord,
     order: &NodeList,
-    job: &JobRecord,
+    named: &Option<Name>,
 ) -> Result<NodeList, Memory>
     requires { order.now ≡ Planning.node_order cluster.now.nodes.records partition.now }
     ensures { IfOk result (λ places. places ≡ Planning.places_for cluster.now.nodes.records
-        (lasting moment cluster.now.reservations) partition.now job.now.desc.reservation) }
+        (lasting moment cluster.now.reservations) partition.now named.now) }
 {
-    let Some(name) = &job.desc.reservation else {
+    let Some(name) = named else {
         return order.share();
     };
     match lasting_named(&cluster.reservations, moment, name) {
@@ -156,12 +156,17 @@ fn barred_from(
 ) -> Result<BarredList, Memory>
     requires { unnamed.now ≡ Planning.barred_of (lasting moment cluster.now.reservations) None }
     ensures { IfOk result (λ barred. barred
-        ≡ Planning.barred_of (lasting moment cluster.now.reservations) job.now.desc.reservation) }
+        ≡ Planning.barred_of (lasting moment cluster.now.reservations) job.now.terms.reservation) }
 {
-    if job.desc.reservation.is_none() {
+    if job.terms().reservation.is_none() {
         return unnamed.share();
     }
-    barred_for(alloc, &cluster.reservations, moment, &job.desc.reservation)
+    barred_for(
+        alloc,
+        &cluster.reservations,
+        moment,
+        &job.terms().reservation,
+    )
 }
 
 // What all candidates of a moment are planned by: the order of the nodes of each partition, and when a job that names
@@ -203,11 +208,12 @@ fn need_of(
     let Some(partition) = cluster.partitions.at(job.partition) else {
         return Ok(None);
     };
-    let Some(bounds) = bounds_of(partition, &job.desc) else {
+    let Some(bounds) = bounds_in(partition, job.terms()) else {
         return Ok(None);
     };
     let order = &grounds.orders[job.partition as usize];
-    let places = places_for(alloc, cluster, grounds.moment, partition, order, job)?;
+    let named = &job.terms().reservation;
+    let places = places_for(alloc, cluster, grounds.moment, partition, order, named)?;
     let barred = barred_from(alloc, cluster, grounds.moment, &grounds.barred, job)?;
     let nodes = cluster.nodes.records();
     Ok(Some(plan_job(alloc, nodes, partition, &places, barred, bounds, job)?))

@@ -13,10 +13,10 @@ ghost use Rattle.ctl_waiting.specs.Reasons;
 use ctl_state::cluster::Cluster;
 use ctl_state::counting::counted_of;
 use ctl_state::limits::exceeds;
+use ctl_state::planning::bounds_in;
 use ctl_state::reserved::lasting_named;
 use job_table::record::JobRecord;
 use job_table::standing::{Standing, standing_among};
-use node_state::bounds::bounds_of;
 use node_state::nodes::Nodes;
 use node_state::partition_record::PartRecord;
 use node_state::reservation_record::Reservation;
@@ -55,7 +55,7 @@ fn dependency_hindrance(cluster: &Cluster, job: &JobRecord) -> Option<Reason>
 fn is_early(moment: u64, job: &JobRecord) -> bool
     ensures { result ≡ Reasons.is_early moment job.now }
 {
-    moment < job.desc.begin.map_or(0, |begin| begin.get())
+    moment < job.terms().begin.map_or(0, |begin| begin.get())
 }
 
 // What hinders the job in this partition.
@@ -68,7 +68,7 @@ fn hindrance_in(partition: &PartRecord, job: &JobRecord) -> Option<Reason>
         Some(Reason::PartitionDown)
     } else if exceeds(&job.limit, &partition.conf.max_time) {
         Some(Reason::PartitionTimeLimit)
-    } else if bounds_of(partition, &job.desc).is_none() {
+    } else if bounds_in(partition, job.terms()).is_none() {
         Some(Reason::PartitionNodeLimit)
     } else {
         None
@@ -79,7 +79,7 @@ fn hindrance_in(partition: &PartRecord, job: &JobRecord) -> Option<Reason>
 fn most_tasks(job: &JobRecord) -> Option<u64>
     ensures { result ≡ Reasons.most_tasks job.now }
 {
-    Some(job.desc.array.as_ref()?.most?.get())
+    Some(job.terms().at_once?.get())
 }
 
 /// The limit that the job reaches beside the jobs that are counted; None where it reaches none. Linear in its
@@ -118,7 +118,7 @@ fn is_unavailable(nodes: &Nodes, name: &Name) -> bool
 fn lacks_node(cluster: &Cluster, job: &JobRecord) -> bool
     ensures { result ≡ Reasons.lacks_node (state_of cluster.now) job.now }
 {
-    job.desc
+    job.terms()
         .required
         .iter()
         .any(|name| is_unavailable(&cluster.nodes, name))
@@ -144,7 +144,7 @@ fn has_time_in(reservation: &Reservation, moment: u64, limit: &Limit) -> bool
 fn lacks_reservation(cluster: &Cluster, moment: u64, job: &JobRecord) -> bool
     ensures { result ≡ Reasons.lacks_reservation (state_of cluster.now) moment job.now }
 {
-    let Some(name) = &job.desc.reservation else {
+    let Some(name) = &job.terms().reservation else {
         return false;
     };
     match lasting_named(&cluster.reservations, moment, name) {

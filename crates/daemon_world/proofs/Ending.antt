@@ -38,7 +38,7 @@ use Rattle.ctl_node_side.specs.Reporting.{report_after, reported}
 use Rattle.ctl_node_side.specs.Passes.{after_pass, pass_is_idle}
 use Rattle.ctl_node_side.specs.Restarting.{made_by_report, met}
 use Rattle.ctl_node_side.specs.Silence.{any_silent, silent_at, silenced, without_silent}
-use Rattle.ctl_submit.specs.Submission.{Terms, made_under, new_arrays, new_jobs, submit_after, task, terms_of}
+use Rattle.ctl_submit.specs.Submission.{Basis, made_under, new_arrays, new_jobs, submit_after, task, basis_of}
 use Rattle.ctl_core.specs.Operating.{is_in_state, partition_after, partition_made}
 use Rattle.ctl_core.specs.Sizes.{has_room, size_of}
 use Rattle.ctl_core.specs.Step.{entered, is_closed, is_entered, made, raised, refusals_of, state_after, unless_full, verdict_of, worked}
@@ -172,29 +172,29 @@ whole-pass-goes passes s Q lasts now sound raised in_time all few =
 abbrev IsNew : State → JobRecord → Type 0
 IsNew s job = (s.next_id ≤ job.id) × (job.starts ≡ 0)
 
-tasks-new : (s : State) (now : ℕ) (user : List ℕ) (desc : JobDesc) (terms : Terms) (most : Option ℕ)
-    (indices : List (ℕ × ℕ)) → All (IsNew s) (map (task s now user desc terms most) indices)
-tasks-new s now user desc terms most [] = All-nil (IsNew s)
-tasks-new s now user desc terms most ((place, index) ∷ later) =
-    All-cons (IsNew s) (task s now user desc terms most (place, index)) (map (task s now user desc terms most) later)
-    (omega arith, refl) (tasks-new s now user desc terms most later)
+tasks-new : (s : State) (now : ℕ) (user : List ℕ) (desc : JobDesc) (basis : Basis)
+    (indices : List (ℕ × ℕ)) → All (IsNew s) (map (task s now user desc basis) indices)
+tasks-new s now user desc basis [] = All-nil (IsNew s)
+tasks-new s now user desc basis ((place, index) ∷ later) =
+    All-cons (IsNew s) (task s now user desc basis (place, index)) (map (task s now user desc basis) later)
+    (omega arith, refl) (tasks-new s now user desc basis later)
 
-jobs-new : (s : State) (now : ℕ) (user : List ℕ) (desc : JobDesc) (terms : Terms) (array : Option ArraySpec)
-    → All (IsNew s) (new_jobs s now user desc terms array)
+jobs-new : (s : State) (now : ℕ) (user : List ℕ) (desc : JobDesc) (basis : Basis) (array : Option ArraySpec)
+    → All (IsNew s) (new_jobs s now user desc basis array)
 unfolding new_jobs
-jobs-new s now user desc terms None = All-cons (IsNew s) _ [] (omega arith, refl) (All-nil (IsNew s))
-jobs-new s now user desc terms (Some array) =
-    tasks-new s now user desc terms array.most (enumerate_from 0 array.indices)
+jobs-new s now user desc basis None = All-cons (IsNew s) _ [] (omega arith, refl) (All-nil (IsNew s))
+jobs-new s now user desc basis (Some array) =
+    tasks-new s now user desc basis (enumerate_from 0 array.indices)
 
 submit-goes : (s : State) (Q : JobRecord → Type 0) → Lasts s Q → (now : ℕ) (user : List ℕ) (desc : JobDesc)
-    (terms : Terms) → All Q s.jobs
-    → Goes s (submit_after s (new_jobs s now user desc terms desc.array) (new_arrays s desc.array)) Q
-submit-goes s Q lasts now user desc terms all =
-    let jobs = new_jobs s now user desc terms desc.array in
+    (basis : Basis) → All Q s.jobs
+    → Goes s (submit_after s (new_jobs s now user desc basis desc.array) (new_arrays s desc.array)) Q
+submit-goes s Q lasts now user desc basis all =
+    let jobs = new_jobs s now user desc basis desc.array in
     record {
       all = All-append Q s.jobs jobs all
           (All-weaker (IsNew s) Q (λ job new. lasts.new job new.0 new.1) jobs
-          (jobs-new s now user desc terms desc.array));
+          (jobs-new s now user desc basis desc.array));
       size = refl;
       next = omega arith;
     }
@@ -214,9 +214,9 @@ change-by s Q lasts now user action named all =
     (GoesBy s Q) (λ some. change-goes s Q lasts now user action named all) (λ none. tt)
 
 submit-by : (s : State) (Q : JobRecord → Type 0) → Lasts s Q → (now : ℕ) (user : List ℕ) (desc : JobDesc)
-    (terms : Option Terms) → All Q s.jobs → GoesBy s Q (made_under s now user desc terms)
+    (basis : Option Basis) → All Q s.jobs → GoesBy s Q (made_under s now user desc basis)
 submit-by s Q lasts now user desc None all = tt
-submit-by s Q lasts now user desc (Some terms) all = submit-goes s Q lasts now user desc terms all
+submit-by s Q lasts now user desc (Some basis) all = submit-goes s Q lasts now user desc basis all
 
 partition-by : (s : State) (Q : JobRecord → Type 0) (state : PartState) (place : Option ℕ) → All Q s.jobs
     → GoesBy s Q (partition_made s state place)
@@ -235,7 +235,7 @@ goes-made : Passes → (s : State) (Q : JobRecord → Type 0) → Lasts s Q → 
     (request : Request) → IsSound s → s.moment ≤ moment → moment ≤ last_moment → All Q s.jobs
     → All (λ (job : JobRecord). job.starts ≤ s.size) s.jobs → GoesBy s Q (made s moment user request)
 goes-made passes s Q lasts moment user (Submit desc) sound later in_time all few =
-    submit-by s Q lasts moment user desc (terms_of s user desc) all
+    submit-by s Q lasts moment user desc (basis_of s user desc) all
 goes-made passes s Q lasts moment user (Cancel targets) sound later in_time all few =
     change-by s Q lasts moment user act.Cancel (are_meant targets) all
 goes-made passes s Q lasts moment user (Hold targets for_owner) sound later in_time all few =

@@ -41,7 +41,7 @@ use Rattle.ctl_pass.specs.Passing.{outcome, pass_after}
 use Rattle.ctl_pass.specs.Readiness.{goes as gone, jobs_left, placements, ready}
 use Rattle.ctl_node_side.specs.Passes.{after_pass, pass_is_idle}
 use Rattle.ctl_node_side.specs.Silence.{any_silent, falls_silent, silent_at, silenced, without_silent}
-use Rattle.ctl_submit.specs.Submission.{made_under, new_arrays, new_jobs, submit_after, terms_of, Terms}
+use Rattle.ctl_submit.specs.Submission.{made_under, new_arrays, new_jobs, submit_after, basis_of, Basis}
 use Rattle.ctl_core.specs.Operating.{is_in_state, partition_made}
 use Rattle.ctl_core.specs.Sizes.{has_room, size_of}
 use Rattle.ctl_core.specs.Step.{entered, is_closed, is_entered, made, raised, refusals_of, state_after, unless_full, verdict_of, worked}
@@ -251,11 +251,11 @@ change-made s now user action named node =
     cond_both (list_any (goes s user action named) s.jobs) _ Stays (LeavesBy s node)
     (λ some. change-left s now user action named node) (λ none. tt)
 
-submit-made : (s : State) (now : ℕ) (user : List ℕ) (desc : JobDesc) (node : List ℕ) (terms : Option Terms)
-    → LeavesBy s node (made_under s now user desc terms)
+submit-made : (s : State) (now : ℕ) (user : List ℕ) (desc : JobDesc) (node : List ℕ) (basis : Option Basis)
+    → LeavesBy s node (made_under s now user desc basis)
 submit-made s now user desc node None = tt
-submit-made s now user desc node (Some terms) =
-    let jobs = new_jobs s now user desc terms desc.array in
+submit-made s now user desc node (Some basis) =
+    let jobs = new_jobs s now user desc basis desc.array in
     left_held s (submit_after s jobs (new_arrays s desc.array)) node refl
     (λ place claim held. any_left (Holds place claim) s.jobs jobs held)
 
@@ -269,7 +269,7 @@ partition-made s state node (Some place) =
 leaves-made : Passes → (s : State) (moment : ℕ) (user : List ℕ) (request : Request) (node : List ℕ) → IsSound s
     → s.moment ≤ moment → moment ≤ last_moment → IsNoReport request → LeavesBy s node (made s moment user request)
 leaves-made passes s moment user (Submit desc) node sound later in_time own =
-    submit-made s moment user desc node (terms_of s user desc)
+    submit-made s moment user desc node (basis_of s user desc)
 leaves-made passes s moment user (Cancel targets) node sound later in_time own =
     change-made s moment user act.Cancel (are_meant targets) node
 leaves-made passes s moment user (Hold targets for_owner) node sound later in_time own =

@@ -10,7 +10,6 @@ use Rattle.backfill_planner.specs.declared.job.PlanJob.{PlanJob}
 use Rattle.backfill_planner.specs.Bases.{BaseView}
 use Rattle.backfill_planner.specs.Plans.{plan_of}
 use Rattle.node_state.specs.declared.partition_record.PartRecord.{PartRecord}
-use Rattle.node_state.specs.Partitions.{bounds_of}
 use Rattle.node_state.specs.Reservations.{lasting}
 use Rattle.job_table.specs.declared.record.JobRecord.{JobRecord}
 use Rattle.job_table.specs.declared.record.Part.{Part}
@@ -20,7 +19,7 @@ use Rattle.job_table.specs.JobStates.{is_pending}
 use Rattle.job_table.specs.Table.{HaveRisingIds, has_id}
 use Rattle.ctl_state.specs.Events.{started_as}
 use Rattle.ctl_state.specs.Laws.{OrderKeepsApart}
-use Rattle.ctl_state.specs.Planning.{plan_job}
+use Rattle.ctl_state.specs.Planning.{bounds_in, plan_job}
 use Rattle.ctl_state.specs.State.{State, partition_of}
 use Rattle.ctl_waiting.specs.Rank.{is_higher}
 use Rattle.ctl_waiting.specs.Candidates.{candidates, is_candidate, need_in, needs_of, ranked}
@@ -165,10 +164,10 @@ needs-of s now job = by (partition_of s job)
     by_bounds partition (Some bounds) = refl
 
     by : (some : Option PartRecord)
-        → IfSome (some >>= λ partition. bounds_of partition job.desc >>= λ bounds.
+        → IfSome (some >>= λ partition. bounds_in partition job.terms >>= λ bounds.
         Some (need_in s (lasting now s.reservations) partition bounds job)) (λ (need : PlanJob). need.id ≡ job.id)
     by None = tt
-    by (Some partition) = by_bounds partition (bounds_of partition job.desc)
+    by (Some partition) = by_bounds partition (bounds_in partition job.terms)
 
 cons-all : (number id : ℕ) (need : Option PlanJob) (rest : List PlanJob) → number ≢ id
     → IfSome need (λ (need : PlanJob). need.id ≡ id) → All (λ (one : PlanJob). number ≢ one.id) rest

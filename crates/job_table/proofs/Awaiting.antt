@@ -19,7 +19,7 @@ use Rattle.job_table.specs.Awaiting.{AddsAwaited, ShowsAwaited, awaits, has_awai
 use Rattle.job_table.specs.Changes.{changed, not_again, off_node, parts_off, with_left}
 use Rattle.job_table.specs.JobStates.{is_pending, is_running}
 use Rattle.job_table.specs.Table.{HaveRisingIds}
-use Rattle.job_table.specs.Targets.{index_of, is_named_by}
+use Rattle.job_table.specs.Targets.{is_named_by}
 
 any-same : {X : Type 0} (f g : X → Bool) (xs : List X) → ((x : X) → f x ≡ g x) → list_any f xs ≡ list_any g xs
 any-same f g [] same = refl
@@ -30,13 +30,13 @@ any-same f g (x ∷ xs) same =
 
 -- who is awaited rests on a job's numbers
 named-same : (id : ℕ) (index : Option ℕ) (one other : JobRecord) → one.id ≡ other.id → one.array ≡ other.array
-    → index_of one ≡ index_of other
+    → one.index ≡ other.index
     → is_named_by id index one ≡ is_named_by id index other
 named-same id None one other same array index = cc
 named-same id (Some number) one other same array index = cc
 
 names-same : (spec : DepSpec) (one other : JobRecord) → one.id ≡ other.id → one.array ≡ other.array
-    → index_of one ≡ index_of other
+    → one.index ≡ other.index
     → names_job spec one ≡ names_job spec other
 names-same spec one other same array index =
     any-same (names_in one) (names_in other) spec.items
@@ -44,10 +44,10 @@ names-same spec one other same array index =
     (λ id. named-same id.id (index_named item.kind id) one other same array index))
 
 awaits-same : (waiting one other : JobRecord) → one.id ≡ other.id → one.array ≡ other.array
-    → index_of one ≡ index_of other
+    → one.index ≡ other.index
     → awaits waiting one ≡ awaits waiting other
 awaits-same waiting one other same array index =
-    ap (λ named. is_pending waiting.state && named) (by waiting.desc.dependency)
+    ap (λ named. is_pending waiting.state && named) (by waiting.terms.dependency)
   where
     by : (dependency : Option DepSpec)
         → unwrap_or (option_map (λ (spec : DepSpec). names_job spec one) dependency) false
@@ -56,7 +56,7 @@ awaits-same waiting one other same array index =
     by (Some spec) = names-same spec one other same array index
 
 pub awaited-by_number : (jobs : List JobRecord) (one other : JobRecord) → one.id ≡ other.id → one.array ≡ other.array
-    → index_of one ≡ index_of other
+    → one.index ≡ other.index
     → is_awaited jobs one ≡ is_awaited jobs other
 unfolding is_awaited
 awaited-by_number jobs one other same array index =
@@ -65,7 +65,7 @@ awaited-by_number jobs one other same array index =
 
 -- what a job is found by
 abbrev found_by : JobRecord → ℕ × Option ℕ × Option ℕ
-found_by job = (job.id, job.array, index_of job)
+found_by job = (job.id, job.array, job.index)
 
 off_node-found : (now node : ℕ) (job : JobRecord) (state : JobState)
     → found_by (off_node now node job state) ≡ found_by job

@@ -192,9 +192,9 @@ changed-runs_on now CancelRequeue job none = not_again-runs_on now job.state job
 changed-runs_on now (DropPart node moment) job none = off_node-runs_on now node moment job.state job refl
 changed-runs_on now (SetHold by) job none = kept-runs_on now job (record job { held_by = by }) refl refl refl refl
 changed-runs_on now (SetLimit limit) job none =
-    kept-runs_on now job (record job { limit = limit; desc = record job.desc { limit = Some limit } }) refl refl refl refl
+    kept-runs_on now job (record job { limit = limit }) refl refl refl refl
 changed-runs_on now (SetNice nice) job none =
-    kept-runs_on now job (record job { desc = record job.desc { nice = nice } }) refl refl refl refl
+    kept-runs_on now job (record job { nice = nice }) refl refl refl refl
 
 not-left : (runs : Bool) (used : ℕ) → cond (runs && not runs) used 0 ≡ 0
 not-left false used = refl

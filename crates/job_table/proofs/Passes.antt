@@ -15,7 +15,7 @@ use Rattle.request_data.specs.declared.state.JobState.TheVariants.{Pending, Runn
 use Rattle.job_table.specs.declared.record.JobRecord.{JobRecord}
 use Rattle.job_table.specs.Awaiting.{awaits, is_awaited, names_by, names_in, names_job}
 use Rattle.job_table.specs.JobStates.{is_ended, is_pending}
-use Rattle.job_table.specs.Targets.{index_of, is_named_by}
+use Rattle.job_table.specs.Targets.{is_named_by}
 use Rattle.job_table.specs.declared.standing.Standing.{Standing}
 use Rattle.job_table.specs.declared.standing.Standing.TheVariants.{Satisfied, Waiting}
 use Rattle.job_table.specs.Laws.{IsDoneWith, PassesLeaveStandings, SameForOthers}
@@ -110,7 +110,7 @@ named-same id None job after same =
     cc
 named-same id (Some number) job after same =
     let array : after.array ≡ job.array = same.array in
-    let own : index_of after ≡ index_of job = ap (λ desc. index_of (record job { desc = desc })) same.desc in
+    let own : after.index ≡ job.index = same.index in
     cc
 
 is_before-same : (own job after : JobRecord) → SameForOthers job after → is_before own after ≡ is_before own job
@@ -118,14 +118,14 @@ is_before-same own job after same =
     let number = same.id in
     let ended = same.ended in
     let user = same.user in
-    let desc = same.desc in
+    let terms = same.terms in
     cc
 
 -- what a number means to a job it names
 meant-named : (kind : DepKind) (own job : JobRecord) (id : DepId)
     → is_named_by id.id (index_meant kind own id) job ≡ true
     → names_by kind job id ≡ true
-meant-named kinds.AfterCorr own job id named = by (index_of own) named
+meant-named kinds.AfterCorr own job id named = by own.index named
   where
     by : (index : Option ℕ) → is_named_by id.id index job ≡ true → is_named_by id.id None job ≡ true
     by None is = is
@@ -139,7 +139,7 @@ meant-named kinds.Singleton own job id named = named
 -- a job that a pending one names is awaited
 named-awaited : (jobs : List JobRecord) (own job : JobRecord) (spec : DepSpec) → Contains jobs own
     → is_pending own.state ≡ true
-    → own.desc.dependency ≡ Some spec → names_job spec job ≡ true → is_awaited jobs job ≡ true
+    → own.terms.dependency ≡ Some spec → names_job spec job ≡ true → is_awaited jobs job ≡ true
 unfolding is_awaited
 named-awaited jobs own job spec among pending waits names =
     let waiting : awaits own job ≡ true =
@@ -152,7 +152,7 @@ ended-before own job ended = rw ended (and_right (nat_lt job.id own.id) false re
 
 module _ (jobs : List JobRecord) (change : JobRecord → JobRecord) (goes : JobRecord → Bool) (own : JobRecord)
     (spec : DepSpec) (among : Contains jobs own) (pending : is_pending own.state ≡ true)
-    (waits-for : own.desc.dependency ≡ Some spec) (same : All (λ job. SameForOthers job (change job)) jobs)
+    (waits-for : own.terms.dependency ≡ Some spec) (same : All (λ job. SameForOthers job (change job)) jobs)
     (done : All (λ job. goes (change job) ≡ true → IsDoneWith jobs job) jobs) where
   -- whom the number names the dependency names
   abbrev IsOf : DepKind → DepId → Type 0
@@ -212,9 +212,9 @@ module _ (jobs : List JobRecord) (change : JobRecord → JobRecord) (goes : JobR
 pub standings-left : PassesLeaveStandings
 unfolding standing
 standings-left jobs change goes own among pending same done =
-    ap (λ found. if nat_eq own.starts 0 then found else Satisfied) (by own.desc.dependency refl)
+    ap (λ found. if nat_eq own.starts 0 then found else Satisfied) (by own.terms.dependency refl)
   where
-    by : (dependency : Option DepSpec) → own.desc.dependency ≡ dependency
+    by : (dependency : Option DepSpec) → own.terms.dependency ≡ dependency
         → standing_if (left change goes jobs) own dependency ≡ standing_if jobs own dependency
     by None is = refl
     by (Some spec) is = for-same jobs change goes own spec among pending is same done

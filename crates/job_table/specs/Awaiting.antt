@@ -13,7 +13,7 @@ use Rattle.job_table.specs.declared.awaited.Awaited.{Awaited}
 use Rattle.job_table.specs.Changes.{changed}
 use Rattle.job_table.specs.JobStates.{is_pending}
 use Rattle.job_table.specs.Table.{is_old}
-use Rattle.job_table.specs.Targets.{index_of, is_named_by}
+use Rattle.job_table.specs.Targets.{is_named_by}
 
 -- the index of the task that an item of this kind names, if of one: of the corresponding tasks any may be meant
 abbrev pub index_named : DepKind → DepId → Option ℕ
@@ -35,7 +35,7 @@ names_job spec job = list_any (names_in job) spec.items
 abbrev pub awaits : JobRecord → JobRecord → Bool
 awaits waiting job =
     is_pending waiting.state
-    && unwrap_or (option_map (λ (spec : DepSpec). names_job spec job) waiting.desc.dependency) false
+    && unwrap_or (option_map (λ (spec : DepSpec). names_job spec job) waiting.terms.dependency) false
 
 -- one of the jobs waits for it
 unfoldable pub is_awaited : List JobRecord → JobRecord → Bool
@@ -64,7 +64,7 @@ has_gone age now awaited job = is_old age now job && not (has_awaited awaited jo
 -- Whether others wait for a job rests on its number, its array and its index alone, so that no change of it matters.
 abbrev pub AwaitedByNumber : Type 0
 AwaitedByNumber = (jobs : List JobRecord) (one other : JobRecord)
-    → one.id ≡ other.id → one.array ≡ other.array → index_of one ≡ index_of other
+    → one.id ≡ other.id → one.array ≡ other.array → one.index ≡ other.index
     → is_awaited jobs one ≡ is_awaited jobs other
 
 abbrev pub AwaitedThroughChanges : Type 0

@@ -59,5 +59,5 @@ changed (CancelPending now) job =
 changed CancelRequeue job = not_again job job.state
 changed (DropPart node now) job = off_node now node job job.state
 changed (SetHold by) job = record job { held_by = by }
-changed (SetLimit limit) job = record job { limit = limit; desc = record job.desc { limit = Some limit } }
-changed (SetNice nice) job = record job { desc = record job.desc { nice = nice } }
+changed (SetLimit limit) job = record job { limit = limit }
+changed (SetNice nice) job = record job { nice = nice }

@@ -11,7 +11,8 @@ pub record SameForOthers (job after : JobRecord) : Type 0 where
   pub id : after.id ≡ job.id
   pub array : after.array ≡ job.array
   pub user : after.user ≡ job.user
-  pub desc : after.desc ≡ job.desc
+  pub index : after.index ≡ job.index
+  pub terms : after.terms ≡ job.terms
   pub starts : after.starts ≡ job.starts
   pub ended : is_ended after.state ≡ is_ended job.state
   pub final : is_ended job.state ≡ true → after.state ≡ job.state

@@ -12,7 +12,7 @@ use Rattle.request_data.specs.declared.state.JobState.{JobState}
 use Rattle.request_data.specs.declared.state.JobState.TheVariants.{Pending, Running, Completing, Ended}
 use Rattle.job_table.specs.declared.record.JobRecord.{JobRecord}
 use Rattle.job_table.specs.JobStates.{is_ended}
-use Rattle.job_table.specs.Targets.{index_of, is_named_by}
+use Rattle.job_table.specs.Targets.{is_named_by}
 use Rattle.job_table.specs.declared.standing.Standing.{Standing}
 use Rattle.job_table.specs.declared.standing.Standing.TheVariants.{Satisfied, Waiting, Never}
 
@@ -78,7 +78,7 @@ standing_of kind.Singleton job = Satisfied
 
 -- which task of an array is meant: the job's own, or the one that is named, if one is
 abbrev pub index_meant : DepKind → JobRecord → DepId → Option ℕ
-index_meant kind.AfterCorr own id = index_of own
+index_meant kind.AfterCorr own id = own.index
 index_meant kind own id = id.index
 
 -- the jobs that a number of an item names to the job
@@ -93,7 +93,7 @@ standing_by_id jobs own kind id = all_of (map (standing_of kind) (jobs_named job
 abbrev pub is_before : JobRecord → JobRecord → Bool
 is_before own job =
     nat_lt job.id own.id
-    && (not (is_ended job.state) && (bytes_eq job.user own.user && bytes_eq job.desc.name own.desc.name))
+    && (not (is_ended job.state) && (bytes_eq job.user own.user && bytes_eq job.terms.name own.terms.name))
 
 -- an item of this kind: all that these numbers name, or no earlier job of this user and name
 abbrev pub standing_in : List JobRecord → JobRecord → DepKind → List DepId → Standing
@@ -114,4 +114,4 @@ standing_if jobs own (Some spec) = standing_for jobs own spec
 
 -- what the job waits for, if it waits for something and wasn't started before
 unfoldable pub standing : List JobRecord → JobRecord → Standing
-standing jobs own = if nat_eq own.starts 0 then standing_if jobs own own.desc.dependency else Satisfied
+standing jobs own = if nat_eq own.starts 0 then standing_if jobs own own.terms.dependency else Satisfied

@@ -1,6 +1,5 @@
 -- Which jobs a target names.
-use Rattle.std.specs.Prelude.{◌≡◌, ℕ, ◌≤◌, Bool, false, ◌&&◌, ◌||◌, nat_eq, List, slice_get, All, AllPairs, IfSome, Option, Some, None, option_and_then}
-use Rattle.plain_data.specs.declared.array.ArraySpec.{ArraySpec}
+use Rattle.std.specs.Prelude.{◌≡◌, ℕ, ◌≤◌, Bool, false, ◌&&◌, ◌||◌, nat_eq, List, All, AllPairs, IfSome, Option, Some, None}
 use Rattle.request_data.specs.declared.target.Target.{Target}
 use Rattle.job_table.specs.declared.record.JobRecord.{JobRecord}
 
@@ -12,14 +11,10 @@ is_number number (Some other) = nat_eq other number
 abbrev pub is_task_of : ℕ → JobRecord → Bool
 is_task_of array job = is_number array job.array
 
--- the index of a task in its array
-abbrev pub index_of : JobRecord → Option ℕ
-index_of job = option_and_then (λ (array : ArraySpec). slice_get array.indices 0) job.desc.array
-
 -- a number alone names the job that has it, and all tasks of the array that has it; with an index it names one task
 abbrev pub is_named_by : ℕ → Option ℕ → JobRecord → Bool
 is_named_by id None job = nat_eq job.id id || is_task_of id job
-is_named_by id (Some index) job = is_task_of id job && is_number index (index_of job)
+is_named_by id (Some index) job = is_task_of id job && is_number index job.index
 
 abbrev pub is_named : Target → JobRecord → Bool
 is_named target job = is_named_by target.id target.index job

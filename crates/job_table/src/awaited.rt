@@ -64,7 +64,7 @@ fn add_waiting(awaited: &mut Awaited, jobs: &[JobRecord], waiting: &JobRecord) -
     requires together { AreTogether jobs.now }
     ensures { OnOk result (AddsAwaited (awaits waiting.now) jobs.now awaited.old awaited.new) }
 {
-    match &waiting.desc.dependency {
+    match &waiting.terms().dependency {
         Some(spec) if is_pending(waiting) => add_items(awaited, jobs, spec.items.as_slice()),
         _ => Ok(()),
     }

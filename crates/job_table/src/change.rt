@@ -61,8 +61,8 @@ pub(crate) fn apply(alloc: Global, job: &mut JobRecord, change: Change)
         Change::CancelRequeue => cancel_requeue(job),
         Change::DropPart { node, moment } => leave_node(alloc, job, node, moment),
         Change::SetHold(by) => job.held_by = by,
-        Change::SetLimit(limit) => set_limit(job, limit),
-        Change::SetNice(nice) => job.desc.nice = nice,
+        Change::SetLimit(limit) => job.limit = limit,
+        Change::SetNice(nice) => job.nice = nice,
     }
 }
 
@@ -112,13 +112,6 @@ fn leave_node(alloc: Global, job: &mut JobRecord, node: u32, moment: u64)
         drop_parts(alloc, &mut job.parts, node);
         settle(job, to, moment);
     }
-}
-
-fn set_limit(job: &mut JobRecord, limit: Limit)
-    ensures { job.new ≡ changed (Change.SetLimit limit) job.old }
-{
-    job.limit = limit;
-    job.desc.limit = Some(job.limit);
 }
 
 // Ends a completing job that holds nothing any more, or has it wait again.

@@ -10,4 +10,5 @@ pub mod laws;
 pub mod record;
 pub mod standing;
 pub mod targets;
+pub mod terms;
 pub mod usage;

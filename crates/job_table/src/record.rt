@@ -2,10 +2,11 @@
 
 ghost use Rattle.std.specs.Prelude.{◌≡◌, IfOk};
 
+use crate::terms::{SharedTerms, Terms};
 use cpu_ids::CpuIds;
 use plain_data::items::Items;
-use plain_data::job::JobDesc;
 use plain_data::limit::Limit;
+use plain_data::nice::Nice;
 use request_data::state::{HeldBy, JobState};
 use small_texts::memory_error::Memory;
 use small_texts::name::Name;
@@ -52,11 +53,12 @@ pub struct JobRecord {
     pub id: u32,
     /// The number of its array, which is that of the array's first task.
     pub array: Option<u32>,
+    /// Its index in its array.
+    pub index: Option<u32>,
     /// Who handed it in.
     pub user: Name,
-    /// What it asks for, settled: account, partition, quality of service, memory, limit and requeueing are those in
-    /// force, it is neither held nor parsable, and the array of a task has its own index alone (own).
-    pub desc: JobDesc,
+    /// What was settled for it when it was handed in.
+    pub terms: SharedTerms,
     /// The place of its association in the list of associations: its user's, of its account.
     pub assoc: u32,
     /// The place of its quality of service in the list of these.
@@ -69,6 +71,8 @@ pub struct JobRecord {
     pub eligible: u64,
     /// How long it may run.
     pub limit: Limit,
+    /// How far its user lowers it in rank.
+    pub nice: Nice,
     /// Who holds it back.
     pub held_by: HeldBy,
     pub state: JobState,
@@ -87,7 +91,14 @@ pub struct JobRecord {
 }
 
 impl JobRecord {
-    /// An equal record. Linear in what it names and holds.
+    /// What was settled for it when it was handed in.
+    pub fn terms(&self) -> &Terms
+        ensures { result.now ≡ self.now.terms }
+    {
+        self.terms.get()
+    }
+
+    /// An equal record, which shares the terms with this one. Linear in what it holds and in the names of its nodes.
     pub fn copy(&self, alloc: Global) -> Result<JobRecord, Memory>
         ensures { IfOk result (λ job. job ≡ self.now) }
     {
@@ -95,14 +106,16 @@ impl JobRecord {
         Ok(JobRecord {
             id: self.id,
             array: self.array,
+            index: self.index,
             user: self.user.copy()?,
-            desc: self.desc.copy()?,
+            terms: self.terms.share()?,
             assoc: self.assoc,
             qos: self.qos,
             partition: self.partition,
             submit: self.submit,
             eligible: self.eligible,
             limit: self.limit,
+            nice: self.nice,
             held_by: self.held_by,
             state: self.state,
             starts: self.starts,

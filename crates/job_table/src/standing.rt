@@ -10,7 +10,7 @@ ghost use Rattle.job_table.specs.Standing.{all_of, one_of};
 
 use crate::jobs::Jobs;
 use crate::record::JobRecord;
-use crate::targets::{index_of, is_named, span_of};
+use crate::targets::{is_named, span_of};
 use plain_data::dependency::{DepId, DepItem, DepKind, DepSpec};
 use request_data::state::{Final, JobState};
 use request_data::target::Target;
@@ -59,7 +59,7 @@ pub fn standing_among(jobs: &Jobs, own: &JobRecord) -> Standing
     requires { AreTogether jobs.now.records }
     ensures { result ≡ spec.standing jobs.now.records own.now }
 {
-    match &own.desc.dependency {
+    match &own.terms().dependency {
         Some(needs) if own.starts == 0 => standing_for(jobs.records(), own, needs),
         _ => Standing::Satisfied,
     }
@@ -128,7 +128,10 @@ fn has_before(jobs: &[JobRecord], own: &JobRecord) -> bool
 fn is_before(own: &JobRecord, job: &JobRecord) -> bool
     ensures { result ≡ spec.is_before own.now job.now }
 {
-    job.id < own.id && !is_ended(job) && job.user.is(&own.user) && job.desc.name.is(&own.desc.name)
+    job.id < own.id
+        && !is_ended(job)
+        && job.user.is(&own.user)
+        && job.terms().name.is(&own.terms().name)
 }
 
 fn is_ended(job: &JobRecord) -> bool
@@ -167,7 +170,7 @@ fn index_meant(kind: DepKind, own: &JobRecord, id: DepId) -> Option<u32>
     ensures { result ≡ spec.index_meant kind own.now id }
 {
     match kind {
-        DepKind::AfterCorr => index_of(own),
+        DepKind::AfterCorr => own.index,
         _ => id.index,
     }
 }

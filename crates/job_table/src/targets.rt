@@ -24,21 +24,13 @@ pub fn is_task_of(array: u32, job: &JobRecord) -> bool
     job.array == Some(array)
 }
 
-/// The index of a task in its array.
-pub fn index_of(job: &JobRecord) -> Option<u32>
-    ensures { result ≡ spec.index_of job.now }
-{
-    let array = job.desc.array.as_ref()?;
-    array.indices.iter().next().copied()
-}
-
 /// Whether the target names the job.
 pub fn is_named(target: &Target, job: &JobRecord) -> bool
     ensures { result ≡ spec.is_named target.now job.now }
 {
     match target.index {
         None => job.id == target.id || is_task_of(target.id, job),
-        Some(index) => is_task_of(target.id, job) && index_of(job) == Some(index),
+        Some(index) => is_task_of(target.id, job) && job.index == Some(index),
     }
 }
 

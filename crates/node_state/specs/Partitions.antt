@@ -2,7 +2,6 @@
 use Rattle.std.specs.Prelude.{◌≡◌, ◌≢◌, ◌≤◌, ◌<◌, ℕ, zero, suc, min, max, Bool, true, false, nat_le, if◌then◌else◌, unwrap_or, List, [], ◌∷◌, length, filter_map, position, bytes_eq, All, AllPairs, Option, Some, None}
 use Rattle.plain_data.specs.declared.conf.PartConf.{PartConf}
 use Rattle.plain_data.specs.declared.conf.PartState.{PartState}
-use Rattle.plain_data.specs.declared.job.JobDesc.{JobDesc}
 use Rattle.node_state.specs.declared.record.NodeRecord.{NodeRecord}
 use Rattle.node_state.specs.Nodes.{place_named}
 use Rattle.node_state.specs.declared.partition_record.PartRecord.{PartRecord}
@@ -29,10 +28,10 @@ abbrev pub within : ℕ → ℕ → Option (ℕ × ℕ)
 within least most = if nat_le least most then Some (least, most) else None
 
 -- A job's most nodes and its tasks bound them, and what the partition asks for and allows.
-unfoldable pub bounds_of : PartRecord → JobDesc → Option (ℕ × ℕ)
-bounds_of partition desc =
-    within (max desc.min_nodes partition.conf.min_nodes)
-    (min desc.tasks (min (unwrap_or desc.max_nodes desc.tasks) (unwrap_or partition.conf.max_nodes desc.tasks)))
+unfoldable pub bounds_of : PartRecord → ℕ → ℕ → Option ℕ → Option (ℕ × ℕ)
+bounds_of partition tasks min_nodes max_nodes =
+    within (max min_nodes partition.conf.min_nodes)
+    (min tasks (min (unwrap_or max_nodes tasks) (unwrap_or partition.conf.max_nodes tasks)))
 
 -- a partition in another state
 abbrev pub in_state : PartState → PartRecord → PartRecord

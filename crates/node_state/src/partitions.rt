@@ -135,9 +135,11 @@ impl Partitions {
     /// How many nodes the job may have in the partition at a place, at least and at most: None where no number will do.
     pub fn bounds(&self, place: u32, desc: &JobDesc) -> Option<(u32, u32)>
         requires { place < length self.now }
-        ensures { HoldsAt (λ partition. result ≡ spec.bounds_of partition desc.now) self.now place }
+        ensures { HoldsAt (λ partition. result
+            ≡ spec.bounds_of partition desc.now.tasks desc.now.min_nodes desc.now.max_nodes) self.now place }
     {
-        bounds_of(&self.records[place as usize], desc)
+        let partition = &self.records[place as usize];
+        bounds_of(partition, desc.tasks, desc.min_nodes, desc.max_nodes)
     }
 
     /// Sets the state of the partition at a place, and tells whether it was another one. It takes constant time, and no

@@ -5,7 +5,7 @@ ghost use Rattle.node_state.specs.Reservations;
 
 use cpu_ids::CpuIds;
 use plain_data::items::Items;
-use plain_data::seconds::{Moment, ReservationEnd};
+use plain_data::seconds::{Moment, Second};
 use small_texts::name::Name;
 
 /// Nodes that are kept for some users from one second to before another. "RESERVATIONS" in scontrol(1).
@@ -14,8 +14,8 @@ pub struct Reservation {
     pub name: Name,
     /// The second at which it begins.
     pub start: Moment,
-    /// The second at which it is over; a duration may lead past the last moment that can be written.
-    pub end: ReservationEnd,
+    /// The second at which it is over; a duration may lead past the last moment that can be handed in.
+    pub end: Second,
     /// The places of its nodes in the list of nodes.
     pub nodes: CpuIds,
     /// Who may use it.

@@ -8,7 +8,7 @@ returns-clause-places c = places-there
 pub returns-clause-nodes : goal.returns-clause-nodes
 unfolding plan_job
 returns-clause-nodes c = λ nodes reservations partition barred bounds job on.
-    let places = places_for nodes reservations partition job.desc.reservation in (
-      among-there nodes job.desc places (places-there nodes reservations partition job.desc.reservation on),
-      among-once nodes job.desc places (places-once nodes reservations partition job.desc.reservation on),
+    let places = places_for nodes reservations partition job.terms.reservation in (
+      among-there nodes job.terms places (places-there nodes reservations partition job.terms.reservation on),
+      among-once nodes job.terms places (places-once nodes reservations partition job.terms.reservation on),
     )

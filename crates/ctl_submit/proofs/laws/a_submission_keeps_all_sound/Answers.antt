@@ -1,6 +1,6 @@
 use Rattle.std.proofs.Common.{◌≡◌, ℕ, Option, Some, None, refl}
 use Rattle.std.specs.Prelude.{IfSome}
-use Rattle.ctl_submit.specs.Submission.{assoc_for, partition_for, place_for, qos_for, terms_of}
+use Rattle.ctl_submit.specs.Submission.{assoc_for, partition_for, place_for, qos_for, basis_of}
 use Rattle.ctl_submit.proofs.Keeping.{sound-made}
 use Rattle.ctl_submit.proofs.laws.a_submission_keeps_all_sound.Goals as goal
 
@@ -10,7 +10,7 @@ if-found None P each = tt
 if-found (Some place) P each = each place refl
 
 pub returns : goal.returns
-unfolding terms_of
+unfolding basis_of
 returns c s after now user desc reply sound later in_time asked range none made =
     let meant = c.what_is_meant_is_there.ensures in
     sound-made c.added_jobs_keep_all_sound.ensures s after now user desc reply (assoc_for s user desc)

@@ -7,7 +7,7 @@ pub plan_job-requires : goal.plan_job-requires
 plan_job-requires c =
     rw (c.records-nodes.ensures.value, c.in_ok-places.ensures)
     (c.jobs_get_nodes_that_are_there.ensures.places c.args.cluster.now.nodes.records c.args.cluster.now.reservations
-    c.args.partition.now c.args.job.now.desc.reservation c.requires.there)
+    c.args.partition.now c.terms.result.now.reservation c.requires.there)
 
 pub place-requires-clause-nodes : goal.place-requires-clause-nodes
 place-requires-clause-nodes c =

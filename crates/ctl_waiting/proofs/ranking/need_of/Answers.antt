@@ -15,4 +15,4 @@ plan_job-requires c =
     (c.requires.partitions place partition (slice_get_within partitions place partition is)) in
     rw (c.records-nodes.ensures.value, c.in_ok-places.ensures)
     (c.jobs_get_nodes_that_are_there.ensures.places c.args.cluster.now.nodes.records
-    (lasting c.args.grounds.now.moment c.args.cluster.now.reservations) partition c.args.job.now.desc.reservation on)
+    (lasting c.args.grounds.now.moment c.args.cluster.now.reservations) partition c.terms-2.result.now.reservation on)

@@ -1,4 +1,5 @@
-use Rattle.std.proofs.Common.{refl}
+use Rattle.std.proofs.Common.{length, refl, ap, ◌∙◌}
+use Rattle.std.proofs.lemmas.List.{length-replicate}
 use Rattle.ctl_core.proofs.Openings.{names-opened, shows-none, sound-opening}
 use Rattle.ctl_core.proofs.controller.Ctl.new.Goals as goal
 
@@ -15,7 +16,8 @@ invariant_of-result c = (
       })
       c.in_ok-partitions.ensures.on_nodes
       (rw c.records-2.ensures.value at c.partitions_in_range.ensures)
-      c.in_ok-jobs.ensures.records c.new-4.ensures.items c.new-2.ensures c.get.ensures.range refl refl,
+      c.in_ok-jobs.ensures.records c.new-4.ensures.items c.new-2.ensures
+      (ap length c.in_ok-jobs.ensures.usage ∙ length-replicate _ 0) c.get.ensures.range refl refl,
   shows-none _ _ c.in_ok-nodes.ensures.held c.in_ok-jobs.ensures.records,
 )
 
