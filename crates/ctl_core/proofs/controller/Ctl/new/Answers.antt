@@ -17,7 +17,9 @@ invariant_of-result c = (
       c.in_ok-partitions.ensures.on_nodes
       (rw c.records-2.ensures.value at c.partitions_in_range.ensures)
       c.in_ok-jobs.ensures.records c.new-4.ensures.items c.new-2.ensures
-      (ap length c.in_ok-jobs.ensures.usage ∙ length-replicate _ 0) c.get.ensures.range refl refl,
+      (ap length c.in_ok-jobs.ensures.usage
+      ∙ length-replicate (length c.records-3.result.now) 0
+      ∙ ap length c.records-3.ensures.value) c.get.ensures.range refl refl,
   shows-none _ _ c.in_ok-nodes.ensures.held c.in_ok-jobs.ensures.records,
 )
 
