@@ -6,26 +6,18 @@ ghost use Rattle.slurm_net.specs.Untold.{untold_out};
 use crate::system::{MOST_TRIES, is_broken, is_interrupted};
 use crate::{Accepted, Cut, Door, TcpLink};
 use slurm_io::Failed;
-use std::io::{Read, Write};
+use std::io::{ErrorKind, Read, Write};
 use std::net::{OpenListener, OpenStream};
 use std::time::{Clock, Duration};
 
-/// How often one `accept` looks for a connection (own). With the rest that follows, a worker to whom nobody comes looks
-/// for a shutdown every two seconds.
-const MOST_LOOKS: u32 = 100;
+/// How many seconds a door waits where its listener couldn't tell whether somebody came (own).
+const USUAL_WAIT: u64 = 2;
 
-/// How many milliseconds lie between two looks.
-const BETWEEN_LOOKS: u64 = 10;
-
-/// How many seconds a read or a write of a link that came waits for the other side, at the most (own). One that sends
-/// nothing, or takes nothing, holds a worker for no longer than that at each call.
-const LONGEST_WAIT: u64 = 10;
-
-/// A door of this machine. Where its listener doesn't wait (`set_nonblocking`), as is so of the doors of a `TcpHost`,
-/// `accept` looks for a connection a hundred times a second, and nobody is there where none has come for a second. A
-/// call that a signal interrupts is tried again, up to 1,024 times at each look. A listener that is none any more is a
-/// fault (EBADF, EINVAL and ENOTSOCK of accept(2)); after each other error, as where a connection was given up or there
-/// are too many open files, it is looked again. The runtime is what it waits by, such as a `&HostRuntime`.
+/// A door of this machine. Its listener waits until somebody comes, as a `ReadyListener` does, and tells by
+/// `ErrorKind::WouldBlock` that nobody came in time. A call that a signal interrupts is tried again, up to 1,024 times. A
+/// listener that is none any more is a fault (EBADF, EINVAL and ENOTSOCK of accept(2)); after each other error, as where
+/// there are too many open files, nobody has come, two seconds later. The runtime is what it waits by, such as a
+/// `&HostRuntime`.
 #[derive(Drop)]
 pub struct TcpDoor<L, R> {
     pub listener: L,
@@ -65,7 +57,7 @@ where
     ghost out = { λ door. untold_out door.is_out };
 
     fn accept(&mut self) -> Result<Accepted<TcpLink<L::Stream>>, Failed> {
-        match accept_soon(&self.listener, &self.runtime) {
+        match accept_through(&self.listener, &self.runtime) {
             Ok(Accepted::Came(link)) => {
                 self.is_out = true;
                 Ok(Accepted::Came(link))
@@ -84,42 +76,24 @@ where
     }
 }
 
-// Looks for a connection until one has come, for a second at most.
-fn accept_soon<L: OpenListener, R: Clock>(
+// Accepts, again where a signal interrupts. Nobody has come where it tells of an error but is a listener still.
+fn accept_through<L: OpenListener, R: Clock>(
     listener: &L,
     runtime: &R,
 ) -> Result<Accepted<TcpLink<L::Stream>>, Failed>
-where
-    L::Stream: OpenStream,
-    ensures read_faults { IfCame result (λ link. link.read_faults ≡ 0) }
-    ensures write_faults { IfCame result (λ link. link.write_faults ≡ 0) }
-{
-    for _ in 0..MOST_LOOKS {
-        match accept_through(listener) {
-            Ok(Accepted::Nobody) => runtime.sleep(Duration::from_millis(BETWEEN_LOOKS)),
-            accepted => return accepted,
-        }
-    }
-    Ok(Accepted::Nobody)
-}
-
-// Accepts, again where a signal interrupts. Nobody has come where it tells of an error but is a listener
-// still, or where the waits of what came can't be limited.
-fn accept_through<L: OpenListener>(listener: &L) -> Result<Accepted<TcpLink<L::Stream>>, Failed>
-where
-    L::Stream: OpenStream,
     ensures read_faults { IfCame result (λ link. link.read_faults ≡ 0) }
     ensures write_faults { IfCame result (λ link. link.write_faults ≡ 0) }
 {
     for _ in 0..MOST_TRIES {
         match listener.accept() {
-            Ok((stream, _)) => match TcpLink::limited(stream, LONGEST_WAIT) {
-                Ok(link) => return Ok(Accepted::Came(link)),
-                Err(Failed) => return Ok(Accepted::Nobody),
-            },
+            Ok((stream, _)) => return Ok(Accepted::Came(TcpLink::new(stream))),
             Err(error) if is_interrupted(&error) => {}
             Err(error) if is_broken(&error) => return Err(Failed),
-            Err(_) => return Ok(Accepted::Nobody),
+            Err(error) if error.kind() == ErrorKind::WouldBlock => return Ok(Accepted::Nobody),
+            Err(_) => {
+                runtime.sleep(Duration::from_secs(USUAL_WAIT));
+                return Ok(Accepted::Nobody);
+            }
         }
     }
     Ok(Accepted::Nobody)

@@ -6,12 +6,11 @@ use crate::system::{MOST_TRIES, is_interrupted};
 use slurm_io::{Failed, Link, Sink, Source};
 use std::io::{Read, Write};
 use std::net::{OpenStream, Shutdown};
-use std::time::Duration;
 
-/// A connection. A read or a write waits for the other side as long as the stream lets it, without end unless it was
-/// made by `limited`. One that a signal interrupts (`ErrorKind::Interrupted`) is tried again, up to 1,024 times in all;
-/// each other error, a wait that is over (`ErrorKind::WouldBlock`), the last interruption, and a piece of which no byte
-/// is taken, is a fault. The connection is closed where it is dropped.
+/// A connection. A read or a write waits for the other side as long as the stream lets it. One that a signal interrupts
+/// (`ErrorKind::Interrupted`) is tried again, up to 1,024 times in all; each other error, a wait that is over
+/// (`ErrorKind::WouldBlock`), the last interruption, and a piece of which no byte is taken, is a fault. The connection is
+/// closed where it is dropped.
 #[derive(Drop)]
 pub struct TcpLink<S> {
     pub stream: S,
@@ -36,18 +35,6 @@ impl<S> TcpLink<S> {
 }
 
 impl<S: OpenStream + Drop> TcpLink<S> {
-    /// A connection of which each read and each write waits so many seconds at the most. A stream that can't be limited
-    /// so is closed.
-    pub(crate) fn limited(stream: S, seconds: u64) -> Result<Self, Failed>
-        ensures read_faults { IfOk result (λ link. link.read_faults ≡ 0) }
-        ensures write_faults { IfOk result (λ link. link.write_faults ≡ 0) }
-    {
-        match limit(&stream, seconds) {
-            Ok(()) => Ok(TcpLink::new(stream)),
-            Err(Failed) => Err(Failed),
-        }
-    }
-
     /// Closes the connection, once what was written is on its way: the other side is told that nothing follows.
     pub(crate) fn close(self) {
         let _ = self.stream.shutdown(Shutdown::Write);
@@ -98,15 +85,6 @@ impl<S: Read + Write> Link for TcpLink<S> {
     ghost reads_keep = { λ link. refl };
 
     ghost writes_keep = { λ link. refl };
-}
-
-// Lets a read or a write of this stream wait so many seconds.
-fn limit<S: OpenStream>(stream: &S, seconds: u64) -> Result<(), Failed> {
-    let longest = Some(Duration::from_secs(seconds));
-    if stream.set_read_timeout(longest).is_err() || stream.set_write_timeout(longest).is_err() {
-        return Err(Failed);
-    }
-    Ok(())
 }
 
 // Reads, again where a signal interrupts.

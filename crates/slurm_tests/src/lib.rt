@@ -12,3 +12,7 @@ mod files;
 mod loopback;
 #[cfg(test)]
 mod serving;
+#[cfg(test)]
+mod timed;
+#[cfg(test)]
+mod waiting;

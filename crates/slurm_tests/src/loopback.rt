@@ -7,7 +7,7 @@ use std::net::OpenListener;
 use std::test::Fail;
 
 // The port that the system chose.
-fn port_of<L: OpenListener, R>(door: &TcpDoor<L, R>) -> io::Result<u16> {
+pub(crate) fn port_of<L: OpenListener, R>(door: &TcpDoor<L, R>) -> io::Result<u16> {
     Ok(door.listener.local_addr()?.port())
 }
 
