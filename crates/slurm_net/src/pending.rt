@@ -1,4 +1,5 @@
-// The connections that have sent nothing yet.
+//! The connections that have sent nothing yet.
+
 use crate::system::{is_aborted, is_interrupted, is_wanting};
 use libc::net::{POLLIN, poll};
 use libc::types::pollfd;

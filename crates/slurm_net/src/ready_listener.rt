@@ -1,4 +1,5 @@
-// Listeners that hand a connection out once its first byte is there.
+//! Listeners that hand a connection out once its first byte is there.
+
 use crate::TimedStream;
 use crate::pending::Pending;
 use std::alloc::{AllocError, Global};
@@ -10,11 +11,11 @@ use std::sync::{Arc, Mutex, Wait};
 use std::time::{Clock, Duration};
 
 /// How many seconds a call of `accept` waits for somebody (own).
-const LONGEST_LOOK: u64 = 2;
+const LONGEST_LOOK: u64 = 1;
 
 /// How many seconds it waits where it had to wait for its turn (own): longer, so that those who began together don't
 /// end together, and one of them looks while another rests.
-const LONGEST_TURN: u64 = 3;
+const LONGEST_TURN: u64 = 2;
 
 /// How many seconds a read or a write of a connection that came waits for the other side, at the most (own). One that stops
 /// in the middle holds a worker for no longer than that.

@@ -1,4 +1,5 @@
-// Streams that wait for the other side only so long.
+//! Streams that wait for the other side only so long.
+
 use std::io;
 use std::io::{ErrorKind, Read, Write};
 use std::net::{OpenStream, Shutdown};
