@@ -1,5 +1,6 @@
 pub mod Times
 pub mod Frees
+pub mod SameFrom
 pub mod Marking
 pub mod Settled
 pub mod Listing

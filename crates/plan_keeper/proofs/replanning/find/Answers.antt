@@ -1,10 +1,9 @@
 use Rattle.std.proofs.Common.{◌≡◌, ◌≢◌, ℕ, ◌<◌, ◌≤◌, Bool, true, false, cond, length, All, arith, ap, refl, subst, sym, ◌∙◌, inl, inr, get_or, Some, None}
-use Rattle.std.specs.Prelude.{AllPairs}
 use Rattle.std.proofs.lemmas.List.{get_or_default}
 use Rattle.resource_profile.specs.Counts.{IsTickedUpTo}
 use Rattle.backfill_planner.specs.declared.job.PlanJob.{PlanJob}
 use Rattle.backfill_planner.specs.Placements.{IsOnRooms}
-use Rattle.plan_keeper.specs.Steady.{AreSteady}
+use Rattle.plan_keeper.specs.Steady.{IsNamedOnce, AreSteady}
 use Rattle.plan_keeper.specs.Marks.{Fits}
 use Rattle.plan_keeper.proofs.Marking.{nodes-stay}
 use Rattle.plan_keeper.proofs.Turning.{not-steady}
@@ -19,7 +18,7 @@ find_again-requires-clause-stands g c =
     let is : (d : PlanJob) → get_or planning.ranked planning.done d ≡ job = λ d.
     get_or_default planning.ranked planning.done d job c.requires.more ∙ sym (rw (ranked_is, c.requires.index) at c.index-ranked-index.is) in
     let nodes : All (λ node. node < length planning.base.rooms) job.nodes = rw (is job) at (subst (λ some. All (IsOnRooms planning.base.rooms) some) ranked_is c.ranked.ensures.nodes planning.done job c.requires.more) in
-    let fits : Fits old.ranked c.args.marks.now.same.items c.args.marks.now.counts.items c.args.marks.now.met.items job c.in-Some.before = rw (c.in-Some.is, c.ranked-2.ensures.value) at c.in_ok-before.ensures.some in
+    let fits : Fits old.ranked c.args.marks.now.same.items c.args.marks.now.counts.items c.args.marks.now.met.items planning.moment job c.in-Some.before = rw (c.in-Some.is, c.ranked-2.ensures.value, c.requires.now) at c.in_ok-before.ensures.some in
     record {
       job = job;
       is = is;
@@ -42,7 +41,7 @@ returns-in_ok-found-in-None-clause-before g c =
     let counts = c.args.marks.now.counts.items in
     let met = c.args.marks.now.met.items in
     let old_nodes : All (IsOnRooms old.base.rooms) old.ranked = subst (λ some. All (IsOnRooms old.base.rooms) some) c.ranked-2.ensures.value c.ranked-2.ensures.nodes in
-    let nowhere : (before : ℕ) → AllPairs (λ (one other : PlanJob). one.id ≢ other.id) old.ranked → Fits old.ranked same counts met job before → ⊥ = rw (c.in-None.is, c.ranked-2.ensures.value) at c.in_ok-before.ensures.none in
+    let nowhere : (before : ℕ) → IsNamedOnce old.ranked before → Fits old.ranked same counts met planning.moment job before → ⊥ = rw (c.in-None.is, c.ranked-2.ensures.value, c.requires.now) at c.in_ok-before.ensures.none in
     let none = not-steady old planning same counts met job c.requires.marks c.requires.more is nodes old_nodes nowhere in
     rw c.in_ok-found-in-None.ensures.before none
 
@@ -59,7 +58,7 @@ returns-in_ok-found-in-None-clause-steps g c =
     let counts = c.args.marks.now.counts.items in
     let met = c.args.marks.now.met.items in
     let old_nodes : All (IsOnRooms old.base.rooms) old.ranked = subst (λ some. All (IsOnRooms old.base.rooms) some) c.ranked-2.ensures.value c.ranked-2.ensures.nodes in
-    let nowhere : (before : ℕ) → AllPairs (λ (one other : PlanJob). one.id ≢ other.id) old.ranked → Fits old.ranked same counts met job before → ⊥ = rw (c.in-None.is, c.ranked-2.ensures.value) at c.in_ok-before.ensures.none in
+    let nowhere : (before : ℕ) → IsNamedOnce old.ranked before → Fits old.ranked same counts met planning.moment job before → ⊥ = rw (c.in-None.is, c.ranked-2.ensures.value, c.requires.now) at c.in_ok-before.ensures.none in
     let none = not-steady old planning same counts met job c.requires.marks c.requires.more is nodes old_nodes nowhere in
     record {
       most = record { times = 1; few = omega arith; is = c.find_anew.ensures.steps };
@@ -79,7 +78,7 @@ returns-in_err-found-in-None-clause-steps g c =
     let counts = c.args.marks.now.counts.items in
     let met = c.args.marks.now.met.items in
     let old_nodes : All (IsOnRooms old.base.rooms) old.ranked = subst (λ some. All (IsOnRooms old.base.rooms) some) c.ranked-2.ensures.value c.ranked-2.ensures.nodes in
-    let nowhere : (before : ℕ) → AllPairs (λ (one other : PlanJob). one.id ≢ other.id) old.ranked → Fits old.ranked same counts met job before → ⊥ = rw (c.in-None.is, c.ranked-2.ensures.value) at c.in_ok-before.ensures.none in
+    let nowhere : (before : ℕ) → IsNamedOnce old.ranked before → Fits old.ranked same counts met planning.moment job before → ⊥ = rw (c.in-None.is, c.ranked-2.ensures.value, c.requires.now) at c.in_ok-before.ensures.none in
     let none = not-steady old planning same counts met job c.requires.marks c.requires.more is nodes old_nodes nowhere in
     record {
       most = record { times = 1; few = omega arith; is = c.find_anew.ensures.steps };

@@ -23,7 +23,7 @@ returns-then-placed-horizon-clause-placed g c = λ d.
     let low : planning.base.horizon ≤ LAST_START = rw horizon_is at c.behind-planning.invariant.1 in
     let moment : c.args.now ≡ planning.moment = c.requires.now in
     let order : old.moment ≤ planning.moment = rw moment at c.requires.later in
-    let was : placement_of old.base old.ranked old.moment before stands.job ≡ Some c.in-Some.placed.now = ap (λ job. placement_of old.base old.ranked old.moment before job) (sym (stands.was stands.job)) ∙ sym (c.in-Some.ensures stands.job) in
+    let was : placement_of old.base old.ranked old.moment before (get_or old.ranked before stands.job) ≡ Some c.in-Some.placed.now = sym (c.in-Some.ensures stands.job) in
     let is : placement_of planning.base planning.ranked planning.moment planning.done stands.job ≡ Some c.in-Some.placed.now = stands-some c.requires.laws old planning before c.in-Some.placed.now stands order low was (omega (arith, moment, c.if-now-placed.true)) (omega (arith, horizon_is, c.if-placed-horizon.true)) in
     rw (stands.is d, c.in_ok-placed-in-Some.ensures) (sym is)
 
@@ -38,9 +38,9 @@ returns-then-placed-horizon-clause-before g c =
     let low : planning.base.horizon ≤ LAST_START = rw horizon_is at c.behind-planning.invariant.1 in
     let moment : c.args.now ≡ planning.moment = c.requires.now in
     let order : old.moment ≤ planning.moment = rw moment at c.requires.later in
-    let was : placement_of old.base old.ranked old.moment before stands.job ≡ Some c.in-Some.placed.now = ap (λ job. placement_of old.base old.ranked old.moment before job) (sym (stands.was stands.job)) ∙ sym (c.in-Some.ensures stands.job) in
+    let was : placement_of old.base old.ranked old.moment before (get_or old.ranked before stands.job) ≡ Some c.in-Some.placed.now = sym (c.in-Some.ensures stands.job) in
     let is : placement_of planning.base planning.ranked planning.moment planning.done stands.job ≡ Some c.in-Some.placed.now = stands-some c.requires.laws old planning before c.in-Some.placed.now stands order low was (omega (arith, moment, c.if-now-placed.true)) (omega (arith, horizon_is, c.if-placed-horizon.true)) in
-    (refl, λ d. rw (stands.is d) (is ∙ sym was))
+    (refl, λ d. rw (stands.is d) (is ∙ c.in-Some.ensures d))
 
 pub returns-then-horizon-last-clause-placed : goal.returns-then-horizon-last-clause-placed
 returns-then-horizon-last-clause-placed g c = λ d.
@@ -53,7 +53,7 @@ returns-then-horizon-last-clause-placed g c = λ d.
     let low : planning.base.horizon ≤ LAST_START = rw horizon_is at c.behind-planning.invariant.1 in
     let moment : c.args.now ≡ planning.moment = c.requires.now in
     let order : old.moment ≤ planning.moment = rw moment at c.requires.later in
-    let was : placement_of old.base old.ranked old.moment before stands.job ≡ None = ap (λ job. placement_of old.base old.ranked old.moment before job) (sym (stands.was stands.job)) ∙ sym (c.in-None.ensures stands.job) in
+    let was : placement_of old.base old.ranked old.moment before (get_or old.ranked before stands.job) ≡ None = sym (c.in-None.ensures stands.job) in
     rw (stands.is d) (sym (stands-nowhere c.requires.laws old planning before stands order low (omega (arith, horizon_is, last_is, c.if-horizon-last.true)) was))
 
 pub search_next-requires-clause-none : goal.search_next-requires-clause-none
@@ -67,7 +67,7 @@ search_next-requires-clause-none g c = λ d.
     let low : planning.base.horizon ≤ LAST_START = rw horizon_is at c.behind-planning.invariant.1 in
     let moment : c.args.now ≡ planning.moment = c.requires.now in
     let order : old.moment ≤ planning.moment = rw moment at c.requires.later in
-    let was : placement_of old.base old.ranked old.moment before stands.job ≡ None = ap (λ job. placement_of old.base old.ranked old.moment before job) (sym (stands.was stands.job)) ∙ sym (c.in-None.ensures stands.job) in
+    let was : placement_of old.base old.ranked old.moment before (get_or old.ranked before stands.job) ≡ None = sym (c.in-None.ensures stands.job) in
     rw (stands.is d, last_is) (stands-none c.requires.laws old planning before stands order was)
 
 pub returns-else-now-placed-clause-steps : goal.returns-else-now-placed-clause-steps
@@ -81,11 +81,11 @@ returns-else-now-placed-clause-steps g c =
     let low : planning.base.horizon ≤ LAST_START = rw horizon_is at c.behind-planning.invariant.1 in
     let moment : c.args.now ≡ planning.moment = c.requires.now in
     let order : old.moment ≤ planning.moment = rw moment at c.requires.later in
-    let was : placement_of old.base old.ranked old.moment before stands.job ≡ Some c.in-Some.placed.now = ap (λ job. placement_of old.base old.ranked old.moment before job) (sym (stands.was stands.job)) ∙ sym (c.in-Some.ensures stands.job) in
+    let was : placement_of old.base old.ranked old.moment before (get_or old.ranked before stands.job) ≡ Some c.in-Some.placed.now = sym (c.in-Some.ensures stands.job) in
     record {
       most = record { times = 1; few = omega arith; is = c.find_anew.ensures.steps };
       free = λ d can.
-          let stood : (planning.moment ≤ c.in-Some.placed.now.start) × (c.in-Some.placed.now.start ≤ planning.base.horizon) = rw (stands.is d, was) at can in
+          let stood : (planning.moment ≤ c.in-Some.placed.now.start) × (c.in-Some.placed.now.start ≤ planning.base.horizon) = rw (sym (c.in-Some.ensures d)) at can in
           elim c.else-now-placed.branch [
             | else-now-placed-via-then-now-placed+else-placed-horizon w ↦ absurd (omega (arith, horizon_is, w.if-placed-horizon.false, stood.1))
             | else-now-placed-via-else-now-placed w ↦ absurd (omega (arith, moment, w.if-now-placed.false, stood.0))
@@ -103,10 +103,10 @@ returns-after-is_none-clause-steps g c =
     let low : planning.base.horizon ≤ LAST_START = rw horizon_is at c.behind-planning.invariant.1 in
     let moment : c.args.now ≡ planning.moment = c.requires.now in
     let order : old.moment ≤ planning.moment = rw moment at c.requires.later in
-    let was : placement_of old.base old.ranked old.moment before stands.job ≡ None = ap (λ job. placement_of old.base old.ranked old.moment before job) (sym (stands.was stands.job)) ∙ sym (c.in-None.ensures stands.job) in
+    let was : placement_of old.base old.ranked old.moment before (get_or old.ranked before stands.job) ≡ None = sym (c.in-None.ensures stands.job) in
     record {
       most = record { times = 1; few = omega arith; is = c.search_next.ensures.steps };
       free = λ d can.
-          let past : planning.base.horizon ≤ old.base.horizon = rw (stands.is d, was) at can in
+          let past : planning.base.horizon ≤ old.base.horizon = rw (sym (c.in-None.ensures d)) at can in
           absurd (omega (arith, horizon_is, last_is, c.if-horizon-last.false, past));
     }

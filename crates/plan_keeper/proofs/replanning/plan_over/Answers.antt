@@ -7,7 +7,7 @@ use Rattle.backfill_planner.specs.Plans.{PlanningView, plan_of}
 use Rattle.plan_keeper.specs.Steady.{AreSteady, others}
 use Rattle.plan_keeper.specs.Marks.{AreMarks}
 use Rattle.plan_keeper.proofs.Stepping.{HasStepped, stepped-more, stepped-all}
-use Rattle.plan_keeper.proofs.replanning.replan.Goals as goal
+use Rattle.plan_keeper.proofs.replanning.plan_over.Goals as goal
 
 pub returns-in_err-planning-2-clause-most_steps : goal.returns-in_err-planning-2-clause-most_steps
 returns-in_err-planning-2-clause-most_steps g c =
