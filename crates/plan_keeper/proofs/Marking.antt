@@ -1,5 +1,5 @@
 -- How the marks go on from job to job.
-use Rattle.std.proofs.Common.{◌≡◌, ◌≢◌, ℕ, ◌+◌, ◌-◌, ◌≤◌, ◌<◌, zero, suc, Bool, true, false, ◌&&◌, not, List, [], ◌∷◌, ◌++◌, length, take, set, All, arith, refl, ap, sym, ◌∙◌, inl, inr, get_or, sum_by, replicate}
+use Rattle.std.proofs.Common.{◌≡◌, ◌≢◌, ℕ, ◌+◌, ◌-◌, ◌≤◌, ◌<◌, zero, suc, Bool, true, false, ◌&&◌, not, List, [], ◌∷◌, ◌++◌, length, take, set, All, arith, refl, ap, subst, sym, ◌∙◌, inl, inr, get_or, sum_by, replicate}
 use Rattle.std.proofs.lemmas.Bool.{cases_Bool, cases_eq, cases_lt, and_parts}
 use Rattle.std.proofs.lemmas.List.{append-nil, get_or_default, length-set, get_or-set_same, get_or-set_other}
 use Rattle.resource_profile.specs.declared.Hold.{Hold}
@@ -159,7 +159,7 @@ levels old base ranked now place same counts met job before marks nodes fits =
     no_more : (node : ℕ) → node < length base.rooms → get_or same node false ≡ true → may_have_node node job ≡ true → times node (take place ranked) ≤ times node (take before old.ranked)
     no_more node inside marked has = elim (cases_lt (times node (take before old.ranked)) (times node (take place ranked))) [
       | inl fewer ↦
-          let some : 1 ≤ on node (get_or old.ranked before job) = rw (same-on now (get_or old.ranked before job) job (fits.is job) node) (has-on node job has) in
+          let some : 1 ≤ on node (get_or old.ranked before job) = subst (λ count. 1 ≤ count) (sym (same-on now (get_or old.ranked before job) job (fits.is job) node)) (has-on node job has) in
           let passed = (marks.matched node inside marked).passed before job fits.there some fewer in
           absurd (let wrong = sym fits.fresh ∙ passed in cc)
       | inr most ↦ most

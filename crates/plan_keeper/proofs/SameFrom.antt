@@ -1,5 +1,5 @@
 -- A job that is the same from now on is placed as it was.
-use Rattle.std.proofs.Common.{◌≡◌, ℕ, ◌+◌, ◌-◌, ◌≤◌, ◌<◌, zero, suc, Bool, true, false, ◌&&◌, ◌||◌, cond, eqb, List, [], ◌∷◌, map, All, arith, refl, ap, subst, sym, ◌∙◌, inl, inr, get_or, Option, Some, None}
+use Rattle.std.proofs.Common.{◌≡◌, ℕ, ◌+◌, ◌-◌, ◌≤◌, ◌<◌, zero, suc, Bool, true, false, ◌&&◌, ◌||◌, cond, eqb, ltb, List, [], ◌∷◌, map, All, arith, refl, ap, subst, sym, ◌∙◌, inl, inr, get_or, Option, Some, None}
 use Rattle.std.specs.Prelude.{filter, find, is_some, option_map, option_and_then}
 use Rattle.std.specs.List.{list_any}
 use Rattle.std.proofs.lemmas.Bool.{cases_Bool, and_parts, and_from, eqb-true, ltb-true, lt-ltb, false_from_ne_true}
@@ -17,6 +17,7 @@ use Rattle.backfill_planner.specs.Giving.{window_end, bars, is_barred, tasks_giv
 use Rattle.backfill_planner.specs.Lesser.{NoneBefore}
 use Rattle.backfill_planner.specs.Plans.{share_of, placement_at, first_second, placed_of, holds_of}
 use Rattle.backfill_planner.specs.Staying.{EndsInTime}
+use Rattle.plain_data.specs.declared.seconds.TheConstants.{FOREVER}
 use Rattle.plan_keeper.specs.Steady.{may_have_node, is_ahead, but_for_times, IsSameFrom}
 use Rattle.plan_keeper.specs.Marks.{on}
 use Rattle.plan_keeper.proofs.Times.{own-nodes}
@@ -120,7 +121,9 @@ pub same-on : (now : ℕ) (was job : PlanJob) → IsSameFrom now was job → (no
 same-on now was job same node = ap (λ (one : PlanJob). on node one) same.asks
 
 pub same-in_time : (now : ℕ) (was job : PlanJob) → IsSameFrom now was job → EndsInTime job → EndsInTime was
-same-in_time now was job same in_time start low = rw (ap (λ (one : PlanJob). window_end one start) same.asks) (in_time start low)
+same-in_time now was job same in_time start low =
+    let ends : window_end was start ≡ window_end job start = ap (λ (one : PlanJob). window_end one start) same.asks in
+    subst (λ end. end ≤ FOREVER) (sym ends) (in_time start low)
 
 pub same-holds : (now : ℕ) (was job : PlanJob) → IsSameFrom now was job → (placed : Option Placed) → holds_of was placed ≡ holds_of job placed
 same-holds now was job same None = refl

@@ -14,8 +14,30 @@ use resource_profile::{Hold, NodeRoom};
 use small_texts::memory_error::Memory;
 use std::alloc::Global;
 
+// Whether these are one room.
+fn is_same_room(one: &NodeRoom, other: &NodeRoom) -> bool
+    ensures { (result ≡ true) ↔ (one.now ≡ other.now) }
+{
+    one == other
+}
+
 // Whether these are the same rooms, in one order.
 fn are_same_rooms(one: &[NodeRoom], other: &[NodeRoom]) -> bool
+    ensures { (result ≡ true) ↔ (one.now ≡ other.now) }
+{
+    if one.len() != other.len() {
+        return false;
+    }
+    for place in 0..one.len() {
+        if !is_same_room(&one[place], &other[place]) {
+            return false;
+        }
+    }
+    true
+}
+
+// Whether these are one hold.
+fn is_same_hold(one: &Hold, other: &Hold) -> bool
     ensures { (result ≡ true) ↔ (one.now ≡ other.now) }
 {
     one == other
@@ -25,7 +47,15 @@ fn are_same_rooms(one: &[NodeRoom], other: &[NodeRoom]) -> bool
 fn are_same_holds(one: &[Hold], other: &[Hold]) -> bool
     ensures { (result ≡ true) ↔ (one.now ≡ other.now) }
 {
-    one == other
+    if one.len() != other.len() {
+        return false;
+    }
+    for place in 0..one.len() {
+        if !is_same_hold(&one[place], &other[place]) {
+            return false;
+        }
+    }
+    true
 }
 
 // Whether all that plans begin with is the same in both.
@@ -67,7 +97,7 @@ fn tell_base(base: &Base)
     ensures within { AreWithin base.now.rooms base.now.holds }
     ensures low { base.now.horizon ≤ LAST_START }
 {
-    let _ = base.horizon;
+    let _horizon = base.horizon;
 }
 
 // It does nothing: its contract tells what the type keeps of every job.
