@@ -1,6 +1,6 @@
 -- What the next job's placement is, and how the marks go on.
 use Rattle.std.proofs.Common.{◌≡◌, ◌≢◌, ℕ, ◌+◌, ◌≤◌, ◌<◌, Bool, true, false, cond, List, length, take, set, All, arith, refl, ap, subst, sym, ◌∙◌, inl, inr, get_or, Option, Some, None}
-use Rattle.std.specs.Prelude.{IfSome, IfNone, AllPairs}
+use Rattle.std.specs.Prelude.{IfSome, IfNone}
 use Rattle.std.proofs.lemmas.Bool.{cases_Bool}
 use Rattle.resource_profile.specs.Counts.{ticked, IsTickedUpTo}
 use Rattle.backfill_planner.specs.declared.Placed.{Placed}
@@ -10,11 +10,11 @@ use Rattle.backfill_planner.specs.Lesser.{NoneBefore}
 use Rattle.backfill_planner.specs.Placements.{IsOnRooms}
 use Rattle.backfill_planner.specs.Plans.{PlannedView, PlanningView, holds_before, placement_of}
 use Rattle.backfill_planner.specs.Staying.{StaysFrom}
-use Rattle.plan_keeper.specs.Steady.{IsNamedOnce, AreSteady}
+use Rattle.plan_keeper.specs.Steady.{IsNamedOnce, IsAsBefore, CanStand, AreSteady}
 use Rattle.plan_keeper.specs.Planner.{PlannerLaws}
 use Rattle.plan_keeper.specs.Marks.{AreMarks, Fits, Counts, Without}
-use Rattle.plan_keeper.specs.Turns.{IsFound, IsAgain, StandsAgain}
-use Rattle.plan_keeper.proofs.SameFrom.{same-nodes, same-in_time, same-placed, same-none}
+use Rattle.plan_keeper.specs.Turns.{IsFound, IsFoundAgain, IsAgain, IsStepped, IsSteppedAgain, StandsAgain}
+use Rattle.plan_keeper.proofs.SameFrom.{same-id, same-nodes, same-in_time, same-placed, same-none}
 use Rattle.plan_keeper.proofs.Marking.{kept-marks, other-marks, levels}
 use Rattle.plan_keeper.proofs.Settled.{steady-fits}
 use Rattle.plain_data.specs.declared.seconds.TheConstants.{LAST_START}
@@ -70,3 +70,36 @@ not-steady old planning same counts met job marks below is nodes old_nodes nowhe
       let fits = steady-fits old planning.base planning.ranked planning.moment planning.done same counts met steady marks are below own settled here there in
       absurd (nowhere own.before own.once_before (rw job_is at fits))
 ]
+
+-- a steady job stood at the place at which it is found
+found-place : (old : PlannedView) (planning : PlanningView) (same : List Bool) (counts : List ℕ) (met : List Bool) (job : PlanJob) (before : ℕ) → ((d : PlanJob) → get_or planning.ranked planning.done d ≡ job) → Fits old.ranked same counts met planning.moment job before → (own : IsAsBefore old planning.base planning.ranked planning.moment planning.done) → before ≡ own.before
+found-place old planning same counts met job before is fits own =
+    let now = planning.moment in
+    let job_is : own.job ≡ job = sym (own.is own.job) ∙ is own.job in
+    let here : (get_or old.ranked before job).id ≡ job.id = same-id now (get_or old.ranked before job) job (fits.is job) in
+    let there : (get_or old.ranked own.before job).id ≡ own.job.id = same-id now (get_or old.ranked own.before job) own.job (own.was job) in
+    own.once_before before job fits.there (here ∙ sym (there ∙ ap (λ (one : PlanJob). one.id) job_is))
+
+can-stand : (old : PlannedView) (planning : PlanningView) (same : List Bool) (counts : List ℕ) (met : List Bool) (job : PlanJob) (before : ℕ) → ((d : PlanJob) → get_or planning.ranked planning.done d ≡ job) → Fits old.ranked same counts met planning.moment job before → IsAsBefore old planning.base planning.ranked planning.moment planning.done → CanStand planning.moment old.base.horizon planning.base.horizon (placement_of old.base old.ranked old.moment before (get_or old.ranked before job))
+can-stand old planning same counts met job before is fits own =
+    subst (λ place. CanStand planning.moment old.base.horizon planning.base.horizon (placement_of old.base old.ranked old.moment place (get_or old.ranked place job)))
+    (sym (found-place old planning same counts met job before is fits own)) (own.start job)
+
+-- what was found of a job that fits
+pub found-again : (old : PlannedView) (planning : PlanningView) (same : List Bool) (counts : List ℕ) (met : List Bool) (job : PlanJob) (before : ℕ) → planning.done < length planning.ranked → ((d : PlanJob) → get_or planning.ranked planning.done d ≡ job) → Fits old.ranked same counts met planning.moment job before → (found : Option ℕ) → IsFoundAgain old planning before found → IsFound old planning same counts met found
+found-again old planning same counts met job before below is fits None not_again = λ steady are. elim (cases_Bool (steady planning.done)) [
+  | inr other ↦ other
+  | inl settled ↦ absurd (not_again job (can-stand old planning same counts met job before is fits (are.each planning.done below settled)))
+]
+found-again old planning same counts met job before below is fits (Some again) was = λ d.
+    rw (is d, was.0) (record { fits = fits; placed = λ e. subst (λ (one : PlanJob). placement_of planning.base planning.ranked planning.moment planning.done one ≡ placement_of old.base old.ranked old.moment before (get_or old.ranked before e)) (is e) (was.1 e) })
+
+-- and how many steps it cost
+pub stepped-again : (old : PlannedView) (planning : PlanningView) (same : List Bool) (counts : List ℕ) (met : List Bool) (job : PlanJob) (before one other : ℕ) → planning.done < length planning.ranked → ((d : PlanJob) → get_or planning.ranked planning.done d ≡ job) → Fits old.ranked same counts met planning.moment job before → IsSteppedAgain old planning before one other → IsStepped old planning one other
+stepped-again old planning same counts met job before one other below is fits stepped = record {
+  most = stepped.most;
+  steady = λ steady are. elim (cases_Bool (steady planning.done)) [
+    | inr unsettled ↦ rw unsettled stepped.most
+    | inl settled ↦ rw settled (stepped.free job (can-stand old planning same counts met job before is fits (are.each planning.done below settled)))
+  ];
+}

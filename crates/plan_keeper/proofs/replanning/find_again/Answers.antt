@@ -56,6 +56,21 @@ returns-then-horizon-last-clause-placed g c = λ d.
     let was : placement_of old.base old.ranked old.moment before (get_or old.ranked before stands.job) ≡ None = sym (c.in-None.ensures stands.job) in
     rw (stands.is d) (sym (stands-nowhere c.requires.laws old planning before stands order low (omega (arith, horizon_is, last_is, c.if-horizon-last.true)) was))
 
+pub returns-then-horizon-last-clause-before : goal.returns-then-horizon-last-clause-before
+returns-then-horizon-last-clause-before g c =
+    let old = c.args.old.now in
+    let planning = c.args.planning.now in
+    let before = c.args.before in
+    let stands = c.requires.stands in
+    let horizon_is : c.behind-planning.inside.horizon ≡ planning.base.horizon = ap (λ (b : BaseView). b.horizon) (c.behind-planning.view_is ∙ c.base.ensures) in
+    let last_is : c.behind-old.inside.horizon ≡ old.base.horizon = ap (λ (b : BaseView). b.horizon) (c.behind-old.view_is ∙ c.base-2.ensures) in
+    let low : planning.base.horizon ≤ LAST_START = rw horizon_is at c.behind-planning.invariant.1 in
+    let moment : c.args.now ≡ planning.moment = c.requires.now in
+    let order : old.moment ≤ planning.moment = rw moment at c.requires.later in
+    let was : placement_of old.base old.ranked old.moment before (get_or old.ranked before stands.job) ≡ None = sym (c.in-None.ensures stands.job) in
+    let is : placement_of planning.base planning.ranked planning.moment planning.done stands.job ≡ None = stands-nowhere c.requires.laws old planning before stands order low (omega (arith, horizon_is, last_is, c.if-horizon-last.true)) was in
+    (refl, λ d. rw (stands.is d) (is ∙ c.in-None.ensures d))
+
 pub search_next-requires-clause-none : goal.search_next-requires-clause-none
 search_next-requires-clause-none g c = λ d.
     let old = c.args.old.now in
