@@ -1,17 +1,16 @@
 -- How the marks go on from job to job.
-use Rattle.std.proofs.Common.{◌≡◌, ◌≢◌, ℕ, ◌+◌, ◌-◌, ◌≤◌, ◌<◌, zero, suc, Bool, true, false, ◌&&◌, not, List, [], ◌∷◌, ◌++◌, length, take, set, All, arith, refl, ap, subst, sym, ◌∙◌, inl, inr, get_or, sum_by, replicate}
+use Rattle.std.proofs.Common.{◌≡◌, ℕ, ◌+◌, ◌-◌, ◌≤◌, ◌<◌, Bool, true, false, not, List, length, take, set, All, arith, refl, ap, subst, sym, ◌∙◌, inl, inr, get_or}
 use Rattle.std.proofs.lemmas.Bool.{cases_Bool, cases_eq, cases_lt, and_parts}
 use Rattle.std.proofs.lemmas.List.{append-nil, get_or_default, length-set, get_or-set_same, get_or-set_other}
-use Rattle.resource_profile.specs.declared.Hold.{Hold}
 use Rattle.backfill_planner.specs.declared.job.PlanJob.{PlanJob}
 use Rattle.backfill_planner.specs.Bases.{BaseView}
 use Rattle.backfill_planner.specs.Plans.{PlannedView, holds_of, holds_before, placement_of, plan_holds_of, plan_holds_beside}
 use Rattle.backfill_planner.specs.Staying.{StaysFrom}
 use Rattle.plan_keeper.specs.Steady.{may_have_node, IsSameFrom, AreSteady}
 use Rattle.plan_keeper.specs.Planner.{PlannerLaws}
-use Rattle.plan_keeper.specs.Marks.{on, times, depth, IsMatched, IsMet, IsUnsettled, AreMarks, Fits, Counts, Without, AreFirst}
+use Rattle.plan_keeper.specs.Marks.{on, times, IsMatched, IsMet, IsUnsettled, AreMarks, Fits, Counts, Without, AreFirst}
 use Rattle.plan_keeper.proofs.Times.{times-next, times-past, times-up_to, not-on, has-on, sums-tell, sums-same, owned, own-nodes}
-use Rattle.plan_keeper.proofs.SameFrom.{same-id, same-on, same-holds, same-nodes}
+use Rattle.plan_keeper.proofs.SameFrom.{same-id, same-on, same-holds}
 use Rattle.plan_keeper.proofs.Frees.{stays-beside, stays-new, stays-on, place-off}
 
 -- what is marked as met stays so

@@ -1,12 +1,11 @@
 -- A steady job fits, so that it is placed anew only where it isn't steady.
-use Rattle.std.proofs.Common.{◌≡◌, ◌≢◌, ℕ, ◌+◌, ◌≤◌, ◌<◌, zero, suc, Bool, true, false, cond, List, length, take, All, arith, refl, ap, sym, ◌∙◌, inl, inr, get_or, sum_by, Option, Some, None}
-use Rattle.std.proofs.lemmas.Bool.{cases_Bool, cases_eq, cases_lt}
+use Rattle.std.proofs.Common.{◌≡◌, ℕ, ◌+◌, ◌≤◌, ◌<◌, zero, suc, Bool, true, false, cond, List, length, take, All, arith, refl, ap, sym, ◌∙◌, inl, inr, get_or}
+use Rattle.std.proofs.lemmas.Bool.{cases_Bool}
 use Rattle.backfill_planner.specs.declared.job.PlanJob.{PlanJob}
 use Rattle.backfill_planner.specs.Bases.{BaseView}
 use Rattle.backfill_planner.specs.Plans.{PlannedView}
-use Rattle.resource_profile.specs.Counts.{ticked, IsTickedUpTo}
 use Rattle.plan_keeper.specs.Steady.{may_have_node, IsNamedOnce, IsAsBefore, AreSteady, others}
-use Rattle.plan_keeper.specs.Marks.{times, depth, IsMet, IsUnsettled, AreMarks, Fits}
+use Rattle.plan_keeper.specs.Marks.{times, AreMarks, Fits}
 use Rattle.plan_keeper.proofs.SameFrom.{same-id}
 use Rattle.plan_keeper.proofs.Times.{times-same, sums-same, own-nodes}
 

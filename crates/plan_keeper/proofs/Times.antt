@@ -1,14 +1,13 @@
 -- How often a node is among those of the first jobs of a list.
-use Rattle.std.proofs.Common.{◌≡◌, ◌≢◌, ℕ, ◌+◌, ◌-◌, ◌≤◌, ◌<◌, zero, suc, Bool, true, false, ◌||◌, cond, eqb, List, [], ◌∷◌, ◌++◌, length, take, map, All, arith, refl, ap, sym, ◌∙◌, inl, inr, get_or, sum_by}
+use Rattle.std.proofs.Common.{◌≡◌, ℕ, ◌+◌, ◌-◌, ◌≤◌, ◌<◌, zero, suc, true, false, cond, eqb, List, [], ◌∷◌, length, take, map, All, arith, refl, ap, sym, ◌∙◌, inl, inr, get_or, sum_by}
 use Rattle.std.specs.Prelude.{count_by, filter}
 use Rattle.std.specs.List.{list_any}
 use Rattle.std.proofs.lemmas.Bool.{cases_Bool, eqb-true, eq-eqb}
-use Rattle.std.proofs.lemmas.List.{get_or_default}
 use Rattle.std.proofs.lemmas.List.Sums.{sum_by-cons, sum_by_more}
 use Rattle.std.proofs.lemmas.List.Elements.{All-head, All-tail, All-nil, All-cons}
 use Rattle.backfill_planner.specs.declared.job.PlanJob.{PlanJob}
 use Rattle.plan_keeper.specs.Steady.{may_have_node, but_for_times, jobs_on}
-use Rattle.plan_keeper.specs.Marks.{on, times, depth}
+use Rattle.plan_keeper.specs.Marks.{on, times}
 
 -- the job at a place of a list
 pub record IsAt (jobs : List PlanJob) (place : ℕ) : Type 0 where

@@ -1,10 +1,9 @@
-use Rattle.std.proofs.Common.{◌≡◌, ◌≢◌, ℕ, ◌<◌, ◌≤◌, Bool, true, false, cond, length, All, arith, ap, refl, subst, sym, ◌∙◌, inl, inr, get_or, Some, None}
+use Rattle.std.proofs.Common.{◌≡◌, ℕ, ◌<◌, length, All, arith, subst, sym, ◌∙◌, get_or}
 use Rattle.std.proofs.lemmas.List.{get_or_default}
 use Rattle.std.proofs.lemmas.Result.{IfOk-weaker}
-use Rattle.resource_profile.specs.Counts.{IsTickedUpTo}
 use Rattle.backfill_planner.specs.declared.job.PlanJob.{PlanJob}
 use Rattle.backfill_planner.specs.Placements.{IsOnRooms}
-use Rattle.plan_keeper.specs.Steady.{IsNamedOnce, AreSteady}
+use Rattle.plan_keeper.specs.Steady.{IsNamedOnce}
 use Rattle.plan_keeper.specs.Marks.{Fits}
 use Rattle.plan_keeper.proofs.Marking.{nodes-stay}
 use Rattle.plan_keeper.specs.Turns.{IsFound, IsFoundAgain}

@@ -1,9 +1,6 @@
-use Rattle.std.proofs.Common.{◌≡◌, ℕ, ◌+◌, ◌≤◌, ◌<◌, arith, ap, refl, subst, sym, ◌∙◌, get_or, Some, None}
-use Rattle.resource_profile.specs.Counts.{IsTickedUpTo}
-use Rattle.backfill_planner.specs.declared.job.PlanJob.{PlanJob}
+use Rattle.std.proofs.Common.{◌≡◌, ◌≤◌, arith, ap, refl, sym, ◌∙◌, get_or, Some, None}
 use Rattle.backfill_planner.specs.Bases.{BaseView}
 use Rattle.backfill_planner.specs.Plans.{placement_of}
-use Rattle.plan_keeper.specs.Steady.{CanStand}
 use Rattle.plan_keeper.proofs.Turning.{stands-some, stands-none, stands-nowhere}
 use Rattle.plan_keeper.proofs.replanning.find_again.Goals as goal
 use Rattle.plan_keeper.proofs.replanning.find_again.Goals.{else-now-placed-via-then-now-placed+else-placed-horizon, else-now-placed-via-else-now-placed}

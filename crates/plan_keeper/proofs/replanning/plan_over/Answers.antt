@@ -1,10 +1,8 @@
-use Rattle.std.proofs.Common.{rules, ◌≡◌, ◌<◌, ◌≤◌, ◌+◌, ℕ, Bool, length, All, arith, ap, subst, sym, ◌∙◌}
+use Rattle.std.proofs.Common.{◌≡◌, ◌<◌, ◌+◌, length, All, arith, ap, subst, ◌∙◌}
 use Rattle.std.proofs.lemmas.Grind.{common_steps}
-use Rattle.resource_profile.specs.Counts.{IsTickedUpTo}
 use Rattle.backfill_planner.specs.declared.Placed.{Placed}
 use Rattle.backfill_planner.specs.Placements.{AreParts}
 use Rattle.backfill_planner.specs.Plans.{PlanningView, plan_of}
-use Rattle.plan_keeper.specs.Steady.{AreSteady, others}
 use Rattle.plan_keeper.specs.Marks.{AreMarks}
 use Rattle.plan_keeper.proofs.Stepping.{HasStepped, stepped-more, stepped-all}
 use Rattle.plan_keeper.proofs.replanning.plan_over.Goals as goal

@@ -1,4 +1,4 @@
-use Rattle.std.proofs.Common.{◌≡◌, ◌≤◌, ℕ, Bool, length}
+use Rattle.std.proofs.Common.{◌≡◌, ℕ, Bool}
 use Rattle.resource_profile.specs.Counts.{IsTickedUpTo}
 use Rattle.plan_keeper.specs.Steady.{AreSteady, others}
 use Rattle.plan_keeper.specs.Marks.{AreMarks}

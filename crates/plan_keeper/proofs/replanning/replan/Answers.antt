@@ -1,4 +1,4 @@
-use Rattle.std.proofs.Common.{rules, ◌≡◌, All, arith, subst}
+use Rattle.std.proofs.Common.{◌≡◌, All, arith, subst}
 use Rattle.std.specs.Prelude.{OnOk}
 use Rattle.std.proofs.lemmas.Grind.{common_steps}
 use Rattle.backfill_planner.specs.declared.Placed.{Placed}

@@ -1,8 +1,7 @@
-use Rattle.std.proofs.Common.{rules, ◌≡◌, ◌≤◌, ◌++◌, All, subst}
+use Rattle.std.proofs.Common.{rules, ◌≤◌, ◌++◌, All, subst}
 use Rattle.plain_data.specs.declared.seconds.TheConstants.{LAST_START}
 use Rattle.resource_profile.specs.Profiles.{AreWithin}
 use Rattle.backfill_planner.specs.declared.Placed.{Placed}
-use Rattle.backfill_planner.specs.declared.job.PlanJob.{PlanJob}
 use Rattle.backfill_planner.specs.Bases.{BaseView}
 use Rattle.backfill_planner.specs.Placements.{IsOnRooms, IsPlannable, AreParts}
 use Rattle.backfill_planner.specs.Plans.{plan_of, plan_holds_of}

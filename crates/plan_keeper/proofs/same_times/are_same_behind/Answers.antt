@@ -1,6 +1,5 @@
-use Rattle.std.proofs.Common.{rules, ◌≡◌, ◌≤◌, ◌<◌, ◌+◌, ℕ, false, true, eqb, length, arith, refl, ap, sym, ◌∙◌, get_or, inl, inr}
+use Rattle.std.proofs.Common.{rules, ◌≡◌, ◌≤◌, ◌<◌, false, true, length, arith, ap, sym, ◌∙◌, get_or, inl, inr}
 use Rattle.std.proofs.lemmas.Bool.{cases_lt, eqb-true, eq-eqb}
-use Rattle.std.proofs.lemmas.List.{get_or_default}
 use Rattle.plan_keeper.specs.Steady.{is_ahead}
 use Rattle.plan_keeper.proofs.Walking.{walk-past, walk-both, walk-none, walk-other, walk-end, walk-more}
 use Rattle.plan_keeper.proofs.same_times.are_same_behind.Goals as goal

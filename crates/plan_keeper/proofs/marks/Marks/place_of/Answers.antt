@@ -1,6 +1,5 @@
-use Rattle.std.proofs.Common.{rules, ◌≡◌, ◌<◌, ℕ, false, true, length, All, arith, ap, refl, subst, sym, ◌∙◌, get_or, Some, None, eqb}
+use Rattle.std.proofs.Common.{rules, ◌≡◌, false, true, length, ap, subst, sym, ◌∙◌, get_or, Some}
 use Rattle.std.proofs.lemmas.List.{get_or_default}
-use Rattle.std.specs.HashMap.{get}
 use Rattle.std.specs.List.{list_all}
 use Rattle.backfill_planner.specs.declared.job.PlanJob.{PlanJob}
 use Rattle.plan_keeper.specs.Steady.{IsSameFrom}
