@@ -1,5 +1,6 @@
 -- Over the plan that a pass makes itself each job stands as it stood.
-use Rattle.std.proofs.Common.{◌≡◌, ◌≢◌, ℕ, zero, suc, ◌≤◌, ◌<◌, Bool, true, List, [], ◌∷◌, length, get_or, AllPairs, Option, Some, None, IfSome, refl, sym, subst, arith}
+use Rattle.std.proofs.Common.{◌≡◌, ◌≢◌, ℕ, zero, suc, ◌≤◌, ◌<◌, Bool, true, List, [], ◌∷◌, length, get_or, AllPairs, Option, Some, None, IfSome, refl, sym, subst, arith, inl, inr}
+use Rattle.std.proofs.lemmas.Bool.{cases_lt}
 use Rattle.std.proofs.lemmas.List.{get_or_default}
 use Rattle.resource_profile.specs.declared.NodeRoom.{NodeRoom}
 use Rattle.resource_profile.specs.declared.Hold.{Hold}
@@ -9,7 +10,7 @@ use Rattle.backfill_planner.specs.declared.job.PlanJob.{PlanJob}
 use Rattle.backfill_planner.specs.Bases.{BaseView}
 use Rattle.backfill_planner.specs.Placements.{IsPlacement}
 use Rattle.backfill_planner.specs.Plans.{PlannedView, holds_before, placed_of}
-use Rattle.plan_keeper.specs.Steady.{AreSteady, CanStand, IsAsBefore, others}
+use Rattle.plan_keeper.specs.Steady.{AreSteady, CanStand, IsAsBefore, IsNamedOnce, others}
 use Rattle.job_table.specs.declared.record.JobRecord.{JobRecord}
 use Rattle.ctl_state.specs.Laws.{OrderKeepsApart}
 use Rattle.ctl_state.specs.Soundness.{IsSound}
@@ -30,10 +31,21 @@ can-stand : (now horizon : ℕ) (placement : Option Placed)
 can-stand now horizon None within = omega arith
 can-stand now horizon (Some placed) within = within placed refl
 
-as-before : PlacementsAreFirst → (base : BaseView) (jobs : List PlanJob) (now place : ℕ) → place < length jobs
+-- where all ids differ, each is named once
+named-once : (jobs : List PlanJob) (place : ℕ) → AllPairs (λ (one other : PlanJob). one.id ≢ other.id) jobs → place < length jobs → IsNamedOnce jobs place
+named-once jobs place apart below other d inside same = elim (cases_lt other place) [
+  | inl before ↦ absurd (apart other place d before below same)
+  | inr behind ↦ elim (cases_lt place other) [
+    | inl after ↦ absurd (apart place other d after inside (sym same))
+    | inr here ↦ omega (arith, behind, here)
+  ]
+]
+
+as-before : PlacementsAreFirst → (base : BaseView) (jobs : List PlanJob) (now place : ℕ)
+    → AllPairs (λ (one other : PlanJob). one.id ≢ other.id) jobs → place < length jobs
     → IsAsBefore (record { base = base; ranked = jobs; moment = now }) base jobs now place
-as-before first base [] now place below = absurd (omega (arith, below))
-as-before first base (one ∷ later) now place below =
+as-before first base [] now place apart below = absurd (omega (arith, below))
+as-before first base (one ∷ later) now place apart below =
     let jobs = one ∷ later in
     let job = get_or jobs place one in
     let same : (d : PlanJob) → get_or jobs place d ≡ job = λ d. get_or_default jobs place d one below in
@@ -43,11 +55,13 @@ as-before first base (one ∷ later) now place below =
       is = same;
       before = place;
       there = below;
-      was = same;
+      was = λ d. rw (same d) (record { asks = refl; times = refl });
+      once = named-once jobs place apart below;
+      once_before = named-once jobs place apart below;
       nodes = λ node has. record { room = refl; cpus = λ second from until. refl; mem = λ second from until. refl };
       above = λ node has. refl;
-      start = can-stand now base.horizon (placed_of base.rooms holds job now base.horizon) (λ placed is.
-          let placement = first base.rooms holds job now base.horizon placed is in (placement.from, placement.last));
+      start = λ d. rw (same d) (can-stand now base.horizon (placed_of base.rooms holds job now base.horizon) (λ placed is.
+          let placement = first base.rooms holds job now base.horizon placed is in (placement.from, placement.last)));
     }
 
 are-steady : PlacementsAreFirst → (base : BaseView) (jobs : List PlanJob) (now : ℕ)
@@ -55,9 +69,7 @@ are-steady : PlacementsAreFirst → (base : BaseView) (jobs : List PlanJob) (now
     → AreSteady (record { base = base; ranked = jobs; moment = now }) base jobs now (λ place. true)
 are-steady first base jobs now apart = record {
   later = omega arith;
-  old_ids = apart;
-  ids = apart;
-  each = λ place below steady. as-before first base jobs now place below;
+  each = λ place below steady. as-before first base jobs now place apart below;
   above = λ place other node d before below steady one two. refl;
 }
 

@@ -1,5 +1,5 @@
 -- Which nodes are marked before the first job.
-use Rattle.std.proofs.Common.{◌≡◌, ◌↔◌, ℕ, ◌<◌, Bool, true, false, List, length, ap, subst, sym, ◌∙◌, get_or}
+use Rattle.std.proofs.Common.{◌≡◌, ◌↔◌, ℕ, ◌<◌, Bool, true, false, List, length, ap, sym, ◌∙◌, get_or}
 use Rattle.std.specs.List.Sorted.{IsPermutation}
 use Rattle.resource_profile.specs.Profiles.{ProfileView}
 use Rattle.backfill_planner.specs.Bases.{BaseView}

@@ -1,7 +1,7 @@
 -- What is free in two profiles, window by window.
 use Rattle.std.proofs.Common.{◌≡◌, ℕ, ◌+◌, ◌-◌, ◌≤◌, ◌<◌, arith, refl, ap, sym, ◌∙◌, inl, inr}
 use Rattle.std.proofs.lemmas.Bool.{cases_lt}
-use Rattle.resource_profile.specs.Free.{free_cpus, free_mem, least_after, least_over}
+use Rattle.resource_profile.specs.Free.{least_after, least_over}
 use Rattle.resource_profile.specs.Profiles.{ProfileView}
 use Rattle.resource_profile.specs.Windows.{free_of, IsSteady}
 use Rattle.resource_profile.specs.declared.levels.Amount.{Amount}

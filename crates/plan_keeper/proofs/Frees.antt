@@ -1,6 +1,6 @@
 -- What stays free of a node while jobs are planned.
-use Rattle.std.proofs.Common.{◌≡◌, ◌≢◌, ℕ, ◌+◌, ◌-◌, ◌≤◌, ◌<◌, zero, suc, Bool, true, false, cond, List, [], ◌∷◌, ◌++◌, length, take, map, All, Contains, arith, refl, ap, sym, ◌∙◌, inl, inr, get_or, sum_by, eqb, Option, Some, None}
-use Rattle.std.proofs.lemmas.Bool.{cases_Bool, cases_eq, ne_eqb}
+use Rattle.std.proofs.Common.{◌≡◌, ◌≢◌, ℕ, ◌+◌, ◌-◌, ◌≤◌, ◌<◌, zero, suc, true, false, cond, List, [], ◌∷◌, ◌++◌, length, take, All, Contains, arith, refl, ap, sym, ◌∙◌, inl, inr, sum_by, Option, Some, None}
+use Rattle.std.proofs.lemmas.Bool.{cases_Bool, ne_eqb}
 use Rattle.std.specs.List.Sorted.{IsPermutation}
 use Rattle.std.proofs.lemmas.List.Sums.{sum_by-cons, sum_by-append}
 use Rattle.std.proofs.lemmas.List.Sorted.{sum_by-IsPermutation}
@@ -18,7 +18,7 @@ use Rattle.backfill_planner.specs.Staying.{StaysFrom}
 use Rattle.plan_keeper.specs.Steady.{may_have_node}
 use Rattle.plan_keeper.specs.Marks.{on, times}
 use Rattle.plan_keeper.specs.Planner.{PlannerLaws}
-use Rattle.plan_keeper.proofs.Times.{IsAt, there, times-next, times-up_to, has-on, own-nodes}
+use Rattle.plan_keeper.proofs.Times.{there, times-next, times-up_to, has-on, own-nodes}
 
 -- holds on other nodes hold nothing of this one
 held-off : (amount : Hold → ℕ) (node second : ℕ) (holds : List Hold) → All (λ (hold : Hold). hold.node ≢ node) holds → sum_by (λ (hold : Hold). cond (covers node second hold) (amount hold) 0) holds ≡ 0

@@ -1,5 +1,7 @@
 pub mod Times
 pub mod Frees
+pub mod SameFrom
+pub mod Walking
 pub mod Marking
 pub mod Settled
 pub mod Listing

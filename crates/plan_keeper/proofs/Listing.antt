@@ -1,10 +1,9 @@
 -- The old list by ids and depths, job by job.
-use Rattle.std.proofs.Common.{◌≡◌, ◌≢◌, ◌↔◌, ℕ, ◌+◌, ◌≤◌, ◌<◌, zero, suc, cond, eqb, true, false, Bool, List, [], ◌∷◌, ◌++◌, length, take, All, arith, refl, ap, sym, ◌∙◌, inl, inr, get_or, sum_by, Option, Some, None}
-use Rattle.std.specs.Prelude.{count_by}
+use Rattle.std.proofs.Common.{◌≡◌, ◌↔◌, ℕ, ◌+◌, ◌<◌, zero, suc, cond, eqb, true, false, Bool, List, [], ◌∷◌, ◌++◌, length, take, All, arith, refl, ap, sym, ◌∙◌, inl, inr, get_or, sum_by, Option, Some, None}
 use Rattle.std.specs.List.{list_all}
 use Rattle.std.proofs.lemmas.List.Elements.{All-head, All-tail}
-use Rattle.std.proofs.lemmas.Bool.{cases_Bool, cases_lt, eqb-true, eq-eqb}
-use Rattle.std.proofs.lemmas.List.{get_or_default, get_or_append_left, length-append}
+use Rattle.std.proofs.lemmas.Bool.{cases_lt, eqb-true, eq-eqb}
+use Rattle.std.proofs.lemmas.List.{get_or_default}
 use Rattle.backfill_planner.specs.declared.job.PlanJob.{PlanJob}
 use Rattle.plan_keeper.specs.Marks.{FindsId, on, times, depth}
 use Rattle.plan_keeper.proofs.Times.{times-next, sums-same}

@@ -1,16 +1,16 @@
 -- How the marks go on from job to job.
-use Rattle.std.proofs.Common.{◌≡◌, ◌≢◌, ℕ, ◌+◌, ◌-◌, ◌≤◌, ◌<◌, zero, suc, Bool, true, false, ◌&&◌, not, List, [], ◌∷◌, ◌++◌, length, take, set, All, arith, refl, ap, sym, ◌∙◌, inl, inr, get_or, sum_by, replicate}
+use Rattle.std.proofs.Common.{◌≡◌, ℕ, ◌+◌, ◌-◌, ◌≤◌, ◌<◌, Bool, true, false, not, List, length, take, set, All, arith, refl, ap, subst, sym, ◌∙◌, inl, inr, get_or}
 use Rattle.std.proofs.lemmas.Bool.{cases_Bool, cases_eq, cases_lt, and_parts}
-use Rattle.std.proofs.lemmas.List.{append-nil, length-set, get_or-set_same, get_or-set_other}
-use Rattle.resource_profile.specs.declared.Hold.{Hold}
+use Rattle.std.proofs.lemmas.List.{append-nil, get_or_default, length-set, get_or-set_same, get_or-set_other}
 use Rattle.backfill_planner.specs.declared.job.PlanJob.{PlanJob}
 use Rattle.backfill_planner.specs.Bases.{BaseView}
 use Rattle.backfill_planner.specs.Plans.{PlannedView, holds_of, holds_before, placement_of, plan_holds_of, plan_holds_beside}
 use Rattle.backfill_planner.specs.Staying.{StaysFrom}
-use Rattle.plan_keeper.specs.Steady.{may_have_node, AreSteady}
+use Rattle.plan_keeper.specs.Steady.{may_have_node, IsSameFrom, AreSteady}
 use Rattle.plan_keeper.specs.Planner.{PlannerLaws}
-use Rattle.plan_keeper.specs.Marks.{on, times, depth, IsMatched, IsMet, IsUnsettled, AreMarks, Fits, Counts, Without, AreFirst}
+use Rattle.plan_keeper.specs.Marks.{on, times, IsMatched, IsMet, IsUnsettled, AreMarks, Fits, Counts, Without, AreFirst}
 use Rattle.plan_keeper.proofs.Times.{times-next, times-past, times-up_to, not-on, has-on, sums-tell, sums-same, owned, own-nodes}
+use Rattle.plan_keeper.proofs.SameFrom.{same-id, same-on, same-holds}
 use Rattle.plan_keeper.proofs.Frees.{stays-beside, stays-new, stays-on, place-off}
 
 -- what is marked as met stays so
@@ -45,8 +45,8 @@ matched-off laws old base ranked now place met new_met node job below is without
     same = times-next node ranked place job below ∙ omega (arith, ap (λ one. on node one) (is job), not-on node job without)
 
 -- a node of the job stays matched, where it is placed as it was
-matched-on : PlannerLaws → (old : PlannedView) (base : BaseView) (ranked : List PlanJob) (now place : ℕ) (met : List Bool) (node : ℕ) (job : PlanJob) (before : ℕ) → length met ≡ length old.ranked → place < length ranked → ((d : PlanJob) → get_or ranked place d ≡ job) → before < length old.ranked → ((d : PlanJob) → get_or old.ranked before d ≡ job) → may_have_node node job ≡ true → times node (take place ranked) ≡ times node (take before old.ranked) → placement_of base ranked now place job ≡ placement_of old.base old.ranked old.moment before job → IsMatched old base ranked now place met node → IsMatched old base ranked now (place + 1) (set met before true) node
-matched-on laws old base ranked now place met node job before long below is there was_is has level same was = record {
+matched-on : PlannerLaws → (old : PlannedView) (base : BaseView) (ranked : List PlanJob) (now place : ℕ) (met : List Bool) (node : ℕ) (job : PlanJob) (before : ℕ) → length met ≡ length old.ranked → place < length ranked → ((d : PlanJob) → get_or ranked place d ≡ job) → before < length old.ranked → IsSameFrom now (get_or old.ranked before job) job → may_have_node node job ≡ true → times node (take place ranked) ≡ times node (take before old.ranked) → placement_of base ranked now place job ≡ placement_of old.base old.ranked old.moment before (get_or old.ranked before job) → IsMatched old base ranked now place met node → IsMatched old base ranked now (place + 1) (set met before true) node
+matched-on laws old base ranked now place met node job before long below is there again has level same was = record {
   passed = λ other d inside some fewer. elim (cases_lt other before) [
     | inl earlier ↦ met-more met before other in_met (was.passed other d inside some (omega (arith, level, some, times-past node old.ranked other before d earlier (omega (arith, there)))))
     | inr at ↦ elim (cases_eq other before) [
@@ -74,26 +74,28 @@ matched-on laws old base ranked now place met node job before long below is ther
     next = times-next node ranked place job below ∙ ap (λ one. times node (take place ranked) + on node one) (is job)
 
     old_next : times node (take (before + 1) old.ranked) ≡ times node (take before old.ranked) + on node job
-    old_next = times-next node old.ranked before job there ∙ ap (λ one. times node (take before old.ranked) + on node one) (was_is job)
+    old_next = times-next node old.ranked before job there ∙ ap (λ count. times node (take before old.ranked) + count) (same-on now (get_or old.ranked before job) job again node)
 
     stays_here : StaysFrom old.base.rooms (holds_before old.base old.ranked old.moment (before + 1)) base.rooms (holds_before base ranked now (place + 1)) now node
     stays_here =
-        rw (laws.goes_on base ranked now place job below (is job), laws.goes_on old.base old.ranked old.moment before job there (was_is job), same)
-        (stays-beside old.base.rooms (holds_before old.base old.ranked old.moment before) base.rooms (holds_before base ranked now place) (holds_of job (placement_of old.base old.ranked old.moment before job)) now node (was.stays before (omega (arith, there)) (sym level)))
+        let then = get_or old.ranked before job in
+        let placed = placement_of old.base old.ranked old.moment before then in
+        rw (laws.goes_on base ranked now place job below (is job), laws.goes_on old.base old.ranked old.moment before then there (get_or_default old.ranked before then job there), same, same-holds now then job again placed)
+        (stays-beside old.base.rooms (holds_before old.base old.ranked old.moment before) base.rooms (holds_before base ranked now place) (holds_of job placed) now node (was.stays before (omega (arith, there)) (sym level)))
 
 -- the job is placed as it was
-pub kept-marks : PlannerLaws → (old : PlannedView) (base : BaseView) (ranked : List PlanJob) (now place : ℕ) (same : List Bool) (counts : List ℕ) (met : List Bool) (new_counts : List ℕ) (job : PlanJob) (before : ℕ) → AreMarks old base ranked now place same counts met → place < length ranked → ((d : PlanJob) → get_or ranked place d ≡ job) → Fits old.ranked same counts met job before → All (λ node. times node (take place ranked) ≡ times node (take before old.ranked)) job.nodes → placement_of base ranked now place job ≡ placement_of old.base old.ranked old.moment before job → Counts counts job new_counts → AreMarks old base ranked now (place + 1) same new_counts (set met before true)
+pub kept-marks : PlannerLaws → (old : PlannedView) (base : BaseView) (ranked : List PlanJob) (now place : ℕ) (same : List Bool) (counts : List ℕ) (met : List Bool) (new_counts : List ℕ) (job : PlanJob) (before : ℕ) → AreMarks old base ranked now place same counts met → place < length ranked → ((d : PlanJob) → get_or ranked place d ≡ job) → Fits old.ranked same counts met now job before → All (λ node. times node (take place ranked) ≡ times node (take before old.ranked)) job.nodes → placement_of base ranked now place job ≡ placement_of old.base old.ranked old.moment before (get_or old.ranked before job) → Counts counts job new_counts → AreMarks old base ranked now (place + 1) same new_counts (set met before true)
 kept-marks laws old base ranked now place same counts met new_counts job before marks below is fits level placed more = record {
   same_long = marks.same_long;
   counts_long = more.long ∙ marks.counts_long;
   met_long = length-set met before true ∙ marks.met_long;
   counted = counted-more base ranked place counts new_counts job marks.counts_long marks.counted below is more;
   known = λ other inside marked. elim (cases_eq other before) [
-    | inl here ↦ record { at = place; above = omega arith; same = λ d. rw here (is d ∙ sym (fits.is d)) }
+    | inl here ↦ record { at = place; above = omega arith; same = λ d. rw here (ap (λ (one : PlanJob). one.id) (is d) ∙ sym (same-id now (get_or old.ranked before d) job (fits.is d))) }
     | inr apart ↦ met-before old.ranked ranked place other (marks.known other inside (sym (get_or-set_other met before other true false apart) ∙ marked))
   ];
   matched = λ node inside marked. elim (cases_Bool (may_have_node node job)) [
-    | inl has ↦ matched-on laws old base ranked now place met node job before marks.met_long below is fits.there fits.is has (owned (λ node. times node (take place ranked) ≡ times node (take before old.ranked)) job node level has) placed (marks.matched node inside marked)
+    | inl has ↦ matched-on laws old base ranked now place met node job before marks.met_long below is fits.there (fits.is job) has (owned (λ node. times node (take place ranked) ≡ times node (take before old.ranked)) job node level has) placed (marks.matched node inside marked)
     | inr without ↦ matched-off laws old base ranked now place met (set met before true) node job below is without (λ other marked. met-more met before other (omega (arith, fits.there, marks.met_long)) marked) (marks.matched node inside marked)
   ];
   changed = λ steady are node inside unmarked old_inside stays. unsettled-before ranked steady place node (marks.changed steady are node inside unmarked old_inside stays);
@@ -147,7 +149,7 @@ first-marks laws old base ranked now same counts met first counts_long zeros met
 }
 
 -- a job that fits has as many above it on each of its nodes as it had
-pub levels : (old : PlannedView) (base : BaseView) (ranked : List PlanJob) (now place : ℕ) (same : List Bool) (counts : List ℕ) (met : List Bool) (job : PlanJob) (before : ℕ) → AreMarks old base ranked now place same counts met → All (λ node. node < length base.rooms) job.nodes → Fits old.ranked same counts met job before → All (λ node. times node (take place ranked) ≡ times node (take before old.ranked)) job.nodes
+pub levels : (old : PlannedView) (base : BaseView) (ranked : List PlanJob) (now place : ℕ) (same : List Bool) (counts : List ℕ) (met : List Bool) (job : PlanJob) (before : ℕ) → AreMarks old base ranked now place same counts met → All (λ node. node < length base.rooms) job.nodes → Fits old.ranked same counts met now job before → All (λ node. times node (take place ranked) ≡ times node (take before old.ranked)) job.nodes
 levels old base ranked now place same counts met job before marks nodes fits =
     sums-tell (λ node. times node (take place ranked)) (λ node. times node (take before old.ranked)) job.nodes
     (λ k d below. no_more (get_or job.nodes k d) (nodes k d below) (fits.unchanged k d below) (own-nodes job k d below))
@@ -156,14 +158,14 @@ levels old base ranked now place same counts met job before marks nodes fits =
     no_more : (node : ℕ) → node < length base.rooms → get_or same node false ≡ true → may_have_node node job ≡ true → times node (take place ranked) ≤ times node (take before old.ranked)
     no_more node inside marked has = elim (cases_lt (times node (take before old.ranked)) (times node (take place ranked))) [
       | inl fewer ↦
-          let some : 1 ≤ on node (get_or old.ranked before job) = rw (fits.is job) (has-on node job has) in
+          let some : 1 ≤ on node (get_or old.ranked before job) = subst (λ count. 1 ≤ count) (sym (same-on now (get_or old.ranked before job) job (fits.is job) node)) (has-on node job has) in
           let passed = (marks.matched node inside marked).passed before job fits.there some fewer in
           absurd (let wrong = sym fits.fresh ∙ passed in cc)
       | inr most ↦ most
     ]
 
 -- and nothing has changed on them
-pub nodes-stay : (old : PlannedView) (base : BaseView) (ranked : List PlanJob) (now place : ℕ) (same : List Bool) (counts : List ℕ) (met : List Bool) (job : PlanJob) (before : ℕ) → AreMarks old base ranked now place same counts met → All (λ node. node < length base.rooms) job.nodes → Fits old.ranked same counts met job before → All (StaysFrom old.base.rooms (holds_before old.base old.ranked old.moment before) base.rooms (holds_before base ranked now place) now) job.nodes
+pub nodes-stay : (old : PlannedView) (base : BaseView) (ranked : List PlanJob) (now place : ℕ) (same : List Bool) (counts : List ℕ) (met : List Bool) (job : PlanJob) (before : ℕ) → AreMarks old base ranked now place same counts met → All (λ node. node < length base.rooms) job.nodes → Fits old.ranked same counts met now job before → All (StaysFrom old.base.rooms (holds_before old.base old.ranked old.moment before) base.rooms (holds_before base ranked now place) now) job.nodes
 nodes-stay old base ranked now place same counts met job before marks nodes fits k d below =
     let node = get_or job.nodes k d in
     (marks.matched node (nodes k d below) (fits.unchanged k d below)).stays before (omega (arith, fits.there)) (sym (levels old base ranked now place same counts met job before marks nodes fits k d below))

@@ -7,7 +7,7 @@ use Rattle.std.proofs.lemmas.Bool.{and_parts, and_from, eqb-true, eq-eqb}
 use Rattle.std.proofs.lemmas.Slice.Eq.{slice_eq-Decides, bytes_eq-Decides}
 use Rattle.backfill_planner.specs.declared.job.Barred.{Barred}
 
-one-same : (one other : Barred) → Decides (bytes_eq one.nodes other.nodes && (eqb one.from other.from && eqb one.until other.until)) (one ≡ other)
+pub one-same : (one other : Barred) → Decides (bytes_eq one.nodes other.nodes && (eqb one.from other.from && eqb one.until other.until)) (one ≡ other)
 one-same one other = (
   λ is.
       let parts = and_parts (bytes_eq one.nodes other.nodes) (eqb one.from other.from && eqb one.until other.until) is in

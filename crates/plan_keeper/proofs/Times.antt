@@ -1,14 +1,13 @@
 -- How often a node is among those of the first jobs of a list.
-use Rattle.std.proofs.Common.{◌≡◌, ◌≢◌, ℕ, ◌+◌, ◌-◌, ◌≤◌, ◌<◌, zero, suc, Bool, true, false, ◌||◌, cond, eqb, List, [], ◌∷◌, ◌++◌, length, take, All, arith, refl, ap, sym, ◌∙◌, inl, inr, get_or, sum_by}
+use Rattle.std.proofs.Common.{◌≡◌, ℕ, ◌+◌, ◌-◌, ◌≤◌, ◌<◌, zero, suc, true, false, cond, eqb, List, [], ◌∷◌, length, take, map, All, arith, refl, ap, sym, ◌∙◌, inl, inr, get_or, sum_by}
 use Rattle.std.specs.Prelude.{count_by, filter}
 use Rattle.std.specs.List.{list_any}
 use Rattle.std.proofs.lemmas.Bool.{cases_Bool, eqb-true, eq-eqb}
-use Rattle.std.proofs.lemmas.List.{get_or_default}
 use Rattle.std.proofs.lemmas.List.Sums.{sum_by-cons, sum_by_more}
 use Rattle.std.proofs.lemmas.List.Elements.{All-head, All-tail, All-nil, All-cons}
 use Rattle.backfill_planner.specs.declared.job.PlanJob.{PlanJob}
-use Rattle.plan_keeper.specs.Steady.{may_have_node}
-use Rattle.plan_keeper.specs.Marks.{on, times, depth}
+use Rattle.plan_keeper.specs.Steady.{may_have_node, but_for_times, jobs_on}
+use Rattle.plan_keeper.specs.Marks.{on, times}
 
 -- the job at a place of a list
 pub record IsAt (jobs : List PlanJob) (place : ℕ) : Type 0 where
@@ -77,8 +76,17 @@ times-kept node (job ∷ jobs) = elim (cases_Bool (may_have_node node job)) [
   | inr without ↦ rw without (omega (arith, sum_by-cons (on node) job jobs, times-kept node jobs, not-on node job without))
 ]
 
-pub times-same : (node : ℕ) (jobs others : List PlanJob) → filter (may_have_node node) jobs ≡ filter (may_have_node node) others → times node jobs ≡ times node others
-times-same node jobs others same = sym (times-kept node jobs) ∙ ap (λ some. times node some) same ∙ times-kept node others
+times-asked : (node : ℕ) (jobs : List PlanJob) → times node (map but_for_times jobs) ≡ times node jobs
+times-asked node [] = refl
+times-asked node (job ∷ jobs) =
+    omega (arith, sum_by-cons (on node) (but_for_times job) (map but_for_times jobs), sum_by-cons (on node) job jobs, times-asked node jobs)
+
+-- they count the same in two lists where they are the same but for their times
+pub times-same : (node : ℕ) (jobs others : List PlanJob) → jobs_on node jobs ≡ jobs_on node others → times node jobs ≡ times node others
+times-same node jobs others same = sym (all jobs) ∙ ap (λ some. times node some) same ∙ all others
+  where
+    all : (jobs : List PlanJob) → times node (jobs_on node jobs) ≡ times node jobs
+    all jobs = times-asked node (filter (may_have_node node) jobs) ∙ times-kept node jobs
 
 -- where none of some numbers is above its fellow, and the sums are the same, they are the same
 sums-below : (one other : ℕ → ℕ) (xs : List ℕ) → All (λ x. one x ≤ other x) xs → sum_by one xs ≤ sum_by other xs

@@ -4,7 +4,7 @@ use Rattle.backfill_planner.specs.declared.job.PlanJob.{PlanJob}
 use Rattle.backfill_planner.specs.Bases.{BaseView}
 use Rattle.backfill_planner.specs.Plans.{PlannedView, holds_before}
 use Rattle.backfill_planner.specs.Staying.{StaysFrom}
-use Rattle.plan_keeper.specs.Steady.{may_have_node, AreSteady}
+use Rattle.plan_keeper.specs.Steady.{may_have_node, IsSameFrom, AreSteady}
 
 -- how often the node is among the job's, and among those of some jobs
 abbrev pub on : ℕ → PlanJob → ℕ
@@ -46,7 +46,7 @@ pub record IsMatched (old : PlannedView) (base : BaseView) (ranked : List PlanJo
 pub record IsMet (old ranked : List PlanJob) (place before : ℕ) : Type 0 where
   pub at : ℕ
   pub above : at < place
-  pub same : (d : PlanJob) → slice_index_or ranked at d ≡ slice_index_or old before d
+  pub same : (d : PlanJob) → (slice_index_or ranked at d).id ≡ (slice_index_or old before d).id
 
 -- one of the jobs before this place may have the node and isn't steady
 pub record IsUnsettled (ranked : List PlanJob) (steady : ℕ → Bool) (place node : ℕ) : Type 0 where
@@ -72,12 +72,12 @@ pub record AreMarks (old : PlannedView) (base : BaseView) (ranked : List PlanJob
       → StaysFrom old.base.rooms old.base.holds base.rooms base.holds now node
       → IsUnsettled ranked steady place node
 
--- The job is the one at a place of the old list, wasn't met before, and on none of its nodes has anything changed by now;
--- as many jobs that may have them stand above it as did.
-pub record Fits (old : List PlanJob) (same : List Bool) (counts : List ℕ) (met : List Bool) (job : PlanJob)
+-- From now on the job is the one at a place of the old list, which wasn't met before, and on none of its nodes has
+-- anything changed by now; as many jobs that may have them stand above it as did.
+pub record Fits (old : List PlanJob) (same : List Bool) (counts : List ℕ) (met : List Bool) (now : ℕ) (job : PlanJob)
     (before : ℕ) : Type 0 where
   pub there : before < length old
-  pub is : (d : PlanJob) → slice_index_or old before d ≡ job
+  pub is : (d : PlanJob) → IsSameFrom now (slice_index_or old before d) job
   pub fresh : slice_index_or met before false ≡ false
   pub unchanged : All (λ node. slice_index_or same node false ≡ true) job.nodes
   pub level : sum_by (λ node. slice_index_or counts node 0) job.nodes ≡ depth old before job

@@ -7,5 +7,7 @@ mod old_list;
 mod replanning;
 mod same_job;
 mod same_nodes;
+mod same_plan;
+mod same_times;
 
 pub use replanning::replan;

@@ -5,9 +5,10 @@ ghost use Rattle.std.specs.List.{list_any, list_all};
 ghost use Rattle.std.specs.HashMap.{get};
 ghost use Rattle.backfill_planner.specs.declared.job.PlanJob.{PlanJob as AJob};
 ghost use Rattle.plan_keeper.specs.Marks.{Counts, Fits, IsListed, Without};
+ghost use Rattle.plan_keeper.specs.Steady.{IsNamedOnce};
 
 use crate::old_list::{OldList, add_nodes, sum_of};
-use crate::same_job::is_same_job;
+use crate::same_job::is_same_from;
 use backfill_planner::PlanJob;
 use small_texts::memory_error::Memory;
 
@@ -43,29 +44,30 @@ pub fn forget(same: &mut Vec<bool>, nodes: &[u32])
 }
 
 impl Marks {
-    /// The place in the old list of the job that is the same and stands as it stood. Linear in its nodes.
+    /// The place in the old list of the job that is the same from now on and stands as it stood. Linear in its nodes and
+    /// times.
     pub fn place_of(
         &self,
         old: &[PlanJob],
         list: &OldList,
         job: &PlanJob,
+        now: u64,
     ) -> Result<Option<usize>, Memory>
         requires listed { IsListed old.now (get nat_eq list.now.places) list.now.depths.items }
         requires met { length self.now.met.items ≡ length old.now }
         requires same { All (λ node. node < length self.now.same.items) job.now.nodes }
         requires counts { All (λ node. node < length self.now.counts.items) job.now.nodes }
         ensures some { IfOk result (λ place. IfSome place
-            (Fits old.now self.now.same.items self.now.counts.items self.now.met.items job.now)) }
-        ensures none { IfOk result (λ place. IfNone place ((before : ℕ)
-            → AllPairs (λ (one other : AJob). one.id ≢ other.id) old.now
-            → ¬ Fits old.now self.now.same.items self.now.counts.items self.now.met.items job.now before)) }
+            (Fits old.now self.now.same.items self.now.counts.items self.now.met.items now job.now)) }
+        ensures none { IfOk result (λ place. IfNone place ((before : ℕ) → IsNamedOnce old.now before
+            → ¬ Fits old.now self.now.same.items self.now.counts.items self.now.met.items now job.now before)) }
     {
         let Some(place) = list.places.get(&job.id) else {
             return Ok(None);
         };
         let place = *place;
         let nodes = job.nodes.as_slice();
-        if self.met[place] || !are_same(&self.same, nodes) || !is_same_job(&old[place], job) {
+        if self.met[place] || !are_same(&self.same, nodes) || !is_same_from(&old[place], job, now) {
             return Ok(None);
         }
         if sum_of(&self.counts, nodes)? != list.depths[place] {

@@ -18,6 +18,7 @@ use crate::marks::{Marks, forget};
 use crate::old_list::{OldList, add_nodes};
 use crate::same_job::tell_ends_in_time;
 use crate::same_nodes::same_nodes;
+use crate::same_plan::{is_made_of, plan_again};
 use backfill_planner::{Base, Placed, PlanJob, Planned, Planning, plan};
 use resource_profile::{Profile, Steps};
 use small_texts::memory_error::Memory;
@@ -121,7 +122,7 @@ fn find<L>(
     planner_laws();
     let job = &planning.ranked()[index];
     tell_ends_in_time(job);
-    match marks.place_of(old.ranked(), list, job)? {
+    match marks.place_of(old.ranked(), list, job, now)? {
         Some(before) => find_again(alloc, old, before, planning, now, steps),
         None => {
             let found = find_anew(alloc, planning, now, steps)?;
@@ -183,11 +184,42 @@ fn first_marks(alloc: Global, old: &Planned, planning: &Planning, now: u64) -> R
     Ok(Marks { same, counts, met })
 }
 
+// The plan of the ranked jobs at this moment over an older plan of no later one.
+fn plan_over<L>(
+    alloc: Global,
+    old: &Planned,
+    base: Base,
+    ranked: Vec<PlanJob>,
+    now: u64,
+    steps: &mut Steps<L>,
+) -> Result<Planned, Memory>
+    requires nodes { All (λ (job : AJob). All (λ node. node < length base.rooms) job.nodes) ranked.items }
+    requires later { old.now.moment ≤ now }
+    ensures parts { IfOk result (λ planned. planned ≡ record { base = base; ranked = ranked.items; moment = now }) }
+    ensures jobs { OnOk result (All IsPlannable ranked.items) }
+    ensures within { OnOk result (AreWithin base.rooms (base.holds ++ plan_holds_of base ranked.items now)) }
+    ensures starts_fit { OnOk result (StartsFit base (plan_of base ranked.items now) now) }
+    ensures apart { OnOk result
+        (All (λ (placed : Placed). AreParts base.rooms placed.parts) (plan_of base ranked.items now)) }
+    ensures most_steps { IsTickedUpTo (length ranked.items) steps.old steps.new }
+    ensures steps { (steady : ℕ → Bool) → AreSteady old.now base ranked.items now steady
+        → IsTickedUpTo (others steady (length ranked.items)) steps.old steps.new }
+{
+    let list = OldList::of(alloc, old.ranked(), old.base().rooms.as_slice().len())?;
+    let jobs = ranked.len();
+    let mut planning = Planning::new(alloc, base, ranked, now)?;
+    let mut marks = first_marks(alloc, old, &planning, now)?;
+    for index in 0..jobs {
+        planning = turn(alloc, old, &list, &mut marks, planning, index, now, steps)?;
+    }
+    Ok(planning.finish())
+}
+
 /// The plan of the ranked jobs at this moment, exactly as `backfill_planner::plan` makes it from nothing, over an older
 /// plan of whatever moment, nodes and jobs. It counts a step for each job that it searches for, at most one for each of
 /// the new list, and none for a steady one: a job which stands in the old list too, on nodes of which nothing has changed,
-/// below the same jobs that may have them. Linear in the nodes of all jobs of both lists besides, and in the holds of both
-/// bases.
+/// below the same jobs that may have them; nor any where the older plan was made of the same. Linear in the nodes and times
+/// of all jobs of both lists besides, where times differ in the nodes for each time, and in the holds of both bases.
 pub fn replan<L>(
     alloc: Global,
     old: &Planned,
@@ -206,16 +238,13 @@ pub fn replan<L>(
     ensures most_steps { IsTickedUpTo (length ranked.items) steps.old steps.new }
     ensures steps { (steady : ℕ → Bool) → AreSteady old.now base ranked.items now steady
         → IsTickedUpTo (others steady (length ranked.items)) steps.old steps.new }
+    ensures again { old.now ≡ record { base = base; ranked = ranked.items; moment = now } → steps.new ≡ steps.old }
 {
     if now < old.now() {
         return plan(alloc, base, ranked, now, steps);
     }
-    let list = OldList::of(alloc, old.ranked(), old.base().rooms.as_slice().len())?;
-    let jobs = ranked.len();
-    let mut planning = Planning::new(alloc, base, ranked, now)?;
-    let mut marks = first_marks(alloc, old, &planning, now)?;
-    for index in 0..jobs {
-        planning = turn(alloc, old, &list, &mut marks, planning, index, now, steps)?;
+    if is_made_of(old, &base, ranked.as_slice(), now) {
+        return plan_again(alloc, old);
     }
-    Ok(planning.finish())
+    plan_over(alloc, old, base, ranked, now, steps)
 }

@@ -2,8 +2,10 @@
 
 ghost use Rattle.std.specs.Prelude.{◌≡◌, ◌≤◌, ◌↔◌, true, IfSome};
 ghost use Rattle.backfill_planner.specs.Staying.{EndsInTime};
+ghost use Rattle.plan_keeper.specs.Steady.{but_for_times, IsSameFrom};
 
-use backfill_planner::{Barred, MemAsk, PlanJob};
+use crate::same_times::{are_same_ahead, are_same_times};
+use backfill_planner::{MemAsk, PlanJob};
 use node_pick::Need;
 
 // Whether the jobs ask for the same memory.
@@ -37,13 +39,6 @@ fn are_same_nodes(one: &[u32], other: &[u32]) -> bool
     one == other
 }
 
-// Whether these are the same times, in one order.
-fn are_same_times(one: &[Barred], other: &[Barred]) -> bool
-    ensures { (result ≡ true) ↔ (one.now ≡ other.now) }
-{
-    one == other
-}
-
 // Whether both have one limit, or none.
 fn is_same_limit(one: &PlanJob, other: &PlanJob) -> bool
     ensures { (result ≡ true) ↔ (one.now.seconds ≡ other.now.seconds) }
@@ -57,9 +52,9 @@ fn is_same_limit(one: &PlanJob, other: &PlanJob) -> bool
     }
 }
 
-/// Whether all that a plan takes from the jobs is the same. Linear in their nodes.
-pub fn is_same_job(one: &PlanJob, other: &PlanJob) -> bool
-    ensures { (result ≡ true) ↔ (one.now ≡ other.now) }
+// Whether all that a plan takes from the jobs is the same but for the times at which they may not have nodes.
+fn ask_the_same(one: &PlanJob, other: &PlanJob) -> bool
+    ensures { (result ≡ true) ↔ (but_for_times one.now ≡ but_for_times other.now) }
 {
     if one.id != other.id || !is_same_need(&one.need, &other.need) {
         return false;
@@ -70,9 +65,28 @@ pub fn is_same_job(one: &PlanJob, other: &PlanJob) -> bool
     if one.exclusive != other.exclusive || !is_same_mem(&one.mem_ask, &other.mem_ask) {
         return false;
     }
-    is_same_limit(one, other)
-        && are_same_nodes(one.nodes.as_slice(), other.nodes.as_slice())
-        && are_same_times(one.barred.as_slice(), other.barred.as_slice())
+    is_same_limit(one, other) && are_same_nodes(one.nodes.as_slice(), other.nodes.as_slice())
+}
+
+/// Whether all that a plan takes from the jobs is the same. Linear in their nodes and times.
+pub fn is_same_job(one: &PlanJob, other: &PlanJob) -> bool
+    ensures { (result ≡ true) ↔ (one.now ≡ other.now) }
+{
+    ask_the_same(one, other) && are_same_times(one.barred.as_slice(), other.barred.as_slice())
+}
+
+/// Whether from now on all that a plan takes from the jobs is the same. Linear in their nodes and times, and where times
+/// differ in the nodes for each of them.
+pub fn is_same_from(old: &PlanJob, new: &PlanJob, now: u64) -> bool
+    ensures { (result ≡ true) ↔ IsSameFrom now old.now new.now }
+{
+    ask_the_same(old, new)
+        && are_same_ahead(
+            old.barred.as_slice(),
+            new.barred.as_slice(),
+            new.nodes.as_slice(),
+            now,
+        )
 }
 
 /// It does nothing: its contract tells that the job's windows end in time, as its type has it.

@@ -1,7 +1,6 @@
-use Rattle.std.proofs.Common.{rules, ◌≡◌, ◌<◌, ◌+◌, ◌++◌, ◌∷◌, [], ℕ, List, length, take, get_or, All, arith, ap, sym, ◌∙◌}
+use Rattle.std.proofs.Common.{◌≡◌, ◌<◌, ◌+◌, ◌++◌, ◌∷◌, [], ℕ, length, take, get_or, All, ap, ◌∙◌}
 use Rattle.std.proofs.lemmas.List.{length-append}
-use Rattle.backfill_planner.specs.declared.job.PlanJob.{PlanJob}
-use Rattle.plan_keeper.specs.Marks.{on, times, depth}
+use Rattle.plan_keeper.specs.Marks.{on, times}
 use Rattle.plan_keeper.proofs.Listing.{counted-on, deep-more}
 use Rattle.plan_keeper.proofs.old_list.depths_of.Goals as goal
 

@@ -1,4 +1,3 @@
-use Rattle.std.proofs.Common.{ℕ}
 use Rattle.plan_keeper.proofs.Listing.{finds-more}
 use Rattle.plan_keeper.proofs.old_list.places_of.Goals as goal
 

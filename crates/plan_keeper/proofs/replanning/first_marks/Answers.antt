@@ -1,8 +1,7 @@
-use Rattle.std.proofs.Common.{rules, ◌≡◌, ◌<◌, ℕ, false, length, arith, ap, subst, sym, ◌∙◌, get_or}
+use Rattle.std.proofs.Common.{◌≡◌, ◌<◌, ℕ, false, length, arith, ap, ◌∙◌, get_or}
 use Rattle.std.specs.List.Sorted.{IsPermutation}
 use Rattle.std.proofs.lemmas.Grind.{common_steps}
 use Rattle.backfill_planner.specs.Bases.{BaseView}
-use Rattle.backfill_planner.specs.Plans.{holds_before}
 use Rattle.plan_keeper.specs.Marks.{AreFirst}
 use Rattle.plan_keeper.proofs.Beginning.{are-first}
 use Rattle.plan_keeper.proofs.Marking.{first-marks, holds-first}

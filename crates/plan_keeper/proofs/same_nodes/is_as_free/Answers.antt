@@ -1,5 +1,4 @@
-use Rattle.std.proofs.Common.{rules, ◌≡◌, ◌≢◌, ◌≤◌, ◌<◌, ◌+◌, ℕ, false, true, arith, refl, sym, ◌∙◌}
-use Rattle.plan_keeper.specs.Nodes.{IsAsFree}
+use Rattle.std.proofs.Common.{rules, ◌≡◌, arith}
 use Rattle.plan_keeper.proofs.Freeing.{free-more, free-told}
 use Rattle.plan_keeper.proofs.same_nodes.is_as_free.Goals as goal
 use Rattle.plain_data.specs.declared.seconds.TheConstants.{FOREVER}

@@ -1,4 +1,4 @@
-use Rattle.std.proofs.Common.{ℕ, ◌-◌, ◌≤◌}
+use Rattle.std.proofs.Common.{◌-◌, ◌≤◌}
 use Rattle.plan_keeper.specs.Nodes.{IsAsFree}
 use Rattle.plan_keeper.proofs.same_nodes.is_as_free.Given as goal
 use Rattle.plain_data.specs.declared.seconds.TheConstants.{FOREVER}

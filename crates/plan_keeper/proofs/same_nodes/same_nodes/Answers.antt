@@ -1,4 +1,4 @@
-use Rattle.std.proofs.Common.{rules, ◌≡◌, ◌<◌, ◌+◌, ◌++◌, ◌∷◌, [], ℕ, length, arith}
+use Rattle.std.proofs.Common.{◌≡◌, ◌<◌, ◌++◌, ◌∷◌, [], length, arith}
 use Rattle.std.proofs.lemmas.Grind.{common_steps}
 use Rattle.backfill_planner.specs.Staying.{StaysFrom}
 use Rattle.plan_keeper.proofs.Listing.{flags-more}

@@ -1,21 +1,23 @@
-use Rattle.std.proofs.Common.{rules, ◌≡◌, ◌<◌, ◌≢◌, ℕ, false, true, length, All, arith, ap, refl, subst, sym, ◌∙◌, get_or, Some, None, eqb}
+use Rattle.std.proofs.Common.{rules, ◌≡◌, false, true, length, ap, subst, sym, ◌∙◌, get_or, Some}
 use Rattle.std.proofs.lemmas.List.{get_or_default}
-use Rattle.std.specs.HashMap.{get}
 use Rattle.std.specs.List.{list_all}
 use Rattle.backfill_planner.specs.declared.job.PlanJob.{PlanJob}
+use Rattle.plan_keeper.specs.Steady.{IsSameFrom}
 use Rattle.plan_keeper.specs.Marks.{FindsId}
 use Rattle.plan_keeper.proofs.Listing.{all-unchanged}
+use Rattle.plan_keeper.proofs.SameFrom.{same-id}
 use Rattle.plan_keeper.proofs.Settled.{only-place}
 use Rattle.plan_keeper.proofs.marks.Marks.place_of.Goals as goal
-use Rattle.plan_keeper.proofs.marks.Marks.place_of.Goals.{then-index-via-then-index, then-index-via-else-index+then-not-are_same, then-index-via-else-index+else-not-are_same+then-not-is_same_job}
+use Rattle.plan_keeper.proofs.marks.Marks.place_of.Goals.{then-index-via-then-index, then-index-via-else-index+then-not-are_same, then-index-via-else-index+else-not-are_same+then-not-is_same_from}
 
 pub returns-then-index-clause-none : goal.returns-then-index-clause-none
-returns-then-index-clause-none c before apart fits =
+returns-then-index-clause-none c before once fits =
     let old = c.args.old.now in
     let place = c.in-Some.place.now in
     let job = c.args.job.now in
+    let now = c.args.now in
     let found : FindsId old (length old) job.id (Some place) = rw (← c.in-Some.ensures.value) at (c.requires.listed.finds job.id) in
-    let here : place ≡ before = only-place old place before job found.0 fits.there found.1 fits.is apart in
+    let here : place ≡ before = only-place old place before job.id found.0 once found.1 (λ d. same-id now (get_or old before d) job (fits.is d)) job in
     elim c.then-index.branch [
       | then-index-via-then-index w ↦
           let met : get_or c.args.self.now.met.items place c.index.result.now ≡ true = sym c.index.ensures ∙ w.if-index.true in
@@ -26,8 +28,8 @@ returns-then-index-clause-none c before apart fits =
           let unchanged : list_all (λ node. get_or c.args.self.now.same.items node false) job.nodes ≡ true = all-unchanged c.args.self.now.same.items job.nodes fits.unchanged in
           let same : w.are_same.result ≡ true = search (rules, unchanged) in
           absurd (search (rules, same))
-      | then-index-via-else-index+else-not-are_same+then-not-is_same_job w ↦
-          let there : w.index-old-place.result ≡ job = w.index-old-place.is ∙ ap (λ p. get_or old p w.index-old-place.result) here ∙ fits.is w.index-old-place.result in
-          let same : w.is_same_job.result ≡ true = search (rules, there) in
+      | then-index-via-else-index+else-not-are_same+then-not-is_same_from w ↦
+          let there : IsSameFrom now w.index-old-place.result job = subst (λ (one : PlanJob). IsSameFrom now one job) (sym (w.index-old-place.is ∙ ap (λ p. get_or old p w.index-old-place.result) here)) (fits.is w.index-old-place.result) in
+          let same : w.is_same_from.result ≡ true = search (rules, there) in
           absurd (search (rules, same))
     ]

@@ -1,8 +1,8 @@
-use Rattle.std.proofs.Common.{◌≡◌, ◌≤◌, ℕ, Bool, length}
+use Rattle.std.proofs.Common.{◌≡◌, ℕ, Bool}
 use Rattle.resource_profile.specs.Counts.{IsTickedUpTo}
 use Rattle.plan_keeper.specs.Steady.{AreSteady, others}
 use Rattle.plan_keeper.specs.Marks.{AreMarks}
-use Rattle.plan_keeper.proofs.replanning.replan.Given as goal
+use Rattle.plan_keeper.proofs.replanning.plan_over.Given as goal
 
 -- so many jobs are planned, for a step at most each, and none for a steady one
 abbrev pub invariant-loop-index : goal.invariant-loop-index
