@@ -17,7 +17,8 @@ use Rattle.request_data.specs.declared.request.Request.{Request}
 use Rattle.request_data.specs.declared.request.Request.TheVariants.{UpdateJob, UpdateNode, UpdatePartition}
 use Rattle.request_data.specs.declared.target.Target.{Target}
 use Rattle.scontrol_words.specs.Keys.{scontrol_key}
-use Rattle.scontrol_words.specs.Values.{node_order, part_state, unless_long}
+use Rattle.conf_values.specs.Values.{part_state}
+use Rattle.scontrol_words.specs.Values.{node_order, unless_long}
 use Rattle.scontrol_words.specs.declared.keys.Key.{Key}
 use Rattle.scontrol_words.specs.declared.keys.Key.TheVariants.{JobId, TimeLimit, Nice, NodeName, PartitionName, State, Reason}
 use Rattle.scontrol_words.specs.declared.updating.Form.{Form}

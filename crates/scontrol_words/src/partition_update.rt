@@ -5,7 +5,7 @@ ghost use Rattle.operands.specs.Pairs.{now_said};
 ghost use Rattle.scontrol_words.specs.Updating.{partition_said, partition_update_by};
 
 use crate::keys::{Key, scontrol_key};
-use crate::values::read_part_state;
+use conf_values::values::read_part_state;
 use line_words::words::Words;
 use operands::bad_word::{BadWord, WordKind, fault_at};
 use operands::names::read_name;

@@ -4,7 +4,8 @@ ghost use Rattle.std.specs.Prelude.{◌≡◌, IfOk};
 ghost use Rattle.scontrol_words.specs.Updating.{unnamed_update_by};
 
 use crate::keys::{Key, scontrol_key};
-use crate::values::{is_long, read_node_order, read_part_state};
+use crate::values::{is_long, read_node_order};
+use conf_values::values::read_part_state;
 use line_words::words::Words;
 use operands::bad_word::{BadWord, WordKind, fault_at};
 use operands::pairs::{Pairs, read_pairs};
