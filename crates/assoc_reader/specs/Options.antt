@@ -2,7 +2,7 @@
 use Rattle.std.specs.Prelude.{ℕ, ◌+◌, ◌-◌, Bool, false, not, ◌&&◌, ◌==◌, nat_lt, nat_le, if◌then◌else◌, List, [], ◌∷◌, length, slice_index, slice_range, Option, Some, None, option_map, Result, Ok, ok_or}
 use Rattle.std.specs.List.{list_any, onto_first}
 use Rattle.std.specs.Str.{byte}
-use Rattle.conf_values.specs.Refusal.{◌>>=◌}
+use Rattle.text_values.specs.Steps.{◌>>=◌}
 use Rattle.assoc_reader.specs.Cuts.{cut_at}
 use Rattle.assoc_reader.specs.declared.refusal.AssocKind.{AssocKind}
 use Rattle.assoc_reader.specs.declared.refusal.AssocKind.TheVariants.{BadLine, UnknownKey, BadValue}

@@ -3,7 +3,7 @@ use Rattle.std.specs.Prelude.{ℕ, ◌+◌, nat_lt, Bool, true, false, if◌then
 use Rattle.std.specs.Str.{byte}
 use Rattle.plain_data.specs.Assocs.{AssocView}
 use Rattle.small_texts.specs.Fields.{fields}
-use Rattle.conf_values.specs.Refusal.{◌>>=◌}
+use Rattle.text_values.specs.Steps.{◌>>=◌}
 use Rattle.assoc_reader.specs.Words.{assoc_said, qos_said}
 use Rattle.assoc_reader.specs.declared.keys.LineKind.{LineKind}
 use Rattle.assoc_reader.specs.declared.keys.LineKind.TheVariants.{Cluster, Qos, Parent, Account, User}

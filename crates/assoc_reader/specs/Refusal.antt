@@ -1,7 +1,7 @@
 -- Why an association file was refused.
 use Rattle.std.specs.Prelude.{ℕ, List, ◌++◌, codes, decimal}
-use Rattle.conf_values.specs.declared.refusal.ValueRefusal.{ValueRefusal}
-use Rattle.conf_values.specs.declared.refusal.ValueRefusal.TheVariants.{BadValue as BadText, Memory as ValueMemory}
+use Rattle.text_values.specs.declared.refusal.ValueRefusal.{ValueRefusal}
+use Rattle.text_values.specs.declared.refusal.ValueRefusal.TheVariants.{BadValue as BadText, Memory as ValueMemory}
 use Rattle.assoc_reader.specs.declared.refusal.AssocKind.{AssocKind}
 use Rattle.assoc_reader.specs.declared.refusal.AssocKind.TheVariants.{NotAscii, BadLine, UnknownKey, BadValue, TwiceNamed, UnknownParent, OverLimit, NoCluster}
 use Rattle.assoc_reader.specs.declared.refusal.AssocRefusal.{AssocRefusal}

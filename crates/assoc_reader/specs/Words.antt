@@ -3,7 +3,8 @@ use Rattle.std.specs.Prelude.{ℕ, Bool, if◌then◌else◌, List, [], ◌∷�
 use Rattle.std.specs.Str.{byte}
 use Rattle.slurm_num.specs.Limits.{limit_of}
 use Rattle.small_texts.specs.Fields.{fields}
-use Rattle.conf_values.specs.Values.{name_in, number_in, u32_in}
+use Rattle.text_values.specs.Names.{name_in}
+use Rattle.text_values.specs.Numbers.{number_in, u32_in}
 use Rattle.assoc_reader.specs.Keys.{assoc_key, qos_key}
 use Rattle.assoc_reader.specs.Options.{with_option, said_by}
 use Rattle.assoc_reader.specs.declared.keys.AssocKey.{AssocKey}

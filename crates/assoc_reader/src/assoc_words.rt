@@ -8,12 +8,13 @@ use crate::keys::{AssocKey, assoc_key};
 use crate::options::{first_option, options_behind, read_pair};
 use crate::refusal::{AssocKind, Fault};
 use crate::values::{read_cpus, read_limit};
-use conf_values::refusal::ValueRefusal;
-use conf_values::values::{read_name, read_number};
 use plain_data::assoc::AssocLimits;
 use plain_data::ranged::Ranged;
 use small_texts::name::Name;
 use std::alloc::Global;
+use text_values::names::read_name;
+use text_values::numbers::read_number;
+use text_values::refusal::ValueRefusal;
 
 /// What the options of an account or of a user say, sacctmgr(1).
 #[derive(Drop)]

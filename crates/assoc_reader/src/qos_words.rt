@@ -8,10 +8,11 @@ use crate::keys::{QosKey, qos_key};
 use crate::options::{first_option, options_behind, read_pair};
 use crate::refusal::{AssocKind, Fault};
 use crate::values::{read_cpus, read_limit};
-use conf_values::refusal::ValueRefusal;
-use conf_values::values::{read_limit as read_time, read_u32};
 use plain_data::assoc::QosLimits;
 use std::alloc::Global;
+use text_values::numbers::read_u32;
+use text_values::refusal::ValueRefusal;
+use text_values::times::read_limit as read_time;
 
 /// What the options of a quality of service say (own).
 #[derive(Clone, Copy)]

@@ -3,10 +3,10 @@
 ghost use Rattle.std.specs.Prelude.{◌≡◌, ◌≤◌, length};
 ghost use Rattle.assoc_reader.specs.Refusal.{kind_text};
 
-use conf_values::refusal::ValueRefusal;
 use small_texts::memory_error;
 use std::error::Error;
 use std::fmt;
+use text_values::refusal::ValueRefusal;
 
 /// What is wrong with a line.
 #[derive(Clone, Copy, PartialEq, Eq, Debug)]

@@ -3,9 +3,9 @@
 ghost use Rattle.std.specs.Prelude.{◌≡◌};
 ghost use Rattle.assoc_reader.specs.Words.{limit_in, cpus_in};
 
-use conf_values::values::read_number;
 use plain_data::ranged::Ranged;
 use small_texts::fields::{UpToThree, up_to_three};
+use text_values::numbers::read_number;
 
 /// A limit: a number of at most ten digits.
 pub(crate) fn read_limit(text: &[u8]) -> Option<Ranged<0, 9999999999>>

@@ -1,9 +1,9 @@
 -- What the words of scancel want.
 use Rattle.std.specs.Prelude.{ℕ, ◌+◌, Bool, true, false, ◌||◌, if◌then◌else◌, List, [], ◌∷◌, ◌++◌, length, Option, Some, None, map, Result, Ok, Err}
 use Rattle.std.specs.List.{list_any}
-use Rattle.conf_values.specs.Refusal.{◌>>=◌}
+use Rattle.text_values.specs.Steps.{◌>>=◌}
 use Rattle.operands.specs.BadWord.{bad, at_word, good, given}
-use Rattle.operands.specs.Names.{name_by}
+use Rattle.text_values.specs.Names.{name_in}
 use Rattle.operands.specs.Targets.{target_by}
 use Rattle.operands.specs.declared.bad_word.BadWord.{BadWord}
 use Rattle.option_words.specs.Arguments.{Part, Table, plain, bad as off, flag, valued, lacking, parts_left}
@@ -29,7 +29,7 @@ with_target said number text =
 
 -- with the user that a value names
 abbrev pub with_user : CancelWords → ℕ → List ℕ → Result CancelWords BadWord
-with_user said place text = given (λ name. record said { user = Some name }) (at_word place (good (name_by text)))
+with_user said place text = given (λ name. record said { user = Some name }) (at_word place (good (name_in text)))
 
 -- a word names a target, which is stray beside a user, and an option a user, on top of what was said before
 abbrev pub with_part : Bool → CancelWords → Part CancelFlag CancelOption → Result CancelWords BadWord

@@ -3,7 +3,7 @@ use Rattle.std.specs.Prelude.{ℕ, ◌||◌, Bool, false, nat_lt, if◌then◌el
 use Rattle.std.specs.Option.{option_map_or}
 use Rattle.small_texts.specs.Options.{◌>>=◌}
 use Rattle.line_words.specs.Words.{first_bad, words_in}
-use Rattle.operands.specs.Names.{name_by}
+use Rattle.text_values.specs.Names.{name_in}
 use Rattle.command_words.specs.Header.{asked_by}
 use Rattle.command_words.specs.declared.framed.Caller.{Caller}
 use Rattle.command_words.specs.declared.framed.FramedHead.{FramedHead}
@@ -20,7 +20,7 @@ unfoldable pub caller_in : List (List ℕ) → Option Caller
 caller_in words = do
   user ← slice_get words 0
   command ← slice_get words 1
-  name ← name_by user
+  name ← name_in user
   Some (record { user = name; words = drop 1 words })
 
 abbrev pub called_by : Option Caller → FramedHead

@@ -4,7 +4,8 @@ use Rattle.request_data.specs.declared.request.Request.{Request}
 use Rattle.small_texts.specs.Options.{◌>>=◌}
 use Rattle.line_words.specs.Words.{first_bad, words_in}
 use Rattle.command_words.specs.Command.{command_named}
-use Rattle.operands.specs.Names.{name_by, u64_by}
+use Rattle.operands.specs.Names.{u64_by}
+use Rattle.text_values.specs.Names.{name_in}
 use Rattle.command_words.specs.Wanted.{wanted_by}
 use Rattle.command_words.specs.declared.command.Command.{Command}
 use Rattle.command_words.specs.declared.fault.WordFault.{WordFault}
@@ -19,7 +20,7 @@ head_in words = do
   user ← slice_get words 1
   command ← slice_get words 2
   at ← u64_by moment
-  name ← name_by user
+  name ← name_in user
   Some (record { moment = at; user = name })
 
 abbrev pub command_in : List (List ℕ) → Option Command

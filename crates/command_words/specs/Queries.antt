@@ -1,8 +1,8 @@
 -- What the options of squeue, sinfo and sprio say.
 use Rattle.std.specs.Prelude.{ℕ, ◌+◌, true, false, nat_lt, if◌then◌else◌, List, [], ◌∷◌, length, Option, Some, None, map, Result, Ok, Err}
-use Rattle.conf_values.specs.Refusal.{◌>>=◌}
+use Rattle.text_values.specs.Steps.{◌>>=◌}
 use Rattle.operands.specs.BadWord.{bad, at_word, good, given}
-use Rattle.operands.specs.Names.{name_by}
+use Rattle.text_values.specs.Names.{name_in}
 use Rattle.operands.specs.Targets.{states_by, targets_by}
 use Rattle.operands.specs.declared.bad_word.BadWord.{BadWord}
 use Rattle.option_words.specs.Arguments.{Part, Table, plain, bad as off, flag, valued, lacking, parts_left}
@@ -32,9 +32,9 @@ format_by text = unless_long text (format_in text)
 
 -- what an option and its value say, or what is wrong with the value
 abbrev pub value_of : QueryOption → List ℕ → Result QueryEntry WordKind
-value_of option.User text = given (λ name. Whose (User name)) (good (name_by text))
+value_of option.User text = given (λ name. Whose (User name)) (good (name_in text))
 value_of option.Jobs text = given Jobs (good (targets_by text))
-value_of option.Partition text = given Partition (good (name_by text))
+value_of option.Partition text = given Partition (good (name_in text))
 value_of option.States text = given States (good (states_by text))
 value_of option.Format text = given Format (format_by text)
 

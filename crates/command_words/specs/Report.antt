@@ -1,8 +1,9 @@
 -- What the words of `report` tell.
 use Rattle.std.specs.Prelude.{ℕ, if◌then◌else◌, List, [], drop, codes, bytes_eq, Result, Ok, Err}
-use Rattle.conf_values.specs.Refusal.{◌>>=◌}
+use Rattle.text_values.specs.Steps.{◌>>=◌}
 use Rattle.operands.specs.BadWord.{good, given}
-use Rattle.operands.specs.Names.{name_by, u64_by}
+use Rattle.operands.specs.Names.{u64_by}
+use Rattle.text_values.specs.Names.{name_in}
 use Rattle.operands.specs.Operands.{value_at}
 use Rattle.operands.specs.Pairs.{pairs_say}
 use Rattle.operands.specs.declared.bad_word.BadWord.{BadWord}
@@ -39,6 +40,6 @@ numbers_by words = do
 -- `report NODE BOOT NUMBER`, and then lists
 unfoldable pub report_by : List (List ℕ) → Result Report BadWord
 report_by words = do
-  node ← value_at name_by words 1
+  node ← value_at name_in words 1
   told ← numbers_by words
   Ok (record { node = node; boot = told.0; number = told.1; running = told.2.running; done = told.2.done })

@@ -1,17 +1,18 @@
 //! What a daemon reports.
 
 ghost use Rattle.std.specs.Prelude.{◌≡◌, drop, IfOk};
-ghost use Rattle.operands.specs.Names.{name_by, u64_by};
+ghost use Rattle.operands.specs.Names.{u64_by};
+ghost use Rattle.text_values.specs.Names.{name_in};
 ghost use Rattle.operands.specs.Operands.{value_at};
 ghost use Rattle.operands.specs.Pairs.{pairs_say};
 ghost use Rattle.command_words.specs.Report.{listed_adding, nothing_named, pair_in, numbers_by, report_by};
 
 use line_words::words::Words;
 use operands::bad_word::{BadWord, WordKind};
-use operands::members::read_all;
 use operands::names::read_name;
 use operands::operand::{good_at, word_at};
 use operands::pairs::{Pairs, read_pairs};
+use operands::starts::{read_dones, read_starts};
 use plain_data::items::Items;
 use request_data::report::{Done, Report, Start};
 use small_texts::digits::parse_number;
@@ -34,7 +35,7 @@ impl Named {
     fn set_running(&mut self, alloc: Global, list: &[u8]) -> Result<Result<(), WordKind>, Memory>
         ensures { IfOk result (λ added. now_said added self.new ≡ listed_adding self.old (codes "run") list.now) }
     {
-        match read_all(alloc, list)? {
+        match read_starts(alloc, list)? {
             Some(starts) => {
                 self.running = starts;
                 Ok(Ok(()))
@@ -46,7 +47,7 @@ impl Named {
     fn set_done(&mut self, alloc: Global, list: &[u8]) -> Result<Result<(), WordKind>, Memory>
         ensures { IfOk result (λ added. now_said added self.new ≡ listed_adding self.old (codes "done") list.now) }
     {
-        match read_all(alloc, list)? {
+        match read_dones(alloc, list)? {
             Some(starts) => {
                 self.done = starts;
                 Ok(Ok(()))
@@ -79,7 +80,7 @@ impl Pairs for Named {
 
 // The node in the second word.
 fn node_in(alloc: Global, words: &Words) -> Result<Result<Name, BadWord>, Memory>
-    ensures { IfOk result (λ node. node ≡ value_at name_by words.now 1) }
+    ensures { IfOk result (λ node. node ≡ value_at name_in words.now 1) }
 {
     match word_at(words, 1) {
         Ok(text) => Ok(good_at(1, read_name(alloc, text)?)),

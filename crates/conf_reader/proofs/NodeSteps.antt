@@ -9,7 +9,7 @@ use Rattle.plain_data.specs.Confs.{node_names}
 use Rattle.host_lists.specs.Hosts.{has}
 use Rattle.plain_data.specs.declared.conf.NodeConf.{NodeConf}
 use Rattle.conf_values.specs.Keys.{node_key}
-use Rattle.conf_values.specs.Values.{nodes_in}
+use Rattle.text_values.specs.Nodes.{nodes_in}
 use Rattle.conf_values.specs.declared.keys.NodeKey.{NodeKey}
 use Rattle.conf_values.specs.declared.keys.NodeKey.TheVariants as key
 use Rattle.conf_values.specs.declared.refusal.ConfKind.TheVariants.{TwiceNamed, OverLimit}

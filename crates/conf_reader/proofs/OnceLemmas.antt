@@ -9,7 +9,7 @@ use Rattle.std.proofs.Math.Seq.{get_or-append_right}
 use Rattle.std.specs.List.{list_any}
 use Rattle.std.specs.Str.{bytes_eq}
 use Rattle.host_lists.specs.Hosts.{has, with_name, all_names, host_items, hosts_in, first_bad_item}
-use Rattle.conf_values.specs.Values.{nodes_in}
+use Rattle.text_values.specs.Nodes.{nodes_in}
 use Rattle.conf_reader.specs.Sound.{AreOnce}
 
 -- a member fails a test that no member passes

@@ -6,7 +6,8 @@ use Rattle.std.proofs.lemmas.List.{map-append, length-append, length-map}
 use Rattle.std.proofs.lemmas.List.Elements.{All-push}
 use Rattle.host_lists.specs.Hosts.{has}
 use Rattle.conf_values.specs.Keys.{partition_key}
-use Rattle.conf_values.specs.Values.{nodes_in, is_word}
+use Rattle.text_values.specs.Nodes.{nodes_in}
+use Rattle.text_values.specs.Tables.{is_word}
 use Rattle.conf_values.specs.declared.keys.PartitionKey.{PartitionKey}
 use Rattle.conf_values.specs.declared.keys.PartitionKey.TheVariants as key
 use Rattle.conf_values.specs.declared.refusal.ConfKind.TheVariants.{TwiceNamed, OverLimit}

@@ -1,7 +1,7 @@
 -- What the words of a line say, read one by one.
 use Rattle.std.proofs.Common.{ℕ, ◌≡◌, List, [], ◌∷◌, map, fold, Result, Ok, Err, refl}
 use Rattle.conf_reader.specs.LineWords.{words_in}
-use Rattle.conf_values.specs.Refusal.{◌>>=◌}
+use Rattle.text_values.specs.Steps.{◌>>=◌}
 use Rattle.conf_reader.specs.Words.{all_ok, said_by}
 use Rattle.conf_values.specs.declared.refusal.ConfKind.{ConfKind}
 

@@ -5,7 +5,7 @@ use Rattle.std.specs.List.{AllByRecursion}
 use Rattle.std.specs.Option.{option_or}
 use Rattle.conf_reader.specs.Pairs.{Pair, pair_in}
 use Rattle.conf_reader.specs.LineWords.{words_in}
-use Rattle.conf_values.specs.Refusal.{◌>>=◌}
+use Rattle.text_values.specs.Steps.{◌>>=◌}
 use Rattle.conf_reader.specs.Words.{entry_in, unless, all_ok, said_by}
 use Rattle.conf_values.specs.declared.refusal.ConfKind.{ConfKind}
 use Rattle.conf_values.specs.declared.refusal.ConfKind.TheVariants.{BadPair, UnknownKey, BadValue}

@@ -5,8 +5,11 @@ use Rattle.std.specs.List.{list_any}
 use Rattle.std.specs.Option.{option_or}
 use Rattle.host_lists.specs.Hosts.{has}
 use Rattle.conf_values.specs.Keys.{node_key}
-use Rattle.conf_values.specs.Refusal.{◌>>=◌}
-use Rattle.conf_values.specs.Values.{number_in, names_in, nodes_in, node_start}
+use Rattle.text_values.specs.Steps.{◌>>=◌}
+use Rattle.conf_values.specs.Values.{node_start}
+use Rattle.text_values.specs.Names.{names_in}
+use Rattle.text_values.specs.Nodes.{nodes_in}
+use Rattle.text_values.specs.Numbers.{number_in}
 use Rattle.conf_reader.specs.Words.{entry_in, unless, said_by}
 use Rattle.plain_data.specs.declared.conf.NodeConf.{NodeConf}
 use Rattle.plain_data.specs.declared.conf.NodeStart.TheVariants.{Unknown}

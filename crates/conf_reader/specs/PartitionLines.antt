@@ -5,9 +5,14 @@ use Rattle.std.specs.Option.{option_or}
 use Rattle.slurm_num.specs.Limits.{limit_of}
 use Rattle.plain_data.specs.declared.limit.Limit.TheVariants.{Unlimited}
 use Rattle.conf_values.specs.Keys.{partition_key}
-use Rattle.conf_values.specs.Refusal.{◌>>=◌}
+use Rattle.text_values.specs.Steps.{◌>>=◌}
 use Rattle.host_lists.specs.Hosts.{has}
-use Rattle.conf_values.specs.Values.{name_in, number_in, u32_in, nodes_in, is_word, part_state, yes_or_no, exclusive_in}
+use Rattle.conf_values.specs.Values.{yes_or_no, exclusive_in}
+use Rattle.text_values.specs.Names.{name_in}
+use Rattle.text_values.specs.Nodes.{nodes_in}
+use Rattle.text_values.specs.Numbers.{number_in, u32_in}
+use Rattle.text_values.specs.States.{part_state}
+use Rattle.text_values.specs.Tables.{is_word}
 use Rattle.conf_values.specs.Values.{allowed_in, most_nodes, mem_per_node, mem_per_cpu}
 use Rattle.conf_reader.specs.Words.{entry_in, unless, said_by}
 use Rattle.plain_data.specs.declared.conf.PartConf.{PartConf}

@@ -11,9 +11,9 @@ use Rattle.conf_reader.specs.NodeLines.{over as nodes_over}
 use Rattle.conf_reader.specs.PartitionLines.{part_line, partition_names, no_part_words, line_of, is_for_partitions}
 use Rattle.conf_reader.specs.PartitionLines.{over as parts_over}
 use Rattle.conf_reader.specs.SettingLines.{setting_line, no_settings, settings_of}
-use Rattle.conf_values.specs.Refusal.{◌>>=◌}
+use Rattle.text_values.specs.Steps.{◌>>=◌}
 use Rattle.host_lists.specs.Hosts.{has}
-use Rattle.conf_values.specs.Values.{is_word}
+use Rattle.text_values.specs.Tables.{is_word}
 use Rattle.plain_data.specs.Confs.{ConfView, node_names}
 use Rattle.plain_data.specs.declared.conf.PartConf.{PartConf}
 use Rattle.conf_reader.specs.declared.draft.Draft.{Draft}

@@ -7,7 +7,9 @@ use Rattle.small_texts.specs.Options.{◌>>=◌}
 use Rattle.plain_data.specs.declared.limit.Limit.{Limit}
 use Rattle.plain_data.specs.declared.limit.Limit.TheVariants.{Minutes, Unlimited}
 use Rattle.conf_values.specs.Keys.{setting_key}
-use Rattle.conf_values.specs.Values.{name_in, number_in, u32_in, mem_per_node, mem_per_cpu}
+use Rattle.conf_values.specs.Values.{mem_per_node, mem_per_cpu}
+use Rattle.text_values.specs.Names.{name_in}
+use Rattle.text_values.specs.Numbers.{number_in, u32_in}
 use Rattle.conf_values.specs.Scheduler.{scheduler_in, no_items}
 use Rattle.conf_reader.specs.Words.{entry_in, said_by}
 use Rattle.plain_data.specs.declared.conf.Settings.{Settings}

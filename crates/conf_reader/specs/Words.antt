@@ -2,7 +2,7 @@
 use Rattle.std.specs.Prelude.{ℕ, List, [], ◌∷◌, map, fold, Option, Some, None, Result, Ok, Err, ok_or}
 use Rattle.conf_reader.specs.LineWords.{words_in}
 use Rattle.conf_reader.specs.Pairs.{pair_in}
-use Rattle.conf_values.specs.Refusal.{◌>>=◌}
+use Rattle.text_values.specs.Steps.{◌>>=◌}
 use Rattle.conf_values.specs.declared.refusal.ConfKind.{ConfKind}
 use Rattle.conf_values.specs.declared.refusal.ConfKind.TheVariants.{BadPair, UnknownKey, BadValue}
 

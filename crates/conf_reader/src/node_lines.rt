@@ -17,14 +17,18 @@ use crate::words::first_word;
 use conf_values::keys::{NodeKey, node_key};
 use conf_values::lists::{copy_or_none, or_copy};
 use conf_values::node_table::NodeTable;
-use conf_values::refusal::{ConfKind, Fault, ValueRefusal};
-use conf_values::values::{read_names, read_node_start, read_nodes, read_number};
+use conf_values::refusal::{ConfKind, Fault};
+use conf_values::values::read_node_start;
 use plain_data::conf::{NodeConf, NodeStart};
 use plain_data::items::Items;
 use plain_data::ranged::Ranged;
 use small_texts::memory_error::Memory;
 use small_texts::name::Name;
 use std::alloc::Global;
+use text_values::names::read_names;
+use text_values::nodes::read_nodes;
+use text_values::numbers::read_number;
+use text_values::refusal::ValueRefusal;
 
 const MOST_NODES: usize = 1024;
 

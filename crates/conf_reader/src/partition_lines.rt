@@ -4,7 +4,7 @@ ghost use Rattle.std.specs.Prelude.{ℕ, ◌≡◌, ◌≢◌, ◌≤◌, ◌<�
 ghost use Rattle.std.specs.Prelude.{IsErrOf, Some, None, Ok, Err};
 ghost use Rattle.std.specs.Option.{option_or};
 ghost use Rattle.conf_values.specs.Keys.{partition_key};
-ghost use Rattle.conf_values.specs.Values.{is_word};
+ghost use Rattle.text_values.specs.Tables.{is_word};
 ghost use Rattle.conf_reader.specs.PartitionLines.{part_name, part_nodes, part_entry, partition_names, part_fault};
 ghost use Rattle.conf_reader.specs.PartitionLines.{part_word, part_line};
 ghost use Rattle.host_lists.specs.Hosts.{has};
@@ -15,10 +15,10 @@ use crate::pairs::read_pair;
 use crate::words::first_word;
 use conf_values::keys::{PartitionKey, partition_key};
 use conf_values::lists::or_copy;
-use conf_values::refusal::{ConfKind, Fault, ValueRefusal};
+use conf_values::refusal::{ConfKind, Fault};
 use conf_values::values::{
-    read_allowed, read_exclusive, read_limit, read_mem_per_cpu, read_mem_per_node, read_most_nodes,
-    read_name, read_nodes, read_number, read_part_state, read_u32, read_yes_or_no,
+    read_allowed, read_exclusive, read_mem_per_cpu, read_mem_per_node, read_most_nodes,
+    read_yes_or_no,
 };
 use plain_data::conf::{PartConf, PartState};
 use plain_data::items::Items;
@@ -29,6 +29,12 @@ use small_texts::keywords::is_keyword;
 use small_texts::memory_error::Memory;
 use small_texts::name::Name;
 use std::alloc::Global;
+use text_values::names::read_name;
+use text_values::nodes::read_nodes;
+use text_values::numbers::{read_number, read_u32};
+use text_values::refusal::ValueRefusal;
+use text_values::states::read_part_state;
+use text_values::times::read_limit;
 
 const MOST_PARTITIONS: usize = 64;
 

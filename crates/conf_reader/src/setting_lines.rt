@@ -6,17 +6,15 @@ ghost use Rattle.std.specs.List.{list_any};
 ghost use Rattle.conf_values.specs.Keys.{setting_key};
 ghost use Rattle.conf_reader.specs.SettingLines.{minutes_in, only, select_parameters, setting_entry, setting_word};
 ghost use Rattle.conf_reader.specs.SettingLines.{setting_line};
-ghost use Rattle.conf_values.specs.Values.{number_in};
+ghost use Rattle.text_values.specs.Numbers.{number_in};
 ghost use Rattle.conf_values.specs.declared.refusal.ConfKind.{ConfKind};
 
 use crate::pairs::read_pair;
 use crate::words::first_word;
 use conf_values::keys::{SettingKey, setting_key};
-use conf_values::refusal::{ConfKind, Fault, ValueRefusal};
+use conf_values::refusal::{ConfKind, Fault};
 use conf_values::scheduler::{Scheduler, read_scheduler};
-use conf_values::values::{
-    read_limit, read_mem_per_cpu, read_mem_per_node, read_name, read_number, read_u32,
-};
+use conf_values::values::{read_mem_per_cpu, read_mem_per_node};
 use plain_data::conf::Settings;
 use plain_data::limit::Limit;
 use plain_data::mem_ask::MemAsk;
@@ -24,6 +22,10 @@ use plain_data::ranged::Ranged;
 use small_texts::memory_error::Memory;
 use small_texts::name::Name;
 use std::alloc::Global;
+use text_values::names::read_name;
+use text_values::numbers::{read_number, read_u32};
+use text_values::refusal::ValueRefusal;
+use text_values::times::read_limit;
 
 /// What one word of a line says.
 #[derive(Drop)]

@@ -1,14 +1,10 @@
 -- The keys of slurm.conf, by the kind of line that they stand on.
-use Rattle.std.specs.Prelude.{ℕ, List, Option, map, option_map, find}
-use Rattle.std.specs.Str.{str_eq_ignore_ascii_case}
+use Rattle.std.specs.Prelude.{ℕ, List, Option, map}
+use Rattle.text_values.specs.Tables.{key_named}
 use Rattle.conf_values.specs.declared.keys.TheConstants.{SETTING_KEYS, NODE_KEYS, PARTITION_KEYS}
 use Rattle.conf_values.specs.declared.keys.SettingKey.{SettingKey}
 use Rattle.conf_values.specs.declared.keys.NodeKey.{NodeKey}
 use Rattle.conf_values.specs.declared.keys.PartitionKey.{PartitionKey}
-
--- the key that a text names in a table, in any case of letters
-abbrev pub key_named : {K : Type 0} → List (List ℕ × K) → List ℕ → Option K
-key_named table text = option_map (λ row. row.1) (find (λ row. str_eq_ignore_ascii_case text row.0) table)
 
 unfoldable pub setting_key : List ℕ → Option SettingKey
 setting_key text = key_named (map (λ row. (row.0.now, row.1)) SETTING_KEYS) text

@@ -1,13 +1,11 @@
 -- Why a file was refused.
-use Rattle.std.specs.Prelude.{ℕ, List, ◌++◌, codes, decimal, Result, Ok, Err}
-use Rattle.small_texts.specs.declared.name.NameRefusal.{NameRefusal}
-use Rattle.small_texts.specs.declared.name.NameRefusal.TheVariants.{BadName, Memory as NameMemory}
+use Rattle.std.specs.Prelude.{ℕ, List, ◌++◌, codes, decimal}
 use Rattle.conf_values.specs.declared.refusal.ConfKind.{ConfKind}
 use Rattle.conf_values.specs.declared.refusal.ConfKind.TheVariants.{NotUtf8, BadPair, UnknownKey, BadValue, TwiceNamed, UnknownNode, NoPartition, OverLimit}
 use Rattle.conf_values.specs.declared.refusal.ConfRefusal.{ConfRefusal}
 use Rattle.conf_values.specs.declared.refusal.ConfRefusal.TheVariants.{At, Memory as ConfMemory}
-use Rattle.conf_values.specs.declared.refusal.ValueRefusal.{ValueRefusal}
-use Rattle.conf_values.specs.declared.refusal.ValueRefusal.TheVariants.{BadValue as BadText, Memory as ValueMemory}
+use Rattle.text_values.specs.declared.refusal.ValueRefusal.{ValueRefusal}
+use Rattle.text_values.specs.declared.refusal.ValueRefusal.TheVariants.{BadValue as BadText, Memory as ValueMemory}
 use Rattle.conf_values.specs.declared.refusal.Fault.{Fault}
 use Rattle.conf_values.specs.declared.refusal.Fault.TheVariants.{Refused, Memory}
 
@@ -27,16 +25,6 @@ abbrev pub refusal_message : ConfRefusal → List ℕ
 refusal_message (At line kind) = codes "conf line " ++ decimal line ++ codes ": " ++ kind_text kind
 refusal_message ConfMemory = codes "out of memory"
 
-abbrev pub of_name : NameRefusal → ValueRefusal
-of_name BadName = BadText
-of_name NameMemory = ValueMemory
-
 abbrev pub of_value : ValueRefusal → Fault
 of_value BadText = Refused BadValue
 of_value ValueMemory = Memory
-
--- steps of which each may be refused, one after the other: what a definition writes as `do`
-infixl 10 ◌>>=◌
-abbrev pub ◌>>=◌ : {A B E : Type 0} → Result A E → (A → Result B E) → Result B E
-Ok a >>= f = f a
-Err e >>= f = Err e

@@ -1,9 +1,9 @@
 -- The parameters of the scheduler.
-use Rattle.std.specs.Prelude.{ℕ, if◌then◌else◌, List, [], ◌∷◌, map, fold, bytes_eq, codes, Option, Some, None, option_map}
+use Rattle.std.specs.Prelude.{ℕ, if◌then◌else◌, List, [], ◌∷◌, fold, bytes_eq, codes, Option, Some, None, option_map}
 use Rattle.std.specs.Str.{byte}
 use Rattle.small_texts.specs.Fields.{fields}
-use Rattle.host_lists.specs.Hosts.{all_some}
-use Rattle.conf_values.specs.Values.{number_in}
+use Rattle.text_values.specs.Lists.{parts_in}
+use Rattle.text_values.specs.Numbers.{number_in}
 use Rattle.conf_values.specs.declared.scheduler.Scheduler.{Scheduler}
 use Rattle.conf_values.specs.declared.scheduler.SchedulerItem.{SchedulerItem}
 use Rattle.conf_values.specs.declared.scheduler.SchedulerItem.TheVariants.{Window, Interval}
@@ -30,4 +30,4 @@ no_items = record { window = None; interval = None }
 
 -- the parameters of the scheduler, between commas
 unfoldable pub scheduler_in : List ℕ → Option Scheduler
-scheduler_in text = option_map (fold with_item no_items) (all_some (map scheduler_item (fields (byte ",") text)))
+scheduler_in text = option_map (fold with_item no_items) (parts_in scheduler_item (byte ",") text)

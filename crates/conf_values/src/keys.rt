@@ -1,9 +1,9 @@
 //! The keys of slurm.conf(5): one table for each kind of line. Keys count in any case of their letters.
 
-ghost use Rattle.std.specs.Prelude.{◌≡◌, map};
-ghost use Rattle.conf_values.specs.Keys.{key_named, setting_key, node_key, partition_key};
+ghost use Rattle.std.specs.Prelude.{◌≡◌};
+ghost use Rattle.conf_values.specs.Keys.{setting_key, node_key, partition_key};
 
-use small_texts::keywords::is_keyword;
+use text_values::tables::key_named;
 
 /// What a key of a line of settings says.
 #[derive(Clone, Copy)]
@@ -182,18 +182,6 @@ pub const PARTITION_KEYS: [(&[u8], PartitionKey); 18] = [
     (b"Hidden", PartitionKey::WithoutEffect),
     (b"GraceTime", PartitionKey::WithoutEffect),
 ];
-
-/// The key that a text names in a table, in any case of letters. Linear in the table.
-pub fn key_named<K: Copy>(table: &[(&[u8], K)], text: &[u8]) -> Option<K>
-    ensures { result ≡ key_named (map (λ row. (row.0.now, row.1)) table.now) text.now }
-{
-    for (name, key) in table {
-        if is_keyword(text, name) {
-            return Some(*key);
-        }
-    }
-    None
-}
 
 /// A key of a line of settings.
 #[tactic(auto, unfolding(crate::specs::Keys::setting_key))]

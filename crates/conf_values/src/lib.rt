@@ -1,4 +1,4 @@
-//! What slurm.conf(5) can say: its keys, how their values are read, nodes by name, and why a file is refused.
+//! What slurm.conf(5) can say: its keys, the values that it alone has, nodes by name, and why a file is refused.
 #![tactic(auto)]
 
 pub mod keys;

@@ -4,10 +4,9 @@ ghost use Rattle.std.specs.Prelude.{◌≡◌, ◌≤◌, length};
 ghost use Rattle.conf_values.specs.Refusal.{kind_text};
 
 use small_texts::memory_error;
-use small_texts::name::NameRefusal;
-use std::alloc::AllocError;
 use std::error::Error;
 use std::fmt;
+use text_values::refusal::ValueRefusal;
 
 /// What is wrong with a line.
 #[derive(Clone, Copy, PartialEq, Eq, Debug)]
@@ -92,49 +91,6 @@ impl From<memory_error::Memory> for ConfRefusal {
 
     fn from(_error: memory_error::Memory) -> ConfRefusal {
         ConfRefusal::Memory
-    }
-}
-
-/// Why a value wasn't read.
-#[derive(Clone, Copy)]
-pub enum ValueRefusal {
-    BadValue,
-    Memory,
-}
-
-impl From<memory_error::Memory> for ValueRefusal {
-    ghost use Rattle.std.specs.Prelude.{◌≡◌};
-    ghost use Rattle.conf_values.specs.declared.refusal.ValueRefusal.TheVariants.{Memory};
-
-    ghost from_gives = { λ _ e. e ≡ Memory };
-
-    fn from(_error: memory_error::Memory) -> ValueRefusal {
-        ValueRefusal::Memory
-    }
-}
-
-impl From<AllocError> for ValueRefusal {
-    ghost use Rattle.std.specs.Prelude.{◌≡◌};
-    ghost use Rattle.conf_values.specs.declared.refusal.ValueRefusal.TheVariants.{Memory};
-
-    ghost from_gives = { λ _ e. e ≡ Memory };
-
-    fn from(_error: AllocError) -> ValueRefusal {
-        ValueRefusal::Memory
-    }
-}
-
-impl From<NameRefusal> for ValueRefusal {
-    ghost use Rattle.std.specs.Prelude.{◌≡◌};
-    ghost use Rattle.conf_values.specs.Refusal.{of_name};
-
-    ghost from_gives = { λ name e. e ≡ of_name name };
-
-    fn from(refusal: NameRefusal) -> ValueRefusal {
-        match refusal {
-            NameRefusal::BadName => ValueRefusal::BadValue,
-            NameRefusal::Memory => ValueRefusal::Memory,
-        }
     }
 }
 

@@ -3,9 +3,9 @@
 ghost use Rattle.std.specs.Prelude.{◌≡◌, Some};
 ghost use Rattle.conf_values.specs.Scheduler.{scheduler_item, scheduler_in};
 
-use crate::values::read_number;
 use plain_data::ranged::Ranged;
 use small_texts::fields::{UpToThree, first_field, up_to_three};
+use text_values::numbers::read_number;
 
 /// The parameters that a value gives.
 #[derive(Clone, Copy)]

@@ -5,7 +5,7 @@ use Rattle.std.proofs.lemmas.Option.{slice_get_within, get_or_from_slice_get}
 use Rattle.operands.specs.BadWord.{bad, at_word}
 use Rattle.operands.specs.Pairs.{Adding, pair_of, pair_added, pairs_say}
 use Rattle.option_words.specs.declared.refusal.WordKind.{WordKind}
-use Rattle.conf_values.specs.Refusal.{◌>>=◌}
+use Rattle.text_values.specs.Steps.{◌>>=◌}
 
 -- the word at a place and what follows it
 pub drop_at : (words : List (List ℕ)) (place : ℕ) (word : List ℕ)

@@ -1,5 +1,4 @@
 pub mod BadWord
-pub mod Cut
 pub mod Names
 pub mod Operands
 pub mod Pairs

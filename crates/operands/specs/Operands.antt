@@ -1,7 +1,7 @@
 -- Words that a command takes one after the other. The word at place 0 is the command's name, and has number 1.
 use Rattle.std.specs.Prelude.{ℕ, ◌+◌, nat_lt, if◌then◌else◌, List, length, slice_get, Option, Some, None, Result, Ok, Err}
 use Rattle.std.specs.Borrow.{Bor}
-use Rattle.conf_values.specs.Refusal.{◌>>=◌}
+use Rattle.text_values.specs.Steps.{◌>>=◌}
 use Rattle.option_words.specs.declared.refusal.WordKind.TheVariants.{MissingWord, StrayWord}
 use Rattle.operands.specs.BadWord.{bad, at_word, good, given}
 use Rattle.operands.specs.declared.bad_word.BadWord.{BadWord}

@@ -4,7 +4,7 @@ use Rattle.option_words.specs.Arguments.{equals_place}
 use Rattle.option_words.specs.declared.refusal.WordKind.{WordKind}
 use Rattle.option_words.specs.declared.refusal.WordKind.TheVariants.{StrayWord}
 use Rattle.operands.specs.BadWord.{at_word}
-use Rattle.conf_values.specs.Refusal.{◌>>=◌}
+use Rattle.text_values.specs.Steps.{◌>>=◌}
 use Rattle.operands.specs.declared.bad_word.BadWord.{BadWord}
 
 -- the key and the value of a word, which its first equals sign parts

@@ -1,9 +1,9 @@
 -- Lists of starts that `report` tells.
-use Rattle.std.specs.Prelude.{ℕ, List, [], ◌∷◌, Option, Some, None, map}
+use Rattle.std.specs.Prelude.{ℕ, List, [], ◌∷◌, Option, Some, None}
 use Rattle.std.specs.Str.{byte}
-use Rattle.operands.specs.Names.{u32_by}
+use Rattle.text_values.specs.Lists.{parts_in}
+use Rattle.text_values.specs.Numbers.{u32_in}
 use Rattle.small_texts.specs.Fields.{fields}
-use Rattle.host_lists.specs.Hosts.{all_some}
 use Rattle.small_texts.specs.Options.{◌>>=◌}
 use Rattle.request_data.specs.declared.report.Start.{Start}
 use Rattle.request_data.specs.declared.report.Done.{Done}
@@ -11,8 +11,8 @@ use Rattle.request_data.specs.declared.report.Done.{Done}
 -- `ID.START`, by its fields at a dot
 unfoldable pub start_of : List (List ℕ) → Option Start
 start_of (id ∷ number ∷ []) = do
-  i ← u32_by id
-  n ← u32_by number
+  i ← u32_in id
+  n ← u32_in number
   Some (record { id = i; number = n })
 start_of parts = None
 
@@ -20,7 +20,7 @@ start_of parts = None
 unfoldable pub done_of : List (List ℕ) → Option Done
 done_of (id ∷ number ∷ exit ∷ []) = do
   start ← start_of (id ∷ number ∷ [])
-  e ← u32_by exit
+  e ← u32_in exit
   Some (record { start = start; exit = e })
 done_of parts = None
 
@@ -32,7 +32,7 @@ done_by text = done_of (fields (byte ".") text)
 
 -- lists of these between commas, where each member is good
 abbrev pub starts_by : List ℕ → Option (List Start)
-starts_by list = all_some (map start_by (fields (byte ",") list))
+starts_by list = parts_in start_by (byte ",") list
 
 abbrev pub dones_by : List ℕ → Option (List Done)
-dones_by list = all_some (map done_by (fields (byte ",") list))
+dones_by list = parts_in done_by (byte ",") list

@@ -1,27 +1,39 @@
-//! Words that are names or numbers.
+//! Words that are names, and lists of names and of nodes.
 
 ghost use Rattle.std.specs.Prelude.{◌≡◌, IfOk};
-ghost use Rattle.operands.specs.Names.{name_by, u32_by};
+ghost use Rattle.text_values.specs.Names.{name_in, few_names_in};
+ghost use Rattle.text_values.specs.Nodes.{few_nodes_in};
 
-use small_texts::digits::parse_number;
+use plain_data::items::Items;
 use small_texts::memory_error::Memory;
-use small_texts::name::{Name, NameRefusal};
+use small_texts::name::Name;
 use std::alloc::Global;
+use text_values::refusal::or_none;
+use text_values::{names, nodes};
 
 /// A word that is a name.
+#[tactic(auto, using(crate::proofs::Readings::readings))]
 pub fn read_name(alloc: Global, word: &[u8]) -> Result<Option<Name>, Memory>
-    ensures { IfOk result (λ name. name ≡ name_by word.now) }
+    ensures { IfOk result (λ name. name ≡ name_in word.now) }
 {
-    match Name::read(alloc, word) {
-        Err(NameRefusal::Memory) => Err(Memory),
-        Err(NameRefusal::BadName) => Ok(None),
-        Ok(name) => Ok(Some(name)),
-    }
+    or_none(names::read_name(alloc, word))
 }
 
-/// A word that is a number of 32 bits, in at most ten digits.
-pub fn read_u32(word: &[u8]) -> Option<u32>
-    ensures { result ≡ u32_by word.now }
+/// Names between commas, 1,024 at most.
+#[tactic(auto, using(crate::proofs::Readings::readings))]
+pub fn read_few_names(alloc: Global, word: &[u8]) -> Result<Option<Items<Name>>, Memory>
+    ensures { IfOk result (λ names. names ≡ few_names_in word.now) }
 {
-    Some(parse_number(word, 10, 4_294_967_295)? as u32)
+    or_none(names::read_few_names(alloc, word))
+}
+
+/// The nodes of a host expression, 1,024 at most.
+#[tactic(auto, using(crate::proofs::Readings::readings))]
+pub fn read_few_nodes(alloc: Global, word: &[u8]) -> Result<Option<Items<Name>>, Memory>
+    ensures { IfOk result (λ nodes. nodes ≡ few_nodes_in word.now) }
+{
+    match or_none(nodes::read_few_nodes(alloc, word))? {
+        Some(nodes) => Ok(Some(nodes.into_items())),
+        None => Ok(None),
+    }
 }

@@ -1,27 +1,59 @@
 //! Starts of jobs that words name.
 
-ghost use Rattle.std.specs.Prelude.{◌≡◌, ◌∷◌, []};
-ghost use Rattle.operands.specs.Starts.{start_of, start_by, done_by};
+ghost use Rattle.std.specs.Prelude.{◌≡◌, ◌∷◌, [], IfOk};
+ghost use Rattle.operands.specs.Starts.{start_of, start_by, done_by, starts_by, dones_by};
 
-use crate::members::Member;
-use crate::names::read_u32;
+use plain_data::items::Items;
 use request_data::report::{Done, Start};
 use small_texts::fields::{UpToThree, up_to_three};
+use small_texts::memory_error::Memory;
+use std::alloc::Global;
+use text_values::lists::{Grammar, read_parts};
+use text_values::numbers::read_u32;
+use text_values::refusal::{ValueRefusal, or_none};
 
-impl Member for Start {
+/// The grammar of starts.
+#[derive(Clone, Copy)]
+pub struct StartText;
+
+impl Grammar for StartText {
+    type Value = Start;
+
     ghost meaning = { start_by };
 
-    fn read_member(text: &[u8]) -> Option<Start> {
-        read_start(text)
+    fn read(_alloc: Global, text: &[u8]) -> Result<Start, ValueRefusal> {
+        read_start(text).ok_or(ValueRefusal::BadValue)
     }
 }
 
-impl Member for Done {
+/// The grammar of starts that are over.
+#[derive(Clone, Copy)]
+pub struct DoneText;
+
+impl Grammar for DoneText {
+    type Value = Done;
+
     ghost meaning = { done_by };
 
-    fn read_member(text: &[u8]) -> Option<Done> {
-        read_done(text)
+    fn read(_alloc: Global, text: &[u8]) -> Result<Done, ValueRefusal> {
+        read_done(text).ok_or(ValueRefusal::BadValue)
     }
+}
+
+/// Starts between commas.
+#[tactic(auto, using(crate::proofs::Readings::readings))]
+pub fn read_starts(alloc: Global, list: &[u8]) -> Result<Option<Items<Start>>, Memory>
+    ensures { IfOk result (λ starts. starts ≡ starts_by list.now) }
+{
+    or_none(read_parts::<StartText>(alloc, list, b','))
+}
+
+/// Starts that are over, between commas.
+#[tactic(auto, using(crate::proofs::Readings::readings))]
+pub fn read_dones(alloc: Global, list: &[u8]) -> Result<Option<Items<Done>>, Memory>
+    ensures { IfOk result (λ starts. starts ≡ dones_by list.now) }
+{
+    or_none(read_parts::<DoneText>(alloc, list, b','))
 }
 
 #[tactic(auto, unfolding(crate::specs::Starts::start_of))]

@@ -3,14 +3,14 @@
 ghost use Rattle.std.specs.Prelude.{◌≡◌, map, IfOk};
 ghost use Rattle.operands.specs.Targets.{rows, state_among, state_by, states, states_by, target_by, targets_by};
 
-use crate::members::{Member, read_few};
-use crate::names::read_u32;
 use plain_data::items::Items;
 use request_data::query::StateCode;
 use request_data::target::Target;
-use small_texts::fields::{UpToThree, up_to_three};
 use small_texts::memory_error::Memory;
 use std::alloc::Global;
+use text_values::jobs::read_job_id;
+use text_values::lists::{Grammar, read_few};
+use text_values::refusal::{ValueRefusal, or_none};
 
 // The states and their codes. "JOB STATE CODES" in squeue(1).
 const STATES: [(&[u8], StateCode); 8] = [
@@ -25,60 +25,58 @@ const STATES: [(&[u8], StateCode); 8] = [
 ];
 
 /// A job, an array or one of its tasks.
-#[tactic(auto, unfolding(crate::specs::Targets::target_of))]
 pub fn read_target(text: &[u8]) -> Option<Target>
     ensures { result ≡ target_by text.now }
 {
-    match up_to_three(text, b'_') {
-        UpToThree::One(id) => {
-            let id = read_u32(id)?;
-            Some(Target { id, index: None })
-        }
-        UpToThree::Two(id, index) => {
-            let id = read_u32(id)?;
-            let index = read_u32(index)?;
-            Some(Target {
-                id,
-                index: Some(index),
-            })
-        }
-        _ => None,
-    }
+    let (id, index) = read_job_id(text)?;
+    Some(Target { id, index })
 }
 
-impl Member for Target {
+/// The grammar of targets.
+#[derive(Clone, Copy)]
+pub struct TargetText;
+
+impl Grammar for TargetText {
+    type Value = Target;
+
     ghost meaning = { target_by };
 
-    fn read_member(text: &[u8]) -> Option<Target> {
-        read_target(text)
+    fn read(_alloc: Global, text: &[u8]) -> Result<Target, ValueRefusal> {
+        read_target(text).ok_or(ValueRefusal::BadValue)
     }
 }
 
-impl Member for StateCode {
+/// The grammar of codes of states.
+#[derive(Clone, Copy)]
+pub struct StateText;
+
+impl Grammar for StateText {
+    type Value = StateCode;
+
     ghost meaning = { state_by };
 
-    fn read_member(text: &[u8]) -> Option<StateCode> {
-        read_state(text)
+    fn read(_alloc: Global, text: &[u8]) -> Result<StateCode, ValueRefusal> {
+        read_state(text).ok_or(ValueRefusal::BadValue)
     }
 }
 
 /// A list of targets.
-#[tactic(auto, unfolding(crate::specs::Targets::targets_by))]
+#[tactic(auto, using(crate::proofs::Readings::readings), unfolding(crate::specs::Targets::targets_by))]
 pub fn read_targets(alloc: Global, list: &[u8]) -> Result<Option<Items<Target>>, Memory>
     ensures { IfOk result (λ targets. targets ≡ targets_by list.now) }
 {
-    read_few(alloc, list)
+    or_none(read_few::<TargetText>(alloc, list))
 }
 
 /// A list of states by their codes, or the word for all of them.
-#[tactic(auto, unfolding(crate::specs::Targets::states_by))]
+#[tactic(auto, using(crate::proofs::Readings::readings), unfolding(crate::specs::Targets::states_by))]
 pub fn read_states(alloc: Global, list: &[u8]) -> Result<Option<Items<StateCode>>, Memory>
     ensures { IfOk result (λ codes. codes ≡ states_by list.now) }
 {
     if list == b"all".as_slice() {
         Ok(Some(all_states(alloc)?))
     } else {
-        read_few(alloc, list)
+        or_none(read_few::<StateText>(alloc, list))
     }
 }
 

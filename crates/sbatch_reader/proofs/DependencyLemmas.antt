@@ -8,7 +8,7 @@ use Rattle.std.proofs.lemmas.List.Sums.{length-filter}
 use Rattle.small_texts.specs.Fields.{fields}
 use Rattle.plain_data.specs.declared.dependency.DepItem.{DepItem}
 use Rattle.sbatch_reader.specs.Dependency.{item_of, item_naming, item_in, is_any, items_in}
-use Rattle.sbatch_reader.specs.Parts.{parts_in}
+use Rattle.text_values.specs.Lists.{parts_in}
 use Rattle.sbatch_reader.proofs.PartLemmas.{length-all_some}
 
 with_some : (word : List ℕ) (ids : List (List ℕ)) → 0 < length ids → item_of (word ∷ ids) ≡ item_naming word ids

@@ -3,4 +3,3 @@ pub mod ArrayLemmas
 pub mod DependencyLemmas
 pub mod MarkLemmas
 pub mod PartLemmas
-pub mod ValueLemmas

@@ -7,16 +7,17 @@ use Rattle.small_texts.specs.Digits.{number_within}
 use Rattle.small_texts.specs.Fields.{fields}
 use Rattle.small_texts.specs.Options.{◌>>=◌}
 use Rattle.plain_data.specs.declared.array.ArraySpec.{ArraySpec}
-use Rattle.sbatch_reader.specs.Parts.{parts_in}
+use Rattle.text_values.specs.Lists.{parts_in}
+use Rattle.text_values.specs.Numbers.{number_in}
 use Rattle.sbatch_reader.specs.declared.array.Stretch.{Stretch}
 
 -- an index has 1 to 5 digits
 abbrev pub index_in : List ℕ → Option ℕ
 index_in text = number_within 5 99_999 text
 
--- 1 to 10 digits, from 1 on, as far as 32 bits hold
-unfoldable pub count_in : List ℕ → Option ℕ
-count_in text = number_within 10 4_294_967_295 text >>= λ n. if nat_le 1 n then Some n else None
+-- a number from 1 on that 32 bits hold
+abbrev pub count_in : List ℕ → Option ℕ
+count_in text = number_in 1 4_294_967_295 text
 
 -- a last index and the step, which is 1 where none is given, by the fields at a colon
 unfoldable pub end_of : List (List ℕ) → Option (ℕ × ℕ)

@@ -1,8 +1,7 @@
 -- What a text says that a job waits for.
-use Rattle.std.specs.Prelude.{ℕ, ◌==◌, nat_le, Bool, if◌then◌else◌, Option, Some, None, List, [], ◌∷◌, length, map, sum_by, bytes_eq, codes}
+use Rattle.std.specs.Prelude.{ℕ, ◌==◌, nat_le, Bool, if◌then◌else◌, Option, Some, None, option_map, List, [], ◌∷◌, length, map, sum_by, bytes_eq, codes}
 use Rattle.std.specs.List.{list_any}
 use Rattle.std.specs.Str.{byte}
-use Rattle.small_texts.specs.Digits.{number_within}
 use Rattle.small_texts.specs.Fields.{fields}
 use Rattle.host_lists.specs.Hosts.{all_some}
 use Rattle.small_texts.specs.Options.{◌>>=◌}
@@ -11,25 +10,12 @@ use Rattle.plain_data.specs.declared.dependency.DepKind.TheVariants.{After, Afte
 use Rattle.plain_data.specs.declared.dependency.DepId.{DepId}
 use Rattle.plain_data.specs.declared.dependency.DepItem.{DepItem}
 use Rattle.plain_data.specs.declared.dependency.DepSpec.{DepSpec}
-use Rattle.sbatch_reader.specs.Parts.{parts_in}
+use Rattle.text_values.specs.Jobs.{job_in}
+use Rattle.text_values.specs.Lists.{parts_in}
 
--- 1 to 10 digits, as far as 32 bits hold
-abbrev pub u32_in : List ℕ → Option ℕ
-u32_in text = number_within 10 4_294_967_295 text
-
--- a job, or a task of an array by its index, by the fields at an underscore
-unfoldable pub id_of : List (List ℕ) → Option DepId
-id_of (id ∷ []) = do
-  i ← u32_in id
-  Some (record { id = i; index = None })
-id_of (id ∷ index ∷ []) = do
-  i ← u32_in id
-  n ← u32_in index
-  Some (record { id = i; index = Some n })
-id_of _ = None
-
+-- a job, or a task of an array by its index
 abbrev pub id_in : List ℕ → Option DepId
-id_in text = id_of (fields (byte "_") text)
+id_in text = option_map (λ job. record { id = job.0; index = job.1 }) (job_in text)
 
 -- what must have become of jobs that are named
 unfoldable pub kind_in : List ℕ → Option DepKind

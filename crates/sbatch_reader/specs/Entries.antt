@@ -5,7 +5,11 @@ use Rattle.sbatch_reader.specs.Dependency.{dependency_in}
 use Rattle.sbatch_reader.specs.Features.{features_in}
 use Rattle.slurm_num.specs.Limits.{limit_of}
 use Rattle.small_texts.specs.Moment.{moment_of}
-use Rattle.sbatch_reader.specs.Values.{number_in, name_in, job_name_in, node_range_in, mem_per_node, mem_per_cpu, nice_in, nodes_in}
+use Rattle.text_values.specs.Names.{name_in}
+use Rattle.text_values.specs.Nice.{nice_in}
+use Rattle.text_values.specs.Nodes.{few_nodes_in}
+use Rattle.text_values.specs.Numbers.{number_in}
+use Rattle.sbatch_reader.specs.Values.{job_name_in, node_range_in, mem_per_node, mem_per_cpu}
 use Rattle.plain_data.specs.declared.nice.Nice.TheVariants.{Lower}
 use Rattle.option_words.specs.declared.refusal.WordKind.{WordKind}
 use Rattle.option_words.specs.declared.refusal.WordKind.TheVariants.{BadValue, TooLong}
@@ -44,8 +48,8 @@ value_entry now option.Limit text = option_map TimeLimit (limit_of text)
 value_entry now option.Begin text = option_map Begin (moment_of text now)
 value_entry now option.Nice text = option_map NiceValue (nice_in text)
 value_entry now option.Features text = option_map Features (features_in text)
-value_entry now option.Required text = option_map Required (nodes_in text)
-value_entry now option.Excluded text = option_map Excluded (nodes_in text)
+value_entry now option.Required text = option_map Required (few_nodes_in text)
+value_entry now option.Excluded text = option_map Excluded (few_nodes_in text)
 value_entry now option.Array text = option_map Array (array_in text)
 value_entry now option.Dependency text = option_map Dependency (dependency_in text)
 value_entry now option.Wrap text = Some Wrap

@@ -8,8 +8,6 @@ pub mod Array
 pub mod Dependency
 pub mod Features
 pub mod Marks
-pub mod Parts
-pub mod Refusals
 pub mod Entries
 pub mod Table
 pub mod Values

@@ -6,7 +6,7 @@ use Rattle.small_texts.specs.Fields.{fields}
 use Rattle.small_texts.specs.Options.{◌>>=◌}
 use Rattle.line_words.specs.Words.{is_blank, before_comment, first_bad, words_in}
 use Rattle.option_words.specs.declared.refusal.WordKind.TheVariants.{BadValue, NoHashBang}
-use Rattle.sbatch_reader.specs.Values.{number_in}
+use Rattle.text_values.specs.Numbers.{number_in}
 use Rattle.sbatch_reader.specs.declared.entries.Entry.{Entry}
 use Rattle.sbatch_reader.specs.declared.entries.Entry.TheVariants.{Run}
 use Rattle.option_words.specs.Refusal.{told}

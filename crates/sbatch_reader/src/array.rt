@@ -6,54 +6,18 @@ ghost use Rattle.sbatch_reader.specs.Array.{index_in, count_in, end_in, stretch_
 ghost use Rattle.sbatch_reader.specs.declared.array.Stretch.{Stretch};
 ghost use Rattle.sbatch_reader.specs.Marks.{IsLong, marked};
 
-use crate::parts::{Part, read_parts};
 use plain_data::array::{ArraySpec, Indices};
 use plain_data::ranged::Ranged;
 use small_texts::digits::parse_number;
 use small_texts::fields::{UpToThree, up_to_three};
-use small_texts::memory_error;
 use small_texts::memory_error::Memory;
 use std::alloc::Global;
-use std::error::Error;
-use std::fmt;
+use text_values::lists::{Grammar, read_parts};
+use text_values::numbers::read_number;
+use text_values::refusal::ValueRefusal;
 
 // How many indices an array has at most.
 const MOST_INDICES: usize = 10_001;
-
-/// Why a text gave no array.
-#[derive(Clone, Copy, Debug, PartialEq, Eq)]
-pub enum ArrayRefusal {
-    /// It is off the grammar.
-    BadArray,
-    Memory,
-}
-
-impl fmt::Display for ArrayRefusal {
-    ghost use Rattle.std.specs.Prelude.{Some};
-    ghost use Rattle.sbatch_reader.specs.Refusals.{array_message};
-
-    ghost output = { λ refusal. Some (array_message refusal) };
-
-    fn fmt<W: fmt::Write>(&self, f: &mut fmt::Formatter<W>) -> fmt::Result {
-        f.write_str(match self {
-            ArrayRefusal::BadArray => "bad array",
-            ArrayRefusal::Memory => "out of memory",
-        })
-    }
-}
-
-impl Error for ArrayRefusal {}
-
-impl From<Memory> for ArrayRefusal {
-    ghost use Rattle.std.specs.Prelude.{◌≡◌};
-    ghost use Rattle.sbatch_reader.specs.declared.array.ArrayRefusal.TheVariants.{Memory};
-
-    ghost from_gives = { λ _ e. e ≡ Memory };
-
-    fn from(_error: memory_error::Memory) -> ArrayRefusal {
-        ArrayRefusal::Memory
-    }
-}
 
 // The numbers that an item names: from a first one, in steps, to a last.
 #[derive(Clone, Copy)]
@@ -69,16 +33,10 @@ fn read_index(text: &[u8]) -> Option<Ranged<0, 99999>>
     Some(Ranged::new(parse_number(text, 5, 99_999)?))
 }
 
-#[tactic(auto, unfolding(crate::specs::Array::count_in))]
 fn read_count(text: &[u8]) -> Option<Ranged<1, 4294967295>>
     ensures { result ≡ count_in text.now }
 {
-    let count = parse_number(text, 10, 4_294_967_295)?;
-    if count >= 1 {
-        Some(Ranged::new(count))
-    } else {
-        None
-    }
+    read_number(text)
 }
 
 // The last number and the step.
@@ -119,11 +77,17 @@ fn read_stretch(text: &[u8]) -> Option<Stretch>
     }
 }
 
-impl Part for Stretch {
+// The grammar of an item.
+#[derive(Clone, Copy)]
+struct StretchText;
+
+impl Grammar for StretchText {
+    type Value = Stretch;
+
     ghost meaning = { stretch_in };
 
-    fn read_part(_alloc: Global, text: &[u8]) -> Result<Option<Stretch>, Memory> {
-        Ok(read_stretch(text))
+    fn read(_alloc: Global, text: &[u8]) -> Result<Stretch, ValueRefusal> {
+        read_stretch(text).ok_or(ValueRefusal::BadValue)
     }
 }
 
@@ -226,31 +190,31 @@ fn make_indices(alloc: Global, stretches: &[Stretch]) -> Result<Option<Indices>,
 }
 
 #[tactic(auto, unfolding(crate::specs::Array::indices_in))]
-fn read_indices(alloc: Global, text: &[u8]) -> Result<Option<Indices>, Memory>
-    ensures { IfOk result (λ indices. indices ≡ indices_in text.now) }
+fn read_indices(alloc: Global, text: &[u8]) -> Result<Indices, ValueRefusal>
+    ensures value { IfOk result (λ indices. indices_in text.now ≡ Some indices) }
+    ensures refused { IsErrOf result ValueRefusal.BadValue → indices_in text.now ≡ None }
 {
-    let Some(stretches) = read_parts(alloc, text, b',')? else {
-        return Ok(None);
-    };
-    make_indices(alloc, stretches.as_slice())
+    let stretches = read_parts::<StretchText>(alloc, text, b',')?;
+    let indices = make_indices(alloc, stretches.as_slice())?.ok_or(ValueRefusal::BadValue)?;
+    Ok(indices)
 }
 
 /// Indices such as `1,5-9,20-40:5`, each of at most five digits, maybe with the number of tasks that hold processors at
 /// once behind a `%`. An item costs a step for each number that it names, 10,001 at most; then each number up to the
 /// greatest is looked at once. `--array` in sbatch(1).
 #[tactic(auto, unfolding(crate::specs::Array::array_of))]
-pub fn read_array(alloc: Global, text: &[u8]) -> Result<ArraySpec, ArrayRefusal>
+pub fn read_array(alloc: Global, text: &[u8]) -> Result<ArraySpec, ValueRefusal>
     ensures value { IfOk result (λ array. array_in text.now ≡ Some array) }
-    ensures refused { IsErrOf result ArrayRefusal.BadArray → array_in text.now ≡ None }
+    ensures refused { IsErrOf result ValueRefusal.BadValue → array_in text.now ≡ None }
 {
     let (items, most) = match up_to_three(text, b'%') {
         UpToThree::One(items) => (items, None),
         UpToThree::Two(items, most) => (
             items,
-            Some(read_count(most).ok_or(ArrayRefusal::BadArray)?),
+            Some(read_count(most).ok_or(ValueRefusal::BadValue)?),
         ),
-        _ => return Err(ArrayRefusal::BadArray),
+        _ => return Err(ValueRefusal::BadValue),
     };
-    let indices = read_indices(alloc, items)?.ok_or(ArrayRefusal::BadArray)?;
+    let indices = read_indices(alloc, items)?;
     Ok(ArraySpec { indices, most })
 }

@@ -3,12 +3,12 @@
 ghost use Rattle.std.specs.Prelude.{◌≡◌, ◌&&◌, nat_lt, length, IfOk, IsErrOf, Some, None};
 ghost use Rattle.sbatch_reader.specs.Entries.{flag_entry, value_entry, takes_text, entry_in};
 
-use crate::node_names::NodeNames;
+use crate::array::read_array;
+use crate::dependency::read_dependency;
+use crate::features::read_features;
 use crate::table::{FlagOption, ValueOption};
 use crate::values::{
-    NodeRange, ValueRefusal, read_begin, read_constraint, read_job_name, read_limit,
-    read_mem_per_cpu, read_mem_per_node, read_name, read_nice, read_node_range, read_nodes,
-    read_number, read_tasks, read_waits,
+    NodeRange, read_job_name, read_mem_per_cpu, read_mem_per_node, read_node_range,
 };
 use option_words::refusal::WordKind;
 use plain_data::array::ArraySpec;
@@ -22,6 +22,13 @@ use plain_data::seconds::Moment;
 use small_texts::memory_error::Memory;
 use small_texts::name::{JobName, Name};
 use std::alloc::Global;
+use text_values::names::read_name;
+use text_values::nice::read_nice;
+use text_values::node_names::NodeNames;
+use text_values::nodes::read_few_nodes;
+use text_values::numbers::read_number;
+use text_values::refusal::ValueRefusal;
+use text_values::times::{read_limit, read_moment};
 
 // How many bytes a text has at most.
 const LONGEST_TEXT: usize = 1024;
@@ -130,13 +137,13 @@ fn read_value(
         ValueOption::Mem => Ok(Entry::Mem(read_mem_per_node(text).ok_or(bad)?)),
         ValueOption::MemPerCpu => Ok(Entry::Mem(read_mem_per_cpu(text).ok_or(bad)?)),
         ValueOption::Limit => Ok(Entry::TimeLimit(read_limit(text).ok_or(bad)?)),
-        ValueOption::Begin => Ok(Entry::Begin(read_begin(text, now).ok_or(bad)?)),
+        ValueOption::Begin => Ok(Entry::Begin(read_moment(text, now).ok_or(bad)?)),
         ValueOption::Nice => Ok(Entry::NiceValue(read_nice(text).ok_or(bad)?)),
-        ValueOption::Features => Ok(Entry::Features(read_constraint(alloc, text)?)),
-        ValueOption::Required => Ok(Entry::Required(read_nodes(alloc, text)?)),
-        ValueOption::Excluded => Ok(Entry::Excluded(read_nodes(alloc, text)?)),
-        ValueOption::Array => Ok(Entry::Array(read_tasks(alloc, text)?)),
-        ValueOption::Dependency => Ok(Entry::Dependency(read_waits(alloc, text)?)),
+        ValueOption::Features => Ok(Entry::Features(read_features(alloc, text)?)),
+        ValueOption::Required => Ok(Entry::Required(read_few_nodes(alloc, text)?)),
+        ValueOption::Excluded => Ok(Entry::Excluded(read_few_nodes(alloc, text)?)),
+        ValueOption::Array => Ok(Entry::Array(read_array(alloc, text)?)),
+        ValueOption::Dependency => Ok(Entry::Dependency(read_dependency(alloc, text)?)),
         ValueOption::Wrap => Ok(Entry::Wrap),
         ValueOption::WithoutEffect => Ok(Entry::WithoutEffect),
     }

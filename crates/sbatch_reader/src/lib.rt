@@ -10,8 +10,6 @@ mod draft;
 mod entries;
 pub mod features;
 mod lines;
-pub mod node_names;
-mod parts;
 pub mod reader;
 pub mod refusal;
 mod said;

@@ -15,11 +15,11 @@ use crate::draft::Draft;
 use crate::entries::Entry;
 use crate::refusal::{Place, WordKind, told};
 use crate::said::Said;
-use crate::values::read_number;
 use line_words::words::{Words, WordsRefusal, before_comment, split_words};
 use small_texts::fields::{UpToThree, first_field, up_to_three};
 use small_texts::memory_error::Memory;
 use std::alloc::Global;
+use text_values::numbers::read_number;
 
 // A longer line of options isn't held.
 const LONGEST_LINE: usize = 4_294_967_295;

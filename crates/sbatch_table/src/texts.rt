@@ -4,11 +4,12 @@ use crate::show::Show;
 use crate::values::quantifier;
 use plain_data::array::ArraySpec;
 use plain_data::dependency::DepSpec;
-use sbatch_reader::array::{ArrayRefusal, read_array};
-use sbatch_reader::dependency::{DepRefusal, read_dependency};
-use sbatch_reader::features::{FeaturesRefusal, read_features};
+use sbatch_reader::array::read_array;
+use sbatch_reader::dependency::read_dependency;
+use sbatch_reader::features::read_features;
 use std::alloc::Global;
 use table_lines::answer::{Unanswered, push, refused};
+use text_values::refusal::ValueRefusal;
 
 fn shown<T: Show>(alloc: Global, value: &T) -> Result<Vec<u8>, Unanswered> {
     let mut out = Vec::new(alloc);
@@ -16,24 +17,10 @@ fn shown<T: Show>(alloc: Global, value: &T) -> Result<Vec<u8>, Unanswered> {
     Ok(out)
 }
 
-fn refused_array(alloc: Global, refusal: ArrayRefusal) -> Result<Vec<u8>, Unanswered> {
+fn refused_value(alloc: Global, refusal: ValueRefusal) -> Result<Vec<u8>, Unanswered> {
     match refusal {
-        ArrayRefusal::Memory => Err(Unanswered::Memory),
-        ArrayRefusal::BadArray => refused(alloc, &refusal),
-    }
-}
-
-fn refused_dependency(alloc: Global, refusal: DepRefusal) -> Result<Vec<u8>, Unanswered> {
-    match refusal {
-        DepRefusal::Memory => Err(Unanswered::Memory),
-        DepRefusal::BadDep => refused(alloc, &refusal),
-    }
-}
-
-fn refused_features(alloc: Global, refusal: FeaturesRefusal) -> Result<Vec<u8>, Unanswered> {
-    match refusal {
-        FeaturesRefusal::Memory => Err(Unanswered::Memory),
-        FeaturesRefusal::BadFeatures => refused(alloc, &refusal),
+        ValueRefusal::Memory => Err(Unanswered::Memory),
+        ValueRefusal::BadValue => refused(alloc, &refusal),
     }
 }
 
@@ -44,7 +31,7 @@ pub fn array(alloc: Global, arguments: &[&[u8]]) -> Result<Vec<u8>, Unanswered> 
     };
     match read_array(alloc, text) {
         Ok(array) => shown(alloc, &array),
-        Err(refusal) => refused_array(alloc, refusal),
+        Err(refusal) => refused_value(alloc, refusal),
     }
 }
 
@@ -55,7 +42,7 @@ pub fn array_size(alloc: Global, arguments: &[&[u8]]) -> Result<Vec<u8>, Unanswe
     };
     match read_array(alloc, text) {
         Ok(array) => size_of_array(alloc, &array),
-        Err(refusal) => refused_array(alloc, refusal),
+        Err(refusal) => refused_value(alloc, refusal),
     }
 }
 
@@ -81,7 +68,7 @@ pub fn dependency(alloc: Global, arguments: &[&[u8]]) -> Result<Vec<u8>, Unanswe
     };
     match read_dependency(alloc, text) {
         Ok(dependency) => shown(alloc, &dependency),
-        Err(refusal) => refused_dependency(alloc, refusal),
+        Err(refusal) => refused_value(alloc, refusal),
     }
 }
 
@@ -92,7 +79,7 @@ pub fn dependency_size(alloc: Global, arguments: &[&[u8]]) -> Result<Vec<u8>, Un
     };
     match read_dependency(alloc, text) {
         Ok(dependency) => size_of_dependency(alloc, &dependency),
-        Err(refusal) => refused_dependency(alloc, refusal),
+        Err(refusal) => refused_value(alloc, refusal),
     }
 }
 
@@ -122,6 +109,6 @@ pub fn features(alloc: Global, arguments: &[&[u8]]) -> Result<Vec<u8>, Unanswere
     };
     match read_features(alloc, text) {
         Ok(features) => shown(alloc, &features),
-        Err(refusal) => refused_features(alloc, refusal),
+        Err(refusal) => refused_value(alloc, refusal),
     }
 }

@@ -1,6 +1,6 @@
 -- What the words of `scontrol hold`, `uhold`, `release` and `requeue` ask.
 use Rattle.std.specs.Prelude.{ℕ, Bool, List, Result, Ok, Err}
-use Rattle.conf_values.specs.Refusal.{◌>>=◌}
+use Rattle.text_values.specs.Steps.{◌>>=◌}
 use Rattle.operands.specs.BadWord.{at_word, good}
 use Rattle.operands.specs.Operands.{word_at, closed_at}
 use Rattle.operands.specs.Targets.{target_by, targets_by}

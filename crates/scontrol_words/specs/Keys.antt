@@ -1,6 +1,6 @@
 -- The keys of scontrol.
 use Rattle.std.specs.Prelude.{ℕ, List, Option, map}
-use Rattle.conf_values.specs.Keys.{key_named}
+use Rattle.text_values.specs.Tables.{key_named}
 use Rattle.scontrol_words.specs.declared.keys.TheConstants.{KEYS}
 use Rattle.scontrol_words.specs.declared.keys.Key.{Key}
 

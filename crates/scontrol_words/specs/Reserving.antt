@@ -1,13 +1,13 @@
 -- What the words of `scontrol create` and `scontrol delete` ask.
 use Rattle.std.specs.Prelude.{ℕ, ◌+◌, ◌*◌, ◌||◌, Bool, false, if◌then◌else◌, List, [], drop, slice_get, bytes_eq, codes, is_some, Option, Some, None, unwrap_or, Result, Ok, Err}
-use Rattle.conf_values.specs.Refusal.{◌>>=◌}
+use Rattle.text_values.specs.Steps.{◌>>=◌}
 use Rattle.operands.specs.BadWord.{bad, good, given}
-use Rattle.operands.specs.Names.{name_by}
+use Rattle.text_values.specs.Names.{name_in, few_names_in}
+use Rattle.text_values.specs.Nodes.{few_nodes_in}
 use Rattle.operands.specs.Pairs.{pairs_say}
 use Rattle.operands.specs.declared.bad_word.BadWord.{BadWord}
 use Rattle.option_words.specs.declared.refusal.WordKind.{WordKind}
 use Rattle.option_words.specs.declared.refusal.WordKind.TheVariants.{UnknownOption, MissingWord}
-use Rattle.sbatch_reader.specs.Values.{nodes_in}
 use Rattle.slurm_num.specs.Limits.{limit_of}
 use Rattle.small_texts.specs.Moment.{moment_of}
 use Rattle.plain_data.specs.declared.limit.Limit.{Limit}
@@ -16,7 +16,6 @@ use Rattle.request_data.specs.declared.request.Request.{Request}
 use Rattle.request_data.specs.declared.request.Request.TheVariants.{CreateReservation, DeleteReservation}
 use Rattle.scontrol_words.specs.Keys.{scontrol_key}
 use Rattle.scontrol_words.specs.Updating.{after_last}
-use Rattle.scontrol_words.specs.Values.{few_names}
 use Rattle.scontrol_words.specs.declared.keys.Key.{Key}
 use Rattle.scontrol_words.specs.declared.keys.Key.TheVariants.{ReservationName, StartTime, EndTime, Duration, Nodes, Users, Accounts}
 use Rattle.scontrol_words.specs.declared.reserving.Until.{Until}
@@ -27,7 +26,7 @@ use Rattle.scontrol_words.specs.declared.deleting.Deletion.{Deletion}
 -- what a pair says of a reservation, the last of a kind counting, and of the end and the duration the later
 abbrev pub reserved_key : Reserved → List ℕ → Option Key → Result Reserved WordKind
 reserved_key said value (Some ReservationName) =
-    given (λ name. record said { name = Some name }) (good (name_by value))
+    given (λ name. record said { name = Some name }) (good (name_in value))
 reserved_key said value (Some StartTime) =
     given (λ moment. record said { start = Some moment }) (good (moment_of value said.now))
 reserved_key said value (Some EndTime) =
@@ -35,11 +34,11 @@ reserved_key said value (Some EndTime) =
 reserved_key said value (Some Duration) =
     given (λ limit. record said { until = Some (For limit) }) (good (limit_of value))
 reserved_key said value (Some Nodes) =
-    given (λ nodes. record said { nodes = Some nodes }) (good (nodes_in value))
+    given (λ nodes. record said { nodes = Some nodes }) (good (few_nodes_in value))
 reserved_key said value (Some Users) =
-    given (λ names. record said { users = Some names }) (good (few_names value))
+    given (λ names. record said { users = Some names }) (good (few_names_in value))
 reserved_key said value (Some Accounts) =
-    given (λ names. record said { accounts = Some names }) (good (few_names value))
+    given (λ names. record said { accounts = Some names }) (good (few_names_in value))
 reserved_key said value key = Err UnknownOption
 
 abbrev pub reserved_adding : Reserved → List ℕ → List ℕ → Result Reserved WordKind
@@ -111,7 +110,7 @@ create_by now words = created_from now (first_key words) words
 -- what a pair says of a reservation that is taken back
 abbrev pub deletion_key : Deletion → List ℕ → Option Key → Result Deletion WordKind
 deletion_key said value (Some ReservationName) =
-    given (λ name. record said { name = Some name }) (good (name_by value))
+    given (λ name. record said { name = Some name }) (good (name_in value))
 deletion_key said value key = Err UnknownOption
 
 abbrev pub deletion_adding : Deletion → List ℕ → List ℕ → Result Deletion WordKind

@@ -1,6 +1,6 @@
 -- What the words of scontrol ask, the first of which is its name.
 use Rattle.std.specs.Prelude.{ℕ, true, false, if◌then◌else◌, List, codes, bytes_eq, Option, Some, None, ok_or, Result, Ok, Err}
-use Rattle.conf_values.specs.Refusal.{◌>>=◌}
+use Rattle.text_values.specs.Steps.{◌>>=◌}
 use Rattle.operands.specs.BadWord.{at_word, given}
 use Rattle.operands.specs.Operands.{word_at, closed_at}
 use Rattle.operands.specs.declared.bad_word.BadWord.{BadWord}

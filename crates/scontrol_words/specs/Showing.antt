@@ -1,8 +1,8 @@
 -- What the words of `scontrol show` ask.
 use Rattle.std.specs.Prelude.{ℕ, if◌then◌else◌, List, codes, bytes_eq, slice_get, Option, Some, None, ok_or, Result, Ok, Err}
-use Rattle.conf_values.specs.Refusal.{◌>>=◌}
+use Rattle.text_values.specs.Steps.{◌>>=◌}
 use Rattle.operands.specs.BadWord.{at_word}
-use Rattle.operands.specs.Names.{name_by}
+use Rattle.text_values.specs.Names.{name_in}
 use Rattle.operands.specs.Operands.{word_at, closed_at, maybe}
 use Rattle.operands.specs.Targets.{target_by}
 use Rattle.operands.specs.declared.bad_word.BadWord.{BadWord}
@@ -35,7 +35,7 @@ job_query words = do
 
 unfoldable pub name_query : Shown → List (List ℕ) → Result Query BadWord
 name_query shown words = do
-  name ← maybe name_by 4 (slice_get words 3)
+  name ← maybe name_in 4 (slice_get words 3)
   closed_at words 4 (named_query shown name)
 
 abbrev pub query_of : Shown → List (List ℕ) → Result Query BadWord

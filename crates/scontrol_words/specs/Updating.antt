@@ -1,15 +1,16 @@
 -- What the words of `scontrol update` ask.
 use Rattle.std.specs.Prelude.{ℕ, ◌+◌, Bool, ◌||◌, if◌then◌else◌, List, [], ◌∷◌, length, drop, Option, Some, None, is_some, Result, Ok, Err}
 use Rattle.std.specs.Option.{option_or}
-use Rattle.conf_values.specs.Refusal.{◌>>=◌}
+use Rattle.text_values.specs.Steps.{◌>>=◌}
 use Rattle.operands.specs.BadWord.{bad, good, given}
 use Rattle.operands.specs.Pairs.{pair_of, pairs_say}
 use Rattle.operands.specs.Targets.{target_by}
-use Rattle.operands.specs.Names.{name_by}
+use Rattle.text_values.specs.Names.{name_in}
 use Rattle.operands.specs.declared.bad_word.BadWord.{BadWord}
 use Rattle.option_words.specs.declared.refusal.WordKind.{WordKind}
 use Rattle.option_words.specs.declared.refusal.WordKind.TheVariants.{UnknownOption, MissingWord, BadValue}
-use Rattle.sbatch_reader.specs.Values.{nice_in, nodes_in}
+use Rattle.text_values.specs.Nice.{nice_in}
+use Rattle.text_values.specs.Nodes.{few_nodes_in}
 use Rattle.slurm_num.specs.Limits.{limit_of}
 use Rattle.plain_data.specs.declared.conf.PartState.{PartState}
 use Rattle.request_data.specs.declared.request.NodeOrder.{NodeOrder}
@@ -17,7 +18,8 @@ use Rattle.request_data.specs.declared.request.Request.{Request}
 use Rattle.request_data.specs.declared.request.Request.TheVariants.{UpdateJob, UpdateNode, UpdatePartition}
 use Rattle.request_data.specs.declared.target.Target.{Target}
 use Rattle.scontrol_words.specs.Keys.{scontrol_key}
-use Rattle.scontrol_words.specs.Values.{node_order, part_state, unless_long}
+use Rattle.text_values.specs.States.{part_state}
+use Rattle.scontrol_words.specs.Values.{node_order, unless_long}
 use Rattle.scontrol_words.specs.declared.keys.Key.{Key}
 use Rattle.scontrol_words.specs.declared.keys.Key.TheVariants.{JobId, TimeLimit, Nice, NodeName, PartitionName, State, Reason}
 use Rattle.scontrol_words.specs.declared.updating.Form.{Form}
@@ -46,7 +48,7 @@ job_adding said key value = job_key said value (scontrol_key key)
 -- a node's update: its names, and what becomes of it; why is kept nowhere
 abbrev pub node_key : NodeUpdate → List ℕ → Option Key → Result NodeUpdate WordKind
 node_key said value (Some NodeName) =
-    once said.nodes (given (λ nodes. record said { nodes = Some nodes }) (good (nodes_in value)))
+    once said.nodes (given (λ nodes. record said { nodes = Some nodes }) (good (few_nodes_in value)))
 node_key said value (Some State) = given (λ state. record said { state = Some state }) (good (node_order value))
 node_key said value (Some Reason) = unless_long value said
 node_key said value key = Err UnknownOption
@@ -57,7 +59,7 @@ node_adding said key value = node_key said value (scontrol_key key)
 -- a partition's update: its name and its state
 abbrev pub partition_key : PartitionUpdate → List ℕ → Option Key → Result PartitionUpdate WordKind
 partition_key said value (Some PartitionName) =
-    once said.name (given (λ name. record said { name = Some name }) (good (name_by value)))
+    once said.name (given (λ name. record said { name = Some name }) (good (name_in value)))
 partition_key said value (Some State) = given (λ state. record said { state = Some state }) (good (part_state value))
 partition_key said value key = Err UnknownOption
 

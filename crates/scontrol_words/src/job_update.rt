@@ -14,9 +14,10 @@ use plain_data::limit::Limit;
 use plain_data::nice::Nice;
 use request_data::request::Request;
 use request_data::target::Target;
-use sbatch_reader::values::{read_limit, read_nice};
 use small_texts::memory_error::Memory;
 use std::alloc::Global;
+use text_values::nice::read_nice;
+use text_values::times::read_limit;
 
 /// What the pairs of a job's update say.
 #[derive(Clone, Copy)]

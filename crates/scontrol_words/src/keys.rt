@@ -3,7 +3,7 @@
 ghost use Rattle.std.specs.Prelude.{◌≡◌};
 ghost use Rattle.scontrol_words.specs.Keys.{scontrol_key};
 
-use conf_values::keys::key_named;
+use text_values::tables::key_named;
 
 /// A key of a pair `KEY=VALUE`.
 #[derive(Clone, Copy, PartialEq, Eq)]

@@ -5,9 +5,10 @@ ghost use Rattle.operands.specs.Pairs.{now_said};
 ghost use Rattle.scontrol_words.specs.Updating.{node_said, node_update_by};
 
 use crate::keys::{Key, scontrol_key};
-use crate::values::{is_long, read_hosts, read_node_order};
+use crate::values::{is_long, read_node_order};
 use line_words::words::Words;
 use operands::bad_word::{BadWord, WordKind, fault_at};
+use operands::names::read_few_nodes;
 use operands::pairs::{Pairs, put, read_pairs};
 use plain_data::items::Items;
 use request_data::request::{NodeOrder, Request};
@@ -35,7 +36,7 @@ impl NodeUpdate {
         if self.nodes.is_some() {
             return Ok(Err(WordKind::UnknownOption));
         }
-        Ok(put(&mut self.nodes, read_hosts(alloc, value)?))
+        Ok(put(&mut self.nodes, read_few_nodes(alloc, value)?))
     }
 
     // Why is kept nowhere.

@@ -5,7 +5,6 @@ ghost use Rattle.operands.specs.Pairs.{now_said};
 ghost use Rattle.scontrol_words.specs.Updating.{partition_said, partition_update_by};
 
 use crate::keys::{Key, scontrol_key};
-use crate::values::read_part_state;
 use line_words::words::Words;
 use operands::bad_word::{BadWord, WordKind, fault_at};
 use operands::names::read_name;
@@ -15,6 +14,7 @@ use request_data::request::Request;
 use small_texts::memory_error::Memory;
 use small_texts::name::Name;
 use std::alloc::Global;
+use text_values::states::read_part_state;
 
 /// What the pairs of a partition's update say.
 #[derive(Drop)]

@@ -4,10 +4,9 @@ ghost use Rattle.std.specs.Prelude.{◌≡◌, ◌≤◌, ◌+◌, [], drop, unw
 ghost use Rattle.scontrol_words.specs.Reserving.{is_for_someone, minutes_of, end_of, whole, reservation_said, is_reservation, first_key, nothing_reserved, created_from, create_by};
 
 use crate::keys::{Key, scontrol_key};
-use crate::values::{read_few_names, read_hosts};
 use line_words::words::Words;
 use operands::bad_word::{BadWord, WordKind, fault_at};
-use operands::names::read_name;
+use operands::names::{read_few_names, read_few_nodes, read_name};
 use operands::pairs::{Pairs, put, read_pairs};
 use plain_data::items::Items;
 use plain_data::limit::Limit;
@@ -15,10 +14,10 @@ use plain_data::ranged::Ranged;
 use plain_data::seconds::Moment;
 use request_data::request::Request;
 use request_data::reservation::ReservationDesc;
-use sbatch_reader::values::{read_begin, read_limit};
 use small_texts::memory_error::Memory;
 use small_texts::name::Name;
 use std::alloc::Global;
+use text_values::times::{read_limit, read_moment};
 
 // How many minutes a reservation stands that has no end (own).
 const YEAR: u64 = 525_600;
@@ -68,14 +67,14 @@ impl Reserved {
     fn set_start(&mut self, value: &[u8]) -> Result<(), WordKind>
         ensures { now_said result self.new ≡ reserved_key self.old value.now (Some StartTime) }
     {
-        let start = read_begin(value, self.now);
+        let start = read_moment(value, self.now);
         put(&mut self.start, start)
     }
 
     fn set_end(&mut self, value: &[u8]) -> Result<(), WordKind>
         ensures { now_said result self.new ≡ reserved_key self.old value.now (Some EndTime) }
     {
-        match read_begin(value, self.now) {
+        match read_moment(value, self.now) {
             Some(moment) => {
                 self.until = Some(Until::At(moment));
                 Ok(())
@@ -113,7 +112,7 @@ impl Pairs for Reserved {
             Some(Key::StartTime) => Ok(self.set_start(value)),
             Some(Key::EndTime) => Ok(self.set_end(value)),
             Some(Key::Duration) => Ok(self.set_duration(value)),
-            Some(Key::Nodes) => Ok(put(&mut self.nodes, read_hosts(alloc, value)?)),
+            Some(Key::Nodes) => Ok(put(&mut self.nodes, read_few_nodes(alloc, value)?)),
             Some(Key::Users) => Ok(put(&mut self.users, read_few_names(alloc, value)?)),
             Some(Key::Accounts) => Ok(put(&mut self.accounts, read_few_names(alloc, value)?)),
             _ => Ok(Err(WordKind::UnknownOption)),

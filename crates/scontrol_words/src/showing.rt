@@ -2,7 +2,7 @@
 
 ghost use Rattle.std.specs.Prelude.{◌≡◌, slice_get, IfOk};
 ghost use Rattle.operands.specs.Operands.{maybe};
-ghost use Rattle.operands.specs.Names.{name_by};
+ghost use Rattle.text_values.specs.Names.{name_in};
 ghost use Rattle.operands.specs.Targets.{target_by};
 ghost use Rattle.scontrol_words.specs.Showing.{shown_named, shown_in, named_query, job_query, name_query, query_of, show_by};
 
@@ -70,7 +70,7 @@ fn maybe_target(words: &Words) -> Result<Option<Target>, BadWord>
 
 // The name in the fourth word, if there is one.
 fn maybe_name(alloc: Global, words: &Words) -> Result<Result<Option<Name>, BadWord>, Memory>
-    ensures { IfOk result (λ name. name ≡ maybe name_by 4 (slice_get words.now 3)) }
+    ensures { IfOk result (λ name. name ≡ maybe name_in 4 (slice_get words.now 3)) }
 {
     let Some(word) = words.get(3) else {
         return Ok(Ok(None));

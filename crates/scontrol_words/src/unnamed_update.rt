@@ -4,14 +4,16 @@ ghost use Rattle.std.specs.Prelude.{◌≡◌, IfOk};
 ghost use Rattle.scontrol_words.specs.Updating.{unnamed_update_by};
 
 use crate::keys::{Key, scontrol_key};
-use crate::values::{is_long, read_node_order, read_part_state};
+use crate::values::{is_long, read_node_order};
 use line_words::words::Words;
 use operands::bad_word::{BadWord, WordKind, fault_at};
 use operands::pairs::{Pairs, read_pairs};
 use request_data::request::Request;
-use sbatch_reader::values::{read_limit, read_nice};
 use small_texts::memory_error::Memory;
 use std::alloc::Global;
+use text_values::nice::read_nice;
+use text_values::states::read_part_state;
+use text_values::times::read_limit;
 
 /// Pairs of which none names what is changed: nothing of them is kept.
 #[derive(Clone, Copy)]

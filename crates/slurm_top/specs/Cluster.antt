@@ -6,7 +6,7 @@ use Rattle.assoc_reader.specs.Reader.{assocs_in}
 use Rattle.assoc_reader.specs.declared.refusal.AssocRefusal.{AssocRefusal}
 use Rattle.assoc_reader.specs.declared.refusal.AssocRefusal.TheVariants as assoc_fault
 use Rattle.conf_reader.specs.Reader.{conf_in}
-use Rattle.conf_values.specs.Refusal.{◌>>=◌}
+use Rattle.text_values.specs.Steps.{◌>>=◌}
 use Rattle.conf_values.specs.declared.refusal.ConfRefusal.{ConfRefusal}
 use Rattle.conf_values.specs.declared.refusal.ConfRefusal.TheVariants as conf_fault
 use Rattle.ctl_state.specs.State.{State, opening}

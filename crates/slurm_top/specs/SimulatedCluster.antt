@@ -1,6 +1,6 @@
 -- The cluster of simulations, and the simulation of a number on it.
 use Rattle.std.specs.Prelude.{ℕ, List, codes, Option, Result, Ok}
-use Rattle.conf_values.specs.Refusal.{◌>>=◌}
+use Rattle.text_values.specs.Steps.{◌>>=◌}
 use Rattle.simulation.specs.Simulation.{Simulated, simulated}
 use Rattle.slurm_top.specs.declared.cluster.ClusterRefusal.{ClusterRefusal}
 use Rattle.slurm_top.specs.Cluster.{opening_in}

@@ -6,7 +6,12 @@ use Rattle.conf_reader.specs.Lines.{without_return, lines_of_rest}
 use Rattle.conf_reader.specs.LineWords.{words_in}
 use Rattle.conf_reader.specs.Pairs.{unquoted, pair_of_parts, pair_in}
 use Rattle.conf_values.specs.Keys.{setting_key, node_key, partition_key}
-use Rattle.conf_values.specs.Values.{number_in, names_in, nodes_in, node_start, part_state, yes_or_no, mem_per_cpu}
+use Rattle.conf_values.specs.Values.{node_start, yes_or_no, mem_per_cpu}
+use Rattle.text_values.specs.Jobs.{job_of}
+use Rattle.text_values.specs.Names.{names_in, few_names_in}
+use Rattle.text_values.specs.Nodes.{nodes_in}
+use Rattle.text_values.specs.Numbers.{number_in}
+use Rattle.text_values.specs.States.{part_state}
 use Rattle.conf_values.specs.Scheduler.{no_items}
 use Rattle.conf_reader.specs.Words.{entry_in, said_by}
 use Rattle.conf_reader.specs.SettingLines.{setting_entry, setting_word, with_setting, no_settings, setting_line, settings_of}
@@ -38,14 +43,13 @@ use Rattle.command_words.specs.Sbatch.{sbatch_by}
 use Rattle.option_words.specs.Arguments.{parts_left}
 use Rattle.sbatch_reader.specs.Table.{options}
 use Rattle.sbatch_reader.specs.Entries.{value_entry, entry_in as option_entry, with_entry as with_option, no_words}
-use Rattle.sbatch_reader.specs.Values.{number_in as option_number}
 use Rattle.sbatch_reader.specs.Description.{least_nodes, are_crossed, all_tasks, last_part, job_of}
 use Rattle.sbatch_reader.specs.Drafts.{nothing_said as no_option_said, after, draft_job}
 use Rattle.sbatch_reader.specs.Job.{all_said, job_in}
 use Rattle.sbatch_reader.specs.Lines.{split_text, one_line_says, script_says}
 use Rattle.operands.specs.Operands.{word_at, closed_at}
 use Rattle.operands.specs.Pairs.{pair_of}
-use Rattle.operands.specs.Targets.{target_of, targets_by, state_by, states_by}
+use Rattle.operands.specs.Targets.{targets_by, state_by, states_by}
 use Rattle.operands.specs.Starts.{start_of, done_of}
 use Rattle.command_words.specs.Report.{numbers_by, report_by}
 use Rattle.command_words.specs.Cancel.{names_user, cancel_words, scancel_options, scancel_by}
@@ -54,8 +58,7 @@ use Rattle.scontrol_words.specs.Holding.{listed_jobs, hold_by, release_by}
 use Rattle.scontrol_words.specs.Keys.{scontrol_key}
 use Rattle.scontrol_words.specs.Reserving.{create_by, delete_by}
 use Rattle.scontrol_words.specs.Updating.{job_update_by, node_update_by, partition_update_by, unnamed_update_by, update_by}
-use Rattle.scontrol_words.specs.Values.{few_names, part_state as state_word}
-use Rattle.sbatch_reader.specs.Dependency.{id_of, kind_in, item_naming, item_of, dependency_in}
+use Rattle.sbatch_reader.specs.Dependency.{kind_in, item_naming, item_of, dependency_in}
 use Rattle.scontrol_words.specs.Showing.{shown_named, job_query, name_query, shown_in, show_by}
 use Rattle.squeue_format.specs.Format.{column_of, width_of, column_by, part_in, format_in, usual}
 use Rattle.command_words.specs.Queries.{query_words, squeue_options, sinfo_options, sprio_options, squeue_by, sinfo_by, sprio_by}
@@ -119,7 +122,7 @@ clusters = tt
 unfoldable pub headers : Unit {0}
 unfolding first_block blocks_within blocks_of reading_at line_words_in before_comment open_place first_bad
     command_named head_in asked_by meaning_by meaning_in word_at closed_at alone_by wanted_by sbatch_by parts_left options
-    value_entry option_entry with_option no_words option_number least_nodes are_crossed all_tasks last_part job_of
+    value_entry option_entry with_option no_words number_in least_nodes are_crossed all_tasks last_part job_of
     no_option_said after draft_job all_said job_in split_text one_line_says script_says number_within is_name
     is_job_name seconds_of_clock seconds_of_day seconds_of_parts seconds_of limit_of_minutes limit_of
 headers = tt
@@ -128,17 +131,17 @@ headers = tt
 unfoldable pub told : Unit {0}
 unfolding start_of done_of pair_of numbers_by report_by query_words squeue_options sinfo_options sprio_options
     squeue_by sinfo_by sprio_by
-    target_of targets_by state_by states_by names_user cancel_words scancel_options scancel_by column_of width_of column_by
+    job_of targets_by state_by states_by names_user cancel_words scancel_options scancel_by column_of width_of column_by
     part_in format_in usual
 told = tt
 
 -- what scontrol says
 unfoldable pub asked : Unit {0}
-unfolding target_of targets_by action_named action_in scontrol_by listed_jobs hold_by release_by shown_named job_query
+unfolding job_of targets_by action_named action_in scontrol_by listed_jobs hold_by release_by shown_named job_query
     name_query shown_in show_by pair_of scontrol_key job_update_by node_update_by partition_update_by unnamed_update_by
-    update_by create_by delete_by few_names state_word few host_items first_bad_item hosts_in numbers_of range_names
+    update_by create_by delete_by few_names_in part_state few host_items first_bad_item hosts_in numbers_of range_names
     made_behind made_by number_within limit_of limit_of_minutes seconds_of_clock seconds_of_day seconds_of_parts seconds_of
-    is_name id_of kind_in item_naming item_of dependency_in
+    is_name kind_in item_naming item_of dependency_in
 asked = tt
 
 -- plans, and what starts by them

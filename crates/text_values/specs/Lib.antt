@@ -1,0 +1,11 @@
+pub mod Jobs
+pub mod Lists
+pub mod Memory
+pub mod Names
+pub mod Nice
+pub mod Nodes
+pub mod Numbers
+pub mod Refusal
+pub mod States
+pub mod Steps
+pub mod Tables
