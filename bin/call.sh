@@ -55,11 +55,11 @@ can_call() {
 
 # What a status means that says nothing of the request itself, and what to do.
 explain() {
-    look="Look with squeue whether the request was worked before you repeat it."
+    look="Look with squeue whether it was worked before you repeat the request."
     case $1 in
     2) say "no server takes these words: they hold a byte that can't be printed, or are longer than 8,192 bytes together; or SLURMCTLD_PORT ($port) is no port." ;;
     5) if [ "$name" = sbatch ]; then
-        say "the script can't be read, or the connection to the server broke (port $port). If the script is there and readable: $look"
+        say "the script can't be read, or the connection to the server broke (port $port). Is the script there and readable? $look"
     else
         say "the connection to the server broke before its reply was here (port $port). $look"
     fi ;;

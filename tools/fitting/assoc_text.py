@@ -45,7 +45,7 @@ def line_of(text, report, place):
 
 
 def lines_of(data, report):
-    """All lines that say something, that of the cluster first."""
+    """All lines that say something."""
     found = []
     for place, raw in enumerate(data.decode("utf-8", "replace").split("\n"), 1):
         text = raw.strip()

@@ -79,7 +79,7 @@ CHANGED = {
     "PriorityUsageResetPeriod": "usage counts from the start of the server",
     "PriorityFlags": "Fair Tree, with ages that begin when a job may start",
     "PriorityFavorSmall": "a larger job has the larger term of size",
-    "PriorityWeightTRES": "PriorityWeightJobSize, which counts processors and nodes",
+    "PriorityWeightTRES": "PriorityWeightJobSize, which counts processors",
     "PriorityWeightAssoc": "associations have no priority: PriorityWeightQOS with a QOS of a priority is nearest",
     "PrioritySiteFactorPlugin": "no factor of a site's own; --nice and a QOS are nearest",
     "PrioritySiteFactorParameters": "no factor of a site's own; --nice and a QOS are nearest",
