@@ -17,8 +17,9 @@ ALIASES = {"procs": "CPUs", "feature": "Features", "socketsperboard": "Sockets"}
 
 @dataclasses.dataclass
 class NodeLine:
-    """A line of nodes: their names (none on a line of defaults), its own pairs, and those with the defaults."""
+    """A line of nodes: whether it is one of defaults, its names, its own pairs, and those with the defaults."""
     place: object
+    is_default: bool
     names: list
     own: dict
     all: dict
@@ -44,9 +45,9 @@ class Nodes:
             self.put(place, own, key, value)
         if pairs[0][1].upper() == "DEFAULT":
             self.defaults.update(own)
-            made = NodeLine(place, [], own, dict(self.defaults), line.comment)
+            made = NodeLine(place, True, [], own, dict(self.defaults), line.comment)
         else:
-            made = NodeLine(place, self.new_names(place, pairs[0][1]), own, {**self.defaults, **own}, line.comment)
+            made = NodeLine(place, False, self.new_names(place, pairs[0][1]), own, {**self.defaults, **own}, line.comment)
         self.system(place, made)
         self.lines.append(made)
         return made
@@ -79,7 +80,10 @@ class Nodes:
         """Takes one pair of a line."""
         low = key.lower()
         if low in SYSTEM or low in ALIASES or low in keys.NODES:
-            own[ALIASES.get(low) or SYSTEM.get(low) or keys.NODES[low]] = value
+            known = ALIASES.get(low) or SYSTEM.get(low) or keys.NODES[low]
+            fitted = fit_value(self, place, known, value)
+            if fitted is not None:
+                own[known] = fitted
             return
         for name, instead in keys.NODE_CHANGED.items():
             if name.lower() == low:
@@ -105,10 +109,10 @@ class Nodes:
     def cpus(pairs):
         """The processors of a node: as they are given, or the product of its parts."""
         if "CPUs" in pairs:
-            return names.number(pairs["CPUs"]) or 1
+            return names.number(pairs["CPUs"])
         product = 1
         for key in PARTS:
-            product *= names.number(pairs.get(key, "1")) or 1
+            product *= names.number(pairs.get(key, "1"))
         return product
 
     def down(self, place, pairs):
@@ -205,17 +209,13 @@ def fit_value(nodes, place, key, value):
 
 
 def fit_pairs(nodes, line, raised):
-    """The pairs of a node's line, fitted; `raised` is the least memory that each processor has, or nothing."""
-    fitted = {}
-    for key, value in line.own.items():
-        made = fit_value(nodes, line.place, key, value)
-        if made is not None:
-            fitted[key] = made
-    cpus = Nodes.cpus({**line.all, **fitted})
+    """The pairs of a node's line, its processors and its memory bounded; `raised` says whether each processor has a megabyte."""
+    fitted = dict(line.own)
+    cpus = Nodes.cpus(line.all)
     if line.names and cpus > MOST_CPUS:
         nodes.report.changed(line.place, f"{cpus} processors", f"CPUs={MOST_CPUS}")
         fitted["CPUs"] = str(MOST_CPUS)
-    memory = names.number(fitted.get("RealMemory", line.all.get("RealMemory", "1"))) or 1
+    memory = names.number(line.all.get("RealMemory", "1"))
     if line.names and raised and memory < min(cpus, MOST_CPUS):
         nodes.report.replaced(line.place, f"RealMemory={memory}", f"{cpus}: a megabyte for each processor, since memory counts here")
         fitted["RealMemory"] = str(min(cpus, MOST_CPUS))
@@ -237,8 +237,8 @@ def groups_of(nodes, line):
 def written(nodes, line, raised):
     """The lines that stand for a line of nodes, each as its pairs."""
     fitted = fit_pairs(nodes, line, raised)
-    if not line.names:
-        return [[("NodeName", "DEFAULT"), *fitted.items()]] if fitted and line.own else []
+    if line.is_default:
+        return [[("NodeName", "DEFAULT"), *fitted.items()]] if fitted else []
     made = []
     for state, group in groups_of(nodes, line):
         pairs = {**fitted, "State": state} if state else fitted
