@@ -38,7 +38,9 @@ def line_of(text, report, place):
     head = HEAD.match(text)
     kind = KINDS.get(head[1].lower()) if head else None
     if kind is None:
-        report.fault(place, text, "it is no line `Cluster - `, `Parent - `, `Account - `, `User - ` or `QOS - ` with a name; left out")
+        report.fault(
+            place, text,
+            "it is no line `Cluster - `, `Parent - `, `Account - `, `User - ` or `QOS - ` with a name; left out")
         return None
     name = next(part for part in head.groups()[1:] if part is not None)
     return Line(place, kind, name.strip(), options_of(text[head.end():], report, place))
@@ -59,7 +61,9 @@ def qos_rows(data, report):
     """The rows of `sacctmgr -P show qos` as lines of qualities of service."""
     rows = [raw.split("|") for raw in data.decode("utf-8", "replace").splitlines() if raw.strip()]
     if not rows or "Name" not in rows[0]:
-        report.fault(0, "the rows of --qos", "they begin with no line of titles that has Name: `sacctmgr -P show qos` writes one; left out")
+        report.fault(
+            0, "the rows of --qos",
+            "they begin with no line of titles that has Name: `sacctmgr -P show qos` writes one; left out")
         return []
     titles = rows[0]
     found = []

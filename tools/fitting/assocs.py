@@ -27,7 +27,9 @@ class Assocs:
     def take(self, line):
         """Takes in a line, by what it speaks of."""
         if not names.is_name(line.name):
-            self.report.fault(line.place, f"{line.kind} - '{line.name}'", "a name has 1 to 64 letters, digits, `_`, `-` and `.`; left out")
+            self.report.fault(
+                line.place, f"{line.kind} - '{line.name}'",
+                "a name has 1 to 64 letters, digits, `_`, `-` and `.`; left out")
             self.parent = None if line.kind == "Parent" else self.parent
         else:
             getattr(self, f"take_{line.kind.lower()}")(line)
@@ -41,15 +43,20 @@ class Assocs:
         own = self.options(line, "Account")
         self.inherited = {key: own.pop(key) for key in ("MaxJobs", "MaxSubmitJobs") if key in own}
         for key in self.inherited:
-            self.report.replaced(line.place, f"{key}={self.inherited[key]}", "it stands on each account below root that has none")
+            self.report.replaced(
+                line.place, f"{key}={self.inherited[key]}", "it stands on each account below root that has none")
         for key in ("GrpJobs", "GrpSubmitJobs", "GrpTRES"):
             if key in own:
-                self.report.changed(line.place, f"{key}={own.pop(key)}", "a cluster has no limits: an account above all others that has them stands for it")
+                self.report.changed(
+                    line.place, f"{key}={own.pop(key)}",
+                    "a cluster has no limits: an account above all others that has them stands for it")
 
     def take_parent(self, line):
         """The account of the lines that follow."""
         if line.name not in self.depths:
-            self.report.fault(line.place, f"Parent - '{line.name}'", "no earlier line names this account; the lines under it are left out")
+            self.report.fault(
+                line.place, f"Parent - '{line.name}'",
+                "no earlier line names this account; the lines under it are left out")
             self.parent = None
             return
         self.parent = line.name
@@ -77,10 +84,14 @@ class Assocs:
         partition = next((value for key, value in line.options if key.lower() == "partition"), None)
         if (self.parent, line.name) in self.users:
             told = self.report.changed if partition else self.report.fault
-            told(line.place, f"User - '{line.name}' of {self.parent}", "its first line stands for all: an association is of all partitions; left out")
+            told(
+                line.place, f"User - '{line.name}' of {self.parent}",
+                "its first line stands for all: an association is of all partitions; left out")
             return
         if partition:
-            self.report.changed(line.place, f"User - '{line.name}', Partition={partition}", "an association of all partitions; AllowAccounts keeps accounts apart")
+            self.report.changed(
+                line.place, f"User - '{line.name}', Partition={partition}",
+                "an association of all partitions; AllowAccounts keeps accounts apart")
         if self.has_room(line):
             self.users.add((self.parent, line.name))
             self.add(line, self.options(line, "User"))
@@ -88,16 +99,20 @@ class Assocs:
     def take_qos(self, line):
         """A quality of service, which a dump of sacctmgr itself doesn't have."""
         if line.name in self.qos or len(self.qos) == MOST_QOS:
-            self.report.fault(line.place, f"QOS - '{line.name}'", f"an earlier line names it, or there are more than {MOST_QOS}; left out")
+            self.report.fault(
+                line.place, f"QOS - '{line.name}'",
+                f"an earlier line names it, or there are more than {MOST_QOS}; left out")
             return
         self.qos[line.name] = self.options(line, "QOS")
 
     def has_room(self, line):
         """Whether an account or a user may stand where it stands."""
         if self.parent is None:
-            self.report.fault(line.place, f"{line.kind} - '{line.name}'", "it stands under an account that isn't there; left out")
+            self.report.fault(
+                line.place, f"{line.kind} - '{line.name}'", "it stands under an account that isn't there; left out")
             return False
-        full = ((self.children.get(self.parent, 0) >= MOST_CHILDREN, f"{MOST_CHILDREN} accounts and users under {self.parent} at most"),
+        full = ((self.children.get(self.parent, 0) >= MOST_CHILDREN,
+                 f"{MOST_CHILDREN} accounts and users under {self.parent} at most"),
                 (self.depths[self.parent] >= MOST_DEPTH, f"{MOST_DEPTH} levels at most"),
                 (line.kind == "User" and len(self.users) >= MOST_USERS, f"{MOST_USERS:,} users at most"))
         for is_full, why in full:
@@ -188,9 +203,13 @@ class Assocs:
                 continue
             if len(self.qos) < MOST_QOS - 1:
                 self.qos[name] = {}
-                self.report.changed(0, f"QOS {name}", "QOS without limits and of priority 0: a dump has none (--qos takes `sacctmgr -P show qos`)")
+                self.report.changed(
+                    0, f"QOS {name}",
+                    "QOS without limits and of priority 0: a dump has none (--qos takes `sacctmgr -P show qos`)")
         if any(name not in ("", "normal") for name in self.wanted):
-            self.report.changed(0, "QOS lists of accounts and users", "everybody may use each QOS; AllowQos of a partition keeps them apart, and -q asks for one")
+            self.report.changed(
+                0, "QOS lists of accounts and users",
+                "everybody may use each QOS; AllowQos of a partition keeps them apart, and -q asks for one")
 
 
 def write(name, options):
@@ -199,7 +218,7 @@ def write(name, options):
 
 
 def fit_assocs(text, report, qos_rows, qos_report, also):
-    """The text that stands for a dump, and what it names. The rows of qualities of service have a report of their own."""
+    """The text that stands for a dump, and what it names. The rows of --qos have a report of their own."""
     made = Assocs(qos_report)
     for line in qos_rows:
         made.take(line)

@@ -3,6 +3,8 @@ from . import conf_text, nodes, partitions, settings
 
 SKIPPED = ("frontendname",)
 LONGEST = 1_048_576
+# Values of AccountingStorageEnforce with which Slurm too wants a user to have an association.
+ENFORCED = ("associations", "limits", "qos", "safe", "all", "1")
 
 
 class Conf:
@@ -39,7 +41,7 @@ class Conf:
         return [pair for pair in fitted if pair]
 
     def counts_memory(self):
-        """Whether jobs without a memory option have to be given a megabyte for each processor, since Slurm counts no memory."""
+        """Whether jobs have to be given a megabyte for each processor, since Slurm counts no memory there."""
         return self.settings.memory_counts is False and not self.settings.mem_default
 
     def rows_of(self, kind, entry):
@@ -72,11 +74,18 @@ class Conf:
     def tell_whole(self):
         """What the settings say only together."""
         if self.counts_memory():
-            self.report.changed(0, "SelectTypeParameters without memory", "memory counts here: DefMemPerCPU=1, so that a job that asks for none hinders nobody")
+            self.report.changed(
+                0, "SelectTypeParameters without memory",
+                "memory counts here: DefMemPerCPU=1, so that a job that asks for none hinders nobody")
         if self.settings.by_cores and any((line.all.get("ThreadsPerCore") or "1") != "1" for line in self.nodes.lines):
-            self.report.changed(0, "SelectTypeParameters by cores, with ThreadsPerCore", "processors are given out one by one: CPUs=CORES on the lines of nodes keeps jobs off each other's cores")
-        if self.settings.enforced is None or not any(word in self.settings.enforced[1] for word in ("associations", "limits", "qos", "safe", "all", "1")):
-            self.report.changed(self.settings.enforced[0] if self.settings.enforced else 0, "AccountingStorageEnforce without associations", "only users of the association file may hand in jobs (--users makes one)")
+            self.report.changed(
+                0, "SelectTypeParameters by cores, with ThreadsPerCore",
+                "processors are given out one by one: CPUs=CORES on lines of nodes keeps jobs off each other's cores")
+        if not any(word in (self.settings.enforced or (0, ""))[1] for word in ENFORCED):
+            self.report.changed(
+                self.settings.enforced[0] if self.settings.enforced else 0,
+                "AccountingStorageEnforce without associations",
+                "only users of the association file may hand in jobs (--users makes one)")
 
 
 def fit_conf(data, path, report, known):

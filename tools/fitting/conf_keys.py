@@ -31,7 +31,8 @@ NODE_PASSED = ("NodeAddr", "NodeHostname", "Port", "TmpDisk", "Reason")
 
 PARTITION_READ = (
     "PartitionName", "Nodes", "Default", "MaxTime", "DefaultTime", "State", "PriorityJobFactor", "PriorityTier",
-    "MinNodes", "MaxNodes", "AllowAccounts", "AllowQos", "AllowGroups", "OverSubscribe", "DefMemPerNode", "DefMemPerCPU",
+    "MinNodes", "MaxNodes", "AllowAccounts", "AllowQos", "AllowGroups", "OverSubscribe",
+    "DefMemPerNode", "DefMemPerCPU",
 )
 PARTITION_PASSED = ("Hidden", "GraceTime")
 

@@ -66,7 +66,8 @@ def pairs_of(text, report, place):
             at = found.end()
             continue
         word = text[at:].split()[0]
-        report.fault(place, word, "it isn't Key=Value, with a value that double quotes may enclose as a whole; left out")
+        report.fault(
+            place, word, "it isn't Key=Value, with a value that double quotes may enclose as a whole; left out")
         at = text.index(word, at) + len(word)
     return pairs
 

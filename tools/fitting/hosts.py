@@ -1,4 +1,4 @@
-"""Host expressions: those of Slurm, which may have brackets anywhere, and those of the profile, with one at an item's end."""
+"""Host expressions: those of Slurm, with brackets anywhere, and those of the profile, with one at an item's end."""
 import re
 
 MOST_NAMES = 1024

@@ -47,7 +47,8 @@ class Nodes:
             self.defaults.update(own)
             made = NodeLine(place, True, [], own, dict(self.defaults), line.comment)
         else:
-            made = NodeLine(place, False, self.new_names(place, pairs[0][1]), own, {**self.defaults, **own}, line.comment)
+            made = NodeLine(
+                place, False, self.new_names(place, pairs[0][1]), own, {**self.defaults, **own}, line.comment)
         self.system(place, made)
         self.lines.append(made)
         return made
@@ -64,11 +65,14 @@ class Nodes:
         fresh = [name for name in found if name not in self.known and name not in bad]
         room = MOST_NODES - len(self.known)
         if bad:
-            self.report.fault(place, f"NodeName={bad[0]}", "a name has 1 to 64 letters, digits, `_`, `-` and `.`; left out")
+            self.report.fault(
+                place, f"NodeName={bad[0]}", "a name has 1 to 64 letters, digits, `_`, `-` and `.`; left out")
         if twice:
-            self.report.fault(place, f"NodeName={hosts.write(twice)}", f"line {self.known[twice[0]].place} names it; left out")
+            self.report.fault(
+                place, f"NodeName={hosts.write(twice)}", f"line {self.known[twice[0]].place} names it; left out")
         if len(fresh) > room:
-            self.report.fault(place, f"NodeName={text}", f"{MOST_NODES:,} nodes at most; {hosts.write(fresh[room:])} left out")
+            self.report.fault(
+                place, f"NodeName={text}", f"{MOST_NODES:,} nodes at most; {hosts.write(fresh[room:])} left out")
         return fresh[:room]
 
     def settle(self, made):
@@ -209,7 +213,7 @@ def fit_value(nodes, place, key, value):
 
 
 def fit_pairs(nodes, line, raised):
-    """The pairs of a node's line, its processors and its memory bounded; `raised` says whether each processor has a megabyte."""
+    """The pairs of a node's line, with bounds; `raised` says whether each processor has a megabyte at least."""
     fitted = dict(line.own)
     cpus = Nodes.cpus(line.all)
     if line.names and cpus > MOST_CPUS:
@@ -217,7 +221,8 @@ def fit_pairs(nodes, line, raised):
         fitted["CPUs"] = str(MOST_CPUS)
     memory = names.number(line.all.get("RealMemory", "1"))
     if line.names and raised and memory < min(cpus, MOST_CPUS):
-        nodes.report.replaced(line.place, f"RealMemory={memory}", f"{cpus}: a megabyte for each processor, since memory counts here")
+        nodes.report.replaced(
+            line.place, f"RealMemory={memory}", f"{cpus}: a megabyte for each processor, since memory counts here")
         fitted["RealMemory"] = str(min(cpus, MOST_CPUS))
     return fitted
 

@@ -29,7 +29,8 @@ class Partitions:
         """Takes a line NodeSet: nodes by a feature, by their names, or both."""
         given = {key.lower(): value for key, value in pairs}
         self.sets[given["nodeset"]] = (place, given)
-        self.report.replaced(place, f"NodeSet={given['nodeset']}", "its nodes by their names, where a partition names it")
+        self.report.replaced(
+            place, f"NodeSet={given['nodeset']}", "its nodes by their names, where a partition names it")
 
     def set_nodes(self, name):
         """The nodes of a set, in the order of the file."""
@@ -73,13 +74,18 @@ class Partitions:
     def is_good(self, place, name, fitted):
         """Whether a partition may stand: by its name, its nodes, and how many there are."""
         if not names.is_name(name):
-            self.report.fault(place, f"PartitionName={name}", "a name has 1 to 64 letters, digits, `_`, `-` and `.`; the line is left out")
+            self.report.fault(
+                place, f"PartitionName={name}",
+                "a name has 1 to 64 letters, digits, `_`, `-` and `.`; the line is left out")
         elif name in self.named:
             self.report.fault(place, f"PartitionName={name}", f"line {self.named[name]} names it; the line is left out")
         elif "Nodes" not in fitted and not self.has_nodes:
-            self.report.changed(place, f"PartitionName={name}", "it has no nodes: the line is left out, and nothing can be handed in there")
+            self.report.changed(
+                place, f"PartitionName={name}",
+                "it has no nodes: the line is left out, and nothing can be handed in there")
         elif len(self.named) == MOST_PARTITIONS:
-            self.report.fault(place, f"PartitionName={name}", f"{MOST_PARTITIONS} partitions at most; the line is left out")
+            self.report.fault(
+                place, f"PartitionName={name}", f"{MOST_PARTITIONS} partitions at most; the line is left out")
         else:
             self.named[name] = place
             return True
@@ -214,9 +220,12 @@ class Partitions:
             allowed = [name for name in self.known.get(known, []) if name not in denied]
             if allowed:
                 fitted[key] = ",".join(allowed)
-                self.report.replaced(place, f"{deny}={','.join(denied)}", f"{key}={fitted[key]}: all others that there are now")
+                self.report.replaced(
+                    place, f"{deny}={','.join(denied)}", f"{key}={fitted[key]}: all others that there are now")
             else:
-                self.report.fault(place, f"{deny}={','.join(denied)}", f"{key} with all others stands for it (--assoc tells which there are); as it is, all may use the partition")
+                self.report.fault(
+                    place, f"{deny}={','.join(denied)}",
+                    f"{key} with all others stands for it (--assoc tells which there are); as it is, all may use it")
 
 
 def is_plain(text):

@@ -88,7 +88,8 @@ class Settings:
         if value.lower() not in ("priority/multifactor", "priority/basic"):
             self.report.changed(place, f"{key}={value}", "priority/multifactor")
         elif value.lower() == "priority/basic":
-            self.report.replaced(place, f"{key}={value}", "priority/multifactor with weights of 0: the order of submission")
+            self.report.replaced(
+                place, f"{key}={value}", "priority/multifactor with weights of 0: the order of submission")
         return key, "priority/multifactor"
 
     def prioritydecayhalflife(self, place, key, value):
@@ -112,7 +113,9 @@ class Settings:
     def schedulertype(self, place, key, value):
         """How a plan is made."""
         if value.lower() != "sched/backfill":
-            self.report.changed(place, f"{key}={value}", "sched/backfill: a job may start before one of higher rank that it doesn't delay")
+            self.report.changed(
+                place, f"{key}={value}",
+                "sched/backfill: a job may start before one of higher rank that it doesn't delay")
         return key, "sched/backfill"
 
     def schedulerparameters(self, place, key, value):
@@ -138,7 +141,8 @@ class Settings:
         kind = value.lower()
         if kind == "select/linear":
             self.whole_nodes = True
-            self.report.replaced(place, f"{key}={value}", "select/cons_tres, and OverSubscribe=EXCLUSIVE in each partition")
+            self.report.replaced(
+                place, f"{key}={value}", "select/cons_tres, and OverSubscribe=EXCLUSIVE in each partition")
         elif kind == "select/cons_res":
             self.report.replaced(place, f"{key}={value}", "select/cons_tres")
         elif kind != "select/cons_tres":
@@ -153,7 +157,8 @@ class Settings:
         fitted = "CR_CPU_Memory" if not self.by_cores else "CR_Core_Memory"
         gone = [part for part in parts if part not in KNOWN_SELECT]
         if any(part.startswith("CR_SOCKET") for part in gone):
-            self.report.changed(place, f"{key}={value}", f"{fitted}: processors are given out one by one, and no whole sockets")
+            self.report.changed(
+                place, f"{key}={value}", f"{fitted}: processors are given out one by one, and no whole sockets")
         elif gone:
             self.report.changed(place, f"{key}={value}", f"{fitted}; nothing stands for {','.join(gone)}")
         elif parts and fitted.upper() != parts[0]:
@@ -163,5 +168,7 @@ class Settings:
     def preempttype(self, place, key, value):
         """Whether jobs are ended for others."""
         if value.lower() != "preempt/none":
-            self.report.changed(place, f"{key}={value}", "preempt/none: PriorityTier and a QOS say who is planned first, and no job ends for another")
+            self.report.changed(
+                place, f"{key}={value}",
+                "preempt/none: PriorityTier and a QOS say who is planned first, and no job ends for another")
         return key, "preempt/none"
