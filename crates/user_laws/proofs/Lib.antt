@@ -1,0 +1,16 @@
+pub mod Lists
+pub mod States
+pub mod Steps
+pub mod Queries
+pub mod Changes
+pub mod Old
+pub mod Turning
+pub mod Staying
+pub mod Others
+pub mod InTime
+pub mod Starting
+pub mod Waiting
+pub mod Using
+pub mod Charging
+pub mod Fitting
+pub mod Below

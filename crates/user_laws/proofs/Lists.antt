@@ -1,0 +1,171 @@
+-- Lists of which each member becomes one of another list, or goes, and each of the other was one or has come.
+use Rattle.std.proofs.Common.{zero, suc, ◌≡◌, Bool, true, false, List, [], ◌∷◌, ◌++◌, map, filter, All, Any, Option, Some, None, is_none, refl, sym, subst, arith, inl, inr, ◌⊎◌}
+use Rattle.std.proofs.lemmas.Bool.{both_ways, cond_both}
+use Rattle.std.proofs.lemmas.List.Elements.{All-cons, All-head, All-map, All-nil, All-tail, All-weaker}
+
+-- ---- a member that has something
+
+pub any_none : {X : Type 0} (P : X → Type 0) → Any P [] → ⊥
+any_none P (k, y, below, is, has) = omega (arith, below)
+
+pub any_here : {X : Type 0} (P : X → Type 0) (x : X) (xs : List X) → P x → Any P (x ∷ xs)
+any_here P x xs has = (0, x, omega arith, refl, has)
+
+pub any_there : {X : Type 0} (P : X → Type 0) (x : X) (xs : List X) → Any P xs → Any P (x ∷ xs)
+any_there P x xs (k, y, below, is, has) = (suc k, y, omega (arith, below), is, has)
+
+pub any_cases : {X : Type 0} (P : X → Type 0) (x : X) (xs : List X) → Any P (x ∷ xs) → P x ⊎ Any P xs
+any_cases P x xs (zero, y, below, is, has) = inl (subst P (sym is) has)
+any_cases P x xs (suc k, y, below, is, has) = inr (k, y, omega (arith, below), is, has)
+
+pub any_weaker : {X : Type 0} (P Q : X → Type 0) (xs : List X) → ((x : X) → P x → Q x) → Any P xs → Any Q xs
+any_weaker P Q xs on (k, y, below, is, has) = (k, y, below, is, on y has)
+
+pub any_left : {X : Type 0} (P : X → Type 0) (xs ys : List X) → Any P xs → Any P (xs ++ ys)
+any_left P [] ys any = absurd (any_none P any)
+any_left P (x ∷ xs) ys any = elim (any_cases P x xs any) [
+  | inl here ↦ any_here P x (xs ++ ys) here
+  | inr later ↦ any_there P x (xs ++ ys) (any_left P xs ys later)
+]
+
+pub any_right : {X : Type 0} (P : X → Type 0) (xs ys : List X) → Any P ys → Any P (xs ++ ys)
+any_right P [] ys any = any
+any_right P (x ∷ xs) ys any = any_there P x (xs ++ ys) (any_right P xs ys any)
+
+-- what holds of all and of one that has something holds of one
+pub any_of_all : {X : Type 0} (R P : X → Type 0) (Q : Type 0) (xs : List X) → ((x : X) → R x → P x → Q) → All R xs
+    → Any P xs → Q
+any_of_all R P Q [] on all any = absurd (any_none P any)
+any_of_all R P Q (x ∷ xs) on all any = elim (any_cases P x xs any) [
+  | inl here ↦ on x (All-head R x xs all) here
+  | inr later ↦ any_of_all R P Q xs on (All-tail R x xs all) later
+]
+
+-- what all members have once each is mapped
+pub all_mapped : {X : Type 0} (P Q : X → Type 0) (f : X → X) (xs : List X) → ((x : X) → P x → Q (f x)) → All P xs
+    → All Q (map f xs)
+all_mapped {X} P Q f xs on all = All-map Q f xs (All-weaker P (λ (x : X). Q (f x)) on xs all)
+
+-- ---- an option that is none
+
+pub none_is : {X : Type 0} (some : Option X) → is_none some ≡ true → some ≡ None
+none_is None is = refl
+none_is (Some x) is = absurd (both_ways false refl is)
+
+-- ---- what becomes of the members
+
+-- each of these becomes one of those, as R says, or goes; and each of those was one of these, or has come
+pub record Turns {X : Type 0} (R : X → X → Type 0) (Gone Came : X → Type 0) (xs ys : List X) : Type 0 where
+  pub each : All (λ (x : X). Gone x ⊎ Any (R x) ys) xs
+  pub was : All (λ (y : X). Any (λ (x : X). R x y) xs ⊎ Came y) ys
+
+pub turns_nil : {X : Type 0} (R : X → X → Type 0) (Gone Came : X → Type 0) → Turns R Gone Came [] []
+turns_nil {X} R Gone Came = record {
+  each = All-nil (λ (x : X). Gone x ⊎ Any (R x) []);
+  was = All-nil (λ (y : X). Any (λ (x : X). R x y) [] ⊎ Came y);
+}
+
+-- one more on either side
+pub turns_cons : {X : Type 0} (R : X → X → Type 0) (Gone Came : X → Type 0) (x y : X) (xs ys : List X) → R x y
+    → Turns R Gone Came xs ys → Turns R Gone Came (x ∷ xs) (y ∷ ys)
+turns_cons {X} R Gone Came x y xs ys on rest = record {
+  each = All-cons (λ (x : X). Gone x ⊎ Any (R x) (y ∷ ys)) x xs (inr (any_here (R x) y ys on))
+      (All-weaker (λ (x : X). Gone x ⊎ Any (R x) ys) (λ (x : X). Gone x ⊎ Any (R x) (y ∷ ys))
+      (λ one has. elim has [ inl gone ↦ inl gone | inr any ↦ inr (any_there (R one) y ys any) ]) xs rest.each);
+  was = All-cons (λ (y : X). Any (λ (x : X). R x y) (x ∷ xs) ⊎ Came y) y ys
+      (inl (any_here (λ (x : X). R x y) x xs on))
+      (All-weaker (λ (y : X). Any (λ (x : X). R x y) xs ⊎ Came y) (λ (y : X). Any (λ (x : X). R x y) (x ∷ xs) ⊎ Came y)
+      (λ one has. elim has [
+        | inl any ↦ inl (any_there (λ (x : X). R x one) x xs any)
+        | inr came ↦ inr came
+      ]) ys rest.was);
+}
+
+-- one that goes
+pub turns_gone : {X : Type 0} (R : X → X → Type 0) (Gone Came : X → Type 0) (x : X) (xs ys : List X) → Gone x
+    → Turns R Gone Came xs ys → Turns R Gone Came (x ∷ xs) ys
+turns_gone {X} R Gone Came x xs ys gone rest = record {
+  each = All-cons (λ (x : X). Gone x ⊎ Any (R x) ys) x xs (inl gone) rest.each;
+  was = All-weaker (λ (y : X). Any (λ (x : X). R x y) xs ⊎ Came y) (λ (y : X). Any (λ (x : X). R x y) (x ∷ xs) ⊎ Came y)
+      (λ one has. elim has [
+        | inl any ↦ inl (any_there (λ (x : X). R x one) x xs any)
+        | inr came ↦ inr came
+      ]) ys rest.was;
+}
+
+pub turns_itself : {X : Type 0} (R : X → X → Type 0) (Gone Came : X → Type 0) (xs : List X) → ((x : X) → R x x)
+    → Turns R Gone Came xs xs
+turns_itself R Gone Came [] on = turns_nil R Gone Came
+turns_itself R Gone Came (x ∷ xs) on = turns_cons R Gone Came x x xs xs (on x) (turns_itself R Gone Came xs on)
+
+pub turns_map : {X : Type 0} (R : X → X → Type 0) (Gone Came : X → Type 0) (f : X → X) (xs : List X)
+    → ((x : X) → R x (f x)) → Turns R Gone Came xs (map f xs)
+turns_map R Gone Came f [] on = turns_nil R Gone Came
+turns_map R Gone Came f (x ∷ xs) on =
+    turns_cons R Gone Came x (f x) xs (map f xs) (on x) (turns_map R Gone Came f xs on)
+
+pub turns_filter : {X : Type 0} (R : X → X → Type 0) (Gone Came : X → Type 0) (p : X → Bool) (xs : List X)
+    → ((x : X) → R x x) → ((x : X) → p x ≡ false → Gone x) → Turns R Gone Came xs (filter p xs)
+turns_filter R Gone Came p [] on goes = turns_nil R Gone Came
+turns_filter R Gone Came p (x ∷ xs) on goes =
+    let rest = turns_filter R Gone Came p xs on goes in
+    cond_both (p x) (x ∷ filter p xs) (filter p xs) (Turns R Gone Came (x ∷ xs))
+    (λ stays. turns_cons R Gone Came x x xs (filter p xs) (on x) rest)
+    (λ out. turns_gone R Gone Came x xs (filter p xs) (goes x out) rest)
+
+-- some that come behind
+pub turns_append : {X : Type 0} (R : X → X → Type 0) (Gone Came : X → Type 0) (xs new : List X) → ((x : X) → R x x)
+    → All Came new → Turns R Gone Came xs (xs ++ new)
+turns_append {X} R Gone Came [] new on all = record {
+  each = All-nil (λ (x : X). Gone x ⊎ Any (R x) new);
+  was = All-weaker Came (λ (y : X). Any (λ (x : X). R x y) [] ⊎ Came y) (λ one came. inr came) new all;
+}
+turns_append R Gone Came (x ∷ xs) new on all =
+    turns_cons R Gone Came x x xs (xs ++ new) (on x) (turns_append R Gone Came xs new on all)
+
+-- one after the other, where none comes first
+pub turns_on : {X : Type 0} (R One Two : X → X → Type 0) (Gone First Second Came : X → Type 0) (xs ys zs : List X)
+    → ((x y z : X) → One x y → Two y z → R x z) → ((x : X) → First x → Gone x)
+    → ((x y : X) → One x y → Second y → Gone x)
+    → Turns One First (λ y. ⊥) xs ys → Turns Two Second Came ys zs → Turns R Gone Came xs zs
+turns_on {X} R One Two Gone First Second Came xs ys zs both first second one two = record {
+  each = All-weaker (λ (x : X). First x ⊎ Any (One x) ys) (λ (x : X). Gone x ⊎ Any (R x) zs)
+      (λ x has. elim has [
+        | inl gone ↦ inl (first x gone)
+        | inr any ↦
+            any_of_all (λ (y : X). Second y ⊎ Any (Two y) zs) (One x) (Gone x ⊎ Any (R x) zs) ys
+            (λ y next on. elim next [
+              | inl gone ↦ inl (second x y on gone)
+              | inr later ↦ inr (any_weaker (Two y) (R x) zs (λ z then. both x y z on then) later)
+            ]) two.each any
+      ]) xs one.each;
+  was = All-weaker (λ (z : X). Any (λ (y : X). Two y z) ys ⊎ Came z) (λ (z : X). Any (λ (x : X). R x z) xs ⊎ Came z)
+      (λ z has. elim has [
+        | inl any ↦
+            any_of_all (λ (y : X). Any (λ (x : X). One x y) xs ⊎ ⊥) (λ (y : X). Two y z)
+            (Any (λ (x : X). R x z) xs ⊎ Came z) ys
+            (λ y before then. elim before [
+              | inl some ↦
+                  inl (any_weaker (λ (x : X). One x y) (λ (x : X). R x z) xs (λ x on. both x y z on then) some)
+              | inr never ↦ absurd never
+            ]) one.was any
+        | inr came ↦ inr came
+      ]) zs two.was;
+}
+
+-- the same, said more weakly
+pub turns_weaker : {X : Type 0} (R S : X → X → Type 0) (Gone Left Came New : X → Type 0) (xs ys : List X)
+    → ((x y : X) → R x y → S x y) → ((x : X) → Gone x → Left x) → ((x : X) → Came x → New x)
+    → Turns R Gone Came xs ys → Turns S Left New xs ys
+turns_weaker {X} R S Gone Left Came New xs ys on goes comes turns = record {
+  each = All-weaker (λ (x : X). Gone x ⊎ Any (R x) ys) (λ (x : X). Left x ⊎ Any (S x) ys)
+      (λ x has. elim has [
+        | inl gone ↦ inl (goes x gone)
+        | inr any ↦ inr (any_weaker (R x) (S x) ys (on x) any)
+      ]) xs turns.each;
+  was = All-weaker (λ (y : X). Any (λ (x : X). R x y) xs ⊎ Came y) (λ (y : X). Any (λ (x : X). S x y) xs ⊎ New y)
+      (λ y has. elim has [
+        | inl any ↦ inl (any_weaker (λ (x : X). R x y) (λ (x : X). S x y) xs (λ x is. on x y is) any)
+        | inr came ↦ inr (comes y came)
+      ]) ys turns.was;
+}

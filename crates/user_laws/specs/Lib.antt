@@ -1,0 +1,6 @@
+pub mod Asking
+pub mod Staying
+pub mod Others
+pub mod Waiting
+pub mod Using
+pub mod Planning
