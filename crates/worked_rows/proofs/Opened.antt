@@ -7,7 +7,7 @@ use Rattle.conf_reader.specs.LineWords.{words_in}
 use Rattle.conf_reader.specs.Pairs.{unquoted, pair_of_parts, pair_in}
 use Rattle.conf_values.specs.Keys.{setting_key, node_key, partition_key}
 use Rattle.conf_values.specs.Values.{node_start, yes_or_no, mem_per_cpu}
-use Rattle.text_values.specs.Jobs.{job_of}
+use Rattle.text_values.specs.Jobs.{job_of as target_of}
 use Rattle.text_values.specs.Names.{names_in, few_names_in}
 use Rattle.text_values.specs.Nodes.{nodes_in}
 use Rattle.text_values.specs.Numbers.{number_in}
@@ -131,13 +131,13 @@ headers = tt
 unfoldable pub told : Unit {0}
 unfolding start_of done_of pair_of numbers_by report_by query_words squeue_options sinfo_options sprio_options
     squeue_by sinfo_by sprio_by
-    job_of targets_by state_by states_by names_user cancel_words scancel_options scancel_by column_of width_of column_by
+    target_of targets_by state_by states_by names_user cancel_words scancel_options scancel_by column_of width_of column_by
     part_in format_in usual
 told = tt
 
 -- what scontrol says
 unfoldable pub asked : Unit {0}
-unfolding job_of targets_by action_named action_in scontrol_by listed_jobs hold_by release_by shown_named job_query
+unfolding target_of targets_by action_named action_in scontrol_by listed_jobs hold_by release_by shown_named job_query
     name_query shown_in show_by pair_of scontrol_key job_update_by node_update_by partition_update_by unnamed_update_by
     update_by create_by delete_by few_names_in part_state few host_items first_bad_item hosts_in numbers_of range_names
     made_behind made_by number_within limit_of limit_of_minutes seconds_of_clock seconds_of_day seconds_of_parts seconds_of
