@@ -110,13 +110,16 @@ class Settings:
             self.report.replaced(place, f"{key}={value}", fitted)
         return key, fitted
 
+    def only(self, place, key, value, word, why):
+        """The one word that the profile has for a key."""
+        if value.lower() != word:
+            self.report.changed(place, f"{key}={value}", f"{word}: {why}")
+        return key, word
+
     def schedulertype(self, place, key, value):
         """How a plan is made."""
-        if value.lower() != "sched/backfill":
-            self.report.changed(
-                place, f"{key}={value}",
-                "sched/backfill: a job may start before one of higher rank that it doesn't delay")
-        return key, "sched/backfill"
+        return self.only(
+            place, key, value, "sched/backfill", "a job may start before one of higher rank that it doesn't delay")
 
     def schedulerparameters(self, place, key, value):
         """The window and the interval of plans; all else goes."""
@@ -167,8 +170,6 @@ class Settings:
 
     def preempttype(self, place, key, value):
         """Whether jobs are ended for others."""
-        if value.lower() != "preempt/none":
-            self.report.changed(
-                place, f"{key}={value}",
-                "preempt/none: PriorityTier and a QOS say who is planned first, and no job ends for another")
-        return key, "preempt/none"
+        return self.only(
+            place, key, value, "preempt/none",
+            "PriorityTier and a QOS say who is planned first, and no job ends for another")
