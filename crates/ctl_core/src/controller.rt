@@ -3,6 +3,7 @@
 ghost use Rattle.std.specs.Prelude.{◌≡◌, IfOk, IfSome, IfNone, OnOk, OnErr, if◌then◌else◌, Some, None, map, true, All};
 ghost use Rattle.request_data.specs.declared.request.Request.TheVariants.{Pass};
 ghost use Rattle.resource_profile.specs.Counts.{IsTickedUpTo};
+ghost use Rattle.ctl_state.specs.Index.{IsIndexed};
 ghost use Rattle.ctl_state.specs.State.{opening, state_of};
 ghost use Rattle.ctl_state.specs.Soundness.{IsSound, IsLimit, IsNode, HasLimits, HasRanges};
 ghost use Rattle.ctl_core.specs.Step.{IsHinted, input_at, kept_after, reply_of, state_after, is_entered, raised, steps_of, takes_memory};
@@ -73,6 +74,7 @@ impl Ctl {
             settings: conf.settings,
             partitions,
             nodes,
+            dropped: Vec::new(alloc),
             assocs,
             reservations: Reservations::new(alloc),
             jobs,
@@ -87,6 +89,21 @@ impl Ctl {
             cluster,
             kept: None,
         })
+    }
+
+    /// The controller of a cluster as it is, of which all is true that a controller keeps. It keeps no plan. It takes no
+    /// memory.
+    pub fn over(alloc: Global, cluster: Cluster) -> Ctl
+        requires sound { IsSound (state_of cluster) }
+        requires indexed { IsIndexed cluster }
+        ensures state { result.state ≡ state_of cluster }
+        ensures kept { result.kept ≡ None }
+    {
+        Ctl {
+            alloc,
+            cluster,
+            kept: None,
+        }
     }
 
     /// Decides one request, and changes the state where it is accepted. A submission is linear in associations,

@@ -3,7 +3,6 @@
 ghost use Rattle.std.specs.Prelude.{◌≡◌, ◌<◌, ◌++◌, ◌∷◌, [], IfOk, IfSome, IfNone, OnOk, OnErr, if◌then◌else◌, length, Some, None, vec_len, vec_capacity};
 ghost use Rattle.request_data.specs.declared.request.Request.TheVariants.{Pass};
 ghost use Rattle.resource_profile.specs.Counts.{IsTickedUpTo};
-ghost use Rattle.ctl_state.specs.Soundness.{IsSound};
 ghost use Rattle.ctl_core.specs.Step.{IsHinted, input_at, kept_after, reply_of, is_entered, steps_of};
 ghost use Rattle.ctl_desk.specs.History.{entry_of, history_in, present, IsHistory};
 
@@ -45,11 +44,11 @@ impl Book {
     /// A book without entries. The caller makes the controller twice.
     pub fn new(alloc: Global, ctl: Ctl, opening: Ctl) -> Book
         requires same { ctl.state ≡ opening.state }
-        requires sound { IsSound opening.state }
         ensures opening { result.opening ≡ opening.state }
         ensures entries { result.entries ≡ [] }
         ensures kept { result.kept ≡ ctl.kept }
     {
+        let _ = opening.cluster();
         Book {
             ctl,
             opening,
@@ -79,6 +78,18 @@ impl Book {
     {
         self.entries.as_slice()
     }
+
+    /// The controller as the entries have left it, and these, in order. It takes no memory.
+    pub fn into_parts(self) -> (Ctl, Vec<Entry>)
+        ensures state { result.0.state ≡ present (history_in self) }
+        ensures entries { result.1.items ≡ self.entries }
+        ensures history { IsHistory (history_in self) }
+    {
+        (self.ctl, self.entries)
+    }
+
+    /// Lets it go.
+    pub fn let_go(self) {}
 
     /// Decides a request of a session, and enters it where it is accepted. The cost is the controller's.
     pub fn ask(
@@ -203,4 +214,6 @@ fn push(entries: &mut Vec<Entry>, entry: Entry)
 }
 
 // Lets go of what isn't entered.
-fn let_go(_user: Name, _request: Request) {}
+fn let_go(_user: Name, request: Request) {
+    request.let_go();
+}

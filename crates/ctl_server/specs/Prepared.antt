@@ -2,13 +2,18 @@
 use Rattle.std.specs.Prelude.{◌≡◌, ℕ, ◌≤◌, [], vec_capacity, vec_len, Some}
 use Rattle.ctl_desk.specs.History.{BookState}
 use Rattle.ctl_server.specs.declared.serving.Prepared.{Prepared}
+use Rattle.ctl_server.specs.declared.serving.Rooms.{Rooms}
 
--- a lock that keeps a book, with its first pass, and room for so many workers
+-- the rooms are empty, and there is room for so many in each
+pub record HasRooms {A C G : Type 0} (workers : ℕ) (rooms : Rooms A C G) : Type 0 where
+  pub none_seated : vec_len rooms.seats ≡ 0
+  pub seats : workers ≤ vec_capacity rooms.seats
+  pub none_closed : rooms.room.items ≡ []
+  pub room : workers ≤ vec_capacity rooms.room
+
+-- a lock that keeps a book, with its first pass, and rooms for so many workers
 pub record IsPrepared {A C G : Type 0} (book : BookState) (workers : ℕ) (prepared : Prepared A C G) : Type 0 where
   pub lock : prepared.pass.lock ≡ prepared.lock
   pub first : prepared.pass.first ≡ Some book
   pub alone : prepared.pass.taken ≡ []
-  pub none_seated : vec_len prepared.seats ≡ 0
-  pub seats : workers ≤ vec_capacity prepared.seats
-  pub none_closed : prepared.room.items ≡ []
-  pub room : workers ≤ vec_capacity prepared.room
+  pub rooms : HasRooms workers prepared.rooms

@@ -81,7 +81,13 @@ where
     what_is_shut_stays_shut();
     match end {
         WorkerEnd::Shut => ServeEnd::Shut(book),
-        WorkerEnd::DoorFault => ServeEnd::DoorFault,
-        WorkerEnd::Memory => ServeEnd::Memory,
+        WorkerEnd::DoorFault => {
+            book.let_go();
+            ServeEnd::DoorFault
+        }
+        WorkerEnd::Memory => {
+            book.let_go();
+            ServeEnd::Memory
+        }
     }
 }

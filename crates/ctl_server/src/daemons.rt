@@ -17,14 +17,26 @@ use std::sync::Wait;
 /// For so many seconds of SlurmdTimeout a round is followed by one rest (own).
 const SECONDS_A_REST: u64 = 30;
 
-/// The daemons of these nodes as they are when the server begins: they run nothing.
+// The boot number with which the daemon of a node begins: 1, or one above that of its last report. There is none above
+// the last.
+fn next_boot(node: &NodeRecord) -> Option<u64> {
+    match node.heard {
+        Some(heard) => heard.boot.checked_add(1),
+        None => Some(1),
+    }
+}
+
+/// The daemons of these nodes as they are when the server begins: they run nothing. A node without a further boot number
+/// has none.
 pub(crate) fn start_daemons(
     alloc: Global,
     nodes: &[NodeRecord],
 ) -> Result<Vec<DaemonState>, Memory> {
     let mut daemons = Vec::with_capacity(alloc, nodes.len())?;
     for node in nodes {
-        daemons.push(DaemonState::new(alloc, &node.conf.name, 1)?)?;
+        if let Some(boot) = next_boot(node) {
+            daemons.push(DaemonState::new(alloc, &node.conf.name, boot)?)?;
+        }
     }
     Ok(daemons)
 }

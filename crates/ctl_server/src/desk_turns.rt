@@ -18,9 +18,6 @@ use small_texts::name::Name;
 /// How many entries a lock's value may have, less one (own). No history comes near it.
 const MOST_ENTRIES: u64 = 4_611_686_018_427_387_903;
 
-// Lets go of what isn't asked.
-fn let_go(_request: Request) {}
-
 /// Asks the book for a session, where a further entry has room.
 pub fn ask_book(
     book: &mut Book,
@@ -34,7 +31,7 @@ pub fn ask_book(
     ensures short { length book.new.entries < 2 ^ 62 }
 {
     if book.len() >= MOST_ENTRIES {
-        let_go(request);
+        request.let_go();
         return Err(Memory);
     }
     book.ask(session, now, user, request)

@@ -11,7 +11,7 @@ ghost use Rattle.ctl_server.specs.Ends.{EndsServing, IfShut, IsUnopened, Writes}
 ghost use Rattle.ctl_server.specs.Line.{serving_line};
 ghost use Rattle.ctl_server.specs.Numbered.{AreServed};
 ghost use Rattle.ctl_server.specs.Parts.{BeganWith};
-ghost use Rattle.ctl_server.specs.Prepared.{IsPrepared};
+ghost use Rattle.ctl_server.specs.Prepared.{HasRooms, IsPrepared};
 
 use crate::beside::{Planner, Reporter};
 use crate::closing::close;
@@ -31,15 +31,45 @@ use std::sync::Wait;
 use std::thread::Threads;
 use turn_lock::TurnLock;
 
-// What is made before the doors are opened: room for the parts' beginnings and for the doors in the end, the lock, and
-// what the parts take of the settings.
+// Room for the parts' beginnings, and for the doors in the end.
+#[derive(Drop)]
+struct Rooms<A, C, G> {
+    seats: Vec<Seat<A, C, G>>,
+    room: Vec<A>,
+}
+
+// What is made before the doors are opened: the rooms, the lock, and what the parts take of the settings.
 #[derive(Drop)]
 struct Prepared<A, C, G> {
     lock: BookLock,
     pass: BookPass,
     pace: Pace,
-    seats: Vec<Seat<A, C, G>>,
-    room: Vec<A>,
+    rooms: Rooms<A, C, G>,
+}
+
+// Rooms for so many workers.
+fn rooms_for<A: Drop, C: Drop, G: Drop>(
+    alloc: Global,
+    workers: u32,
+) -> Result<Rooms<A, C, G>, Memory>
+    ensures { IfOk result (HasRooms workers) }
+{
+    let seats = Vec::with_capacity(alloc, workers as usize)?;
+    let room = Vec::with_capacity(alloc, workers as usize)?;
+    Ok(Rooms { seats, room })
+}
+
+// What the parts take of the settings of this book, which goes on, or is let go where memory is wanting.
+fn paced(alloc: Global, book: Book) -> Result<(Pace, Book), Memory>
+    ensures { IfOk result (λ made. made.1 ≡ book) }
+{
+    match pace_of(alloc, &book) {
+        Ok(pace) => Ok((pace, book)),
+        Err(Memory) => {
+            book.let_go();
+            Err(Memory)
+        }
+    }
 }
 
 // Makes all that takes memory.
@@ -51,16 +81,14 @@ fn prepare<A: Drop, C: Drop, G: Drop>(
     requires fresh { book.entries ≡ [] }
     ensures { IfOk result (λ made. IsPrepared book workers made) }
 {
-    let pace = pace_of(alloc, &book)?;
-    let seats = Vec::with_capacity(alloc, workers as usize)?;
-    let room = Vec::with_capacity(alloc, workers as usize)?;
+    let (pace, book) = paced(alloc, book)?;
     let (lock, pass) = TurnLock::new(alloc, book)?;
+    let rooms = rooms_for(alloc, workers)?;
     Ok(Prepared {
         lock,
         pass,
         pace,
-        seats,
-        room,
+        rooms,
     })
 }
 
@@ -83,6 +111,7 @@ fn open_doors<H: Host, K: Sink>(
         × (H.link_writes host.new ≡ H.link_writes host.old) }
     ensures kept { (H.next_left host.new ≡ H.next_left host.old)
         × (H.last_taken host.new ≡ H.last_taken host.old) }
+    ensures beside { K.kept_by_writes output.new ≡ K.kept_by_writes output.old }
 {
     let doors = match host.listen(port, workers) {
         Ok(doors) => doors,
@@ -114,8 +143,7 @@ where
     requires lock { prepared.pass.lock ≡ prepared.lock }
     requires began { (opening : State) × BeganWith opening prepared.pass }
     requires alone { prepared.pass.taken ≡ [] }
-    requires empty { (vec_len prepared.seats ≡ 0) × (prepared.room.items ≡ []) }
-    requires room { (vec_len doors ≤ vec_capacity prepared.seats) × (vec_len doors ≤ vec_capacity prepared.room) }
+    requires rooms { HasRooms (vec_len doors) prepared.rooms }
     requires gates { vec_len gates ≡ vec_len doors + 1 }
     requires new { All (λ door. IsNewDoor (H.Door.door_faults door) (H.Door.out door) (H.Door.sessions door))
         doors.items }
@@ -130,9 +158,9 @@ where
         lock,
         mut pass,
         pace,
-        mut seats,
-        room,
+        rooms,
     } = prepared;
+    let Rooms { mut seats, room } = rooms;
     let mut gates = gates;
     let Some(gate) = gates.pop() else {
         unreachable!()
@@ -200,6 +228,7 @@ where
     ensures clock { clock.new ≡ clock.old }
     ensures kept { (H.next_left host.new ≡ H.next_left host.old)
         × (H.last_taken host.new ≡ H.last_taken host.old) }
+    ensures beside { K.kept_by_writes output.new ≡ K.kept_by_writes output.old }
 {
     let Ok(prepared) = prepare(alloc, book, workers) else {
         return ServeEnd::Memory;

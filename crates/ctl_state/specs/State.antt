@@ -4,6 +4,7 @@ use Rattle.plain_data.specs.declared.conf.Settings.{Settings}
 use Rattle.plain_data.specs.Confs.{ConfView}
 use Rattle.plain_data.specs.Assocs.{AssocView}
 use Rattle.backfill_planner.specs.declared.Placed.{Placed}
+use Rattle.node_state.specs.declared.record.DroppedNode.{DroppedNode}
 use Rattle.node_state.specs.declared.record.NodeRecord.{NodeRecord}
 use Rattle.node_state.specs.Nodes.{opened}
 use Rattle.node_state.specs.declared.partition_record.PartRecord.{PartRecord}
@@ -22,6 +23,8 @@ pub record State : Type 0 where
   pub partitions : List PartRecord
   -- in the order of slurm.conf
   pub nodes : List NodeRecord
+  -- the nodes that are no longer there and were heard, in byte order of their names
+  pub dropped : List DroppedNode
   -- in the order of the association file
   pub assocs : List AssocRecord
   -- the qualities of service, in the order of the association file
@@ -71,6 +74,7 @@ opening conf file = record {
   settings = conf.settings;
   partitions = map (Partitions.opened (map opened conf.nodes)) conf.partitions;
   nodes = map opened conf.nodes;
+  dropped = [];
   assocs = map Accounts.opened file.assocs;
   qos = map Accounts.opened_qos file.qos;
   reservations = [];
@@ -90,6 +94,7 @@ state_of c = record {
   settings = c.settings;
   partitions = c.partitions;
   nodes = c.nodes.records;
+  dropped = c.dropped.items;
   assocs = c.assocs.records;
   qos = c.assocs.qos;
   reservations = c.reservations;

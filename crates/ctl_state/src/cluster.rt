@@ -9,6 +9,7 @@ use backfill_planner::Placed;
 use job_table::jobs::Jobs;
 use node_state::nodes::Nodes;
 use node_state::partitions::Partitions;
+use node_state::record::DroppedNode;
 use node_state::reservations::Reservations;
 use plain_data::conf::Settings;
 use run_limits::assocs::Assocs;
@@ -22,6 +23,8 @@ pub struct Cluster {
     pub partitions: Partitions,
     /// In the order of slurm.conf.
     pub nodes: Nodes,
+    /// The nodes that are no longer there and were heard, in byte order of their names.
+    pub dropped: Vec<DroppedNode>,
     /// The accounts and their users, and the qualities of service, in the order of the association file.
     pub assocs: Assocs,
     /// In the order in which they were made.

@@ -6,6 +6,7 @@ use cpu_ids::CpuIds;
 use plain_data::conf::NodeConf;
 use request_data::report::Heard;
 use small_texts::memory_error::Memory;
+use small_texts::name::Name;
 
 /// By whom a node is down.
 #[derive(Clone, Copy, Debug, PartialEq, Eq)]
@@ -78,6 +79,16 @@ impl Held {
             mem: self.mem,
         }
     }
+}
+
+/// A node that slurm.conf no longer names, and that was heard before (own).
+#[derive(Drop)]
+pub struct DroppedNode {
+    pub name: Name,
+    /// The boot number of its daemon, by its last report.
+    pub boot: u64,
+    /// The number of that report.
+    pub number: u64,
 }
 
 /// What may happen to a node. "State" of `update NodeName` in scontrol(1), and (own) silence and reports.

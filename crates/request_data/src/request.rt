@@ -81,6 +81,9 @@ pub enum Request {
 }
 
 impl Request {
+    /// Lets it go.
+    pub fn let_go(self) {}
+
     /// An equal request.
     pub fn copy(&self) -> Result<Request, Memory>
         ensures { IfOk result (λ request. request ≡ self.now) }

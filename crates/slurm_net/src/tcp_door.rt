@@ -71,7 +71,8 @@ where
     }
 
     fn done(&mut self, link: TcpLink<L::Stream>, _cut: Cut) {
-        link.close();
+        let mut link = link;
+        link.end(&self.runtime);
         self.is_out = false;
     }
 }

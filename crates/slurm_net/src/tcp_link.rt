@@ -4,8 +4,18 @@ ghost use Rattle.slurm_net.specs.Untold.{untold_wire};
 
 use crate::system::{MOST_TRIES, is_interrupted};
 use slurm_io::{Failed, Link, Sink, Source};
-use std::io::{Read, Write};
+use std::io::{ErrorKind, Read, Write};
 use std::net::{OpenStream, Shutdown};
+use std::time::{Clock, Duration};
+
+/// How often it is looked whether the other side has closed its half of a connection too (own).
+const MOST_LOOKS: u32 = 20;
+
+/// How many milliseconds lie between two looks.
+const BETWEEN_LOOKS: u64 = 10;
+
+/// How many pieces are read at one look, at the most.
+const MOST_PIECES: u32 = 64;
 
 /// A connection. A read or a write waits for the other side as long as the stream lets it. One that a signal interrupts
 /// (`ErrorKind::Interrupted`) is tried again, up to 1,024 times in all; each other error, a wait that is over
@@ -38,6 +48,24 @@ impl<S: OpenStream + Drop> TcpLink<S> {
     /// Closes the connection, once what was written is on its way: the other side is told that nothing follows.
     pub(crate) fn close(self) {
         let _ = self.stream.shutdown(Shutdown::Write);
+    }
+}
+
+impl<S: Read + OpenStream> TcpLink<S> {
+    /// Tells the other side that nothing follows, and reads what it has sent and nobody wants, until it has closed its
+    /// half too, for a fifth of a second at the most: where bytes are left unread, the system takes back what is on its
+    /// way. shutdown(2).
+    pub(crate) fn end<R: Clock>(&mut self, runtime: &R) {
+        let _ = self.stream.shutdown(Shutdown::Write);
+        if self.stream.set_nonblocking(true).is_err() {
+            return;
+        }
+        for _ in 0..MOST_LOOKS {
+            if is_at_end(&mut self.stream) {
+                return;
+            }
+            runtime.sleep(Duration::from_millis(BETWEEN_LOOKS));
+        }
     }
 }
 
@@ -113,4 +141,18 @@ fn write_through<S: Write>(stream: &mut S, piece: &[u8]) -> Result<usize, Failed
         }
     }
     Err(Failed)
+}
+
+// Reads what a stream that doesn't wait has, and lets it go. Whether nothing more is to be read of it: it ended, a read
+// failed, or it has more than a few pieces.
+fn is_at_end<S: Read>(stream: &mut S) -> bool {
+    let mut piece = [0; 4_096];
+    for _ in 0..MOST_PIECES {
+        match stream.read(&mut piece) {
+            Ok(0) => return true,
+            Ok(_) => {}
+            Err(error) => return error.kind() != ErrorKind::WouldBlock,
+        }
+    }
+    true
 }

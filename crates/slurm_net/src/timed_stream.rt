@@ -98,4 +98,8 @@ impl<S: OpenStream, R> OpenStream for TimedStream<S, R> {
     fn shutdown(&self, how: Shutdown) -> io::Result<()> {
         self.stream.shutdown(how)
     }
+
+    fn set_nonblocking(&self, nonblocking: bool) -> io::Result<()> {
+        self.stream.set_nonblocking(nonblocking)
+    }
 }

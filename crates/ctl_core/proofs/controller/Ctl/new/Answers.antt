@@ -16,7 +16,7 @@ invariant_of-result c = (
       })
       c.in_ok-partitions.ensures.on_nodes
       (rw c.records-2.ensures.value at c.partitions_in_range.ensures)
-      c.in_ok-jobs.ensures.records c.new-4.ensures.items c.new-2.ensures
+      c.in_ok-jobs.ensures.records c.new-5.ensures.items c.new-3.ensures
       (ap length c.in_ok-jobs.ensures.usage
       ∙ length-replicate (length c.records-3.result.now) 0
       ∙ ap length c.records-3.ensures.value) c.get.ensures.range refl refl,
