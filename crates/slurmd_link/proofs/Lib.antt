@@ -1,0 +1,7 @@
+pub mod Asking
+pub mod Ends
+pub mod Hearing
+pub mod Labels
+pub mod Servers
+pub mod Turning
+pub mod WordBytes

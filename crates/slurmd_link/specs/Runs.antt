@@ -1,0 +1,66 @@
+-- What a run of slurmd leaves, by how it ended.
+use Rattle.std.specs.Prelude.{◌≡◌, ℕ, List, nat_lt, Option, Some, IfSome}
+use Rattle.slurm_io.specs.Faults.{CountsOne}
+use Rattle.slurm_io.specs.Wire.{Wire}
+use Rattle.slurm_net.specs.Accepted.{IsNewLink}
+use Rattle.slurm_net.specs.Host.{CountsIf}
+use Rattle.node_daemon.specs.Daemon.{Daemon, started}
+use Rattle.slurmd_link.specs.Asked.{IsAsked}
+use Rattle.slurmd_link.specs.Links.{IsLinked}
+use Rattle.slurmd_link.specs.Turns.{scene}
+use Rattle.slurmd_link.specs.declared.ending.SlurmdEnd.{SlurmdEnd}
+use Rattle.slurmd_link.specs.declared.ending.SlurmdEnd.TheVariants as end
+use Rattle.slurmd_link.specs.declared.link.LinkEnd.{LinkEnd}
+use Rattle.slurmd_link.specs.declared.words.SlurmdWords.{SlurmdWords}
+
+-- The outside of a run: the moments that its clock gave, the counts of its host, what the link of the next dial has left,
+-- and what the link that was hung up last had taken, where these are told.
+pub record Outside : Type 0 where
+  pub moments : Option (List ℕ)
+  pub faults : ℕ
+  pub link_reads : ℕ
+  pub link_writes : ℕ
+  pub next_left : Option (List ℕ)
+  pub last_taken : Option (List ℕ)
+
+abbrev pub outside : Option (List ℕ) → ℕ → ℕ → ℕ → Option (List ℕ) → Option (List ℕ) → Outside
+outside moments faults link_reads link_writes next_left last_taken = record {
+  moments = moments;
+  faults = faults;
+  link_reads = link_reads;
+  link_writes = link_writes;
+  next_left = next_left;
+  last_taken = last_taken;
+}
+
+-- A link was dialled, new and with what the host had told to be left; over it a daemon that runs nothing made its turns;
+-- and it was hung up: the host tells what it had taken, and counted it where a read or a write of it had failed.
+pub record IsOver (asked : SlurmdWords) (old new : Outside) (linked : LinkEnd) : Type 0 where
+  pub came : Wire
+  pub went : Wire
+  pub after : Daemon
+  pub is_new : IsNewLink came
+  pub left : IfSome old.next_left (λ bytes. came.left ≡ Some bytes)
+  pub turned : IsLinked asked.user (scene came old.moments (started asked.node asked.boot)) (scene went new.moments after) asked.turns linked
+  pub taken : IfSome new.last_taken (λ bytes. went.taken ≡ Some bytes)
+  pub reads : CountsIf (nat_lt 0 went.reads) old.link_reads new.link_reads
+  pub writes : CountsIf (nat_lt 0 went.writes) old.link_writes new.link_writes
+  pub faults : new.faults ≡ old.faults
+
+-- the host couldn't dial, and counted that alone
+abbrev pub IsUndialled : Outside → Outside → Type 0
+IsUndialled old new = CountsOne old.faults new.faults × (new ≡ record old { faults = new.faults })
+
+-- what a run left of what was asked
+abbrev pub HasRun : SlurmdWords → Outside → Outside → SlurmdEnd → Type 0
+HasRun asked old new end.Usage = ⊥
+HasRun asked old new end.DoorFault = IsUndialled old new
+HasRun asked old new end.Memory = new ≡ old
+HasRun asked old new (end.Linked linked) = IsOver asked old new linked
+
+-- what a run left whose words were read
+abbrev pub HasEnded : List (List ℕ) → Outside → Outside → SlurmdEnd → Type 0
+HasEnded words old new end.Usage = ((asked : SlurmdWords) → ¬ IsAsked words asked) × (new ≡ old)
+HasEnded words old new end.DoorFault = ((asked : SlurmdWords) × IsAsked words asked) × IsUndialled old new
+HasEnded words old new end.Memory = new ≡ old
+HasEnded words old new (end.Linked linked) = (asked : SlurmdWords) × IsAsked words asked × IsOver asked old new linked
