@@ -1,0 +1,16 @@
+mod Openings
+mod Rising
+mod Held
+mod Finding
+mod Fitting
+mod Seen
+mod Users
+mod Positions
+mod Numbered
+mod Planned
+mod Reserved
+mod Usages
+mod Assembly
+mod Tasks
+mod Walking
+mod Standing

@@ -1,0 +1,5 @@
+pub mod Restored
+pub mod Fits
+pub mod Steps
+pub mod Parts
+pub mod Refusals

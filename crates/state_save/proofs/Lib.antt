@@ -1,0 +1,17 @@
+pub mod Apart
+pub mod Bodies
+pub mod Bytes
+pub mod Ends
+pub mod FirstBad
+pub mod FirstLines
+pub mod HostWords
+pub mod JobWords
+pub mod LineSteps
+pub mod LineWords
+pub mod ListWords
+pub mod NeedWords
+pub mod OneLine
+pub mod PartWords
+pub mod Rising
+pub mod Values
+pub mod Whole

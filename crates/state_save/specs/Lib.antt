@@ -1,0 +1,9 @@
+pub mod Fitting
+pub mod Groups
+pub mod Lines
+pub mod Meanings
+pub mod Parts
+pub mod Reading
+pub mod Savable
+pub mod Saved
+pub mod Texts
