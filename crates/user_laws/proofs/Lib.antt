@@ -14,3 +14,5 @@ pub mod Using
 pub mod Charging
 pub mod Fitting
 pub mod Below
+pub mod Remaining
+pub mod Accounted

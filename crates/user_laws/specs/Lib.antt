@@ -4,3 +4,4 @@ pub mod Others
 pub mod Waiting
 pub mod Using
 pub mod Planning
+pub mod Accounting

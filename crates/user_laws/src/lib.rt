@@ -2,5 +2,6 @@
 //! nothing but call the laws it rests on.
 #![tactic(auto)]
 
+pub mod accounting;
 pub mod laws;
 pub mod plans;

@@ -1,0 +1,10 @@
+pub mod Overlap
+pub mod Going
+pub mod Adding
+pub mod Setting
+pub mod Counting
+pub mod Bounded
+pub mod Ranges
+pub mod Pushing
+pub mod Quiet
+pub mod Keeps

@@ -1,0 +1,14 @@
+-- Which requests may change what runs.
+use Rattle.std.specs.Prelude.{Bool, true, false}
+use Rattle.request_data.specs.declared.request.NodeOrder.TheVariants.{Down}
+use Rattle.request_data.specs.declared.request.Request.{Request}
+use Rattle.request_data.specs.declared.request.Request.TheVariants.{Cancel, Report, Requeue, Pass, UpdateNode}
+
+-- passes, reports, cancels, requeues, and nodes that are set down
+abbrev pub may_change_running : Request → Bool
+may_change_running Pass = true
+may_change_running (Report report) = true
+may_change_running (Cancel targets) = true
+may_change_running (Requeue target) = true
+may_change_running (UpdateNode nodes Down) = true
+may_change_running request = false

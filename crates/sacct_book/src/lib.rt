@@ -1,0 +1,10 @@
+//! What users have used, summed along the history: in seconds of one processor, for any window of time.
+#![tactic(auto)]
+
+pub mod laws;
+pub mod lines;
+mod running;
+pub mod sums;
+mod timeline;
+mod timelines;
+pub mod window;
