@@ -1,0 +1,2 @@
+pub mod PlainBlocks
+pub mod WordParts

@@ -1,0 +1,5 @@
+pub mod Moments
+pub mod Texts
+pub mod Said
+pub mod Heard
+pub mod Blocks

@@ -1,0 +1,18 @@
+//! Sessions as people write them: lines with comments, moments and users that stay, scripts from files and in place; and
+//! the blocks of the plain form that such lines stand for.
+#![tactic(auto)]
+
+mod blocks;
+mod call;
+mod fault;
+mod moments;
+mod parts;
+mod reader;
+mod said;
+mod verb;
+
+pub use blocks::{block_at, header_of};
+pub use call::{Call, Script, Times};
+pub use fault::LineFault;
+pub use reader::{Heard, Open, Reader, hear, start};
+pub use said::Standing;
