@@ -1,5 +1,5 @@
 -- What the program's words ask.
-use Rattle.std.specs.Prelude.{ℕ, ◌==◌, Bool, not, ◌&&◌, ◌||◌, if◌then◌else◌, List, [], ◌∷◌, length, nat_le, codes, bytes_eq, Option, Some, None, is_some, is_none}
+use Rattle.std.specs.Prelude.{ℕ, ◌==◌, Bool, not, ◌&&◌, ◌||◌, if◌then◌else◌, List, [], ◌∷◌, length, nat_le, codes, bytes_eq, Option, Some, None, is_some, is_none, option_map}
 use Rattle.small_texts.specs.Digits.{number_within}
 use Rattle.small_texts.specs.Options.{◌>>=◌}
 use Rattle.line_words.specs.Words.{first_bad_word}
@@ -8,20 +8,24 @@ use Rattle.command_words.specs.declared.command.Command.{Command}
 use Rattle.command_words.specs.declared.command.Command.TheVariants.{Report, Pass}
 use Rattle.generator.specs.Generated.{number_of}
 use Rattle.slurm_client.specs.Requests.{header_of}
+use Rattle.program_words.specs.declared.asked.Period.{Period}
 use Rattle.program_words.specs.declared.call.Call as call
+use Rattle.program_words.specs.Periods.{period_named}
 use Rattle.program_words.specs.Controller.{Said, said_in}
 use Rattle.program_words.specs.Server.{positive, server_in}
 
--- the files that words name
+-- the files that words name: the two of a cluster, and that of a saved state where it goes on from one
 pub record Named : Type 0 where
   pub conf : List ℕ
   pub assocs : List ℕ
+  pub state : Option (List ℕ)
 
--- What words ask: a script on the cluster of two files; a server of that cluster at a port, with so many workers; the
--- script that a number stands for, or a simulation of its jobs; the call of a server.
+-- What words ask: a script on the cluster of some files, with the sums of a period and the state saved behind it where
+-- they say so; a server of that cluster at a port, with so many workers, and the state saved behind it or not; the script
+-- that a number stands for, or a simulation of its jobs; the call of a server.
 pub data Asked : Type 0 where
-  Script : Named → Asked
-  Serve : Named → ℕ → ℕ → Asked
+  Script : Named → Option Period → Bool → Asked
+  Serve : Named → ℕ → ℕ → Bool → Asked
   Generate : ℕ → Asked
   Simulate : ℕ → Asked
   Call : call.Call → Asked
@@ -50,9 +54,19 @@ has_its_numbers said = said.serve || (is_none said.port && is_none said.workers)
 abbrev pub has_its_run : Said → Bool
 has_its_run said = not said.run || is_some said.generate
 
+-- a saved state is read or written only with script or serve
+abbrev pub has_its_state : Said → Bool
+has_its_state said = is_none said.generate || (is_none said.state && not said.save)
+
+-- sums are there only with script
+abbrev pub has_its_sums : Said → Bool
+has_its_sums said = said.script || is_none said.sacct
+
 -- what may stand together
 abbrev pub are_together : Said → Bool
-are_together said = has_one_task said && has_its_files said && has_its_numbers said && has_its_run said
+are_together said =
+    has_one_task said && has_its_files said && has_its_numbers said && has_its_run said && has_its_state said
+    && has_its_sums said
 
 -- the port, 1 to 65,535, and else 6817; the workers, 1 to 64, and else 4
 abbrev pub port_in : Option (List ℕ) → Option ℕ
@@ -63,23 +77,29 @@ abbrev pub workers_in : Option (List ℕ) → Option ℕ
 workers_in None = Some 4
 workers_in (Some text) = positive (number_within 10 64 text)
 
+-- the period, where one is named
+abbrev pub period_in : Option (List ℕ) → Option (Option Period)
+period_in None = Some None
+period_in (Some text) = option_map Some (period_named text)
+
 abbrev pub files_of : Said → Option Named
 files_of said = do
   conf ← said.conf
   assocs ← said.assocs
-  Some (record { conf = conf; assocs = assocs })
+  Some (record { conf = conf; assocs = assocs; state = said.state })
 
 abbrev pub script_of : Said → Option Asked
 script_of said = do
   files ← files_of said
-  Some (Script files)
+  sacct ← period_in said.sacct
+  Some (Script files sacct said.save)
 
 abbrev pub serve_of : Said → Option Asked
 serve_of said = do
   files ← files_of said
   port ← port_in said.port
   workers ← workers_in said.workers
-  Some (Serve files port workers)
+  Some (Serve files port workers said.save)
 
 abbrev pub by_number : Bool → ℕ → Asked
 by_number run number = if run then Simulate number else Generate number

@@ -14,17 +14,22 @@ bare = record {
 -- with the options that say what is to be done
 abbrev pub with_flags : App → App
 with_flags app =
-    with_rule (with_rule (with_rule app (flag_named (codes "script"))) (flag_named (codes "serve"))) (flag_named (codes "run"))
+    with_rule
+    (with_rule (with_rule (with_rule app (flag_named (codes "script"))) (flag_named (codes "serve"))) (flag_named (codes "run")))
+    (flag_named (codes "save"))
 
 -- with those that name files
 abbrev pub with_files : App → App
 with_files app =
-    with_rule (with_rule app (option_named (codes "conf") (Some (byte "f")))) (option_named (codes "assoc") (Some (byte "a")))
+    with_rule
+    (with_rule (with_rule app (option_named (codes "conf") (Some (byte "f")))) (option_named (codes "assoc") (Some (byte "a"))))
+    (option_named (codes "state") None)
 
--- with those that say how a server is run
+-- with those that say how a server is run, and what is summed up
 abbrev pub with_numbers : App → App
 with_numbers app =
-    with_rule (with_rule app (option_named (codes "port") None)) (option_named (codes "workers") None)
+    with_rule (with_rule (with_rule app (option_named (codes "port") None)) (option_named (codes "workers") None))
+    (option_named (codes "sacct") None)
 
 -- with all of them
 abbrev pub with_all : App

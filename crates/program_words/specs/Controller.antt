@@ -19,10 +19,10 @@ option_named name letter = record (new_rule name) { long = Some name; short = le
 unfoldable pub controller : App
 controller = record {
   top = record (new_shape (codes "slurmctld")) {
-    rules = flag_named (codes "script") ∷ flag_named (codes "serve") ∷ flag_named (codes "run")
+    rules = flag_named (codes "script") ∷ flag_named (codes "serve") ∷ flag_named (codes "run") ∷ flag_named (codes "save")
         ∷ option_named (codes "conf") (Some (byte "f")) ∷ option_named (codes "assoc") (Some (byte "a"))
-        ∷ option_named (codes "port") None ∷ option_named (codes "workers") None
-        ∷ option_named (codes "generate") None ∷ [];
+        ∷ option_named (codes "state") None ∷ option_named (codes "port") None ∷ option_named (codes "workers") None
+        ∷ option_named (codes "sacct") None ∷ option_named (codes "generate") None ∷ [];
     disable_help_flag = true;
     disable_version_flag = true;
   };
@@ -50,10 +50,13 @@ pub record Said : Type 0 where
   pub script : Bool
   pub serve : Bool
   pub run : Bool
+  pub save : Bool
   pub conf : Option (List ℕ)
   pub assocs : Option (List ℕ)
+  pub state : Option (List ℕ)
   pub port : Option (List ℕ)
   pub workers : Option (List ℕ)
+  pub sacct : Option (List ℕ)
   pub generate : Option (List ℕ)
 
 abbrev pub said_by : List Row → Said
@@ -61,10 +64,13 @@ said_by rows = record {
   script = is_found (codes "script") rows;
   serve = is_found (codes "serve") rows;
   run = is_found (codes "run") rows;
+  save = is_found (codes "save") rows;
   conf = value_found (codes "conf") rows;
   assocs = value_found (codes "assoc") rows;
+  state = value_found (codes "state") rows;
   port = value_found (codes "port") rows;
   workers = value_found (codes "workers") rows;
+  sacct = value_found (codes "sacct") rows;
   generate = value_found (codes "generate") rows;
 }
 

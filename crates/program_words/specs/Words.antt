@@ -1,5 +1,5 @@
 -- What the types of this crate say in the words of its definitions.
-use Rattle.std.specs.Prelude.{ℕ, List, Option, option_map}
+use Rattle.std.specs.Prelude.{ℕ, ◌≤◌, List, Option, option_map}
 use Rattle.std.specs.Borrow.{Bor}
 use Rattle.slurm_client.specs.Requests.{FitsRequest}
 use Rattle.std.specs.Prelude.{None}
@@ -19,26 +19,30 @@ said_of said = record {
   script = said.script;
   serve = said.serve;
   run = said.run;
+  save = said.save;
   conf = text_of said.conf;
   assocs = text_of said.assocs;
+  state = text_of said.state;
   port = text_of said.port;
   workers = text_of said.workers;
+  sacct = text_of said.sacct;
   generate = text_of said.generate;
 }
 
 -- the files that names name
 abbrev pub named_by : FileNames → Named
-named_by names = record { conf = names.conf.now; assocs = names.assocs.now }
+named_by names = record { conf = names.conf.now; assocs = names.assocs.now; state = text_of names.state }
 
 -- what is asked
 abbrev pub asked_of : told.Asked → Asked
-asked_of (told_as.Script names) = Script (named_by names)
-asked_of (told_as.Serve names port workers) = Serve (named_by names) port workers
+asked_of (told_as.Script words) = Script (named_by words.files) words.sacct words.save
+asked_of (told_as.Serve words) = Serve (named_by words.files) words.port words.workers words.save
 asked_of (told_as.Generate number) = Generate number
 asked_of (told_as.Simulate number) = Simulate number
 asked_of (told_as.Call call) = Call call
 
--- a call has a request that a server takes, as far as it goes without a script
+-- a server has from 1 to 64 workers; a call has a request that a server takes, as far as it goes without a script
 abbrev pub Fits : told.Asked → Type 0
+Fits (told_as.Serve words) = (1 ≤ words.workers) × (words.workers ≤ 64)
 Fits (told_as.Call call) = FitsRequest call.user call.words None
 Fits asked = Unit {0}

@@ -2,26 +2,52 @@
 
 use crate::Call;
 
-/// The names of the two files of a cluster.
+/// The names of the files that a cluster is opened from.
 #[derive(Clone, Copy)]
 pub struct FileNames<'a> {
     /// That of slurm.conf(5).
     pub conf: &'a str,
     /// That of the association file, sacctmgr(1).
     pub assocs: &'a str,
+    /// That of a saved state, where the cluster goes on from one (own).
+    pub state: Option<&'a str>,
+}
+
+/// The seconds from one on and before another.
+#[derive(Clone, Copy, Debug, PartialEq, Eq)]
+pub struct Period {
+    pub from: u64,
+    pub until: u64,
+}
+
+/// What words of a script say (own).
+#[derive(Clone, Copy)]
+pub struct ScriptWords<'a> {
+    pub files: FileNames<'a>,
+    /// The period whose sums are written behind the answers, as sacct(1) accounts them.
+    pub sacct: Option<Period>,
+    /// Whether the state is saved behind the answers.
+    pub save: bool,
+}
+
+/// What words of a server say (own).
+#[derive(Clone, Copy)]
+pub struct ServeWords<'a> {
+    pub files: FileNames<'a>,
+    pub port: u16,
+    /// From 1 to 64.
+    pub workers: u32,
+    /// Whether the state is saved behind the shutdown.
+    pub save: bool,
 }
 
 /// What words ask (own).
 #[derive(Drop)]
 pub enum Asked<'a> {
-    /// A script on the cluster of two files.
-    Script(FileNames<'a>),
-    /// A server of the cluster of two files, at a port, with so many workers.
-    Serve {
-        files: FileNames<'a>,
-        port: u16,
-        workers: u32,
-    },
+    /// A script on the cluster of its files.
+    Script(ScriptWords<'a>),
+    /// A server of the cluster of its files.
+    Serve(ServeWords<'a>),
     /// The script that a number stands for.
     Generate(u32),
     /// A simulation of the jobs of that script.

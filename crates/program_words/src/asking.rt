@@ -44,7 +44,7 @@ fn call_asked<'a>(
 pub fn asked_in<'a>(alloc: Global, words: &'a [String]) -> Result<Option<Asked<'a>>, Memory>
     ensures asked { IfOk result (λ asked. option_map asked_of asked ≡ asked_in (map string_bytes words.entry.now)) }
 
-    // A server takes the request of a call, as far as it goes without a script.
+    // A server has from 1 to 64 workers, and one takes the request of a call, as far as it goes without a script.
     ensures fits { IfOk result (λ asked. IfSome asked Fits) }
 {
     let Some((name, behind)) = words.split_first() else {

@@ -69,7 +69,8 @@ fn add_flags<'a>(alloc: Global, command: Command<'a>) -> Result<Command<'a>, All
 {
     let command = add_flag(alloc, command, "script")?;
     let command = add_flag(alloc, command, "serve")?;
-    add_flag(alloc, command, "run")
+    let command = add_flag(alloc, command, "run")?;
+    add_flag(alloc, command, "save")
 }
 
 // Adds those that name files.
@@ -77,15 +78,17 @@ fn add_files<'a>(alloc: Global, command: Command<'a>) -> Result<Command<'a>, All
     ensures { IfOk result (λ r. app_of r ≡ with_files (app_of command.entry)) }
 {
     let command = add_lettered(alloc, command, "conf", 'f')?;
-    add_lettered(alloc, command, "assoc", 'a')
+    let command = add_lettered(alloc, command, "assoc", 'a')?;
+    add_option(alloc, command, "state")
 }
 
-// Adds those that say how a server is run.
+// Adds those that say how a server is run, and what is summed up.
 fn add_numbers<'a>(alloc: Global, command: Command<'a>) -> Result<Command<'a>, AllocError>
     ensures { IfOk result (λ r. app_of r ≡ with_numbers (app_of command.entry)) }
 {
     let command = add_option(alloc, command, "port")?;
-    add_option(alloc, command, "workers")
+    let command = add_option(alloc, command, "workers")?;
+    add_option(alloc, command, "sacct")
 }
 
 // The command.
@@ -140,10 +143,13 @@ fn said_by<'a>(matches: &ArgMatches<'a>) -> Said<'a>
         script: is_found(matches, "script"),
         serve: is_found(matches, "serve"),
         run: is_found(matches, "run"),
+        save: is_found(matches, "save"),
         conf: value_found(matches, "conf"),
         assocs: value_found(matches, "assoc"),
+        state: value_found(matches, "state"),
         port: value_found(matches, "port"),
         workers: value_found(matches, "workers"),
+        sacct: value_found(matches, "sacct"),
         generate: value_found(matches, "generate"),
     }
 }

@@ -6,8 +6,9 @@ mod asking;
 mod call;
 mod calling;
 mod controller;
+mod period;
 mod said;
 
-pub use asked::{Asked, FileNames};
+pub use asked::{Asked, FileNames, Period, ScriptWords, ServeWords};
 pub use asking::asked_in;
 pub use call::Call;

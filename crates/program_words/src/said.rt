@@ -1,10 +1,11 @@
 //! What the words of slurmctld(8) say, and what they ask.
 
-ghost use Rattle.std.specs.Prelude.{◌≡◌, ◌&&◌, not, is_some, is_none, option_map, IfSome};
-ghost use Rattle.program_words.specs.Asked.{is_alone, has_one_task, has_its_files, has_its_numbers, has_its_run, are_together, port_in, workers_in, files_of, script_of, serve_of, generate_of, task_of, asked_by};
+ghost use Rattle.std.specs.Prelude.{◌≡◌, ◌≤◌, ◌&&◌, not, is_some, is_none, option_map, IfSome};
+ghost use Rattle.program_words.specs.Asked.{is_alone, has_one_task, has_its_files, has_its_numbers, has_its_run, has_its_state, has_its_sums, are_together, period_in, port_in, workers_in, files_of, script_of, serve_of, generate_of, task_of, asked_by};
 ghost use Rattle.program_words.specs.Words.{said_of, named_by, asked_of, text_of, Fits};
 
-use crate::asked::{Asked, FileNames};
+use crate::asked::{Asked, FileNames, Period, ScriptWords, ServeWords};
+use crate::period::read_period;
 use generator::read_number;
 use small_texts::digits::parse_number;
 
@@ -22,10 +23,13 @@ pub(crate) struct Said<'a> {
     pub script: bool,
     pub serve: bool,
     pub run: bool,
+    pub save: bool,
     pub conf: Option<&'a str>,
     pub assocs: Option<&'a str>,
+    pub state: Option<&'a str>,
     pub port: Option<&'a str>,
     pub workers: Option<&'a str>,
+    pub sacct: Option<&'a str>,
     pub generate: Option<&'a str>,
 }
 
@@ -66,10 +70,39 @@ fn has_its_run(said: &Said<'_>) -> bool
     !said.run || said.generate.is_some()
 }
 
+fn has_its_state(said: &Said<'_>) -> bool
+    ensures { result ≡ has_its_state (said_of said.now) }
+{
+    said.generate.is_none() || (said.state.is_none() && !said.save)
+}
+
+fn has_its_sums(said: &Said<'_>) -> bool
+    ensures { result ≡ has_its_sums (said_of said.now) }
+{
+    said.script || said.sacct.is_none()
+}
+
 fn are_together(said: &Said<'_>) -> bool
     ensures { result ≡ are_together (said_of said.now) }
 {
-    has_one_task(said) && has_its_files(said) && has_its_numbers(said) && has_its_run(said)
+    has_one_task(said)
+        && has_its_files(said)
+        && has_its_numbers(said)
+        && has_its_run(said)
+        && has_its_state(said)
+        && has_its_sums(said)
+}
+
+fn read_sacct(text: Option<&str>) -> Option<Option<Period>>
+    ensures { result ≡ period_in (text_of text.entry) }
+{
+    let Some(text) = text else {
+        return Some(None);
+    };
+    match read_period(text.as_bytes()) {
+        Some(period) => Some(Some(period)),
+        None => None,
+    }
 }
 
 fn read_port(text: Option<&str>) -> Option<u16>
@@ -85,7 +118,8 @@ fn read_port(text: Option<&str>) -> Option<u16>
 }
 
 fn read_workers(text: Option<&str>) -> Option<u32>
-    ensures { result ≡ workers_in (text_of text.entry) }
+    ensures value { result ≡ workers_in (text_of text.entry) }
+    ensures few { IfSome result (λ workers. (1 ≤ workers) × (workers ≤ 64)) }
 {
     let Some(text) = text else {
         return Some(USUAL_WORKERS);
@@ -101,7 +135,11 @@ fn files_of<'a>(said: &Said<'a>) -> Option<FileNames<'a>>
 {
     let conf = said.conf?;
     let assocs = said.assocs?;
-    Some(FileNames { conf, assocs })
+    Some(FileNames {
+        conf,
+        assocs,
+        state: said.state,
+    })
 }
 
 fn script_of<'a>(said: &Said<'a>) -> Option<Asked<'a>>
@@ -109,7 +147,12 @@ fn script_of<'a>(said: &Said<'a>) -> Option<Asked<'a>>
     ensures fits { IfSome result Fits }
 {
     let files = files_of(said)?;
-    Some(Asked::Script(files))
+    let sacct = read_sacct(said.sacct)?;
+    Some(Asked::Script(ScriptWords {
+        files,
+        sacct,
+        save: said.save,
+    }))
 }
 
 fn serve_of<'a>(said: &Said<'a>) -> Option<Asked<'a>>
@@ -119,11 +162,12 @@ fn serve_of<'a>(said: &Said<'a>) -> Option<Asked<'a>>
     let files = files_of(said)?;
     let port = read_port(said.port)?;
     let workers = read_workers(said.workers)?;
-    Some(Asked::Serve {
+    Some(Asked::Serve(ServeWords {
         files,
         port,
         workers,
-    })
+        save: said.save,
+    }))
 }
 
 fn generate_of<'a>(said: &Said<'a>) -> Option<Asked<'a>>

@@ -35,6 +35,10 @@ pub struct Case<'a> {
     pub conf: Option<Vec<u8>>,
     /// The association file, where the case has one of its own.
     pub assocs: Option<Vec<u8>>,
+    /// The saved state `saved.state`, where the case has one.
+    pub state: Option<Vec<u8>>,
+    /// The links that come to the one door of its host, each with the bytes that it asks.
+    pub coming: Vec<Vec<u8>>,
     /// The bytes that the program reads.
     pub input: Vec<u8>,
     /// The bytes that the dialled link has.
@@ -56,6 +60,8 @@ impl<'a> Case<'a> {
             shown: u32::MAX,
             conf: None,
             assocs: None,
+            state: None,
+            coming: Vec::new(alloc),
             input: Vec::new(alloc),
             reply: Vec::new(alloc),
         }
@@ -94,10 +100,21 @@ impl<'a> Case<'a> {
             "+" | "+!" | "+*" => push_text(&mut self.reply, key, text)?,
             "=" | "=!" | "=*" => push_to(alloc, &mut self.conf, key, text)?,
             "@" | "@!" | "@*" => push_to(alloc, &mut self.assocs, key, text)?,
+            "~" | "~!" | "~*" => push_to(alloc, &mut self.state, key, text)?,
+            "?" => self.coming.push(framed(alloc, text)?)?,
             _ => return Ok(false),
         }
         Ok(true)
     }
+}
+
+// A request of the framed form, which has only this header.
+fn framed(alloc: Global, header: &str) -> Result<Vec<u8>, AllocError> {
+    let mut frame = Vec::new(alloc);
+    let length = u32::try_from(header.len()).unwrap_or(u32::MAX);
+    frame.extend_from_slice(&length.to_be_bytes())?;
+    frame.extend_from_slice(header.as_bytes())?;
+    Ok(frame)
 }
 
 // Adds a line to a file, which begins with it where there was none.

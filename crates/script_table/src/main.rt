@@ -11,6 +11,6 @@ use std::io;
 fn main(rt: HostRuntime) -> io::Result<()> {
     let alloc = rt.alloc();
     let text = io::read_to_string(alloc, rt.reader())?;
-    let answers = table::answers(alloc, text.as_str())?;
+    let answers = table::answers(&rt, alloc, text.as_str())?;
     print!(rt; "{answers}")
 }

@@ -37,11 +37,23 @@ fn push_lines(out: &mut String, mark: &str, text: &[u8], most: u32) -> Result<()
     Ok(())
 }
 
-/// The output behind `>`, so many lines at the most, the errors behind `*`, what was sent behind `^`, and the status.
+// The status and the text of each reply, but not its place: who asks beside it makes entries too.
+fn push_replies(out: &mut String, replies: &[Vec<u8>]) -> Result<(), AllocError> {
+    for reply in replies {
+        let status = reply.get(4).copied().unwrap_or(255);
+        writeln!(out, "& {status}")?;
+        push_lines(out, "&", reply.get(13..).unwrap_or(b""), u32::MAX)?;
+    }
+    Ok(())
+}
+
+/// The output behind `>`, so many lines at the most, the errors behind `*`, what was sent behind `^`, what came back at the
+/// door behind `&`, and the status.
 pub fn push_outcome(out: &mut String, outcome: &Outcome, shown: u32) -> Result<(), AllocError> {
     push_lines(out, ">", outcome.output.as_slice(), shown)?;
     push_lines(out, "*", outcome.errors.as_slice(), u32::MAX)?;
     push_lines(out, "^", outcome.sent.as_slice(), u32::MAX)?;
+    push_replies(out, outcome.replies.as_slice())?;
     let status = outcome.status;
     writeln!(out, "status {status}")
 }

@@ -1,8 +1,6 @@
-pub mod Blocks
-pub mod Completeness
+pub mod FileCauses
 pub mod Ends
-pub mod Scripts
 pub mod Summing
-pub mod Telling
-pub mod FileTexts
-pub mod ServeCauses
+pub mod Shutting
+pub mod Opened
+pub mod Sides

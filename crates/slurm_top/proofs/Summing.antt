@@ -1,16 +1,13 @@
 -- What a simulation on the cluster of simulations comes to.
 use Rattle.std.proofs.Common.{◌≡◌, ℕ, List, [], Option, None, Some, IsSomeAnd, Ok, Err, refl, sym, ap, ◌∙◌, subst}
-use Rattle.std.specs.Io.KnownBytes.{Appends}
-use Rattle.slurm_io.specs.Bytes.{AppendsFront}
 use Rattle.slurm_io.specs.Wire.{Wire}
 use Rattle.ctl_desk.specs.Desk.{Seat, state_of}
-use Rattle.ctl_session.specs.declared.session.How.{How}
 use Rattle.ctl_state.specs.State.{State}
 use Rattle.simulation.specs.Simulation.{Simulated, simulated, summary}
-use Rattle.slurm_top.specs.declared.cluster.ClusterRefusal.{ClusterRefusal}
+use Rattle.cluster_opening.specs.declared.refusal.ClusterRefusal.{ClusterRefusal}
 use Rattle.slurm_top.specs.declared.end.End.{End}
-use Rattle.slurm_top.specs.declared.end.End.TheVariants.{Usage, NoFile, BadConf, BadAssocs, Memory, Script, Generated, WriteFault, Spent, Serving, Called}
-use Rattle.slurm_top.specs.Cluster.{opening_in}
+use Rattle.slurm_top.specs.declared.end.End.TheVariants.{Usage, NoFile, BadConf, BadAssocs, BadState, Memory, Script, Generated, WriteFault, Spent, Served, DoorFault, Called}
+use Rattle.cluster_opening.specs.Cluster.{opening_in}
 use Rattle.slurm_top.specs.Run.{IsEndSimulating, IsEndWriting}
 use Rattle.slurm_top.specs.SimulatedCluster.{simulated_assocs, simulated_conf, simulation_of}
 
@@ -47,21 +44,23 @@ found number s desk line (Some sim) opens fresh is tells = record {
   is = tells;
 }
 
-written_line : (number : ℕ) (line : List ℕ) (old new : Wire) (end : End) → IsLine number line
-    → IsEndWriting line old new end → IsEndSimulating number old new end
-written_line number line old new Generated line_is ended =
-    (line_is.sim, line_is.comes, subst (λ text. IsEndWriting text old new Generated) line_is.is ended)
-written_line number line old new WriteFault line_is ended =
-    (line_is.sim, line_is.comes, subst (λ text. IsEndWriting text old new WriteFault) line_is.is ended)
-written_line number line old new Memory line_is ended = ended
-written_line number line old new Usage line_is ended = absurd ended
-written_line number line old new NoFile line_is ended = absurd ended
-written_line number line old new (BadConf at kind) line_is ended = absurd ended
-written_line number line old new (BadAssocs at kind) line_is ended = absurd ended
-written_line number line old new (Script how) line_is ended = absurd ended
-written_line number line old new Spent line_is ended = absurd ended
-written_line number line old new Serving line_is ended = absurd ended
-written_line number line old new (Called call) line_is ended = absurd ended
+written_line : (number : ℕ) (text : List ℕ) (old new : Wire) (end : End) → IsLine number text
+    → IsEndWriting text old new end → IsEndSimulating number old new end
+written_line number text old new Usage line_is ended = absurd ended
+written_line number text old new NoFile line_is ended = absurd ended
+written_line number text old new (BadConf line kind) line_is ended = absurd ended
+written_line number text old new (BadAssocs line kind) line_is ended = absurd ended
+written_line number text old new (BadState line) line_is ended = absurd ended
+written_line number text old new Memory line_is ended = ended
+written_line number text old new (Script how) line_is ended = absurd ended
+written_line number text old new Generated line_is ended =
+    (line_is.sim, line_is.comes, subst (λ other. IsEndWriting other old new Generated) line_is.is ended)
+written_line number text old new WriteFault line_is ended =
+    (line_is.sim, line_is.comes, subst (λ other. IsEndWriting other old new WriteFault) line_is.is ended)
+written_line number text old new Spent line_is ended = absurd ended
+written_line number text old new Served line_is ended = absurd ended
+written_line number text old new DoorFault line_is ended = absurd ended
+written_line number text old new (Called call) line_is ended = absurd ended
 
 pub written : (number : ℕ) (s : State) (desk : Seat) (line : List ℕ) (old new : Wire) (end : End)
     → opening_in simulated_conf simulated_assocs ≡ Ok s → IsFresh s desk

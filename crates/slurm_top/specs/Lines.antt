@@ -4,22 +4,32 @@ use Rattle.assoc_reader.specs.Refusal
 use Rattle.assoc_reader.specs.declared.refusal.AssocKind.{AssocKind}
 use Rattle.conf_values.specs.declared.refusal.ConfKind.{ConfKind}
 use Rattle.conf_values.specs.Refusal.{kind_text}
-use Rattle.slurm_top.specs.declared.opening.OpenRefusal.{OpenRefusal}
-use Rattle.slurm_top.specs.declared.opening.OpenRefusal.TheVariants as refusal
+use Rattle.cluster_opening.specs.declared.opening.OpenRefusal.{OpenRefusal}
+use Rattle.cluster_opening.specs.declared.opening.OpenRefusal.TheVariants as refusal
+use Rattle.cluster_opening.specs.declared.refusal.ClusterRefusal.{ClusterRefusal}
+use Rattle.cluster_opening.specs.declared.refusal.ClusterRefusal.TheVariants as cluster
 use Rattle.ctl_session.specs.declared.session.How.{How}
 use Rattle.ctl_session.specs.declared.session.How.TheVariants as how
 use Rattle.server_call.specs.Calls as calls
 use Rattle.server_call.specs.declared.end.CallEnd.{CallEnd}
 use Rattle.server_call.specs.declared.end.CallEnd.TheVariants as call
 use Rattle.slurm_top.specs.declared.end.End.{End}
-use Rattle.slurm_top.specs.declared.end.End.TheVariants.{Usage, NoFile, BadConf, BadAssocs, Memory, Script, Generated, WriteFault, Spent, Serving, Called}
+use Rattle.slurm_top.specs.declared.end.End.TheVariants.{Usage, NoFile, BadConf, BadAssocs, BadState, Memory, Script, Generated, WriteFault, Spent, Served, DoorFault, Called}
 
 -- the end of a run whose cluster wasn't opened
 abbrev pub unopened : OpenRefusal → End
 unopened refusal.NoFile = NoFile
 unopened (refusal.BadConf line kind) = BadConf line kind
 unopened (refusal.BadAssocs line kind) = BadAssocs line kind
+unopened (refusal.BadState line) = BadState line
 unopened refusal.Memory = Memory
+
+-- likewise where its files are refused
+abbrev pub refused : ClusterRefusal → End
+refused (cluster.BadConf line kind) = BadConf line kind
+refused (cluster.BadAssocs line kind) = BadAssocs line kind
+refused (cluster.BadState line) = BadState line
+refused cluster.Memory = Memory
 
 -- the status of a script's run
 abbrev pub script_status : How → ℕ
@@ -37,13 +47,15 @@ abbrev pub status_of : End → ℕ
 status_of Usage = 2
 status_of (BadConf line kind) = 3
 status_of (BadAssocs line kind) = 4
+status_of (BadState line) = 11
 status_of NoFile = 5
 status_of Memory = 8
 status_of (Script how) = script_status how
 status_of Generated = 0
 status_of WriteFault = 6
 status_of Spent = 9
-status_of Serving = 2
+status_of Served = 0
+status_of DoorFault = 10
 status_of (Called end) = calls.status_of end
 
 -- the line that tells where no block begins, or where one begins that doesn't end
@@ -59,6 +71,10 @@ conf_line line kind =
 abbrev pub assocs_line : ℕ → AssocKind → List ℕ
 assocs_line line kind =
     codes "slurmctld: error: assoc line " ++ decimal line ++ codes ": " ++ Refusal.kind_text kind ++ codes "\n"
+
+-- the line that tells which line of a saved state is bad
+abbrev pub state_line : ℕ → List ℕ
+state_line line = codes "slurmctld: error: state line " ++ decimal line ++ codes "\n"
 
 -- the line of a script's run; there is none where the input was answered to its end
 abbrev pub script_line : How → List ℕ
@@ -86,11 +102,13 @@ abbrev pub line_of : End → List ℕ
 line_of Usage = codes "slurm: error: usage\n"
 line_of (BadConf line kind) = conf_line line kind
 line_of (BadAssocs line kind) = assocs_line line kind
+line_of (BadState line) = state_line line
 line_of NoFile = codes "slurm: error: read\n"
 line_of Memory = codes "slurm: error: memory\n"
 line_of (Script how) = script_line how
 line_of Generated = []
 line_of WriteFault = codes "slurm: error: write\n"
 line_of Spent = codes "slurm: error: spent\n"
-line_of Serving = codes "slurm: error: usage\n"
+line_of Served = []
+line_of DoorFault = codes "slurm: error: door\n"
 line_of (Called end) = call_line end

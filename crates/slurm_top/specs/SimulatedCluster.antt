@@ -2,8 +2,8 @@
 use Rattle.std.specs.Prelude.{ℕ, List, codes, Option, Result, Ok}
 use Rattle.text_values.specs.Steps.{◌>>=◌}
 use Rattle.simulation.specs.Simulation.{Simulated, simulated}
-use Rattle.slurm_top.specs.declared.cluster.ClusterRefusal.{ClusterRefusal}
-use Rattle.slurm_top.specs.Cluster.{opening_in}
+use Rattle.cluster_opening.specs.declared.refusal.ClusterRefusal.{ClusterRefusal}
+use Rattle.cluster_opening.specs.Cluster.{opening_in}
 
 -- its file slurm.conf: 64 nodes of 32 processors in one partition
 unfoldable pub simulated_conf : List ℕ

@@ -2,11 +2,11 @@
 
 ghost use Rattle.std.specs.Prelude.{◌≡◌, ◌≤◌, ◌++◌, length, codes};
 ghost use Rattle.slurm_io.specs.Bytes.{Tells};
-ghost use Rattle.slurm_top.specs.Lines.{status_of, line_of, place_line, conf_line, assocs_line, call_line, unopened};
+ghost use Rattle.slurm_top.specs.Lines.{status_of, line_of, place_line, conf_line, assocs_line, state_line, call_line, unopened};
 
-use crate::OpenRefusal;
 use arrayvec::ArrayString;
 use assoc_reader::refusal::AssocKind;
+use cluster_opening::OpenRefusal;
 use conf_reader::refusal::ConfKind;
 use ctl_session::How;
 use itoa::Buffer;
@@ -27,18 +27,22 @@ pub enum End {
     BadConf { line: u32, kind: ConfKind },
     /// A line of the association file is bad.
     BadAssocs { line: u32, kind: AssocKind },
-    /// Memory was wanting before the script.
+    /// A line of the saved state is bad; 0 is that it is too long, or isn't that of this cluster.
+    BadState { line: u32 },
+    /// Memory was wanting before the script, or for a server.
     Memory,
     /// The script was run, and ended so.
     Script(How),
     /// The script that a number stands for was written, or the line that tells of a simulation.
     Generated,
-    /// A write of it failed.
+    /// A write of it failed, or one of a server's output.
     WriteFault,
-    /// A job of a simulation is left behind its last round.
+    /// A job of a simulation is left behind its last round, or the text of a server's state is longer than one may be.
     Spent,
-    /// A server is asked for, which is another call's to run.
-    Serving,
+    /// A server was shut down.
+    Served,
+    /// The doors of a server weren't opened, or one of them failed.
+    DoorFault,
     /// A server was called, and the call ended so.
     Called(CallEnd),
 }
@@ -49,8 +53,8 @@ impl End {
         ensures { result ≡ status_of self }
     {
         match self {
-            End::Script(How::Closed | How::Shut) | End::Generated => 0,
-            End::Usage | End::Serving => 2,
+            End::Script(How::Closed | How::Shut) | End::Generated | End::Served => 0,
+            End::Usage => 2,
             End::BadConf { .. } => 3,
             End::BadAssocs { .. } => 4,
             End::NoFile | End::Script(How::ReadFault) => 5,
@@ -58,6 +62,8 @@ impl End {
             End::Script(How::Truncated { .. } | How::Bad { .. }) => 7,
             End::Memory | End::Script(How::Memory) => 8,
             End::Spent | End::Script(How::Spent) => 9,
+            End::DoorFault => 10,
+            End::BadState { .. } => 11,
             End::Called(end) => end.status(),
         }
     }
@@ -71,6 +77,7 @@ pub fn end_unopened(refusal: OpenRefusal) -> End
         OpenRefusal::NoFile => End::NoFile,
         OpenRefusal::BadConf { line, kind } => End::BadConf { line, kind },
         OpenRefusal::BadAssocs { line, kind } => End::BadAssocs { line, kind },
+        OpenRefusal::BadState { line } => End::BadState { line },
         OpenRefusal::Memory => End::Memory,
     }
 }
@@ -124,6 +131,17 @@ fn assocs_line(number: u32, kind: AssocKind) -> ArrayString<LINE_LEN>
     line
 }
 
+fn state_line(number: u32) -> ArrayString<LINE_LEN>
+    ensures { result.bytes ≡ state_line number }
+{
+    let mut line = ArrayString::new();
+    let mut buffer = Buffer::new();
+    line.push_str("slurmctld: error: state line ");
+    line.push_str(buffer.format(number));
+    line.push_str("\n");
+    line
+}
+
 // The line of a call that ended so.
 fn call_line(end: CallEnd) -> ArrayString<LINE_LEN>
     ensures { result.bytes ≡ call_line end }
@@ -144,8 +162,8 @@ fn line_of(end: End) -> ArrayString<LINE_LEN>
     ensures { result.bytes ≡ line_of end }
 {
     match end {
-        End::Script(How::Closed | How::Shut) | End::Generated => ArrayString::new(),
-        End::Usage | End::Serving => cause_line("usage"),
+        End::Script(How::Closed | How::Shut) | End::Generated | End::Served => ArrayString::new(),
+        End::Usage => cause_line("usage"),
         End::BadConf { line, kind } => conf_line(line, kind),
         End::BadAssocs { line, kind } => assocs_line(line, kind),
         End::NoFile | End::Script(How::ReadFault) => cause_line("read"),
@@ -153,6 +171,8 @@ fn line_of(end: End) -> ArrayString<LINE_LEN>
         End::Script(How::Truncated { place } | How::Bad { place }) => place_line(place),
         End::Memory | End::Script(How::Memory) => cause_line("memory"),
         End::Spent | End::Script(How::Spent) => cause_line("spent"),
+        End::BadState { line } => state_line(line),
+        End::DoorFault => cause_line("door"),
         End::Called(end) => call_line(end),
     }
 }

@@ -9,7 +9,7 @@ ghost use Rattle.slurm_top.specs.SimulatedCluster.{simulated_conf, simulated_ass
 
 use crate::end::End;
 use crate::generate::write_whole;
-use crate::{ClusterRefusal, open_desk};
+use cluster_opening::{ClusterRefusal, open_desk};
 use ctl_desk::own_desk::OwnDesk;
 use resource_profile::start;
 use simulation::{SimulationRefusal, simulate};
@@ -42,6 +42,7 @@ pub(crate) fn write_summary<L: Link>(alloc: Global, number: u32, link: &mut L) -
         Ok(desk) => desk,
         Err(ClusterRefusal::BadConf { line, kind }) => return End::BadConf { line, kind },
         Err(ClusterRefusal::BadAssocs { line, kind }) => return End::BadAssocs { line, kind },
+        Err(ClusterRefusal::BadState { line: _line }) => unreachable!(),
         Err(ClusterRefusal::Memory) => return End::Memory,
     };
     match simulate(alloc, number, &mut desk, &mut start()) {

@@ -31,7 +31,7 @@ use Rattle.run_limits.specs.Accounts.{above, are_of_one_user, place_meant}
 use Rattle.run_limits.specs.Counting.{counts_of, is_in}
 use Rattle.run_limits.specs.Limits.{limits_reached}
 use Rattle.run_limits.specs.Submitting.{submit_limits}
-use Rattle.slurm_top.specs.Script.{script_of}
+use Rattle.script_run.specs.Script.{script_of}
 use Rattle.ctl_session.specs.Session.{most_blocks}
 use Rattle.block_frame.specs.Grammar.{first_block, blocks_within, blocks_of}
 use Rattle.block_frame.specs.Attachments.{reading_at}

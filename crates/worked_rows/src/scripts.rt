@@ -1,7 +1,7 @@
 // What scripts are answered.
 ghost use Rattle.std.specs.Prelude.{◌≡◌, codes, [], ◌++◌};
 ghost use Rattle.slurm_print.specs.Malformed.{bad_header_text};
-ghost use Rattle.slurm_top.specs.Script.{script_of};
+ghost use Rattle.script_run.specs.Script.{script_of};
 ghost use Rattle.worked_rows.specs.Clusters.{on_one_node, on_four_nodes};
 
 /// Nothing is answered by nothing, and a submission by its job's number or its refusal.

@@ -1,4 +1,4 @@
-use Rattle.std.proofs.Common.{◌≡◌, ◌∷◌, Err, map, string_bytes, sym, ap, ◌∙◌, arith}
+use Rattle.std.proofs.Common.{Err, map, string_bytes, sym, ap, ◌∙◌, arith}
 use Rattle.std.proofs.lemmas.List.{length-map}
 use Rattle.line_words.specs.Words.{first_bad_word}
 use Rattle.program_words.proofs.Headers.{bad_word, many_words}

@@ -1,4 +1,3 @@
-use Rattle.std.proofs.Common.{IsTrue}
 use Rattle.program_words.proofs.Servers.{same_found, name_found}
 use Rattle.program_words.proofs.calling.server_in.Goals as goal
 

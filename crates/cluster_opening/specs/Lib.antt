@@ -1,0 +1,4 @@
+pub mod Cluster
+pub mod Restoring
+pub mod Files
+pub mod Judging

@@ -1,0 +1,16 @@
+//! The cluster of some files, opened: of the two that describe it, and of a saved state where it goes on from one.
+#![tactic(auto)]
+
+mod cluster;
+mod cluster_files;
+mod files;
+mod judging;
+mod laws;
+mod opening;
+mod refusal;
+
+pub use cluster::open_desk;
+pub use cluster_files::{ClusterFiles, controller, desk};
+pub use laws::files_open_one_cluster;
+pub use opening::{OpenRefusal, open_files, open_named};
+pub use refusal::ClusterRefusal;

@@ -1,0 +1,89 @@
+//! The cluster of files of a shelf, opened.
+
+ghost use Rattle.std.specs.Prelude.{◌≡◌};
+ghost use Rattle.cluster_opening.specs.Files.{IsOpening, IsSeating};
+ghost use Rattle.program_words.specs.Words.{named_by};
+
+use crate::cluster_files::{ClusterFiles, desk};
+use crate::files::{Files, read_files};
+use crate::judging::judge;
+use crate::refusal::ClusterRefusal;
+use assoc_reader::refusal::AssocKind;
+use conf_reader::refusal::ConfKind;
+use ctl_desk::own_desk::OwnDesk;
+use program_words::FileNames;
+use saved_data::saved::Saved;
+use slurm_io::{Shelf, ShelfRefusal};
+use small_texts::memory_error::Memory;
+use std::alloc::Global;
+
+/// Why no cluster was opened.
+#[derive(Clone, Copy, Debug, PartialEq, Eq)]
+pub enum OpenRefusal {
+    /// A read of one of the files failed.
+    NoFile,
+    /// A line of slurm.conf(5) is bad; 0 is the file as a whole.
+    BadConf { line: u32, kind: ConfKind },
+    /// A line of the association file is bad, sacctmgr(1); 0 is the file as a whole.
+    BadAssocs { line: u32, kind: AssocKind },
+    /// A line of the saved state is bad; 0 is that it is too long, or isn't that of this cluster.
+    BadState { line: u32 },
+    Memory,
+}
+
+// The files of a cluster, of which the saved state was read.
+fn with_state(files: Files, saved: Option<Saved>) -> ClusterFiles
+    ensures { result ≡ record { conf = files.conf; assocs = files.assocs; saved = saved } }
+{
+    ClusterFiles {
+        conf: files.conf,
+        assocs: files.assocs,
+        saved,
+    }
+}
+
+/// Reads the file slurm.conf(5), the association file, sacctmgr(1), and the saved state of these names, all before any is
+/// judged, and keeps them, where they open a cluster. Linear in the files. To judge them a controller is made, and let
+/// go again.
+pub fn open_files<Q: Shelf>(
+    alloc: Global,
+    names: &FileNames<'_>,
+    shelf: &mut Q,
+) -> Result<ClusterFiles, OpenRefusal>
+    ensures opening { IsOpening (Q.files shelf.old) (named_by names.now)
+        (Q.shelf_faults shelf.old) (Q.shelf_faults shelf.new) result }
+    ensures kept { Q.files shelf.new ≡ Q.files shelf.old }
+{
+    let files = match read_files(alloc, shelf, names) {
+        Ok(files) => files,
+        Err(ShelfRefusal::Failed) => return Err(OpenRefusal::NoFile),
+        Err(ShelfRefusal::Memory) => return Err(OpenRefusal::Memory),
+    };
+    match judge(alloc, &files) {
+        Ok(saved) => Ok(with_state(files, saved)),
+        Err(ClusterRefusal::BadConf { line, kind }) => Err(OpenRefusal::BadConf { line, kind }),
+        Err(ClusterRefusal::BadAssocs { line, kind }) => Err(OpenRefusal::BadAssocs { line, kind }),
+        Err(ClusterRefusal::BadState { line }) => Err(OpenRefusal::BadState { line }),
+        Err(ClusterRefusal::Memory) => Err(OpenRefusal::Memory),
+    }
+}
+
+/// Opens the cluster of the files of these names at a desk of its own, as `open_files` reads them.
+pub fn open_named<Q: Shelf>(
+    alloc: Global,
+    names: &FileNames<'_>,
+    shelf: &mut Q,
+) -> Result<OwnDesk, OpenRefusal>
+    ensures opening { IsSeating (Q.files shelf.old) (named_by names.now)
+        (Q.shelf_faults shelf.old) (Q.shelf_faults shelf.new) result }
+    ensures kept { Q.files shelf.new ≡ Q.files shelf.old }
+{
+    let files = match open_files(alloc, names, shelf) {
+        Ok(files) => files,
+        Err(refusal) => return Err(refusal),
+    };
+    match desk(alloc, &files) {
+        Ok(desk) => Ok(desk),
+        Err(Memory) => Err(OpenRefusal::Memory),
+    }
+}
