@@ -1,0 +1,194 @@
+-- How nodes stand stays as it may.
+use Rattle.std.proofs.Common.{ℕ, ◌≡◌, ◌≤◌, zero, suc, Bool, false, List, [], ◌∷◌, map, All, Option, Some, None, IfSome, refl, slice_get, arith}
+use Rattle.std.specs.List.{list_any}
+use Rattle.std.proofs.lemmas.Bool.{cond_both}
+use Rattle.std.proofs.lemmas.List.Elements.{All-cons, All-head, All-map, All-tail, All-weaker}
+use Rattle.request_data.specs.declared.report.Heard.{Heard as HeardLast}
+use Rattle.request_data.specs.declared.report.Report.{Report as Told}
+use Rattle.request_data.specs.declared.request.NodeOrder.{NodeOrder}
+use Rattle.request_data.specs.declared.request.NodeOrder.TheVariants as order
+use Rattle.request_data.specs.declared.request.Request.{Request}
+use Rattle.request_data.specs.declared.request.Request.TheVariants.{Submit, Cancel, Hold, Release, Requeue, UpdateJob, UpdateNode, UpdatePartition, CreateReservation, DeleteReservation, Report, Pass, Shutdown, Show}
+use Rattle.node_state.specs.declared.record.DownBy.{DownBy}
+use Rattle.node_state.specs.declared.record.DownBy.TheVariants as down
+use Rattle.node_state.specs.declared.record.NodeChange.{NodeChange}
+use Rattle.node_state.specs.declared.record.NodeChange.TheVariants as change
+use Rattle.node_state.specs.declared.record.NodeRecord.{NodeRecord}
+use Rattle.node_state.specs.Nodes.{change_at, changed, noted, resumed, set_down, silent}
+use Rattle.node_state.specs.Partitions.{place_meant}
+use Rattle.job_table.specs.declared.record.JobRecord.{JobRecord}
+use Rattle.ctl_state.specs.State.{State}
+use Rattle.ctl_state.specs.Verdicts.{Stays}
+use Rattle.ctl_submit.specs.Submission.{basis_of, made_under}
+use Rattle.ctl_jobs.specs.declared.action.Action.{Action}
+use Rattle.ctl_jobs.specs.declared.action.Action.TheVariants as act
+use Rattle.ctl_jobs.specs.Changing.{are_meant, are_naming, change_made, goes}
+use Rattle.ctl_nodes.specs.Changing.{changed_where}
+use Rattle.ctl_nodes.specs.Updating.{change_by, changes_any, is_among}
+use Rattle.ctl_node_side.specs.Answering.{is_restarted, node_of}
+use Rattle.ctl_node_side.specs.Passes.{pass_is_idle}
+use Rattle.ctl_node_side.specs.Reporting.{heard_by, lists_nothing}
+use Rattle.ctl_node_side.specs.Restarting.{made_by_report, met}
+use Rattle.ctl_node_side.specs.Silence.{any_silent, falls_silent, silenced}
+use Rattle.ctl_core.specs.Operating.{is_in_state, partition_made}
+use Rattle.ctl_core.specs.Step.{made}
+use Rattle.saved_laws.specs.Kept.{Stands}
+use Rattle.saved_laws.proofs.Comings.{MakesBy}
+
+-- ---- one node
+
+-- a node that isn't empty
+not-empty : (moment : ℕ) (node : NodeRecord) → node.empty ≡ false
+    → IfSome node.heard (λ (heard : HeardLast). heard.moment ≤ moment) → Stands moment node
+not-empty moment node not heard = record {
+  empty = λ is. absurd (let no = not in cc);
+  heard = heard;
+}
+
+silent-stands : (moment : ℕ) (node : NodeRecord) (by : DownBy) → node.down ≡ by → Stands moment node
+    → Stands moment (silent node by)
+silent-stands moment node down.No is stands = record {
+  empty = λ empty. absurd (let set = (stands.empty empty).0 in let no = is in cc);
+  heard = stands.heard;
+}
+silent-stands moment node down.Silent is stands = stands
+silent-stands moment node down.Set is stands = stands
+
+down-stands : (moment : ℕ) (node : NodeRecord) (by : DownBy) → Stands moment node → Stands moment (set_down node by)
+down-stands moment node down.No stands = not-empty moment (set_down node down.No) refl stands.heard
+down-stands moment node down.Silent stands = not-empty moment (set_down node down.Silent) refl stands.heard
+down-stands moment node down.Set stands = stands
+
+resumed-stands : (moment : ℕ) (node : NodeRecord) (by : DownBy) → Stands moment node → Stands moment (resumed node by)
+resumed-stands moment node down.No stands = record { empty = stands.empty; heard = stands.heard }
+resumed-stands moment node down.Silent stands = record { empty = stands.empty; heard = stands.heard }
+resumed-stands moment node down.Set stands = not-empty moment (resumed node down.Set) refl stands.heard
+
+noted-stands : (moment : ℕ) (node : NodeRecord) (heard : HeardLast) (empty : Bool) (by : DownBy) → node.down ≡ by
+    → heard.moment ≤ moment → Stands moment node → Stands moment (record (noted node empty by) { heard = Some heard })
+noted-stands moment node heard empty down.No is later stands = record {
+  empty = λ empty. ((stands.empty empty).0, refl);
+  heard = later;
+}
+noted-stands moment node heard empty down.Silent is later stands = record {
+  empty = λ empty. absurd (let set = (stands.empty empty).0 in let no = is in cc);
+  heard = later;
+}
+noted-stands moment node heard empty down.Set is later stands = record { empty = λ empty. (is, refl); heard = later }
+
+-- what is heard isn't of a later moment
+abbrev IsHeardBy : ℕ → NodeChange → Type 0
+IsHeardBy moment change.Silent = Unit {0}
+IsHeardBy moment change.Down = Unit {0}
+IsHeardBy moment change.Drain = Unit {0}
+IsHeardBy moment change.Resume = Unit {0}
+IsHeardBy moment (change.Heard heard empty) = heard.moment ≤ moment
+
+changed-stands : (moment : ℕ) (one : NodeChange) (node : NodeRecord) → IsHeardBy moment one → Stands moment node
+    → Stands moment (changed one node)
+changed-stands moment change.Silent node by stands = silent-stands moment node node.down refl stands
+changed-stands moment change.Down node by stands = down-stands moment node node.down stands
+changed-stands moment change.Drain node by stands = record { empty = stands.empty; heard = stands.heard }
+changed-stands moment change.Resume node by stands = resumed-stands moment node node.down stands
+changed-stands moment (change.Heard heard empty) node by stands =
+    noted-stands moment node heard empty node.down refl by stands
+
+-- ---- all nodes
+
+where-stand : (moment : ℕ) (one : NodeChange) (test : NodeRecord → Bool) (nodes : List NodeRecord) → IsHeardBy moment one
+    → All (Stands moment) nodes → All (Stands moment) (map (changed_where one test) nodes)
+where-stand moment one test nodes by stand =
+    All-map (Stands moment) (changed_where one test) nodes
+    (All-weaker (Stands moment) (λ (node : NodeRecord). Stands moment (changed_where one test node))
+    (λ node stands. cond_both (test node) (changed one node) node (Stands moment)
+    (λ is. changed-stands moment one node by stands) (λ not. stands)) nodes stand)
+
+at-stand : (moment place : ℕ) (one : NodeChange) (nodes : List NodeRecord) → IsHeardBy moment one
+    → All (Stands moment) nodes → All (Stands moment) (change_at place one nodes)
+at-stand moment place one [] by stand = stand
+at-stand moment zero one (node ∷ nodes) by stand =
+    All-cons (Stands moment) (changed one node) nodes
+    (changed-stands moment one node by (All-head (Stands moment) node nodes stand)) (All-tail (Stands moment) node nodes stand)
+at-stand moment (suc place) one (node ∷ nodes) by stand =
+    All-cons (Stands moment) node (change_at place one nodes) (All-head (Stands moment) node nodes stand)
+    (at-stand moment place one nodes by (All-tail (Stands moment) node nodes stand))
+
+later-stands : (moment later : ℕ) (node : NodeRecord) → moment ≤ later → Stands moment node → Stands later node
+later-stands moment later node after stands = record {
+  empty = stands.empty;
+  heard = by node.heard stands.heard;
+}
+  where
+    by : (heard : Option HeardLast) → IfSome heard (λ (heard : HeardLast). heard.moment ≤ moment)
+        → IfSome heard (λ (heard : HeardLast). heard.moment ≤ later)
+    by None is = tt
+    by (Some heard) is = omega (arith, is, after)
+
+pub all_later : (moment later : ℕ) (nodes : List NodeRecord) → moment ≤ later → All (Stands moment) nodes
+    → All (Stands later) nodes
+all_later moment later nodes after stand =
+    All-weaker (Stands moment) (Stands later) (λ node stands. later-stands moment later node after stands) nodes stand
+
+-- ---- what each request makes
+
+-- the state's nodes stand as they may at the moment
+abbrev pub Standing : ℕ → State → Type 0
+Standing moment s = All (Stands moment) s.nodes
+
+jobs-stand : (s : State) (moment : ℕ) (user : List ℕ) (action : Action) (named : JobRecord → Bool)
+    → Standing moment s → MakesBy (Standing moment) (change_made s moment user action named)
+jobs-stand s moment user action named stand =
+    cond_both (list_any (goes s user action named) s.jobs) _ Stays (MakesBy (Standing moment)) (λ some. stand) (λ none. tt)
+
+met-stand : (s : State) (moment node : ℕ) (report : Told) → Standing moment s → Standing moment (met s moment node report)
+met-stand s moment node report stand =
+    cond_both (is_restarted s report) _ s (Standing moment) (λ restarted. stand) (λ not. stand)
+
+silenced-stand : (s : State) (moment : ℕ) → Standing moment s → Standing moment (silenced s moment)
+silenced-stand s moment stand =
+    cond_both (any_silent s moment) _ s (Standing moment)
+    (λ some. where-stand moment change.Silent (falls_silent s.settings.slurmd_timeout moment) s.nodes tt stand)
+    (λ none. stand)
+
+ordered : (moment : ℕ) (state : NodeOrder) → IsHeardBy moment (change_by state)
+ordered moment order.Down = tt
+ordered moment order.Drain = tt
+ordered moment order.Resume = tt
+
+pub made_standing : (s : State) (moment : ℕ) (user : List ℕ) (request : Request) → Standing moment s
+    → MakesBy (Standing moment) (made s moment user request)
+made_standing s moment user (Submit desc) stand =
+    elim (basis_of s user desc) as (λ basis. MakesBy (Standing moment) (made_under s moment user desc basis))
+    [ None ↦ tt | Some basis ↦ stand ]
+made_standing s moment user (Cancel targets) stand = jobs-stand s moment user act.Cancel (are_meant targets) stand
+made_standing s moment user (Hold targets for_owner) stand =
+    jobs-stand s moment user (act.Hold for_owner) (are_naming targets) stand
+made_standing s moment user (Release targets) stand = jobs-stand s moment user act.Release (are_naming targets) stand
+made_standing s moment user (Requeue target) stand =
+    jobs-stand s moment user act.Requeue (are_naming (target ∷ [])) stand
+made_standing s moment user (UpdateJob target limit nice) stand =
+    jobs-stand s moment user (act.Update limit nice) (are_naming (target ∷ [])) stand
+made_standing s moment user (UpdateNode names state) stand =
+    cond_both (changes_any s names state) _ Stays (MakesBy (Standing moment))
+    (λ some. where-stand moment (change_by state) (is_among names) s.nodes (ordered moment state) stand) (λ none. tt)
+made_standing s moment user (UpdatePartition name state) stand =
+    elim (place_meant (Some name) s.partitions) as (λ place. MakesBy (Standing moment) (partition_made s state place)) [
+      | None ↦ tt
+      | Some place ↦
+          cond_both (is_in_state state (slice_get s.partitions place)) Stays _ (MakesBy (Standing moment)) (λ had. tt)
+          (λ out. stand)
+    ]
+made_standing s moment user (CreateReservation desc) stand = stand
+made_standing s moment user (DeleteReservation name) stand = stand
+made_standing s moment user Shutdown stand = stand
+made_standing s moment user (Report report) stand =
+    elim (node_of s report) as (λ node. MakesBy (Standing moment) (made_by_report s moment report node)) [
+      | None ↦ tt
+      | Some node ↦
+          at-stand moment node (change.Heard (heard_by moment report) (lists_nothing report.running))
+          (met s moment node report).nodes (omega arith) (met-stand s moment node report stand)
+    ]
+made_standing s moment user Pass stand =
+    cond_both (pass_is_idle s moment) Stays _ (MakesBy (Standing moment)) (λ idle. tt)
+    (λ busy. silenced-stand s moment stand)
+made_standing s moment user (Show query) stand = tt
