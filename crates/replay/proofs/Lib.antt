@@ -1,0 +1,6 @@
+pub mod Answered
+pub mod Due
+pub mod Events
+pub mod Reported
+pub mod Telling
+pub mod Turning

@@ -1,0 +1,15 @@
+//! What a cluster would have done with the jobs of a trace: submissions are worked at a desk at their moments, the nodes'
+//! daemons run what they are ordered, and a pass is made behind each event.
+#![tactic(auto)]
+
+mod asking;
+mod event;
+mod handing;
+pub mod laws;
+mod nodes;
+mod played;
+mod replaying;
+mod turns;
+
+pub use played::Played;
+pub use replaying::{ReplayRefusal, Replayed, replay};

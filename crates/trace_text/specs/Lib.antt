@@ -1,0 +1,10 @@
+pub mod Fields
+pub mod Jobs
+pub mod Names
+pub mod Refusals
+pub mod Sacct
+pub mod SacctValues
+pub mod Steps
+pub mod Swf
+pub mod SwfValues
+pub mod Traces
