@@ -1,5 +1,5 @@
 -- A line that grows as an input is read.
-use Rattle.std.proofs.Common.{◌≡◌, ℕ, Option, true, List, [], ◌∷◌, ◌++◌, append_assoc, sym, ap, subst, ◌∙◌, refl, All}
+use Rattle.std.proofs.Common.{◌≡◌, ℕ, Option, true, List, [], ◌∷◌, ◌++◌, append_assoc, sym, ap, subst, ◌∙◌, refl}
 use Rattle.std.specs.Prelude.{◌≢◌}
 use Rattle.std.specs.Str.{byte}
 use Rattle.std.specs.Io.KnownBytes.{Consumes}

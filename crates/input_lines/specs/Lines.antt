@@ -14,6 +14,21 @@ abbrev pub without_return : List ℕ → List ℕ
 without_return line =
     if unwrap_or (slice_get line (length line - 1)) 0 == 13 then take (length line - 1) line else line
 
+-- the line that was begun, where there is one
+abbrev pub last_line : List ℕ → List (List ℕ)
+last_line [] = []
+last_line (b ∷ begun) = without_return (b ∷ begun) ∷ []
+
+-- the lines of what is left of a text, behind the beginning of one
+abbrev pub lines_behind : List ℕ → List ℕ → List (List ℕ)
+lines_behind begun [] = last_line begun
+lines_behind begun (b ∷ text) =
+    if b == byte "\n" then without_return begun ∷ lines_behind [] text else lines_behind (begun ++ b ∷ []) text
+
+-- The lines of a text: each without the LF that ends it and a CR before that. The last one may lack its LF.
+abbrev pub lines_of : List ℕ → List (List ℕ)
+lines_of text = lines_behind [] text
+
 -- no LF is in a text
 abbrev pub HasOneLine : List ℕ → Type 0
 HasOneLine text = All (λ b. b ≢ byte "\n") text
@@ -54,7 +69,8 @@ IsFound old new before after pending pending' (Line line) =
     × (after ≡ before)
 -- the input ended within a line, which is read as if it had its LF
 IsFound old new before after pending pending' (Last line) =
-    ((read : List ℕ) × Consumes old new read × BeginsWithLine (pending ++ read ++ byte "\n" ∷ []) line.items [])
+    ((read : List ℕ) × Consumes old new read × (pending ++ read ≢ [])
+    × BeginsWithLine (pending ++ read ++ byte "\n" ∷ []) line.items [])
     × IsAtEnd new × (pending' ≡ []) × (after ≡ before)
 -- the input ended on a line's end
 IsFound old new before after pending pending' End =

@@ -1,5 +1,6 @@
 pub mod Times
 pub mod Frees
+pub mod Holding
 pub mod SameFrom
 pub mod Walking
 pub mod Marking
@@ -7,7 +8,6 @@ pub mod Settled
 pub mod Listing
 pub mod Turning
 pub mod Freeing
-pub mod SameJobs
 pub mod Beginning
 pub mod Stepping
 pub mod SameTimes

@@ -26,21 +26,21 @@ nodes-then old planning before stands =
     subst (λ nodes. All (StaysFrom old.base.rooms (holds_before old.base old.ranked old.moment before) planning.base.rooms (holds_before planning.base planning.ranked planning.moment planning.done) planning.moment) nodes)
     (sym (same-nodes planning.moment (then old before stands.job) stands.job (stands.was stands.job))) stands.nodes
 
-pub stands-some : PlannerLaws → (old : PlannedView) (planning : PlanningView) (before : ℕ) (placed : Placed) → (stands : StandsAgain old planning before) → old.moment ≤ planning.moment → planning.base.horizon ≤ LAST_START → placement_of old.base old.ranked old.moment before (then old before stands.job) ≡ Some placed → planning.moment ≤ placed.start → placed.start ≤ planning.base.horizon → placement_of planning.base planning.ranked planning.moment planning.done stands.job ≡ Some placed
+pub stands-some : PlannerLaws → (old : PlannedView) (planning : PlanningView) (before : ℕ) (placed : Placed) → (stands : StandsAgain old planning before) → old.moment ≤ planning.moment → planning.base.horizon ≤ LAST_START → Some placed ≡ placement_of old.base old.ranked old.moment before (then old before stands.job) → planning.moment ≤ placed.start → placed.start ≤ planning.base.horizon → placement_of planning.base planning.ranked planning.moment planning.done stands.job ≡ Some placed
 stands-some laws old planning before placed stands order low was from within =
     let was_job = then old before stands.job in
     let holds = holds_before planning.base planning.ranked planning.moment planning.done in
     sym (same-placed planning.base.rooms holds was_job stands.job planning.moment planning.moment planning.base.horizon (stands.was stands.job) (omega arith))
-    ∙ laws.some old.base.rooms (holds_before old.base old.ranked old.moment before) planning.base.rooms holds was_job old.moment planning.moment old.base.horizon planning.base.horizon placed (same-in_time planning.moment was_job stands.job (stands.was stands.job) stands.in_time) order low (nodes-then old planning before stands) was from within
+    ∙ laws.some old.base.rooms (holds_before old.base old.ranked old.moment before) planning.base.rooms holds was_job old.moment planning.moment old.base.horizon planning.base.horizon placed (same-in_time planning.moment was_job stands.job (stands.was stands.job) stands.in_time) order low (nodes-then old planning before stands) (sym was) from within
 
-pub stands-none : PlannerLaws → (old : PlannedView) (planning : PlanningView) (before : ℕ) → (stands : StandsAgain old planning before) → old.moment ≤ planning.moment → placement_of old.base old.ranked old.moment before (then old before stands.job) ≡ None → NoneBefore planning.base.rooms (holds_before planning.base planning.ranked planning.moment planning.done) stands.job planning.moment (old.base.horizon + 1)
+pub stands-none : PlannerLaws → (old : PlannedView) (planning : PlanningView) (before : ℕ) → (stands : StandsAgain old planning before) → old.moment ≤ planning.moment → None ≡ placement_of old.base old.ranked old.moment before (then old before stands.job) → NoneBefore planning.base.rooms (holds_before planning.base planning.ranked planning.moment planning.done) stands.job planning.moment (old.base.horizon + 1)
 stands-none laws old planning before stands order was =
     let was_job = then old before stands.job in
     let holds = holds_before planning.base planning.ranked planning.moment planning.done in
     same-none planning.base.rooms holds was_job stands.job planning.moment (old.base.horizon + 1) (stands.was stands.job)
-    (laws.none old.base.rooms (holds_before old.base old.ranked old.moment before) planning.base.rooms holds was_job old.moment planning.moment old.base.horizon (same-in_time planning.moment was_job stands.job (stands.was stands.job) stands.in_time) order (nodes-then old planning before stands) was)
+    (laws.none old.base.rooms (holds_before old.base old.ranked old.moment before) planning.base.rooms holds was_job old.moment planning.moment old.base.horizon (same-in_time planning.moment was_job stands.job (stands.was stands.job) stands.in_time) order (nodes-then old planning before stands) (sym was))
 
-pub stands-nowhere : PlannerLaws → (old : PlannedView) (planning : PlanningView) (before : ℕ) → (stands : StandsAgain old planning before) → old.moment ≤ planning.moment → planning.base.horizon ≤ LAST_START → planning.base.horizon ≤ old.base.horizon → placement_of old.base old.ranked old.moment before (then old before stands.job) ≡ None → placement_of planning.base planning.ranked planning.moment planning.done stands.job ≡ None
+pub stands-nowhere : PlannerLaws → (old : PlannedView) (planning : PlanningView) (before : ℕ) → (stands : StandsAgain old planning before) → old.moment ≤ planning.moment → planning.base.horizon ≤ LAST_START → planning.base.horizon ≤ old.base.horizon → None ≡ placement_of old.base old.ranked old.moment before (then old before stands.job) → placement_of planning.base planning.ranked planning.moment planning.done stands.job ≡ None
 stands-nowhere laws old planning before stands order low past was =
     laws.nowhere planning.base.rooms (holds_before planning.base planning.ranked planning.moment planning.done) stands.job planning.moment old.base.horizon planning.base.horizon past low (stands-none laws old planning before stands order was)
 

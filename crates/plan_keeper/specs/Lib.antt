@@ -2,4 +2,5 @@ pub mod Steady
 pub mod Marks
 pub mod Planner
 pub mod Nodes
+pub mod Holding
 pub mod Turns

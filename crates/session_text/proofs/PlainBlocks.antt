@@ -1,5 +1,5 @@
 -- A block that passes the test is one of the plain form.
-use Rattle.std.proofs.Common.{◌≡◌, ◌&&◌, ℕ, ◌-◌, ◌<◌, ◌≤◌, Bool, true, false, List, [], ◌∷◌, length, get_or, Option, Some, None, nat_eq, refl, sym, ◌∙◌, arith, All}
+use Rattle.std.proofs.Common.{◌≡◌, ◌&&◌, ℕ, ◌-◌, ◌<◌, ◌≤◌, Bool, true, false, List, [], ◌∷◌, length, get_or, Option, Some, None, nat_eq, refl, sym, subst, ◌∙◌, arith, All}
 use Rattle.std.specs.Prelude.{◌≢◌, ◌==◌, not, nat_lt, nat_le, is_some, slice_get, slice_index, unwrap_or, if◌then◌else◌, IfSome}
 use Rattle.std.specs.List.{list_all}
 use Rattle.std.specs.Str.{byte}
@@ -11,7 +11,7 @@ use Rattle.block_frame.specs.Attachments.{IsAttachment}
 use Rattle.block_frame.specs.Grammar.{IsHeaderLine, IsPlainBlock, header_line, is_marked}
 use Rattle.block_frame.specs.LineFeeds.{is_line_feed}
 use Rattle.block_frame.specs.declared.block.Block.{Block}
-use Rattle.session_text.specs.Blocks.{is_plain, is_plain_line, is_plain_script, last_byte}
+use Rattle.session_text.specs.Blocks.{block_at, block_with, header_of, is_plain, is_plain_line, is_plain_script, last_byte}
 
 first : (a b : Bool) → a && b ≡ true → a ≡ true
 first true b e = refl
@@ -79,3 +79,16 @@ plain_block block e =
       marked = marks (is_some block.attachment) (is_marked (header_line block)) (rest _ _ line);
       attachment = script_of block.attachment (rest _ _ e);
     }
+
+passed : (passes : Bool) (block one : Block) → is_plain block ≡ passes
+    → (if passes then Some block else None) ≡ Some one → IsPlainBlock one
+passed true block one is same = subst IsPlainBlock (cc) (plain_block block is)
+passed false block one is same = absurd (cc)
+
+-- so each block that a call stands for is one
+pub block_of_call : (moment : ℕ) (user : List ℕ) (words : List (List ℕ)) (script : Option (List ℕ)) (block : Block)
+    → block_at moment user words script ≡ Some block → IsPlainBlock block
+unfolding block_at
+block_of_call moment user words script block same =
+    passed (is_plain (block_with (header_of moment user words) script)) (block_with (header_of moment user words) script)
+    block refl same

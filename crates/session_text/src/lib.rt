@@ -5,6 +5,7 @@
 mod blocks;
 mod call;
 mod fault;
+mod laws;
 mod moments;
 mod parts;
 mod reader;
@@ -14,5 +15,6 @@ mod verb;
 pub use blocks::{block_at, header_of};
 pub use call::{Call, Script, Times};
 pub use fault::LineFault;
+pub use laws::blocks_of_calls_are_plain;
 pub use reader::{Heard, Open, Reader, hear, start};
 pub use said::Standing;

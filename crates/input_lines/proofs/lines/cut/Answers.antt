@@ -1,4 +1,4 @@
-use Rattle.std.proofs.Common.{◌≡◌, ◌++◌, ap, sym, ◌∙◌, arith, length, take, drop, ◌≤◌, ◌<◌}
+use Rattle.std.proofs.Common.{◌≡◌, ◌++◌, ap, ◌∙◌, arith, length, take, ◌≤◌, ◌<◌}
 use Rattle.input_lines.proofs.Feeds.{len_of, cut_whole, cut_open}
 use Rattle.input_lines.proofs.lines.cut.Goals as goal
 

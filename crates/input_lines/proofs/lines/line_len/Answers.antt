@@ -1,4 +1,4 @@
-use Rattle.std.proofs.Common.{arith, sym, ◌∙◌}
+use Rattle.std.proofs.Common.{arith}
 use Rattle.input_lines.proofs.Feeds.{len_found, len_open, len_fits}
 use Rattle.input_lines.proofs.lines.line_len.Goals as goal
 

@@ -1,5 +1,5 @@
-use Rattle.std.proofs.Common.{◌∙◌, refl}
-use Rattle.input_lines.proofs.Longer.{read_more, one_line, whole_line, none_read, last_line, some_read}
+use Rattle.std.proofs.Common.{◌∙◌}
+use Rattle.input_lines.proofs.Longer.{read_more, one_line, whole_line, some_read}
 use Rattle.input_lines.proofs.lines.next_line.Goals as goal
 
 pub returns-in-Whole : goal.returns-in-Whole

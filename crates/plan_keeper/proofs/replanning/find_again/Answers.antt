@@ -1,4 +1,4 @@
-use Rattle.std.proofs.Common.{◌≡◌, ◌≤◌, arith, ap, refl, sym, ◌∙◌, get_or, Some, None}
+use Rattle.std.proofs.Common.{◌≡◌, ◌≤◌, arith, ap, refl, sym, ◌∙◌, Some, None}
 use Rattle.backfill_planner.specs.Bases.{BaseView}
 use Rattle.backfill_planner.specs.Plans.{placement_of}
 use Rattle.plan_keeper.proofs.Turning.{stands-some, stands-none, stands-nowhere}
@@ -20,7 +20,7 @@ returns-then-placed-horizon-clause-placed g c = λ d.
     let low : planning.base.horizon ≤ LAST_START = rw horizon_is at c.behind-planning.invariant.1 in
     let moment : c.args.now ≡ planning.moment = c.requires.now in
     let order : old.moment ≤ planning.moment = rw moment at c.requires.later in
-    let was : placement_of old.base old.ranked old.moment before (get_or old.ranked before stands.job) ≡ Some c.in-Some.placed.now = sym (c.in-Some.ensures stands.job) in
+    let was = c.in-Some.ensures stands.job in
     let is : placement_of planning.base planning.ranked planning.moment planning.done stands.job ≡ Some c.in-Some.placed.now = stands-some c.requires.laws old planning before c.in-Some.placed.now stands order low was (omega (arith, moment, c.if-now-placed.true)) (omega (arith, horizon_is, c.if-placed-horizon.true)) in
     rw (stands.is d, c.in_ok-placed-in-Some.ensures) (sym is)
 
@@ -35,7 +35,7 @@ returns-then-placed-horizon-clause-before g c =
     let low : planning.base.horizon ≤ LAST_START = rw horizon_is at c.behind-planning.invariant.1 in
     let moment : c.args.now ≡ planning.moment = c.requires.now in
     let order : old.moment ≤ planning.moment = rw moment at c.requires.later in
-    let was : placement_of old.base old.ranked old.moment before (get_or old.ranked before stands.job) ≡ Some c.in-Some.placed.now = sym (c.in-Some.ensures stands.job) in
+    let was = c.in-Some.ensures stands.job in
     let is : placement_of planning.base planning.ranked planning.moment planning.done stands.job ≡ Some c.in-Some.placed.now = stands-some c.requires.laws old planning before c.in-Some.placed.now stands order low was (omega (arith, moment, c.if-now-placed.true)) (omega (arith, horizon_is, c.if-placed-horizon.true)) in
     (refl, λ d. rw (stands.is d) (is ∙ c.in-Some.ensures d))
 
@@ -50,7 +50,7 @@ returns-then-horizon-last-clause-placed g c = λ d.
     let low : planning.base.horizon ≤ LAST_START = rw horizon_is at c.behind-planning.invariant.1 in
     let moment : c.args.now ≡ planning.moment = c.requires.now in
     let order : old.moment ≤ planning.moment = rw moment at c.requires.later in
-    let was : placement_of old.base old.ranked old.moment before (get_or old.ranked before stands.job) ≡ None = sym (c.in-None.ensures stands.job) in
+    let was = c.in-None.ensures stands.job in
     rw (stands.is d) (sym (stands-nowhere c.requires.laws old planning before stands order low (omega (arith, horizon_is, last_is, c.if-horizon-last.true)) was))
 
 pub returns-then-horizon-last-clause-before : goal.returns-then-horizon-last-clause-before
@@ -64,7 +64,7 @@ returns-then-horizon-last-clause-before g c =
     let low : planning.base.horizon ≤ LAST_START = rw horizon_is at c.behind-planning.invariant.1 in
     let moment : c.args.now ≡ planning.moment = c.requires.now in
     let order : old.moment ≤ planning.moment = rw moment at c.requires.later in
-    let was : placement_of old.base old.ranked old.moment before (get_or old.ranked before stands.job) ≡ None = sym (c.in-None.ensures stands.job) in
+    let was = c.in-None.ensures stands.job in
     let is : placement_of planning.base planning.ranked planning.moment planning.done stands.job ≡ None = stands-nowhere c.requires.laws old planning before stands order low (omega (arith, horizon_is, last_is, c.if-horizon-last.true)) was in
     (refl, λ d. rw (stands.is d) (is ∙ c.in-None.ensures d))
 
@@ -79,7 +79,7 @@ search_next-requires-clause-none g c = λ d.
     let low : planning.base.horizon ≤ LAST_START = rw horizon_is at c.behind-planning.invariant.1 in
     let moment : c.args.now ≡ planning.moment = c.requires.now in
     let order : old.moment ≤ planning.moment = rw moment at c.requires.later in
-    let was : placement_of old.base old.ranked old.moment before (get_or old.ranked before stands.job) ≡ None = sym (c.in-None.ensures stands.job) in
+    let was = c.in-None.ensures stands.job in
     rw (stands.is d, last_is) (stands-none c.requires.laws old planning before stands order was)
 
 pub returns-else-now-placed-clause-steps : goal.returns-else-now-placed-clause-steps
@@ -93,11 +93,10 @@ returns-else-now-placed-clause-steps g c =
     let low : planning.base.horizon ≤ LAST_START = rw horizon_is at c.behind-planning.invariant.1 in
     let moment : c.args.now ≡ planning.moment = c.requires.now in
     let order : old.moment ≤ planning.moment = rw moment at c.requires.later in
-    let was : placement_of old.base old.ranked old.moment before (get_or old.ranked before stands.job) ≡ Some c.in-Some.placed.now = sym (c.in-Some.ensures stands.job) in
     record {
       most = record { times = 1; few = omega arith; is = c.find_anew.ensures.steps };
       free = λ d can.
-          let stood : (planning.moment ≤ c.in-Some.placed.now.start) × (c.in-Some.placed.now.start ≤ planning.base.horizon) = rw (sym (c.in-Some.ensures d)) at can in
+          let stood : (planning.moment ≤ c.in-Some.placed.now.start) × (c.in-Some.placed.now.start ≤ planning.base.horizon) = rw (← c.in-Some.ensures d) at can in
           elim c.else-now-placed.branch [
             | else-now-placed-via-then-now-placed+else-placed-horizon w ↦ absurd (omega (arith, horizon_is, w.if-placed-horizon.false, stood.1))
             | else-now-placed-via-else-now-placed w ↦ absurd (omega (arith, moment, w.if-now-placed.false, stood.0))
@@ -115,10 +114,9 @@ returns-after-is_none-clause-steps g c =
     let low : planning.base.horizon ≤ LAST_START = rw horizon_is at c.behind-planning.invariant.1 in
     let moment : c.args.now ≡ planning.moment = c.requires.now in
     let order : old.moment ≤ planning.moment = rw moment at c.requires.later in
-    let was : placement_of old.base old.ranked old.moment before (get_or old.ranked before stands.job) ≡ None = sym (c.in-None.ensures stands.job) in
     record {
       most = record { times = 1; few = omega arith; is = c.search_next.ensures.steps };
       free = λ d can.
-          let past : planning.base.horizon ≤ old.base.horizon = rw (sym (c.in-None.ensures d)) at can in
+          let past : planning.base.horizon ≤ old.base.horizon = rw (← c.in-None.ensures d) at can in
           absurd (omega (arith, horizon_is, last_is, c.if-horizon-last.false, past));
     }

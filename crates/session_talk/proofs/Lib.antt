@@ -1,0 +1,6 @@
+pub mod Answering
+pub mod Joining
+pub mod Askings
+pub mod Hearing
+pub mod Turning
+pub mod PlainSessions

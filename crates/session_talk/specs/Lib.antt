@@ -1,0 +1,6 @@
+pub mod Telling
+pub mod Working
+pub mod Answered
+pub mod Talk
+pub mod Turns
+pub mod Plain
