@@ -1,5 +1,5 @@
 -- Which ends a run on files may have, by what these open.
-use Rattle.std.proofs.Common.{◌≡◌, ◌⊎◌, ℕ, ◌≤◌, Bool, List, [], length, Option, None, Some, IfSome, IsSomeAnd, Result, Ok, Err, inl, inr, refl, sym, ap, ◌∙◌, subst, arith}
+use Rattle.std.proofs.Common.{◌≡◌, ◌⊎◌, ℕ, ◌≤◌, ◌<◌, Bool, true, false, List, [], length, Option, None, Some, IfSome, IsSomeAnd, Result, Ok, Err, inl, inr, refl, sym, ap, ◌∙◌, subst, arith}
 use Rattle.slurm_io.specs.Faults.{CountsNone, CountsOne}
 use Rattle.slurm_io.specs.Shelf.{ShelfFile}
 use Rattle.slurm_io.specs.Wire.{Wire}
@@ -7,7 +7,7 @@ use Rattle.block_frame.specs.declared.form.Form.TheVariants.{Plain}
 use Rattle.block_frame.specs.Grammar.{blocks_of, rest_of}
 use Rattle.saved_data.specs.Sizes.{longest_text}
 use Rattle.ctl_state.specs.State.{State}
-use Rattle.ctl_desk.specs.History.{present}
+use Rattle.ctl_desk.specs.History.{BookState, present}
 use Rattle.ctl_session.specs.declared.session.How.{How}
 use Rattle.ctl_session.specs.declared.session.How.TheVariants as how
 use Rattle.ctl_session.specs.Session.{most_blocks}
@@ -21,6 +21,7 @@ use Rattle.script_run.specs.Behind.{IsScriptRun, saved_if}
 use Rattle.script_run.specs.Script.{script_history}
 use Rattle.slurm_top.specs.Lines.{refused, status_of}
 use Rattle.slurm_top.specs.Run.{Finds, HasEnded, Hosted, IsEnd, IsEndAsked, IsEndOn, IsEndServing, IsUnopened, IsWholeScript, files_asked}
+use Rattle.slurm_top.specs.Serving.{saved_by}
 use Rattle.slurm_top.specs.declared.end.End.{End}
 use Rattle.slurm_top.specs.declared.end.End.TheVariants.{Usage, NoFile, BadConf, BadAssocs, BadState, Memory, Script, Generated, WriteFault, Spent, Served, DoorFault, Called}
 
@@ -257,12 +258,16 @@ begun_fault : (text : List ℕ) (old new : Wire) → CountsNone old.writes new.w
     → CountsOne old.writes new.writes → ⊥
 begun_fault text old new none one = omega (arith, one.0, none.0, none.1)
 
+spent_saves : (save : Bool) (book : BookState) → longest_text < length (saved_by save book) → save ≡ true
+spent_saves true book long = refl
+spent_saves false book long = absurd (omega (arith, long))
+
 served_on : OpenOne → (named : Named) (port workers : ℕ) (save : Bool) (host : Hosted) (old new : Outside)
     (beside beside' : Beside) (end : End) (s : State) → FilesOpen old.files named (Some (Ok s))
     → CountsNone old.faults new.faults → CountsNone old.wire.writes new.wire.writes
     → CountsNone beside.host.faults beside'.host.faults
     → IsEndServing named port workers save host old new beside beside' end
-    → (status_of end ≡ 0) ⊎ ((status_of end ≡ 8) ⊎ (status_of end ≡ 9))
+    → (status_of end ≡ 0) ⊎ ((status_of end ≡ 8) ⊎ ((status_of end ≡ 9) × (save ≡ true)))
 served_on once named port workers save host old new beside beside' Usage s open_so none writes hosts ended =
     absurd ended.2
 served_on once named port workers save host old new beside beside' NoFile s open_so none writes hosts ended =
@@ -285,7 +290,7 @@ served_on once named port workers save host old new beside beside' WriteFault s 
       | inr state ↦ absurd (begun_fault [] old.wire new.wire writes state.2.1)
     ]
 served_on once named port workers save host old new beside beside' Spent s open_so none writes hosts ended =
-    inr (inr refl)
+    inr (inr (refl, spent_saves save ended.2.0 ended.2.3))
 served_on once named port workers save host old new beside beside' Served s open_so none writes hosts ended = inl refl
 served_on once named port workers save host old new beside beside' DoorFault s open_so none writes hosts ended =
     absurd (omega (arith, ended.2.0.0, hosts.0, hosts.1))
@@ -297,7 +302,7 @@ pub served : OpenOne → (words : List (List ℕ)) (host : Hosted) (old new : Ou
     → asked_in words ≡ Some (asks.Serve named port workers save) → FilesOpen old.files named (Some (Ok s))
     → CountsNone old.faults new.faults → CountsNone old.wire.writes new.wire.writes
     → CountsNone beside.host.faults beside'.host.faults
-    → (status_of end ≡ 0) ⊎ ((status_of end ≡ 8) ⊎ (status_of end ≡ 9))
+    → (status_of end ≡ 0) ⊎ ((status_of end ≡ 8) ⊎ ((status_of end ≡ 9) × (save ≡ true)))
 served once words host old new beside beside' end named port workers save s ended is open_so none writes hosts =
     served_on once named port workers save host old new beside beside' end s open_so none writes hosts
     (asked_so words (asks.Serve named port workers save) host old new beside beside' end ended is)

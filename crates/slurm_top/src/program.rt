@@ -1,6 +1,6 @@
 //! The program, over objects of the outside.
 
-ghost use Rattle.std.specs.Prelude.{◌≡◌, ◌⊎◌, ◌≤◌, ℕ, Bool, List, Option, Some, None, Err, Ok, [], length, map, string_bytes};
+ghost use Rattle.std.specs.Prelude.{◌≡◌, ◌⊎◌, ◌≤◌, ℕ, Bool, true, List, Option, Some, None, Err, Ok, [], length, map, string_bytes};
 ghost use Rattle.std.specs.Io.KnownBytes.{Appends};
 ghost use Rattle.assoc_reader.specs.declared.refusal.AssocKind.{AssocKind};
 ghost use Rattle.cluster_opening.specs.Files.{FilesOpen};
@@ -195,15 +195,15 @@ where
         → CountsNone (L.wire link.old).writes (L.wire link.new).writes
         → (result ≡ 0) ⊎ (result ≡ 8) }
 
-    // A server of good files ends by a shutdown, unless a count of faults rises or memory is wanting; 9 is that the text
-    // of a state that is to be saved is longer than one may be.
+    // A server of good files ends by a shutdown, unless a count of faults rises or memory is wanting; 9 comes only where
+    // the state is to be saved, and is that its text is longer than one may be.
     ensures served { (named : Named) (port workers : ℕ) (save : Bool) (opening : State)
         → asked_in (map string_bytes words.now) ≡ Some (Serve named port workers save)
         → FilesOpen (Q.files shelf.old) named (Some (Ok opening))
         → CountsNone (Q.shelf_faults shelf.old) (Q.shelf_faults shelf.new)
         → CountsNone (L.wire link.old).writes (L.wire link.new).writes
         → CountsNone (H.host_faults host.old) (H.host_faults host.new)
-        → (result ≡ 0) ⊎ ((result ≡ 8) ⊎ (result ≡ 9)) }
+        → (result ≡ 0) ⊎ ((result ≡ 8) ⊎ ((result ≡ 9) × (save ≡ true))) }
 
     // A server's 0 is that it was served until a shutdown was accepted, and that the line and what is to be saved behind it
     // were written; 6 comes only where a write of these failed, and 10 only where the host counted a fault.
