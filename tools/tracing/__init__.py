@@ -1,0 +1,1 @@
+"""What tools/make_trace is made of."""
