@@ -1,5 +1,5 @@
 -- Timelines go on telling what was used, by one more entry.
-use Rattle.std.proofs.Common.{◌≡◌, ℕ, ◌+◌, ◌-◌, ◌*◌, ◌^◌, ◌≤◌, ◌<◌, min, Bool, true, false, cond, List, [], ◌∷◌, ◌++◌, length, map, get_or, refl, sym, ap, subst, ◌∙◌, arith, true≢false, zero-add}
+use Rattle.std.proofs.Common.{◌≡◌, ℕ, ◌+◌, ◌-◌, ◌*◌, ◌^◌, ◌≤◌, ◌<◌, min, Bool, true, false, cond, List, [], ◌∷◌, ◌++◌, length, map, get_or, Result, Ok, Err, OnOk, OnErr, refl, sym, ap, subst, ◌∙◌, arith, true≢false, zero-add}
 use Rattle.std.proofs.Math.Nat.{mul-le-mul_left}
 use Rattle.std.proofs.lemmas.List.{get_or-map, length-map}
 use Rattle.ctl_state.specs.State.{State}
@@ -11,7 +11,12 @@ use Rattle.ctl_desk.specs.declared.entry.Entry.{Entry}
 use Rattle.ctl_desk.specs.History.{History, IsLegal, IsStep, after_all, present}
 use Rattle.sacct_book.specs.declared.window.Window.{Window}
 use Rattle.sacct_book.specs.declared.timeline.Timeline.{Timeline}
-use Rattle.sacct_book.specs.Running.{cpus_run_by}
+use Rattle.request_data.specs.declared.target.Target.{Target}
+use Rattle.job_table.specs.declared.record.JobRecord.{JobRecord}
+use Rattle.sacct_book.specs.declared.running.Way.TheVariants.{More, Fewer}
+use Rattle.sacct_book.specs.Naming.{run_by_named, run_by_others}
+use Rattle.sacct_book.specs.Running.{AreCounted, counted, cpus_run_by}
+use Rattle.sacct_book.proofs.Named.{named-others}
 use Rattle.sacct_book.specs.Times.{GoesOn, Times, begun, times_of, used_in}
 use Rattle.sacct_book.specs.Windows.{seconds_in}
 use Rattle.sacct_book.specs.Used.{used_at}
@@ -72,28 +77,63 @@ mapped moment cpus (first ∷ later) timelines' each goes place d inside =
     )
     (goes place first inside)
 
--- what runs was counted anew
-pub all_go_on-counted : (t : State) (moment : ℕ) (held : List ℕ) (timelines timelines' : List Timeline) → IsSound t
-    → length held ≡ length timelines
-    → ((at : ℕ) → at < length held → get_or held at 0 ≡ min (cpus_run_by t.jobs at) (2 ^ 64 - 1))
-    → length timelines' ≡ length timelines
+-- what runs was counted
+pub all_go_on-counted : (jobs : List JobRecord) (moment : ℕ) (held : List ℕ) (timelines timelines' : List Timeline)
+    → AreCounted jobs held → length held ≡ length timelines → length timelines' ≡ length timelines
     → ((place : ℕ) (d : Timeline) → place < length timelines
     → GoesOn moment (get_or held place 0) (times_of (get_or timelines place d)) (times_of (get_or timelines' place d)))
-    → AllGoOn moment t.jobs (map times_of timelines) (map times_of timelines')
-all_go_on-counted t moment held timelines timelines' sound counts are each goes =
+    → AllGoOn moment jobs (map times_of timelines) (map times_of timelines')
+all_go_on-counted jobs moment held timelines timelines' are counts each goes =
     let long = length-map timelines times_of in
     record {
       each = length-map timelines' times_of ∙ each ∙ sym long;
       goes = λ place d inside.
-          let exact : (at : ℕ) → at < length timelines → get_or held at 0 ≡ cpus_run_by t.jobs at =
-          λ at below. omega (arith, are at (omega (arith, below, counts)), running-few t at sound) in
-          mapped moment (cpus_run_by t.jobs) timelines timelines' each
+          mapped moment (cpus_run_by jobs) timelines timelines' each
           (λ at first below.
           subst
           (λ (cpus : ℕ). GoesOn moment cpus (times_of (get_or timelines at first)) (times_of (get_or timelines' at first)))
-          (exact at below) (goes at first below))
+          (are at (omega (arith, below, counts))) (goes at first below))
           place d (omega (arith, inside, long));
     }
+
+-- all were counted
+pub counted-all : (s : State) (jobs : List JobRecord) (held : List ℕ) → IsSound s → jobs ≡ s.jobs
+    → ((at : ℕ) → at < length held → get_or held at 0 ≡ min (cpus_run_by jobs at) (2 ^ 64 - 1))
+    → AreCounted s.jobs held
+counted-all s jobs held sound same each = λ at inside.
+    omega (
+      arith,
+      each at inside,
+      ap (λ some. cpus_run_by some at) same,
+      running-few s at sound,
+    )
+
+-- those were counted that are named, before and behind
+pub counted-named : (s t : State) (targets : List Target) (held middle after : List ℕ) → IsSound t
+    → AreCounted s.jobs held → length middle ≡ length held → length after ≡ length middle
+    → ((at : ℕ) → run_by_others targets t.jobs at ≡ run_by_others targets s.jobs at)
+    → ((at : ℕ) → at < length held
+    → get_or middle at 0 ≡ counted Fewer (get_or held at 0) (run_by_named targets s.jobs at))
+    → ((at : ℕ) → at < length middle
+    → get_or after at 0 ≡ counted More (get_or middle at 0) (run_by_named targets t.jobs at))
+    → AreCounted t.jobs after
+counted-named s t targets held middle after sound was first second others fewer more = λ at inside.
+    omega (
+      arith,
+      was at (omega (arith, inside, first, second)),
+      fewer at (omega (arith, inside, first, second)),
+      more at (omega (arith, inside, second)),
+      others at,
+      named-others targets s.jobs at,
+      named-others targets t.jobs at,
+      running-few t at sound,
+    )
+
+-- what follows of each answer follows
+pub either-way : {X E : Type 0} (good bad made : Type 0) (result : Result X E) → OnOk result good → OnErr result bad
+    → (good → made) → (bad → made) → made
+either-way good bad made (Ok x) ok err from_ok from_err = from_ok ok
+either-way good bad made (Err e) ok err from_ok from_err = from_err err
 
 -- those that tell what was held have told it until now
 pub since-mapped : (s : State) (moment : ℕ) (timelines : List Timeline) (told : List Times) → TellsHeld s told
@@ -122,7 +162,7 @@ few-more cpus before moment now window few low after =
 
 pub keeps-none : (opening : State) (held : List ℕ) (timelines : List Times) → IsSound opening
     → length held ≡ length opening.assocs
-    → ((at : ℕ) → at < length held → get_or held at 0 ≡ min (cpus_run_by opening.jobs at) (2 ^ 64 - 1))
+    → AreCounted opening.jobs held
     → timelines ≡ map (begun opening.moment) held
     → KeepsUse (record { opening = opening; entries = [] }) timelines
 unfolding used_in
@@ -132,8 +172,7 @@ keeps-none opening held timelines sound long counts are =
     → get_or timelines place d ≡ begun opening.moment (cpus_run_by opening.jobs place) =
     λ place d inside.
     let there : place < length held = omega (arith, inside, same) in
-    let exact : get_or held place 0 ≡ cpus_run_by opening.jobs place =
-    omega (arith, counts place there, running-few opening place sound) in
+    let exact : get_or held place 0 ≡ cpus_run_by opening.jobs place = counts place there in
     ap (λ l. get_or l place d) are ∙ get_or-map (begun opening.moment) held place 0 d there
     ∙ ap (begun opening.moment) exact in
     record {

@@ -6,5 +6,8 @@ pub mod Counting
 pub mod Bounded
 pub mod Ranges
 pub mod Pushing
+pub mod Named
 pub mod Quiet
+pub mod Others
+pub mod Passes
 pub mod Keeps

@@ -34,12 +34,9 @@ use Rattle.ctl_core.specs.Sizes.{has_room, size_of}
 use Rattle.ctl_core.specs.Step.{early_refusals, entered, is_entered, made, raised, refusals_of, reply_of, state_after, unless_full, verdict_of, worked}
 use Rattle.sacct_book.specs.Requests.{may_change_running}
 use Rattle.sacct_book.specs.Running.{cpus_run_by, cpus_running}
+use Rattle.sacct_book.proofs.Named.{counts}
 
 -- ---- lists of jobs
-
--- how many processors of a job count for the association at a place
-abbrev counts : ℕ → JobRecord → ℕ
-counts place job = cond (nat_eq job.assoc place) (cpus_running job) 0
 
 -- each counts as before
 map-same : (place : ℕ) (f : JobRecord → JobRecord) (jobs : List JobRecord)
@@ -57,10 +54,10 @@ map-same place f (job ∷ jobs) each =
     )
 
 -- who doesn't run
-abbrev IsStill : JobRecord → Type 0
+abbrev pub IsStill : JobRecord → Type 0
 IsStill job = is_running job.state ≡ false
 
-still-none : (place : ℕ) (job : JobRecord) → IsStill job → counts place job ≡ 0
+pub still-none : (place : ℕ) (job : JobRecord) → IsStill job → counts place job ≡ 0
 unfolding cpus_running
 still-none place job still = none (nat_eq job.assoc place) (is_running job.state) (cpus_held job) still
   where
@@ -126,10 +123,10 @@ mild-counts place now user (act.Update limit nice) job mild =
 
 -- ---- what requests come to
 
-abbrev IsSame : ℕ → State → State → Type 0
+abbrev pub IsSame : ℕ → State → State → Type 0
 IsSame place s t = cpus_run_by t.jobs place ≡ cpus_run_by s.jobs place
 
-abbrev Leaves : ℕ → State → Verdict → Type 0
+abbrev pub Leaves : ℕ → State → Verdict → Type 0
 Leaves place s verdict = IsSame place s (left_by s verdict)
 
 change-leaves : (place : ℕ) (s : State) (now : ℕ) (user : List ℕ) (action : Action) (named : JobRecord → Bool)
@@ -181,7 +178,7 @@ spared place s now =
     (λ (after : JobRecord). counts place after ≡ counts place job)
     (λ some. absurd (both_ways (loses (λ node. false) job) (none-lost job.parts) some)) (λ none. refl))
 
-made-leaves : (place : ℕ) (s : State) (now : ℕ) (user : List ℕ) (request : Request)
+pub made-leaves : (place : ℕ) (s : State) (now : ℕ) (user : List ℕ) (request : Request)
     → may_change_running request ≡ false → Leaves place s (made s now user request)
 made-leaves place s now user (Submit desc) mild = submit-leaves place s now user desc (basis_of s user desc)
 made-leaves place s now user (Cancel targets) mild = absurd (both_ways true mild refl)
@@ -208,27 +205,36 @@ made-leaves place s now user Pass mild = absurd (both_ways true mild refl)
 made-leaves place s now user Shutdown mild = refl
 made-leaves place s now user (Show query) mild = refl
 
-room-leaves : (place : ℕ) (s : State) (room : Bool) (verdict : Verdict) → Leaves place s verdict
-    → Leaves place s (unless_full room verdict)
-room-leaves place s true verdict leaves = leaves
-room-leaves place s false (Refuses refusal) leaves = refl
-room-leaves place s false (Tells view) leaves = refl
-room-leaves place s false Stays leaves = refl
-room-leaves place s false (Makes reply after) leaves = refl
+-- ---- what holds of the jobs of a state, and of what a request makes of it, holds after the request
 
-refusal-leaves : (place : ℕ) (s : State) (refusal : Option Refusal) (verdict : Verdict) → Leaves place s verdict
-    → Leaves place s (unless_refused refusal verdict)
-refusal-leaves place s None verdict leaves = leaves
-refusal-leaves place s (Some refusal) verdict leaves = refl
+room-keeps : (holds : List JobRecord → Type 0) (s : State) (room : Bool) (verdict : Verdict) → holds s.jobs
+    → holds (left_by s verdict).jobs → holds (left_by s (unless_full room verdict)).jobs
+room-keeps holds s true verdict before after = after
+room-keeps holds s false (Refuses refusal) before after = before
+room-keeps holds s false (Tells view) before after = before
+room-keeps holds s false Stays before after = before
+room-keeps holds s false (Makes reply made) before after = before
+
+refusal-keeps : (holds : List JobRecord → Type 0) (s : State) (refusal : Option Refusal) (verdict : Verdict)
+    → holds s.jobs → holds (left_by s verdict).jobs → holds (left_by s (unless_refused refusal verdict)).jobs
+refusal-keeps holds s None verdict before after = after
+refusal-keeps holds s (Some refusal) verdict before after = before
+
+pub step-keeps : (holds : List JobRecord → Type 0) (s : State) (now : ℕ) (user : List ℕ) (request : Request)
+    → holds s.jobs → holds (left_by s (made s (raised s now) user request)).jobs
+    → holds (state_after s now user request).jobs
+step-keeps holds s now user request before after =
+    let moment = raised s now in
+    cond_both (is_entered (reply_of s now user request))
+    (entered moment (size_of request) (left_by s (verdict_of s now user request))) s (λ (t : State). holds t.jobs)
+    (λ enters. refusal-keeps holds s (first_refusal (early_refusals s now request)) (worked s moment user request) before
+    (refusal-keeps holds s (first_refusal (refusals_of s moment user request)) _ before
+    (room-keeps holds s (has_room s request) (made s moment user request) before after)))
+    (λ not. before)
 
 -- A request that can't change what runs leaves what the running jobs of each association hold.
 pub quiet-same : (s : State) (now : ℕ) (user : List ℕ) (request : Request) → may_change_running request ≡ false
     → (place : ℕ) → cpus_run_by (state_after s now user request).jobs place ≡ cpus_run_by s.jobs place
 quiet-same s now user request mild place =
-    let moment = raised s now in
-    cond_both (is_entered (reply_of s now user request))
-    (entered moment (size_of request) (left_by s (verdict_of s now user request))) s (IsSame place s)
-    (λ enters. refusal-leaves place s (first_refusal (early_refusals s now request)) (worked s moment user request)
-    (refusal-leaves place s (first_refusal (refusals_of s moment user request)) _
-    (room-leaves place s (has_room s request) (made s moment user request) (made-leaves place s moment user request mild))))
-    (λ not. refl)
+    step-keeps (λ jobs. cpus_run_by jobs place ≡ cpus_run_by s.jobs place) s now user request refl
+    (made-leaves place s (raised s now) user request mild)

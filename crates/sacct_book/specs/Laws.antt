@@ -1,11 +1,13 @@
 -- Laws of what associations have used.
-use Rattle.std.specs.Prelude.{◌≡◌, ℕ, ◌+◌, ◌-◌, ◌*◌, max, min, false, List, [], ◌∷◌, ◌++◌}
+use Rattle.std.specs.Prelude.{◌≡◌, ℕ, ◌+◌, ◌-◌, ◌*◌, max, min, false, List, [], ◌∷◌, ◌++◌, Some}
 use Rattle.request_data.specs.declared.request.Request.{Request}
+use Rattle.request_data.specs.declared.target.Target.{Target}
 use Rattle.ctl_state.specs.State.{State}
 use Rattle.ctl_core.specs.Step.{state_after}
 use Rattle.ctl_desk.specs.declared.entry.Entry.{Entry}
 use Rattle.ctl_desk.specs.History.{after_all}
 use Rattle.sacct_book.specs.declared.window.Window.{Window}
+use Rattle.sacct_book.specs.Naming.{changed_by, run_by_others}
 use Rattle.sacct_book.specs.Requests.{may_change_running}
 use Rattle.sacct_book.specs.Running.{cpus_run_by}
 use Rattle.sacct_book.specs.Used.{used_at}
@@ -34,3 +36,9 @@ LiesBetween = (window : Window) (from until : ℕ)
 abbrev pub LeavesWhatRuns : Type 0
 LeavesWhatRuns = (s : State) (now : ℕ) (user : List ℕ) (request : Request) → may_change_running request ≡ false
     → (place : ℕ) → cpus_run_by (state_after s now user request).jobs place ≡ cpus_run_by s.jobs place
+
+-- Whatever a request does, jobs that aren't named by the targets that it may change hold while they run what they held.
+abbrev pub LeavesOthers : Type 0
+LeavesOthers = (s : State) (now : ℕ) (user : List ℕ) (request : Request) (targets : List Target)
+    → changed_by s request ≡ Some targets → (place : ℕ)
+    → run_by_others targets (state_after s now user request).jobs place ≡ run_by_others targets s.jobs place

@@ -2,6 +2,7 @@ pub mod Windows
 pub mod Times
 pub mod Running
 pub mod Requests
+pub mod Naming
 pub mod Used
 pub mod Keeping
 pub mod Laws

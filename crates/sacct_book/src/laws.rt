@@ -17,3 +17,8 @@ pub fn windows_and_stretches_overlap()
 pub fn few_requests_change_what_runs()
     ensures { Laws.LeavesWhatRuns }
 {}
+
+/// Which jobs go on holding what they hold while they run, whatever is requested.
+pub fn jobs_that_are_not_named_hold_what_they_held()
+    ensures { Laws.LeavesOthers }
+{}

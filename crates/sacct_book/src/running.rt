@@ -1,28 +1,22 @@
 //! How many processors running jobs hold.
 
 ghost use Rattle.std.specs.Prelude.{◌≡◌, ◌^◌, ◌-◌, ◌+◌, ◌<◌, ℕ, min, nat_eq, if◌then◌else◌, slice_index, vec_len};
-ghost use Rattle.sacct_book.specs.Requests;
 ghost use Rattle.sacct_book.specs.Running as spec;
 
 use job_table::record::JobRecord;
 use job_table::usage::cpus_in;
-use request_data::request::{NodeOrder, Request};
 use request_data::state::JobState;
 
-/// Whether the request may change which jobs run: it is a pass, a report, a cancel or a requeue, or sets nodes down.
-pub(crate) fn may_change_running(request: &Request) -> bool
-    ensures { result ≡ Requests.may_change_running request.now }
-{
-    match request {
-        Request::Pass | Request::Report(_) | Request::Cancel(_) | Request::Requeue { .. } => true,
-        Request::UpdateNode { state, .. } => matches!(state, NodeOrder::Down),
-        _ => false,
-    }
+/// Whether counts grow or shrink.
+#[derive(Clone, Copy)]
+pub(crate) enum Way {
+    More,
+    Fewer,
 }
 
-// How many the job holds while it runs. The count stands still at its type's end.
+/// How many the job holds while it runs. The count stands still at its type's end.
 #[tactic(auto, unfolding(crate::specs::Running::cpus_running))]
-fn cpus_running(job: &JobRecord) -> u64
+pub(crate) fn cpus_running(job: &JobRecord) -> u64
     ensures { result ≡ min (spec.cpus_running job.now) (2 ^ 64 - 1) }
 {
     match job.state {
@@ -31,14 +25,17 @@ fn cpus_running(job: &JobRecord) -> u64
     }
 }
 
-// So many more at a place.
-fn grow(held: &mut Vec<u64>, place: u32, more: u64)
+/// Counts so many more, or fewer, at a place. A count stands still at its type's end.
+pub(crate) fn count(held: &mut Vec<u64>, way: Way, place: u32, cpus: u64)
     ensures len { vec_len held.new ≡ vec_len held.old }
     ensures each { (at : ℕ) → at < vec_len held.old → slice_index held.new.items at
-        ≡ min (slice_index held.old.items at + (if nat_eq place at then more else 0)) (2 ^ 64 - 1) }
+        ≡ spec.counted way (slice_index held.old.items at) (if nat_eq place at then cpus else 0) }
 {
-    if let Some(cpus) = held.get_mut(place as usize) {
-        *cpus = cpus.saturating_add(more);
+    if let Some(held) = held.get_mut(place as usize) {
+        *held = match way {
+            Way::More => held.saturating_add(cpus),
+            Way::Fewer => held.saturating_sub(cpus),
+        };
     }
 }
 
@@ -49,7 +46,7 @@ fn add_running(held: &mut Vec<u64>, jobs: &[JobRecord])
         ≡ min (slice_index held.old.items at + spec.cpus_run_by jobs.now at) (2 ^ 64 - 1) }
 {
     for job in jobs {
-        grow(held, job.assoc, cpus_running(job));
+        count(held, Way::More, job.assoc, cpus_running(job));
     }
 }
 

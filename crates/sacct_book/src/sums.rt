@@ -1,18 +1,14 @@
 //! The sums of what users have used.
 
-ghost use Rattle.std.specs.Prelude.{◌≡◌, ◌≤◌, ◌<◌, ◌++◌, ◌∷◌, [], All, IfOk, OnOk, OnErr, map, length, vec_len, vec_capacity};
+ghost use Rattle.std.specs.Prelude.{◌≡◌, ◌≤◌, ◌<◌, ◌++◌, ◌∷◌, [], IfOk, OnOk, OnErr, length, vec_len, vec_capacity};
 ghost use Rattle.ctl_state.specs.State.{last_moment};
-ghost use Rattle.ctl_state.specs.Soundness.{IsSound};
-ghost use Rattle.ctl_core.specs.Step.{state_after};
 ghost use Rattle.ctl_desk.specs.History.{IsLegal, present};
-ghost use Rattle.sacct_book.specs.Keeping.{AllGoOn, TellsHeld};
-ghost use Rattle.sacct_book.specs.declared.timeline.Timeline.{Timeline};
-ghost use Rattle.sacct_book.specs.Times.{HasRoom, times_of};
 ghost use Rattle.sacct_book.specs.Used as spec;
 
-use crate::running::{count_running, may_change_running};
+use crate::following::follow;
+use crate::running::count_running;
 use crate::timeline::Timeline;
-use crate::timelines::{begin, go_on, make_room};
+use crate::timelines::begin;
 use crate::window::Window;
 use ctl_core::controller::Ctl;
 use ctl_desk::entry::Entry;
@@ -31,7 +27,7 @@ pub struct Sums {
     ctl: Ctl,
     // What the running jobs of each association held, in the order of the associations.
     timelines: Vec<Timeline>,
-    // A row for counts, one for each association.
+    // How many processors the running jobs of each association hold.
     held: Vec<u64>,
 }
 
@@ -39,6 +35,7 @@ impl Model for Sums {
     ghost use Rattle.std.specs.Prelude.{◌≡◌, length, map};
     ghost use Rattle.ctl_desk.specs.History.{History, after_all};
     ghost use Rattle.sacct_book.specs.Keeping.{KeepsUse};
+    ghost use Rattle.sacct_book.specs.Running.{AreCounted};
     ghost use Rattle.sacct_book.specs.Times.{times_of};
 
     ghost Value = { History };
@@ -48,58 +45,8 @@ impl Model for Sums {
     ghost invariant = { λ sums. (sums.ctl.state ≡ after_all sums.opening.state sums.entries.items)
         × KeepsUse (record { opening = sums.opening.state; entries = sums.entries.items })
         (map times_of sums.timelines.items)
-        × (length sums.held.items ≡ length sums.timelines.items) };
-}
-
-// Has the controller decide an entry once more.
-fn decide(ctl: &mut Ctl, entry: &Entry) -> Result<(), Memory>
-    ensures after { OnOk result (ctl.new.state
-        ≡ state_after ctl.old.state entry.now.moment entry.now.user entry.now.request) }
-    ensures sound { IsSound ctl.new.state }
-    ensures err { OnErr result (ctl.new ≡ ctl.old) }
-{
-    let _ = ctl.ask(entry.moment, &entry.user, &entry.request)?;
-    Ok(())
-}
-
-// From a moment on running jobs hold what they hold at the controller.
-fn follow(timelines: &mut Vec<Timeline>, held: &mut Vec<u64>, ctl: &Ctl, moment: u64)
-    requires room { All HasRoom timelines.old.items }
-    requires counts { vec_len held.old ≡ vec_len timelines.old }
-    requires since { All (λ (timeline : Timeline). timeline.since ≤ moment) timelines.old.items }
-    ensures counts { vec_len held.new ≡ vec_len timelines.new }
-    ensures goes { AllGoOn moment ctl.now.state.jobs (map times_of timelines.old.items) (map times_of timelines.new.items) }
-{
-    count_running(held, ctl.cluster().jobs.records());
-    go_on(timelines, held.as_slice(), moment);
-}
-
-// Has the controller decide an entry, and the timelines follow it.
-fn advance(
-    ctl: &mut Ctl,
-    timelines: &mut Vec<Timeline>,
-    held: &mut Vec<u64>,
-    entry: &Entry,
-) -> Result<(), Memory>
-    requires counts { vec_len held.old ≡ vec_len timelines.old }
-    requires tells { TellsHeld ctl.old.state (map times_of timelines.old.items) }
-    requires later { ctl.old.state.moment ≤ entry.now.moment }
-    ensures counts { vec_len held.new ≡ vec_len timelines.new }
-    ensures sound { OnOk result (IsSound ctl.new.state) }
-    ensures after { OnOk result (ctl.new.state
-        ≡ state_after ctl.old.state entry.now.moment entry.now.user entry.now.request) }
-    ensures goes { OnOk result (AllGoOn entry.now.moment ctl.new.state.jobs (map times_of timelines.old.items)
-        (map times_of timelines.new.items)) }
-    ensures ctl_err { OnErr result (ctl.new ≡ ctl.old) }
-    ensures times_err { OnErr result (map times_of timelines.new.items ≡ map times_of timelines.old.items) }
-{
-    if !may_change_running(&entry.request) {
-        return decide(ctl, entry);
-    }
-    make_room(timelines)?;
-    decide(ctl, entry)?;
-    follow(timelines, held, ctl, entry.moment);
-    Ok(())
+        × (length sums.held.items ≡ length sums.timelines.items)
+        × AreCounted sums.ctl.state.jobs sums.held.items };
 }
 
 // Puts an entry behind the others, which have room for it.
@@ -132,17 +79,26 @@ impl Sums {
     }
 
     /// Goes on by an entry. The controller decides it once more, at its cost. Beside that an entry that can't change which
-    /// jobs run takes constant time; a pass, a report, a cancel, a requeue and nodes that are set down are linear in
-    /// associations, jobs and the parts of those that run. A stretch is kept only where an association's running jobs
-    /// hold other processors than before.
+    /// jobs run takes constant time, and so does a report that tells of no start that is over. A cancel, a requeue and any
+    /// other report look at the jobs that they name, and are linear in these and in the associations; so is a pass that
+    /// ends and starts none, in the associations alone. Linear in the jobs too, and in the parts of those that run, are
+    /// other passes, nodes that are set down, reports of restarted daemons, cancels of all jobs of a user, and what names
+    /// more than 16. A stretch is kept only where an association's running jobs hold other processors than before.
     pub fn add(&mut self, entry: Entry) -> Result<(), Memory>
         requires legal { IsLegal self.old.opening (self.old.entries ++ entry ∷ []) }
         ensures opening { self.new.opening ≡ self.old.opening }
         ensures entries { OnOk result (self.new.entries ≡ self.old.entries ++ entry ∷ []) }
         ensures err { OnErr result (self.new ≡ self.old) }
     {
+        let alloc = *self.entries.allocator();
         self.entries.reserve(1)?;
-        advance(&mut self.ctl, &mut self.timelines, &mut self.held, &entry)?;
+        follow(
+            alloc,
+            &mut self.ctl,
+            &mut self.timelines,
+            &mut self.held,
+            &entry,
+        )?;
         push(&mut self.entries, entry);
         Ok(())
     }

@@ -9,10 +9,10 @@ loop-job-init c = record { len = refl; each = λ at inside. omega (arith, c.type
 
 pub loop-job-preserved : goal.loop-job-preserved
 loop-job-preserved c = record {
-  len = omega (arith, c.grow.ensures.len, c.loop-job.invariant.len);
+  len = omega (arith, c.count.ensures.len, c.loop-job.invariant.len);
   each = λ at inside.
       running-more at c.args.jobs.now c.loop-job.job-index c.job-item.result c.loop-job-test.true
       c.job-item.is (get_or c.args.held.now.items at 0) (get_or c.loop-job.held.items at 0)
-      (get_or c.grow.new.held.items at 0) c.cpus_running.result (c.loop-job.invariant.each at inside)
-      c.cpus_running.ensures (c.grow.ensures.each at (omega (arith, inside, c.loop-job.invariant.len)));
+      (get_or c.count.new.held.items at 0) c.cpus_running.result (c.loop-job.invariant.each at inside)
+      c.cpus_running.ensures (c.count.ensures.each at (omega (arith, inside, c.loop-job.invariant.len)));
 }

@@ -8,8 +8,8 @@ use Rattle.sacct_book.specs.Times.{times_of}
 use Rattle.sacct_book.proofs.Keeps.{keeps-add, last-step}
 use Rattle.sacct_book.proofs.sums.Sums.add.Goals as goal
 
-pub advance-requires-clause-later : goal.advance-requires-clause-later
-advance-requires-clause-later c =
+pub follow-requires-clause-later : goal.follow-requires-clause-later
+follow-requires-clause-later c =
     let opening = c.self.inside.opening.state in
     let entries = c.self.inside.entries.items in
     let legal : IsLegal opening (entries ++ c.args.entry ∷ []) =
@@ -25,19 +25,20 @@ invariant_of-self-2 c =
     let opening = c.self.inside.opening.state in
     let entries = c.self.inside.entries.items in
     let e = c.args.entry in
-    let t = c.advance.new.ctl.state in
-    let told = map times_of c.advance.new.timelines.items in
+    let t = c.follow.new.ctl.state in
+    let told = map times_of c.follow.new.timelines.items in
     let legal : IsLegal opening (entries ++ e ∷ []) =
     subst (λ (h : History). IsLegal h.opening (h.entries ++ e ∷ [])) (sym c.self.view_is) c.requires.legal in
     let made : t ≡ state_after (after_all opening entries) e.moment e.user e.request =
-    c.in_ok-advance.ensures.after
+    c.in_ok-follow.ensures.after
     ∙ ap (λ (s : State). state_after s e.moment e.user e.request) c.self.invariant.0 in
     let kept = keeps-add (record { opening = opening; entries = entries }) e t
-    (map times_of c.self.inside.timelines.items) told c.self.invariant.1 legal made c.in_ok-advance.ensures.sound
-    c.in_ok-advance.ensures.goes in
+    (map times_of c.self.inside.timelines.items) told c.self.invariant.1 legal made c.in_ok-follow.ensures.sound
+    c.in_ok-follow.ensures.goes in
     let pushed : c.push.new.entries.items ≡ entries ++ e ∷ [] =
     c.push.ensures ∙ ap (λ (l : List Entry). l ++ e ∷ []) c.reserve.ensures.items in (
       kept.0 ∙ ap (after_all opening) (sym pushed),
       subst (λ (l : List Entry). KeepsUse (record { opening = opening; entries = l }) told) (sym pushed) kept.1,
-      omega (arith, c.advance.ensures.counts, c.advance.new.held.ok.0, c.advance.new.timelines.ok.0),
+      omega (arith, c.follow.ensures.len, c.follow.new.held.ok.0, c.follow.new.timelines.ok.0),
+      c.follow.ensures.counts,
     )

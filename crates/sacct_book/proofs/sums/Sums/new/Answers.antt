@@ -1,13 +1,12 @@
-use Rattle.std.proofs.Common.{◌≡◌, ◌-◌, ◌^◌, ◌∙◌, ℕ, List, [], min, length, map, sym, ap, subst, arith}
+use Rattle.std.proofs.Common.{◌≡◌, ◌∙◌, ℕ, List, [], length, map, sym, ap, subst, arith}
 use Rattle.std.proofs.lemmas.List.{length-map}
-use Rattle.job_table.specs.declared.record.JobRecord.{JobRecord}
 use Rattle.ctl_state.specs.State.{State}
 use Rattle.ctl_desk.specs.declared.entry.Entry.{Entry}
 use Rattle.ctl_desk.specs.History.{after_all}
 use Rattle.sacct_book.specs.Keeping.{KeepsUse}
-use Rattle.sacct_book.specs.Running.{cpus_run_by}
+use Rattle.sacct_book.specs.Running.{AreCounted}
 use Rattle.sacct_book.specs.Times.{begun, times_of}
-use Rattle.sacct_book.proofs.Keeps.{keeps-none}
+use Rattle.sacct_book.proofs.Keeps.{counted-all, keeps-none}
 use Rattle.sacct_book.proofs.sums.Sums.new.Goals as goal
 
 pub invariant_of-result : goal.invariant_of-result
@@ -32,12 +31,12 @@ invariant_of-result c =
     c.in_ok-timelines.ensures
     ∙ ap (λ (counts : List ℕ). map (begun cluster.moment) counts) c.as_slice.ensures.value
     ∙ ap (λ moment. map (begun moment) held.items) (ap (λ (s : State). s.moment) same) in
-    let kept : KeepsUse (record { opening = opening; entries = [] }) (map times_of timelines.items) =
-    keeps-none opening held.items (map times_of timelines.items) c.cluster-cluster.ensures.sound long
+    let counts : AreCounted opening.jobs held.items =
+    counted-all opening c.records-2.result.now held.items c.cluster-cluster.ensures.sound jobs
     (λ at inside.
-    c.count_running.ensures.each at (omega (arith, inside, c.count_running.ensures.len, held.ok.0))
-    ∙ ap (λ (some : List JobRecord). min (cpus_run_by some at) (2 ^ 64 - 1)) jobs)
-    are in
+    c.count_running.ensures.each at (omega (arith, inside, c.count_running.ensures.len, held.ok.0))) in
+    let kept : KeepsUse (record { opening = opening; entries = [] }) (map times_of timelines.items) =
+    keeps-none opening held.items (map times_of timelines.items) c.cluster-cluster.ensures.sound long counts are in
     let none = sym c.new.ensures.items in (
       c.requires.same ∙ ap (after_all opening) none,
       subst (λ (l : List Entry). KeepsUse (record { opening = opening; entries = l }) (map times_of timelines.items)) none
@@ -48,4 +47,5 @@ invariant_of-result c =
         length-map timelines.items times_of,
         length-map held.items (begun opening.moment),
       ),
+      subst (λ (s : State). AreCounted s.jobs held.items) (sym c.requires.same) counts,
     )

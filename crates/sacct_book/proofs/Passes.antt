@@ -1,0 +1,219 @@
+-- Passes that take no job out of Running and start none.
+use Rattle.std.proofs.Common.{ℕ, ◌≡◌, ◌+◌, ◌∙◌, Bool, true, false, ◌&&◌, not, cond, List, [], ◌∷◌, Option, Some, None, length, map, filter, count_by, sum_by, nat_eq, refl, sym, ap, arith, inl, inr}
+use Rattle.std.proofs.lemmas.Bool.{both_ways, cases_Bool, cond_both}
+use Rattle.std.proofs.lemmas.Bool.Decides.{nat_tests}
+use Rattle.std.proofs.lemmas.List.Sums.{sum_by-cons}
+use Rattle.backfill_planner.specs.declared.Placed.{Placed}
+use Rattle.reply_data.specs.declared.refusal.Refusal.{Refusal}
+use Rattle.request_data.specs.declared.request.Request.{Request}
+use Rattle.request_data.specs.declared.request.Request.TheVariants.{Submit, Cancel, Hold, Release, Requeue, UpdateJob, UpdateNode, UpdatePartition, CreateReservation, DeleteReservation, Report, Pass, Shutdown, Show}
+use Rattle.request_data.specs.declared.state.JobState.{JobState}
+use Rattle.request_data.specs.declared.state.JobState.TheVariants.{Pending, Running, Completing, Ended}
+use Rattle.request_data.specs.declared.state.Final.TheVariants.{Timeout}
+use Rattle.job_table.specs.declared.change.Change.TheVariants.{Leave}
+use Rattle.job_table.specs.declared.record.JobRecord.{JobRecord}
+use Rattle.job_table.specs.Changes.{changed}
+use Rattle.job_table.specs.JobStates.{is_ended, is_running}
+use Rattle.ctl_state.specs.State.{State}
+use Rattle.ctl_state.specs.Verdicts.{Verdict, Refuses, Tells, Stays, Makes, left_by, reply_by}
+use Rattle.ctl_nodes.specs.Failing.{after_loss, loses, off_lost, parts_kept}
+use Rattle.ctl_node_side.specs.Passes.{after_pass, ended_by_pass, made_by_pass, pass_is_idle}
+use Rattle.ctl_node_side.specs.Silence.{any_silent, failing_count, silenced, silent_at, without_silent}
+use Rattle.ctl_pass.specs.Limits.{is_over, timed_out}
+use Rattle.ctl_pass.specs.Passing.{outcome}
+use Rattle.ctl_pass.specs.Readiness.{goes, jobs_left, placements}
+use Rattle.ctl_pass.specs.Starting.{Started, begun, may_start, start_of, started}
+use Rattle.ctl_state.specs.Refusals.{first_refusal, unless_refused}
+use Rattle.ctl_core.specs.Sizes.{has_room, size_of}
+use Rattle.ctl_core.specs.Step.{early_refusals, entered, is_entered, made, raised, refusals_of, reply_of, state_after, unless_full, verdict_of, worked}
+use Rattle.list_lemmas.proofs.Sums.{count-cons}
+use Rattle.sacct_book.specs.Running.{cpus_run_by}
+use Rattle.sacct_book.specs.Requests.{is_still}
+use Rattle.sacct_book.proofs.Named.{counts, counts_if, if-fails, if-passes, run-filtered}
+use Rattle.sacct_book.proofs.Others.{left-counts}
+use Rattle.sacct_book.proofs.Quiet.{still-none}
+
+-- ---- starts
+
+-- where none starts the jobs are as they were
+none-started : (s : State) (now : ℕ) (jobs : List JobRecord) (plan : List Placed)
+    → length (started s now jobs plan).starts ≡ 0 → (started s now jobs plan).jobs ≡ jobs
+unfolding started
+none-started s now jobs [] none = refl
+none-started s now jobs (placed ∷ later) none =
+    go (nat_eq placed.start now && may_start s jobs placed.id) none (none-started s now jobs later)
+  where
+    go : (starts : Bool)
+        → length (cond {A = Started} starts
+        (record (started s now (begun now jobs (start_of s.nodes jobs placed)) later) { starts = start_of s.nodes jobs placed ∷ (started s now (begun now jobs (start_of s.nodes jobs placed)) later).starts })
+        (record (started s now jobs later) { stays = placed ∷ (started s now jobs later).stays })).starts ≡ 0
+        → (length (started s now jobs later).starts ≡ 0 → (started s now jobs later).jobs ≡ jobs)
+        → (cond {A = Started} starts
+        (record (started s now (begun now jobs (start_of s.nodes jobs placed)) later) { starts = start_of s.nodes jobs placed ∷ (started s now (begun now jobs (start_of s.nodes jobs placed)) later).starts })
+        (record (started s now jobs later) { stays = placed ∷ (started s now jobs later).stays })).jobs ≡ jobs
+    go true none rest = absurd (omega (arith, none))
+    go false none rest = rest none
+
+-- ---- limits and old records
+
+-- who has ended doesn't run
+ended-still : (state : JobState) → is_ended state ≡ true → is_running state ≡ false
+ended-still Pending ended = absurd (both_ways false refl ended)
+ended-still Running ended = absurd (both_ways false refl ended)
+ended-still (Completing end) ended = refl
+ended-still (Ended end) ended = refl
+
+first-none : (test : Bool) (rest : ℕ) → cond test 1 0 + rest ≡ 0 → test ≡ false
+first-none true rest none = absurd (omega (arith, none))
+first-none false rest none = refl
+
+left-one : (place now : ℕ) (gone : JobRecord → Bool) (job : JobRecord)
+    → (gone job ≡ true → is_running job.state ≡ false) → is_over now job ≡ false
+    → counts_if (λ one. not (gone one)) place (timed_out now job) ≡ counts place job
+left-one place now gone job still off =
+    let stays : JobRecord → Bool = λ one. not (gone one) in
+    ap (λ b. counts_if stays place (cond b (changed (Leave Timeout now None) job) job)) off
+    ∙ elim (cases_Bool (gone job)) [
+      | inr kept ↦ if-passes stays place job (ap not kept)
+      | inl goes ↦ if-fails stays place job (ap not goes) ∙ sym (still-none place job (still goes))
+    ]
+
+left-sum : (place now : ℕ) (gone : JobRecord → Bool) (jobs : List JobRecord)
+    → ((job : JobRecord) → gone job ≡ true → is_running job.state ≡ false) → count_by (is_over now) jobs ≡ 0
+    → sum_by (counts_if (λ one. not (gone one)) place) (map (timed_out now) jobs) ≡ sum_by (counts place) jobs
+left-sum place now gone [] still none = refl
+left-sum place now gone (job ∷ jobs) still none =
+    let split : cond (is_over now job) 1 0 + count_by (is_over now) jobs ≡ 0 =
+    omega (arith, none, count-cons (is_over now) job jobs) in
+    omega (
+      arith,
+      sum_by-cons (counts_if (λ one. not (gone one)) place) (timed_out now job) (map (timed_out now) jobs),
+      sum_by-cons (counts place) job jobs,
+      left-one place now gone job (still job) (first-none (is_over now job) (count_by (is_over now) jobs) split),
+      left-sum place now gone jobs still (omega (arith, split)),
+    )
+
+-- where none is over its limit, and those that go don't run
+left-same : (place now : ℕ) (gone : JobRecord → Bool) (jobs : List JobRecord)
+    → ((job : JobRecord) → gone job ≡ true → is_running job.state ≡ false) → count_by (is_over now) jobs ≡ 0
+    → cpus_run_by (filter (λ job. not (gone job)) (map (timed_out now) jobs)) place ≡ cpus_run_by jobs place
+unfolding cpus_run_by
+left-same place now gone jobs still none =
+    run-filtered (λ job. not (gone job)) place (map (timed_out now) jobs) ∙ left-sum place now gone jobs still none
+
+-- who goes has ended
+gone-still : (s : State) (now : ℕ) (job : JobRecord) → goes s now job ≡ true → is_running job.state ≡ false
+gone-still s now job gone = ended-still job.state (first (is_ended job.state) _ _ gone)
+  where
+    first : (ended old left : Bool) → ((ended && old) && left) ≡ true → ended ≡ true
+    first ended old left on = grind arith
+
+-- ---- silent nodes
+
+lost-one : (place now : ℕ) (lost : ℕ → Bool) (job : JobRecord) (state : JobState) → job.state ≡ state
+    → loses lost job ≡ true → (is_running job.state && loses lost job) ≡ false
+    → counts place (off_lost now lost job state) ≡ counts place job
+lost-one place now lost job Pending is some none = refl
+lost-one place now lost job Running is some none =
+    absurd (both_ways (loses lost job) (sym (ap (λ b. b && loses lost job) (ap is_running is)) ∙ none) some)
+lost-one place now lost job (Completing end) is some none =
+    left-counts place now end (parts_kept lost job.parts) job is ∙ sym (still-none place job (ap is_running is))
+lost-one place now lost job (Ended end) is some none = refl
+
+lost-sum : (place now : ℕ) (lost : ℕ → Bool) (jobs : List JobRecord)
+    → count_by (λ (job : JobRecord). is_running job.state && loses lost job) jobs ≡ 0
+    → sum_by (counts place) (map (after_loss now lost) jobs) ≡ sum_by (counts place) jobs
+lost-sum place now lost [] none = refl
+lost-sum place now lost (job ∷ jobs) none =
+    let fails : JobRecord → Bool = λ (one : JobRecord). is_running one.state && loses lost one in
+    let split : cond (fails job) 1 0 + count_by fails jobs ≡ 0 = omega (arith, none, count-cons fails job jobs) in
+    let same : counts place (after_loss now lost job) ≡ counts place job =
+    cond_both (loses lost job) (off_lost now lost job job.state) job
+    (λ (after : JobRecord). counts place after ≡ counts place job)
+    (λ some. lost-one place now lost job job.state refl some (first-none (fails job) (count_by fails jobs) split))
+    (λ not. refl) in
+    omega (
+      arith,
+      sum_by-cons (counts place) (after_loss now lost job) (map (after_loss now lost) jobs),
+      sum_by-cons (counts place) job jobs,
+      same,
+      lost-sum place now lost jobs (omega (arith, split)),
+    )
+
+silenced-same : (s : State) (now place : ℕ) → failing_count s now ≡ 0
+    → cpus_run_by (silenced s now).jobs place ≡ cpus_run_by s.jobs place
+unfolding cpus_run_by
+silenced-same s now place none =
+    cond_both (any_silent s now) (without_silent s now) s (λ (t : State). cpus_run_by t.jobs place ≡ cpus_run_by s.jobs place)
+    (λ some. lost-sum place now (silent_at s now) s.jobs none) (λ not. refl)
+
+-- ---- whole passes
+
+pass-same : (s : State) (now place : ℕ) → ended_by_pass s now ≡ 0
+    → length (outcome (silenced s now) now).starts ≡ 0
+    → cpus_run_by (after_pass s now).jobs place ≡ cpus_run_by s.jobs place
+pass-same s now place ended starts =
+    let t = silenced s now in
+    ap (λ some. cpus_run_by some place) (none-started t now (jobs_left t now) (placements t now) starts)
+    ∙ left-same place now (goes t now) t.jobs (gone-still t now) (omega (arith, ended))
+    ∙ silenced-same s now place (omega (arith, ended))
+
+-- what comes of a request by a pass that was answered so
+abbrev IsStill : ℕ → State → Verdict → Type 0
+IsStill place s verdict =
+    is_still Pass (reply_by verdict) ≡ true → cpus_run_by (left_by s verdict).jobs place ≡ cpus_run_by s.jobs place
+
+refusal-still : (place : ℕ) (s : State) (refusal : Option Refusal) (verdict : Verdict) → IsStill place s verdict
+    → IsStill place s (unless_refused refusal verdict)
+refusal-still place s None verdict still = still
+refusal-still place s (Some refusal) verdict still = λ on. refl
+
+room-still : (place : ℕ) (s : State) (room : Bool) (verdict : Verdict) → IsStill place s verdict
+    → IsStill place s (unless_full room verdict)
+room-still place s true verdict still = still
+room-still place s false (Refuses refusal) still = λ on. refl
+room-still place s false (Tells view) still = λ on. refl
+room-still place s false Stays still = λ on. refl
+room-still place s false (Makes reply after) still = λ on. refl
+
+made-still : (place : ℕ) (s : State) (now : ℕ) → IsStill place s (made_by_pass s now)
+made-still place s now =
+    cond_both (pass_is_idle s now) Stays _ (IsStill place s) (λ idle on. refl)
+    (λ busy on. pass-same s now place
+    (both (ended_by_pass s now) (length (outcome (silenced s now) now).starts) on).0
+    (both (ended_by_pass s now) (length (outcome (silenced s now) now).starts) on).1)
+  where
+    both : (ended starts : ℕ) → (nat_eq ended 0 && nat_eq starts 0) ≡ true → (ended ≡ 0) × (starts ≡ 0)
+    both ended starts on = grind (arith, nat_tests)
+
+-- a pass that took no job out of Running and started none leaves what the running jobs of each association hold
+still-same : (s : State) (now : ℕ) (user : List ℕ) (place : ℕ) → is_still Pass (reply_of s now user Pass) ≡ true
+    → cpus_run_by (state_after s now user Pass).jobs place ≡ cpus_run_by s.jobs place
+still-same s now user place still =
+    let moment = raised s now in
+    cond_both (is_entered (reply_of s now user Pass))
+    (entered moment (size_of Pass) (left_by s (verdict_of s now user Pass))) s
+    (λ (t : State). cpus_run_by t.jobs place ≡ cpus_run_by s.jobs place)
+    (λ enters. refusal-still place s (first_refusal (early_refusals s now Pass)) (worked s moment user Pass)
+    (refusal-still place s (first_refusal (refusals_of s moment user Pass)) _
+    (room-still place s (has_room s Pass) (made s moment user Pass) (made-still place s moment))) still)
+    (λ not. refl)
+
+-- An entry that is such a pass leaves what the running jobs of each association hold.
+pub still-any : (s : State) (now : ℕ) (user : List ℕ) (request : Request) (place : ℕ)
+    → is_still request (reply_of s now user request) ≡ true
+    → cpus_run_by (state_after s now user request).jobs place ≡ cpus_run_by s.jobs place
+still-any s now user Pass place still = still-same s now user place still
+still-any s now user (Submit desc) place still = absurd (both_ways false refl still)
+still-any s now user (Cancel targets) place still = absurd (both_ways false refl still)
+still-any s now user (Hold targets for_owner) place still = absurd (both_ways false refl still)
+still-any s now user (Release targets) place still = absurd (both_ways false refl still)
+still-any s now user (Requeue target) place still = absurd (both_ways false refl still)
+still-any s now user (UpdateJob target limit nice) place still = absurd (both_ways false refl still)
+still-any s now user (UpdateNode nodes state) place still = absurd (both_ways false refl still)
+still-any s now user (UpdatePartition name state) place still = absurd (both_ways false refl still)
+still-any s now user (CreateReservation desc) place still = absurd (both_ways false refl still)
+still-any s now user (DeleteReservation name) place still = absurd (both_ways false refl still)
+still-any s now user (Report report) place still = absurd (both_ways false refl still)
+still-any s now user Shutdown place still = absurd (both_ways false refl still)
+still-any s now user (Show query) place still = absurd (both_ways false refl still)
