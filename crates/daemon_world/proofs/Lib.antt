@@ -20,3 +20,5 @@ pub mod Whole
 pub mod Settling
 pub mod Ending
 pub mod Once
+pub mod Turns
+pub mod Courses

@@ -191,8 +191,8 @@ settled-since s after k d sound below id starts (inl (i, old, within, is, later)
 few-starts : EventsKeep → Passes → (w : World) → HasComeAbout w
     → All (λ (job : JobRecord). job.starts ≤ w.state.size) w.state.jobs
 few-starts keep passes w came =
-    let begin = opening_world came.conf came.file came.boots in
-    let opens = opening_together came.conf came.file came.boots came.sound in
+    let begin = opening_world came.conf came.file came.daemons in
+    let opens = opening_together came.conf came.file came.daemons came.at_rest came.sound in
     let nothing : Since [] 0 begin.state = record {
       few = λ k d below. absurd (omega (arith, below));
       all = λ k d below. absurd (omega (arith, below));

@@ -6,6 +6,7 @@ use Rattle.plain_data.specs.Assocs.{AssocView}
 use Rattle.plain_data.specs.Confs.{ConfView}
 use Rattle.plain_data.specs.declared.conf.NodeConf.{NodeConf}
 use Rattle.reply_data.specs.declared.orders.Orders.{Orders}
+use Rattle.request_data.specs.declared.report.Done.{Done}
 use Rattle.request_data.specs.declared.report.Report.{Report}
 use Rattle.request_data.specs.declared.request.Request.{Request}
 use Rattle.request_data.specs.declared.request.Request.TheVariants.{Report as Reports}
@@ -15,10 +16,11 @@ use Rattle.ctl_state.specs.State.{State, opening}
 use Rattle.ctl_node_side.specs.Reporting.{heard_of}
 use Rattle.ctl_core.specs.Step.{IsInRange, state_after}
 use Rattle.node_daemon.specs.Daemon.{Daemon, are_due, given, polled, reported, started}
+use Rattle.node_daemon.specs.declared.running.Running.{Running}
 use Rattle.node_daemon.specs.Turn.{root}
-use Rattle.daemon_world.specs.Claims.{claims_of, claims_ordered}
+use Rattle.daemon_world.specs.Claims.{claim_run, claims_of, claims_ordered}
 use Rattle.daemon_world.specs.Together.{Fit, HeardSince, HeardUpTo, InStep, Together, kept_of}
-use Rattle.daemon_world.specs.Worlds.{AllCanHappen, CanHappen, Event, HasComeAbout, IsNoReport, World, opening_world, with_daemon, world_after, world_after_all}
+use Rattle.daemon_world.specs.Worlds.{AllCanHappen, CanHappen, Event, HasComeAbout, IsAtRest, IsNoReport, World, opening_world, with_daemon, world_after, world_after_all}
 use Rattle.daemon_world.proofs.Accepting.{Lower}
 use Rattle.daemon_world.proofs.Claimed.{fit_none}
 use Rattle.daemon_world.proofs.LeftAlone.{left_on}
@@ -141,36 +143,44 @@ none-kept : (nodes : List NodeConf) (found : Option ℕ)
 none-kept nodes None = refl
 none-kept nodes (Some place) = never-heard nodes place
 
-opens : (conf : ConfView) (file : AssocView) (node : List ℕ) (boot : ℕ)
-    → InStep (opening conf file) [] [] node (started node boot)
-opens conf file node boot =
+fits-none : (s : State) (node : List ℕ) (daemon : Daemon) → IsAtRest node daemon
+    → Fit s node (claims_of daemon) daemon.over
+fits-none s node daemon rest =
+    subst (λ (over : List Done). Fit s node (claims_of daemon) over) (sym rest.over)
+    (subst (λ (running : List Running). Fit s node (map claim_run running) []) (sym rest.running) (fit_none s node))
+
+opens : (conf : ConfView) (file : AssocView) (node : List ℕ) (daemon : Daemon) → IsAtRest node daemon
+    → InStep (opening conf file) [] [] node daemon
+opens conf file node daemon rest =
     let s = opening conf file in
     let kept : kept_of s node ≡ None = none-kept conf.nodes (place_named node s.nodes) in
     record {
-      name = refl;
-      heard = subst (λ kept. HeardUpTo kept boot 0) (sym kept) tt;
+      name = rest.named;
+      heard = subst (λ kept. HeardUpTo kept daemon.boot daemon.number) (sym kept) tt;
       sent = λ k d below. absurd (omega (arith, below));
-      fresh = λ life. refl;
-      fit = fit_none s node;
+      fresh = λ life. rest.running;
+      fit = fits-none s node daemon rest;
       ordered = λ k d below. absurd (omega (arith, below));
       told = λ k d below. absurd (omega (arith, below));
       parted = λ k d below. absurd (omega (arith, below));
       answered = λ k d below. absurd (omega (arith, below));
       emptied = λ place there told. record {
-        running = refl;
+        running = rest.running;
         ordered = λ k d below. absurd (omega (arith, below));
       };
     }
 
-pub opening_together : (conf : ConfView) (file : AssocView) (boots : List ℕ → ℕ) → IsSound (opening conf file)
-    → Together (opening_world conf file boots)
-opening_together conf file boots sound = record {
+pub opening_together : (conf : ConfView) (file : AssocView) (daemons : List ℕ → Daemon)
+    → ((node : List ℕ) → IsAtRest node (daemons node)) → IsSound (opening conf file)
+    → Together (opening_world conf file daemons)
+opening_together conf file daemons rest sound = record {
   sound = sound;
-  each = λ node. opens conf file node (boots node);
+  each = λ node. opens conf file node (daemons node) (rest node);
 }
 
 pub came_together : EventsKeep → (w : World) → HasComeAbout w → Together w
 came_together keep w came =
-    let begin = opening_world came.conf came.file came.boots in
+    let begin = opening_world came.conf came.file came.daemons in
     subst Together (sym came.is)
-    (events-together keep begin came.events (opening_together came.conf came.file came.boots came.sound) came.could)
+    (events-together keep begin came.events
+    (opening_together came.conf came.file came.daemons came.at_rest came.sound) came.could)

@@ -78,21 +78,25 @@ abbrev pub AllCanHappen : World → List Event → Type 0
 AllCanHappen w [] = Unit {0}
 AllCanHappen w (event ∷ later) = CanHappen w event × AllCanHappen (world_after w event) later
 
--- the world before any event, in which each daemon was just started
-abbrev pub opening_world : ConfView → AssocView → (List ℕ → ℕ) → World
-opening_world conf file boots = record {
-  state = opening conf file;
-  daemons = λ node. started node (boots node);
-  reports = [];
-  orders = [];
-}
+-- the daemon is of this node, where nothing runs, and nothing is over that could be told; it may be any of its lives
+pub record IsAtRest (node : List ℕ) (daemon : Daemon) : Type 0 where
+  pub named : daemon.node ≡ node
+  pub running : daemon.running ≡ []
+  pub over : daemon.over ≡ []
 
--- The world has come about: from the opening one of two files, by events of which each could happen when it did.
+-- the world before any event, with these daemons: nothing was sent
+abbrev pub opening_world : ConfView → AssocView → (List ℕ → Daemon) → World
+opening_world conf file daemons =
+    record { state = opening conf file; daemons = daemons; reports = []; orders = [] }
+
+-- The world has come about: from the opening one of two files, with daemons that run nothing, by events of which each
+-- could happen when it did.
 pub record HasComeAbout (w : World) : Type 0 where
   pub conf : ConfView
   pub file : AssocView
-  pub boots : List ℕ → ℕ
+  pub daemons : List ℕ → Daemon
+  pub at_rest : (node : List ℕ) → IsAtRest node (daemons node)
   pub sound : IsSound (opening conf file)
   pub events : List Event
-  pub could : AllCanHappen (opening_world conf file boots) events
-  pub is : w ≡ world_after_all (opening_world conf file boots) events
+  pub could : AllCanHappen (opening_world conf file daemons) events
+  pub is : w ≡ world_after_all (opening_world conf file daemons) events

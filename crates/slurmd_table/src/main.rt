@@ -1,7 +1,8 @@
-//! Runs slurmd over objects in memory, and reads the texts of orders, as the lines of a table say, and prints each line with
-//! what comes of it.
+//! Runs slurmd over objects in memory, reads the texts of orders, and follows the daemon of a node, as the lines of a table
+//! say, and prints each line with what comes of it.
 #![tactic(auto)]
 
+mod daemon;
 mod orders;
 mod runs;
 
@@ -12,6 +13,7 @@ use table_lines::table::{answers, print_answers};
 
 fn answer(alloc: Global, function: &str, arguments: &[&[u8]]) -> Result<Vec<u8>, Unanswered> {
     match function {
+        "daemon" => daemon::follow(alloc, arguments),
         "orders" => orders::read(alloc, arguments),
         "slurmd" => runs::run(alloc, arguments),
         _ => Err(Unanswered::Arguments),

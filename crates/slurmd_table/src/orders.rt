@@ -8,8 +8,8 @@ use std::alloc::Global;
 use table_lines::answer::{Unanswered, push};
 use table_lines::fields::LONGEST;
 
-// Puts a start behind a word.
-fn push_start(out: &mut Vec<u8>, word: &[u8], start: &Start) -> Result<(), Unanswered> {
+/// Puts a start behind a word.
+pub fn push_start(out: &mut Vec<u8>, word: &[u8], start: &Start) -> Result<(), Unanswered> {
     out.extend_from_slice(word)?;
     push(out, &start.id)?;
     out.extend_from_slice(b"/")?;

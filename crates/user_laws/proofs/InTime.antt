@@ -172,11 +172,19 @@ pass-ends s now sound in_time =
     (λ busy. All-weaker (Within now) (Ends now) (λ job within. ahead now job within.not_over) (after_pass s now).jobs
     (pass-within s now sound in_time))
 
-idle-stays : (s : State) (now : ℕ) → made_by_pass s now ≡ Stays → pass_is_idle s now ≡ true
-idle-stays s now stays = elim (cases_Bool (pass_is_idle s now)) [
+pub idle_stays : (s : State) (now : ℕ) → made_by_pass s now ≡ Stays → pass_is_idle s now ≡ true
+idle_stays s now stays = elim (cases_Bool (pass_is_idle s now)) [
   | inl idle ↦ idle
   | inr busy ↦ absurd (let makes = rw busy at stays in cc)
 ]
+
+-- what a pass makes is entered
+pub unentered : (s : State) (now : ℕ) (reply : Reply) (after : State) → made_by_pass s now ≡ Makes reply after
+    → is_entered reply ≡ false → ⊥
+unentered s now reply after makes never =
+    made_by (λ (reply : Reply) (after : State). is_entered reply ≡ false → ⊥)
+    (cond_both (pass_is_idle s now) Stays _ (MakesBy (λ reply (after : State). is_entered reply ≡ false → ⊥))
+    (λ idle. tt) (λ busy never. both_ways true never refl)) makes never
 
 pub none_late : (s : State) (now : ℕ) (user : List ℕ) → IsSound s → is_made (reply_of s now user Pass) ≡ true
     → All (λ (job : JobRecord). is_running job.state ≡ true → raised s now < deadline job)
@@ -188,14 +196,7 @@ none_late s now user sound =
     step_says P s now user Pass (λ refusal never. absurd (both_ways false refl never))
     (λ view never. absurd (both_ways false refl never))
     (λ idle made. All-weaker (λ (job : JobRecord). is_over moment job ≡ false) (Ends moment)
-    (λ job not_over. ahead moment job not_over) s.jobs (idle-within s moment (idle-stays s moment idle.stays)))
+    (λ job not_over. ahead moment job not_over) s.jobs (idle-within s moment (idle_stays s moment idle.stays)))
     (λ reply after is enters made. made_by Q
     (pass-ends s moment sound (omega (arith, sound.moment, is.in_time))) is.makes)
     (λ reply after is never made. absurd (unentered s moment reply after is.makes never))
-  where
-    unentered : (s : State) (now : ℕ) (reply : Reply) (after : State) → made_by_pass s now ≡ Makes reply after
-        → is_entered reply ≡ false → ⊥
-    unentered s now reply after makes never =
-        made_by (λ (reply : Reply) (after : State). is_entered reply ≡ false → ⊥)
-        (cond_both (pass_is_idle s now) Stays _ (MakesBy (λ reply (after : State). is_entered reply ≡ false → ⊥))
-        (λ idle. tt) (λ busy never. both_ways true never refl)) makes never

@@ -16,3 +16,10 @@ pub mod Fitting
 pub mod Below
 pub mod Remaining
 pub mod Accounted
+pub mod Granting
+pub mod Needing
+pub mod Asked
+pub mod Begun
+pub mod Along
+pub mod Parting
+pub mod Cancelling

@@ -1,7 +1,9 @@
 -- Lists of which each member becomes one of another list, or goes, and each of the other was one or has come.
-use Rattle.std.proofs.Common.{zero, suc, ◌≡◌, Bool, true, false, List, [], ◌∷◌, ◌++◌, map, filter, All, Any, Option, Some, None, is_none, refl, sym, subst, arith, inl, inr, ◌⊎◌}
+use Rattle.std.proofs.Common.{zero, suc, ℕ, ◌≡◌, ◌+◌, ◌∙◌, Bool, true, false, List, [], ◌∷◌, ◌++◌, map, filter, length, sum_by, All, Any, Option, Some, None, is_none, refl, sym, ap, subst, arith, inl, inr, ◌⊎◌}
+use Rattle.std.specs.List.{AllZip}
 use Rattle.std.proofs.lemmas.Bool.{both_ways, cond_both}
 use Rattle.std.proofs.lemmas.List.Elements.{All-cons, All-head, All-map, All-nil, All-tail, All-weaker}
+use Rattle.std.proofs.lemmas.List.Sums.{sum_by-cons}
 
 -- ---- a member that has something
 
@@ -32,6 +34,51 @@ pub any_right : {X : Type 0} (P : X → Type 0) (xs ys : List X) → Any P ys �
 any_right P [] ys any = any
 any_right P (x ∷ xs) ys any = any_there P x (xs ++ ys) (any_right P xs ys any)
 
+-- one that is mapped, and one that a test keeps
+pub any_mapped : {X Y : Type 0} (P : Y → Type 0) (f : X → Y) (xs : List X) → Any (λ (x : X). P (f x)) xs
+    → Any P (map f xs)
+any_mapped {X} P f [] any = absurd (any_none (λ (x : X). P (f x)) any)
+any_mapped {X} P f (x ∷ xs) any = elim (any_cases (λ (x : X). P (f x)) x xs any) [
+  | inl here ↦ any_here P (f x) (map f xs) here
+  | inr later ↦ any_there P (f x) (map f xs) (any_mapped P f xs later)
+]
+
+pub any_kept : {X : Type 0} (P : X → Type 0) (test : X → Bool) (xs : List X)
+    → Any (λ (x : X). P x × (test x ≡ true)) xs → Any P (filter test xs)
+any_kept {X} P test [] any = absurd (any_none (λ (x : X). P x × (test x ≡ true)) any)
+any_kept {X} P test (x ∷ xs) any =
+    let Kept = λ (x : X). P x × (test x ≡ true) in
+    cond_both (test x) (x ∷ filter test xs) (filter test xs) (λ (rest : List X). Any P rest)
+    (λ is. elim (any_cases Kept x xs any) [
+      | inl here ↦ any_here P x (filter test xs) here.0
+      | inr later ↦ any_there P x (filter test xs) (any_kept P test xs later)
+    ])
+    (λ out. elim (any_cases Kept x xs any) [
+      | inl here ↦ absurd (both_ways (test x) out here.1)
+      | inr later ↦ any_kept P test xs later
+    ])
+
+-- the same the other way round
+pub any_unmapped : {X Y : Type 0} (P : Y → Type 0) (f : X → Y) (xs : List X) → Any P (map f xs)
+    → Any (λ (x : X). P (f x)) xs
+any_unmapped {X} P f [] any = absurd (any_none P any)
+any_unmapped {X} P f (x ∷ xs) any = elim (any_cases P (f x) (map f xs) any) [
+  | inl here ↦ any_here (λ (x : X). P (f x)) x xs here
+  | inr later ↦ any_there (λ (x : X). P (f x)) x xs (any_unmapped P f xs later)
+]
+
+pub any_passes : {X : Type 0} (P : X → Type 0) (test : X → Bool) (xs : List X) → Any P (filter test xs)
+    → Any (λ (x : X). P x × (test x ≡ true)) xs
+any_passes {X} P test [] any = absurd (any_none P any)
+any_passes {X} P test (x ∷ xs) any =
+    let Passing = λ (x : X). P x × (test x ≡ true) in
+    cond_both (test x) (x ∷ filter test xs) (filter test xs) (λ (rest : List X). Any P rest → Any Passing (x ∷ xs))
+    (λ is any. elim (any_cases P x (filter test xs) any) [
+      | inl here ↦ any_here Passing x xs (here, is)
+      | inr later ↦ any_there Passing x xs (any_passes P test xs later)
+    ])
+    (λ out any. any_there Passing x xs (any_passes P test xs any)) any
+
 -- what holds of all and of one that has something holds of one
 pub any_of_all : {X : Type 0} (R P : X → Type 0) (Q : Type 0) (xs : List X) → ((x : X) → R x → P x → Q) → All R xs
     → Any P xs → Q
@@ -45,6 +92,48 @@ any_of_all R P Q (x ∷ xs) on all any = elim (any_cases P x xs any) [
 pub all_mapped : {X : Type 0} (P Q : X → Type 0) (f : X → X) (xs : List X) → ((x : X) → P x → Q (f x)) → All P xs
     → All Q (map f xs)
 all_mapped {X} P Q f xs on all = All-map Q f xs (All-weaker P (λ (x : X). Q (f x)) on xs all)
+
+-- ---- two lists, member by member
+
+pub zip_all : {X Y : Type 0} (P : X → Type 0) (R : X → Y → Type 0) (Q : Y → Type 0) (xs : List X) (ys : List Y)
+    → ((x : X) (y : Y) → P x → R x y → Q y) → All P xs → AllZip R xs ys → All Q ys
+zip_all P R Q [] [] on all zip = All-nil Q
+zip_all P R Q [] (y ∷ ys) on all zip = absurd zip
+zip_all P R Q (x ∷ xs) [] on all zip = absurd zip
+zip_all P R Q (x ∷ xs) (y ∷ ys) on all zip =
+    All-cons Q y ys (on x y (All-head P x xs all) zip.0) (zip_all P R Q xs ys on (All-tail P x xs all) zip.1)
+
+pub zip_long : {X Y : Type 0} (R : X → Y → Type 0) (xs : List X) (ys : List Y) → AllZip R xs ys
+    → length xs ≡ length ys
+zip_long R [] [] zip = refl
+zip_long R [] (y ∷ ys) zip = absurd zip
+zip_long R (x ∷ xs) [] zip = absurd zip
+zip_long R (x ∷ xs) (y ∷ ys) zip = ap suc (zip_long R xs ys zip.1)
+
+pub zip_any : {X Y : Type 0} (P : X → Type 0) (R : X → Y → Type 0) (Q : Y → Type 0) (xs : List X) (ys : List Y)
+    → ((x : X) (y : Y) → P x → R x y → Q y) → Any P xs → AllZip R xs ys → Any Q ys
+zip_any P R Q [] ys on any zip = absurd (any_none P any)
+zip_any P R Q (x ∷ xs) [] on any zip = absurd zip
+zip_any P R Q (x ∷ xs) (y ∷ ys) on any zip = elim (any_cases P x xs any) [
+  | inl here ↦ any_here Q y ys (on x y here zip.0)
+  | inr later ↦ any_there Q y ys (zip_any P R Q xs ys on later zip.1)
+]
+
+pub zip_mapped : {X Y Z : Type 0} (P : X → Type 0) (R : X → Y → Type 0) (S : Z → Y → Type 0) (f : X → Z) (xs : List X)
+    (ys : List Y) → ((x : X) (y : Y) → P x → R x y → S (f x) y) → All P xs → AllZip R xs ys → AllZip S (map f xs) ys
+zip_mapped P R S f [] [] on all zip = tt
+zip_mapped P R S f [] (y ∷ ys) on all zip = absurd zip
+zip_mapped P R S f (x ∷ xs) [] on all zip = absurd zip
+zip_mapped P R S f (x ∷ xs) (y ∷ ys) on all zip =
+    (on x y (All-head P x xs all) zip.0, zip_mapped P R S f xs ys on (All-tail P x xs all) zip.1)
+
+-- the sum over a list that is mapped
+pub sum_mapped : {X Y : Type 0} (f : Y → ℕ) (g : X → Y) (xs : List X)
+    → sum_by f (map g xs) ≡ sum_by (λ (x : X). f (g x)) xs
+sum_mapped f g [] = refl
+sum_mapped {X} f g (x ∷ xs) =
+    sum_by-cons f (g x) (map g xs) ∙ ap (λ n. f (g x) + n) (sum_mapped f g xs)
+    ∙ sym (sum_by-cons (λ (x : X). f (g x)) x xs)
 
 -- ---- an option that is none
 

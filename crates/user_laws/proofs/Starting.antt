@@ -51,9 +51,9 @@ other-waits now id parts names other job differ waits =
     (λ (after : JobRecord). has_id other after ≡ true → is_pending after.state ≡ true)
     (λ is has. absurd (differ (sym (eqb-true job.id id is) ∙ eqb-true job.id other has))) (λ not. waits)
 
-waits-on : (now id : ℕ) (parts : List Part) (names : List (List ℕ)) (other : ℕ) (jobs : List JobRecord) → id ≢ other
+pub waits_on : (now id : ℕ) (parts : List Part) (names : List (List ℕ)) (other : ℕ) (jobs : List JobRecord) → id ≢ other
     → Waits jobs other → Waits (map (started_as now id parts names) jobs) other
-waits-on now id parts names other jobs differ waits =
+waits_on now id parts names other jobs differ waits =
     All-map (λ (job : JobRecord). has_id other job ≡ true → is_pending job.state ≡ true)
     (started_as now id parts names) jobs
     (All-weaker (λ (job : JobRecord). has_id other job ≡ true → is_pending job.state ≡ true)
@@ -73,7 +73,7 @@ pub may_start_on : (now : ℕ) (jobs : List JobRecord) (start : JobStart) (place
 may_start_on now jobs start placed later is may =
     let rest = may_start_later jobs placed later may in
     record {
-      wait = λ k d below. waits-on now start.id start.parts start.nodes (get_or later k d).id jobs
+      wait = λ k d below. waits_on now start.id start.parts start.nodes (get_or later k d).id jobs
           (λ same. may.apart 0 (suc k) d (omega arith) (omega (arith, below)) (sym is ∙ same)) (rest.wait k d below);
       apart = rest.apart;
     }

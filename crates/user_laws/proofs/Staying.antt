@@ -56,27 +56,27 @@ after-goes s now user Shutdown job = goes_itself job
 after-goes s now user (Show query) job = goes_itself job
 
 -- what a job becomes at a request that is no pass
-becomes-after : (s : State) (now : ℕ) (user : List ℕ) (request : Request) (job after : JobRecord) → request ≢ Pass
+pub becomes_after : (s : State) (now : ℕ) (user : List ℕ) (request : Request) (job after : JobRecord) → request ≢ Pass
     → Becomes s now user request job after → after ≡ job_after s now user request job
-becomes-after s now user (Submit desc) job after other is = is
-becomes-after s now user (Cancel targets) job after other is = is
-becomes-after s now user (Hold targets for_owner) job after other is = is
-becomes-after s now user (Release targets) job after other is = is
-becomes-after s now user (Requeue target) job after other is = is
-becomes-after s now user (UpdateJob target limit nice) job after other is = is
-becomes-after s now user (UpdateNode nodes state) job after other is = is
-becomes-after s now user (UpdatePartition name state) job after other is = is
-becomes-after s now user (CreateReservation desc) job after other is = is
-becomes-after s now user (DeleteReservation name) job after other is = is
-becomes-after s now user (Report report) job after other is = is
-becomes-after s now user Pass job after other is = absurd (other refl)
-becomes-after s now user Shutdown job after other is = is
-becomes-after s now user (Show query) job after other is = is
+becomes_after s now user (Submit desc) job after other is = is
+becomes_after s now user (Cancel targets) job after other is = is
+becomes_after s now user (Hold targets for_owner) job after other is = is
+becomes_after s now user (Release targets) job after other is = is
+becomes_after s now user (Requeue target) job after other is = is
+becomes_after s now user (UpdateJob target limit nice) job after other is = is
+becomes_after s now user (UpdateNode nodes state) job after other is = is
+becomes_after s now user (UpdatePartition name state) job after other is = is
+becomes_after s now user (CreateReservation desc) job after other is = is
+becomes_after s now user (DeleteReservation name) job after other is = is
+becomes_after s now user (Report report) job after other is = is
+becomes_after s now user Pass job after other is = absurd (other refl)
+becomes_after s now user Shutdown job after other is = is
+becomes_after s now user (Show query) job after other is = is
 
 pub becomes_goes : (s : State) (now : ℕ) (user : List ℕ) (request : Request) (job after : JobRecord) → request ≢ Pass
     → Becomes s now user request job after → GoesOn job after
 becomes_goes s now user request job after other is =
-    subst (GoesOn job) (sym (becomes-after s now user request job after other is)) (after-goes s now user request job)
+    subst (GoesOn job) (sym (becomes_after s now user request job after other is)) (after-goes s now user request job)
 
 -- ---- no job is lost
 
@@ -127,22 +127,22 @@ none_lost s now user request =
 
 -- ---- only passes start
 
-new-never : (s : State) (request : Request) (job : JobRecord) → HasCome s request job
+pub new_never : (s : State) (request : Request) (job : JobRecord) → HasCome s request job
     → (job.starts ≡ 0) × (is_pending job.state ≡ true)
-new-never s (Submit desc) job new = (new.never, new.waits)
-new-never s (Cancel targets) job never = absurd never
-new-never s (Hold targets for_owner) job never = absurd never
-new-never s (Release targets) job never = absurd never
-new-never s (Requeue target) job never = absurd never
-new-never s (UpdateJob target limit nice) job never = absurd never
-new-never s (UpdateNode nodes state) job never = absurd never
-new-never s (UpdatePartition name state) job never = absurd never
-new-never s (CreateReservation desc) job never = absurd never
-new-never s (DeleteReservation name) job never = absurd never
-new-never s (Report report) job never = absurd never
-new-never s Pass job never = absurd never
-new-never s Shutdown job never = absurd never
-new-never s (Show query) job never = absurd never
+new_never s (Submit desc) job new = (new.never, new.waits)
+new_never s (Cancel targets) job never = absurd never
+new_never s (Hold targets for_owner) job never = absurd never
+new_never s (Release targets) job never = absurd never
+new_never s (Requeue target) job never = absurd never
+new_never s (UpdateJob target limit nice) job never = absurd never
+new_never s (UpdateNode nodes state) job never = absurd never
+new_never s (UpdatePartition name state) job never = absurd never
+new_never s (CreateReservation desc) job never = absurd never
+new_never s (DeleteReservation name) job never = absurd never
+new_never s (Report report) job never = absurd never
+new_never s Pass job never = absurd never
+new_never s Shutdown job never = absurd never
+new_never s (Show query) job never = absurd never
 
 same-back : (job after : JobRecord) → GoesOn job after → IsSame after job
 same-back job after goes = record { id = sym goes.id; starts = sym goes.starts }
@@ -164,7 +164,7 @@ none_started s now user request other =
           inl (any_weaker (λ (job : JobRecord). Becomes s moment user request job after)
           (λ (job : JobRecord). IsSame after job) s.jobs
           (λ job is. same-back job after (becomes_goes s moment user request job after other is)) any)
-      | inr new ↦ inr (new-never s request after new).0
+      | inr new ↦ inr (new_never s request after new).0
     ]) jobs turns.was)
 
 pub none_begun : (s : State) (now : ℕ) (user : List ℕ) (request : Request) → request ≢ Pass
@@ -193,7 +193,7 @@ none_begun s now user request other =
           any_weaker (λ (job : JobRecord). Becomes s moment user request job after) (RunsThere after) s.jobs
           (λ job is. let goes = becomes_goes s moment user request job after other is in
           record { same = same-back job after goes; runs = goes.ran runs }) any
-      | inr new ↦ absurd (both_ways (is_running after.state) (waits_still after.state (new-never s request after new).1) runs)
+      | inr new ↦ absurd (both_ways (is_running after.state) (waits_still after.state (new_never s request after new).1) runs)
     ]) jobs turns.was)
 
 -- ---- who runs runs on
@@ -280,7 +280,7 @@ none_ended s now user request mild =
           (λ after is. let goes = becomes_goes s moment user request job after other is in
           record {
             same = record { id = goes.id; starts = goes.starts };
-            runs = ap (λ (job : JobRecord). is_running job.state) (becomes-after s moment user request job after other is)
+            runs = ap (λ (job : JobRecord). is_running job.state) (becomes_after s moment user request job after other is)
                 ∙ ap is_running (state_stays s moment user request job mild) ∙ runs;
           }) any
     ]) s.jobs turns.each)

@@ -157,9 +157,9 @@ stood-ok jobs job is first =
 at-place : {X : Type 0} (P : X → Type 0) (xs : List X) (k : ℕ) (d : X) → k < length xs → P (get_or xs k d) → Any P xs
 at-place P xs k d below has = (k, get_or xs k d, below, get_or_default xs k (get_or xs k d) d below, has)
 
-only-one : (jobs : List JobRecord) → HaveRisingIds jobs → (a b : JobRecord) → Any (λ (y : JobRecord). y ≡ a) jobs
+pub only_one : (jobs : List JobRecord) → HaveRisingIds jobs → (a b : JobRecord) → Any (λ (y : JobRecord). y ≡ a) jobs
     → Any (λ (y : JobRecord). y ≡ b) jobs → a.id ≡ b.id → a ≡ b
-only-one jobs rising a b (i, x, first, is-x, same-x) (k, y, second, is-y, same-y) ids =
+only_one jobs rising a b (i, x, first, is-x, same-x) (k, y, second, is-y, same-y) ids =
     let x-id : x.id ≡ a.id = ap (λ (job : JobRecord). job.id) same-x in
     let y-id : y.id ≡ b.id = ap (λ (job : JobRecord). job.id) same-y in
     let at-x : (get_or jobs i x).id ≡ x.id = ap (λ (job : JobRecord). job.id) is-x in
@@ -276,7 +276,7 @@ planned-found passes s now k d sound later in_time below waits first placed id (
     let t = silenced s now in
     let jobs = jobs_left t now in
     let same : one ≡ job =
-    only-one jobs (ready_rising passes s now sound later in_time) one job (i, one, within, is, refl)
+    only_one jobs (ready_rising passes s now sound later in_time) one job (i, one, within, is, refl)
     (is-left s now k d below waits) (has.0 ∙ id) in
     let free = subst (λ (job : JobRecord). is_candidate (ready t now) now job ≡ true) same has.1 in
     stood-ok jobs job (candidate-satisfied (ready t now) now job free) first

@@ -5,3 +5,6 @@ pub mod Waiting
 pub mod Using
 pub mod Planning
 pub mod Accounting
+pub mod Asked
+pub mod Whole
+pub mod Cancelling

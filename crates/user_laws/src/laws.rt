@@ -15,6 +15,7 @@ ghost use Rattle.ctl_state.specs.Refusals.{is_privileged};
 ghost use Rattle.ctl_state.specs.Soundness.{IsSound};
 ghost use Rattle.ctl_core.specs.Step.{is_made, raised, reply_of, state_after};
 ghost use Rattle.user_laws.specs.Asking.{answer_to};
+ghost use Rattle.user_laws.specs.Cancelling.{IsCancelledBy, is_cancelled};
 ghost use Rattle.user_laws.specs.Others.{AddsOwn, LeavesOthers};
 ghost use Rattle.user_laws.specs.Staying.{HasGone, IsSame, RunsThere, may_end};
 ghost use Rattle.user_laws.specs.Using.{cpus_run_by};
@@ -47,6 +48,14 @@ pub fn only_passes_start_jobs()
     ensures ends { (s : State) (now : ℕ) (user : List ℕ) (request : Request) → may_end request ≡ false
         → All (λ (job : JobRecord). is_running job.state ≡ true
         → Any (RunsThere job) (state_after s now user request).jobs) s.jobs }
+{}
+
+/// Only a cancel cancels: whoever is cancelled after a step, or is to be once his nodes have let him go, was so before by
+/// the same start, or the step is a cancel that means him, by a user who may do that.
+pub fn only_cancels_cancel()
+    ensures { (s : State) (now : ℕ) (user : List ℕ) (request : Request) → All (λ (after : JobRecord).
+        is_cancelled after.state ≡ true → Any (IsCancelledBy s user request after) s.jobs)
+        (state_after s now user request).jobs }
 {}
 
 /// A query changes nothing, and its answer is the one that the state gives at the moment, to whoever asks: none asked

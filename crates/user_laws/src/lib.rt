@@ -5,3 +5,4 @@
 pub mod accounting;
 pub mod laws;
 pub mod plans;
+pub mod starts;
