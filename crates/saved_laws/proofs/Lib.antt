@@ -18,9 +18,11 @@ pub mod PlacesBack
 pub mod PlanKept
 pub mod Positions
 pub mod RankingSized
+pub mod ReadAgain
 pub mod ReservationsBack
 pub mod ReservationsKept
 pub mod Resized
+pub mod RulesKept
 pub mod ShowingSized
 pub mod StandingKept
 pub mod StepsSized

@@ -1,5 +1,5 @@
 -- What is asked one after another: the answers, the state behind them, and whether the history is full in between.
-use Rattle.std.specs.Prelude.{◌≢◌, ℕ, List, [], ◌∷◌, ◌++◌}
+use Rattle.std.specs.Prelude.{◌≢◌, List, [], ◌∷◌}
 use Rattle.reply_data.specs.declared.refusal.Refusal.TheVariants.{HistoryFull}
 use Rattle.reply_data.specs.declared.reply.Reply.TheVariants.{Refused}
 use Rattle.request_data.specs.declared.request.Request.{Request}
@@ -7,7 +7,7 @@ use Rattle.command_words.specs.declared.header.Meaning.{Meaning}
 use Rattle.command_words.specs.declared.header.Meaning.TheVariants.{Asks}
 use Rattle.ctl_state.specs.State.{State}
 use Rattle.ctl_core.specs.Step.{IsInRange, reply_of}
-use Rattle.ctl_session.specs.Meaning.{told, state_behind}
+use Rattle.ctl_session.specs.Meaning.{state_behind}
 use Rattle.saved_laws.specs.Kept.{IsInTypes}
 
 -- it isn't refused for want of room in the history

@@ -4,6 +4,7 @@
 
 pub mod keeping;
 pub mod ranges;
+pub mod reading;
 pub mod restoring;
 pub mod rooms;
 pub mod scripts;

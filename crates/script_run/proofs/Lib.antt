@@ -6,3 +6,4 @@ pub mod Completeness
 pub mod Wholeness
 pub mod Adding
 pub mod Endings
+pub mod Ruled

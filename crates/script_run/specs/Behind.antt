@@ -1,10 +1,12 @@
 -- What is written behind a script's answers, and how its run ends.
-use Rattle.std.specs.Prelude.{◌≡◌, ℕ, ◌<◌, ◌≤◌, Bool, if◌then◌else◌, List, [], ◌++◌, length, Option, Some, None}
+use Rattle.std.specs.Prelude.{◌≡◌, ℕ, ◌<◌, ◌≤◌, Bool, if◌then◌else◌, List, [], ◌++◌, length, Option, Some, None, All}
 use Rattle.std.specs.Io.KnownBytes.{Appends}
 use Rattle.slurm_io.specs.Bytes.{AppendsFront}
 use Rattle.slurm_io.specs.Faults.{CountsOne}
 use Rattle.slurm_io.specs.Wire.{Wire}
+use Rattle.job_table.specs.declared.record.JobRecord.{JobRecord}
 use Rattle.saved_data.specs.Sizes.{longest_text}
+use Rattle.saved_rules.specs.Rules.{TermsByRules}
 use Rattle.state_save.specs.Saved as state
 use Rattle.ctl_saved.specs.Saving.{saved_of}
 use Rattle.ctl_state.specs.State.{State}
@@ -24,6 +26,10 @@ window_of period = record { from = period.from; until = period.until }
 abbrev pub sums_text : Option Period → History → List ℕ
 sums_text None h = []
 sums_text (Some period) h = lines h (window_of period) (present h).moment
+
+-- what a state's jobs ask for is by the rules of sbatch(1)
+abbrev pub AreByRules : State → Type 0
+AreByRules s = All (λ (job : JobRecord). TermsByRules job.terms) s.jobs
 
 -- the text of a state
 unfoldable pub saved_state : State → List ℕ
