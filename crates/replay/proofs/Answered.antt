@@ -6,7 +6,7 @@ use Rattle.std.proofs.lemmas.Bool.{cases_Bool, leb-true}
 use Rattle.std.specs.List.{list_any}
 use Rattle.replay_plan.specs.declared.submission.Submission.{Submission}
 use Rattle.replay.specs.Laws.{EachIsAnswered, MomentsNeverFall}
-use Rattle.replay.specs.Replay.{Standing, begun, event, events, first_moment, is_over, is_running, most_events, next_moment, passed, replayed, turned, waiting, with_due, with_one}
+use Rattle.replay.specs.Replay.{Standing, begun, cleared, event, events, first_moment, due_round, is_over, is_running, launched, most_events, next_moment, replayed, with_due, with_one, with_round}
 
 -- the first that waits is due, or none is
 pub due_more : (now : ℕ) (at : Standing) (submission : Submission) (others : List Submission)
@@ -39,10 +39,11 @@ AreFew submissions at = length at.replies ≤ length submissions
 
 few_behind : (interval : ℕ) (submissions : List Submission) (at : Standing) → AreFew submissions at
     → AreFew submissions (event interval submissions at)
-unfolding event
+unfolding event cleared launched
 few_behind interval submissions at few =
-    let now = next_moment interval submissions at in
-    let more = few_answers now (turned now at) (drop (length at.replies) submissions) in
+    let now = next_moment submissions at in
+    let begun = with_round interval (due_round now at) now (cleared now at) in
+    let more = few_answers now begun (drop (length at.replies) submissions) in
     omega (arith, more, few, length-drop (length at.replies) submissions)
 
 first_true : (a b c : Bool) → (a && b && c) ≡ true → a ≡ true
@@ -76,5 +77,5 @@ each_answered interval submissions s end is =
     along most_events interval submissions (begun (first_moment submissions) s) end (omega arith) is
 
 pub never_fall : MomentsNeverFall
-unfolding event next_moment
+unfolding event cleared launched next_moment
 never_fall interval submissions at = omega arith

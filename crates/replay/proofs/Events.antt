@@ -1,38 +1,72 @@
 -- An event step by step, and events one after the other.
-use Rattle.std.proofs.Common.{◌≡◌, ℕ, suc, ◌+◌, true, false, if◌then◌else◌, Option, Some, None, List, length, drop, refl, sym, ap, ◌∙◌}
+use Rattle.std.proofs.Common.{◌≡◌, ℕ, suc, ◌+◌, true, false, if◌then◌else◌, Option, Some, None, List, [], length, drop, refl, sym, ap, ◌∙◌}
+use Rattle.request_data.specs.declared.report.Start.{Start}
+use Rattle.request_data.specs.declared.request.Request.TheVariants.{Pass}
 use Rattle.ctl_state.specs.State.{State}
+use Rattle.node_daemon.specs.Turn.{root}
 use Rattle.replay_plan.specs.declared.submission.Submission.{Submission}
-use Rattle.replay.specs.Replay.{Standing, event, event_at, events, is_over, most_events, next_moment, passed, played_behind_turns, standing, state_behind_turns, turned, with_due}
+use Rattle.replay.specs.Replay.{Standing, cleared, ended_starts, event, event_at, events, due_round, is_over, launched, most_events, next_moment, passed, played_behind_round, round_behind, standing, state_behind_round, told, turned, with_due, with_round}
 use Rattle.replay.specs.declared.handing.Course.{Course}
 use Rattle.replay.specs.declared.played.Played.{Played}
+use Rattle.replay.specs.declared.turns.Round.{Round}
+use Rattle.replay.specs.declared.turns.Round.TheVariants.{Ending, Others}
 
-turned_is : (now : ℕ) (s s' : State) (played played' : List Played) (course : Course)
-    → s' ≡ state_behind_turns now s played → played' ≡ played_behind_turns now s played
-    → standing s' played' course ≡ turned now (standing s played course)
-turned_is now s s' played played' course states daemons =
+turned_is : (round : Round) (now : ℕ) (ended : List Start) (s s' : State) (played played' : List Played) (course : Course)
+    → s' ≡ state_behind_round round now ended s played → played' ≡ played_behind_round round now ended s played
+    → standing s' played' course ≡ turned round now ended (standing s played course)
+turned_is round now ended s s' played played' course states daemons =
     ap (λ t. standing t played' course) states
-    ∙ ap (λ ps. standing (state_behind_turns now s played) ps course) daemons
+    ∙ ap (λ ps. standing (state_behind_round round now ended s played) ps course) daemons
 
-pub event_is : (interval now : ℕ) (submissions waiting : List Submission) (s0 s1 s2 s3 s4 : State)
-    (p0 p1 p2 : List Played) (c0 c1 c2 : Course)
-    → now ≡ next_moment interval submissions (standing s0 p0 c0)
-    → waiting ≡ drop (length c0.replies.items) submissions
-    → s1 ≡ state_behind_turns now s0 p0 → p1 ≡ played_behind_turns now s0 p0
-    → standing s2 p1 c1 ≡ with_due now (standing s1 p1 c0) waiting
-    → standing s3 p1 c2 ≡ passed now (standing s2 p1 c1)
-    → s4 ≡ state_behind_turns now s3 p1 → p2 ≡ played_behind_turns now s3 p1
-    → standing s4 p2 c2 ≡ event interval submissions (standing s0 p0 c0)
-unfolding event
-event_is interval now submissions waiting s0 s1 s2 s3 s4 p0 p1 p2 c0 c1 c2 moment left first first_p handed pass second second_p =
+pub cleared_is : (due : Round) (now : ℕ) (ended : List Start) (s0 s1 s2 s3 : State) (p0 p1 p2 p3 : List Played) (course : Course)
+    → ended ≡ ended_starts now p0 → due ≡ due_round now (standing s0 p0 course)
+    → s1 ≡ state_behind_round Ending now ended s0 p0 → p1 ≡ played_behind_round Ending now ended s0 p0
+    → s2 ≡ state_behind_round Others now ended s1 p1 → p2 ≡ played_behind_round Others now ended s1 p1
+    → s3 ≡ state_behind_round due now ended s2 p2 → p3 ≡ played_behind_round due now ended s2 p2
+    → standing s3 p3 course ≡ cleared now (standing s0 p0 course)
+unfolding cleared
+cleared_is due now ended s0 s1 s2 s3 p0 p1 p2 p3 course ends is_due states1 played1 states2 played2 states3 played3 =
+    let at = standing s0 p0 course in
+    turned_is due now ended s2 s3 p2 p3 course states3 played3
+    ∙ ap (turned due now ended) (turned_is Others now ended s1 s2 p1 p2 course states2 played2)
+    ∙ ap (λ r. turned due now ended (turned Others now ended r)) (turned_is Ending now ended s0 s1 p0 p1 course states1 played1)
+    ∙ ap (λ r. turned r now ended (turned Others now ended (turned Ending now ended at))) is_due
+    ∙ ap (λ e. turned (due_round now at) now e (turned Others now e (turned Ending now e at))) ends
+
+pub launched_is : (interval now : ℕ) (round : Round) (s0 s1 s2 : State) (p0 p2 : List Played) (c0 c1 c2 : Course)
+    → standing s1 p0 c1 ≡ passed now (standing s0 p0 c0) → round ≡ round_behind (told root now Pass s0)
+    → s2 ≡ state_behind_round round now [] s1 p0 → p2 ≡ played_behind_round round now [] s1 p0
+    → standing s2 p2 c2 ≡ with_round interval round now (standing s2 p2 c1)
+    → standing s2 p2 c2 ≡ launched interval now (standing s0 p0 c0)
+unfolding launched
+launched_is interval now round s0 s1 s2 p0 p2 c0 c1 c2 pass behind states daemons noted =
     let at = standing s0 p0 c0 in
-    let reported : standing s1 p1 c0 ≡ turned now at = turned_is now s0 s1 p0 p1 c0 first first_p in
-    let given : standing s2 p1 c1 ≡ with_due now (turned now at) (drop (length c0.replies.items) submissions) =
-    handed ∙ ap (λ r. with_due now r waiting) reported ∙ ap (with_due now (turned now at)) left in
-    let started : standing s3 p1 c2 ≡ passed now (with_due now (turned now at) (drop (length c0.replies.items) submissions)) =
-    pass ∙ ap (passed now) given in
-    let launched : standing s4 p2 c2 ≡ turned now (standing s3 p1 c2) = turned_is now s3 s4 p1 p2 c2 second second_p in
-    let whole : standing s4 p2 c2 ≡ event_at now submissions at = launched ∙ ap (turned now) started in
-    whole ∙ ap (λ n. event_at n submissions at) moment
+    noted
+    ∙ ap (with_round interval round now) (turned_is round now [] s1 s2 p0 p2 c1 states daemons)
+    ∙ ap (λ r. with_round interval round now (turned round now [] r)) pass
+    ∙ ap (λ r. with_round interval r now (turned r now [] (passed now at))) behind
+
+pub event_is : (interval now : ℕ) (round : Round) (submissions waiting : List Submission) (s0 s1 s2 s3 : State)
+    (p0 p1 p2 : List Played) (c0 c1 c2 c3 : Course)
+    → now ≡ next_moment submissions (standing s0 p0 c0)
+    → waiting ≡ drop (length c0.replies.items) submissions
+    → round ≡ due_round now (standing s0 p0 c0)
+    → standing s1 p1 c0 ≡ cleared now (standing s0 p0 c0)
+    → standing s1 p1 c1 ≡ with_round interval round now (standing s1 p1 c0)
+    → standing s2 p1 c2 ≡ with_due now (standing s1 p1 c1) waiting
+    → standing s3 p2 c3 ≡ launched interval now (standing s2 p1 c2)
+    → standing s3 p2 c3 ≡ event interval submissions (standing s0 p0 c0)
+unfolding event
+event_is interval now round submissions waiting s0 s1 s2 s3 p0 p1 p2 c0 c1 c2 c3 moment left first clears noted handed launches =
+    let at = standing s0 p0 c0 in
+    let begun : standing s1 p1 c1 ≡ with_round interval (due_round now at) now (cleared now at) =
+    noted ∙ ap (with_round interval round now) clears ∙ ap (λ r. with_round interval r now (cleared now at)) first in
+    let given : standing s2 p1 c2
+    ≡ with_due now (with_round interval (due_round now at) now (cleared now at)) (drop (length c0.replies.items) submissions) =
+    handed ∙ ap (λ r. with_due now r waiting) begun
+    ∙ ap (with_due now (with_round interval (due_round now at) now (cleared now at))) left in
+    let whole : standing s3 p2 c3 ≡ event_at interval now submissions at = launches ∙ ap (launched interval now) given in
+    whole ∙ ap (λ n. event_at interval n submissions at) moment
 
 pub most_events_is : most_events ≡ 1000000000
 unfolding most_events

@@ -2,5 +2,6 @@ pub mod Answered
 pub mod Due
 pub mod Events
 pub mod Reported
+pub mod Several
 pub mod Telling
 pub mod Turning

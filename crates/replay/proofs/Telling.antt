@@ -1,5 +1,6 @@
 -- What a user is told, and what it leaves.
 use Rattle.std.proofs.Common.{◌≡◌, ℕ, List, ◌++◌, ap, ◌∙◌}
+use Rattle.std.specs.Prelude.{IsErrAnd, OnOk, Result, Ok, Err}
 use Rattle.reply_data.specs.declared.reply.Reply.{Reply}
 use Rattle.request_data.specs.declared.request.Request.{Request}
 use Rattle.ctl_core.specs.Step.{reply_of, state_after}
@@ -8,8 +9,14 @@ use Rattle.ctl_desk.specs.Desk.{GoesOn, IsAnswered, Seat, history_of, sight_of, 
 use Rattle.ctl_desk.specs.History.{IsHistory}
 use Rattle.node_daemon.specs.Daemon.{Daemon, polled}
 use Rattle.node_daemon.specs.Turn.{after_reply, report_at, root}
-use Rattle.replay.specs.Replay.{behind, ends_left, ends_ordered, played_behind_turn, told}
+use Rattle.replay.specs.Replay.{behind, played_behind_turn, runs_left, runs_ordered, told}
 use Rattle.replay.specs.declared.played.Played.{Played}
+use Rattle.replay.specs.declared.played.Run.{Run}
+
+-- want of memory is passed on
+pub passed_on : {X E : Type 0} (P : Type 0) (Q : E → Type 0) (result : Result X E) → IsErrAnd result Q → OnOk result P
+passed_on P Q (Ok x) given = absurd given
+passed_on P Q (Err e) given = tt
 
 -- what is asked at a desk of its own is answered from its state
 abbrev pub Follows : Type 0
@@ -39,12 +46,16 @@ is_told follows old new now asker user request answer is_user history goes answe
       leads = both.1 ∙ ap (λ u. state_after (state_of old) now u request) is_user;
     }
 
--- a daemon had its turn, and the ends of what it was ordered are kept
-pub played_told : (old new : Seat) (now : ℕ) (one : Played) (daemon : Daemon) (ends : List ℕ) (reply : Reply)
+-- a daemon had its turn, and what it was ordered is noted
+pub played_told : (old new : Seat) (now : ℕ) (one : Played) (daemon : Daemon) (runs launched : List Run) (reply : Reply)
     → IsTold old new now root (report_at now one.daemon) reply → daemon ≡ after_reply now reply (polled now one.daemon)
-    → ends ≡ ends_left now one.ends ++ ends_ordered now reply
-    → record { daemon = daemon; ends = ends } ≡ played_behind_turn now (state_of old) one
-played_told old new now one daemon ends reply is daemon_is ends_are =
-    let With : Daemon → List ℕ → Played = λ d e. record { daemon = d; ends = e } in
-    ap (λ d. With d ends) daemon_is ∙ ap (With (after_reply now reply (polled now one.daemon))) ends_are
-    ∙ ap (λ (r : Reply). With (after_reply now r (polled now one.daemon)) (ends_left now one.ends ++ ends_ordered now r)) is.answers
+    → runs ≡ runs_left now reply one.runs ++ runs_ordered now reply
+    → launched ≡ one.launched ++ runs_ordered now reply
+    → record { daemon = daemon; runs = runs; launched = launched } ≡ played_behind_turn now (state_of old) one
+played_told old new now one daemon runs launched reply is daemon_is runs_are launched_are =
+    let With : Daemon → List Run → List Run → Played = λ d r l. record { daemon = d; runs = r; launched = l } in
+    ap (λ d. With d runs launched) daemon_is
+    ∙ ap (λ r. With (after_reply now reply (polled now one.daemon)) r launched) runs_are
+    ∙ ap (With (after_reply now reply (polled now one.daemon)) (runs_left now reply one.runs ++ runs_ordered now reply)) launched_are
+    ∙ ap (λ (r : Reply). With (after_reply now r (polled now one.daemon)) (runs_left now r one.runs ++ runs_ordered now r)
+    (one.launched ++ runs_ordered now r)) is.answers

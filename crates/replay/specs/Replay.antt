@@ -1,8 +1,8 @@
 -- A replay: what is handed in for a trace is worked at its moments at one desk, while the daemons of the cluster's nodes
 -- run what they are ordered. Behind each event a pass is made.
-use Rattle.std.specs.Prelude.{◌≡◌, All, ℕ, zero, suc, ◌+◌, ◌-◌, ◌^◌, min, max, Bool, true, false, ◌&&◌, ◌||◌, not, nat_eq, nat_lt, nat_le, if◌then◌else◌, Option, Some, None, option_map, unwrap_or, List, [], ◌∷◌, ◌++◌, map, filter, filter_map, fold, length, drop, slice_get}
-use Rattle.plain_data.specs.declared.seconds.TheConstants.{FOREVER}
+use Rattle.std.specs.Prelude.{◌≡◌, ◌≤◌, All, ℕ, zero, suc, ◌+◌, ◌-◌, ◌^◌, min, max, Bool, false, ◌&&◌, ◌||◌, not, nat_lt, nat_le, if◌then◌else◌, Option, Some, None, option_map, unwrap_or, is_some, List, [], ◌∷◌, ◌++◌, map, filter, filter_map, flat_map, fold, length, drop}
 use Rattle.request_data.specs.declared.query.Query.TheVariants.{ShowJob, ShowNode}
+use Rattle.request_data.specs.declared.report.Start.{Start}
 use Rattle.request_data.specs.declared.request.Request.{Request}
 use Rattle.request_data.specs.declared.request.Request.TheVariants.{Pass, Show, Submit}
 use Rattle.reply_data.specs.declared.orders.Launch.{Launch}
@@ -12,11 +12,14 @@ use Rattle.reply_data.specs.declared.view.Row.{Row}
 use Rattle.reply_data.specs.declared.view.Row.TheVariants.{Node}
 use Rattle.ctl_state.specs.State.{State}
 use Rattle.ctl_core.specs.Step.{reply_of, state_after}
-use Rattle.node_daemon.specs.Daemon.{Daemon, polled, started}
+use Rattle.node_daemon.specs.Daemon.{is_among, polled, started}
 use Rattle.node_daemon.specs.Turn.{after_reply, report_at, root}
 use Rattle.replay_plan.specs.declared.submission.Submission.{Submission}
 use Rattle.replay.specs.declared.handing.Course.{Course}
 use Rattle.replay.specs.declared.played.Played.{Played}
+use Rattle.replay.specs.declared.played.Run.{Run}
+use Rattle.replay.specs.declared.turns.Round.{Round}
+use Rattle.replay.specs.declared.turns.Round.TheVariants.{Each, Ending, Others}
 use Rattle.std.specs.List.{list_any}
 
 -- what a user is told who asks this at a moment
@@ -31,41 +34,91 @@ behind user now request s = state_after s now user request
 abbrev pub later : ℕ → ℕ → ℕ
 later now seconds = min (now + seconds) (2 ^ 64 - 1)
 
--- when a start ends by itself that is launched at a moment, where it is known
-abbrev pub launch_end : ℕ → Launch → Option ℕ
-launch_end now launch = option_map (λ run. later now run) launch.run
+-- what a launch brings: a start that ends by itself, or, where its script runs elsewhere, once it is killed
+abbrev pub run_of : ℕ → Launch → Run
+run_of now launch = record {
+  start = launch.start;
+  begun = now;
+  end = option_map (λ run. later now run) launch.run;
+  processors = length launch.cpus;
+}
 
--- the ends that orders bring
-abbrev pub ends_ordered : ℕ → Reply → List ℕ
-ends_ordered now (Orders orders) = filter_map (launch_end now) orders.launches
-ends_ordered now reply = []
+-- what orders bring
+abbrev pub runs_ordered : ℕ → Reply → List Run
+runs_ordered now (Orders orders) = map (run_of now) orders.launches
+runs_ordered now reply = []
 
--- the ends that are still to come
-abbrev pub ends_left : ℕ → List ℕ → List ℕ
-ends_left now ends = filter (λ end. nat_lt now end) ends
+abbrev pub has_ended : ℕ → Run → Bool
+has_ended now run = unwrap_or (option_map (λ end. nat_le end now) run.end) false
+
+-- orders say to kill it
+abbrev pub is_killed : Reply → Run → Bool
+is_killed (Orders orders) run = is_among orders.kills run.start
+is_killed reply run = false
+
+-- the runs that go on
+abbrev pub runs_left : ℕ → Reply → List Run → List Run
+runs_left now reply runs = filter (λ run. not (has_ended now run) && not (is_killed reply run)) runs
 
 -- the state behind the turn of a daemon: it reports, and is given its orders
 abbrev pub state_behind_turn : ℕ → State → Played → State
 state_behind_turn now s one = behind root now (report_at now one.daemon) s
 
--- the daemon behind it, and the ends of what it was ordered
+-- the daemon behind it, what it runs, and what it was ordered to launch ever
 abbrev pub played_behind_turn : ℕ → State → Played → Played
 played_behind_turn now s one =
     let reply = told root now (report_at now one.daemon) s in
-    record { daemon = after_reply now reply (polled now one.daemon); ends = ends_left now one.ends ++ ends_ordered now reply }
+    record {
+      daemon = after_reply now reply (polled now one.daemon);
+      runs = runs_left now reply one.runs ++ runs_ordered now reply;
+      launched = one.launched ++ runs_ordered now reply;
+    }
 
--- the same of daemons that have their turns one after the other
-abbrev pub state_behind_turns : ℕ → State → List Played → State
-state_behind_turns now s played = fold (state_behind_turn now) s played
+-- the same of a daemon that has so many turns, one right after the other
+abbrev pub state_behind_several : ℕ → ℕ → State → Played → State
+state_behind_several zero now s one = s
+state_behind_several (suc n) now s one =
+    state_behind_several n now (state_behind_turn now s one) (played_behind_turn now s one)
 
-abbrev pub played_behind_turns : ℕ → State → List Played → List Played
-played_behind_turns now s [] = []
-played_behind_turns now s (one ∷ others) =
-    played_behind_turn now s one ∷ played_behind_turns now (state_behind_turn now s one) others
+abbrev pub played_behind_several : ℕ → ℕ → State → Played → Played
+played_behind_several zero now s one = one
+played_behind_several (suc n) now s one =
+    played_behind_several n now (state_behind_turn now s one) (played_behind_turn now s one)
 
--- each daemon has made so many reports
+-- the starts that end by themselves at a moment, or did before
+abbrev pub ended_start : ℕ → Run → Option Start
+ended_start now run = if has_ended now run then Some run.start else None
+
+abbrev pub ended_starts : ℕ → List Played → List Start
+ended_starts now played = flat_map (λ (one : Played). filter_map (ended_start now) one.runs) played
+
+-- How many turns a daemon has in a round: all of them so many; or one where something ends by itself, which it tells; or two
+-- where it runs what has ended elsewhere: it is ordered to kill that, and tells that it is gone.
+abbrev pub turns_of : Round → ℕ → List Start → Played → ℕ
+turns_of (Each n) now ended one = n
+turns_of Ending now ended one = if list_any (has_ended now) one.runs then 1 else 0
+turns_of Others now ended one = if list_any (λ (run : Run). is_among ended run.start) one.runs then 2 else 0
+
+-- none has more than two
+abbrev pub IsFew : Round → Type 0
+IsFew (Each n) = n ≤ 2
+IsFew round = Unit {0}
+
+-- the state behind a round in which the daemons have their turns one after the other, and the daemons
+abbrev pub state_behind_round : Round → ℕ → List Start → State → List Played → State
+state_behind_round round now ended s [] = s
+state_behind_round round now ended s (one ∷ others) =
+    state_behind_round round now ended (state_behind_several (turns_of round now ended one) now s one) others
+
+abbrev pub played_behind_round : Round → ℕ → List Start → State → List Played → List Played
+played_behind_round round now ended s [] = []
+played_behind_round round now ended s (one ∷ others) =
+    played_behind_several (turns_of round now ended one) now s one
+    ∷ played_behind_round round now ended (state_behind_several (turns_of round now ended one) now s one) others
+
+-- each daemon has made so many reports at the most
 abbrev pub HaveReported : ℕ → List Played → Type 0
-HaveReported n played = All (λ (one : Played). one.daemon.number ≡ n) played
+HaveReported n played = All (λ (one : Played). one.daemon.number ≤ n) played
 
 -- what is asked for a submission
 abbrev pub asked : Submission → Request
@@ -78,14 +131,15 @@ state_behind_one now s submission = behind submission.user now (asked submission
 abbrev pub told_one : ℕ → State → Submission → Reply
 told_one now s submission = told submission.user now (asked submission) s
 
--- A replay under way: the state, the daemons, what the users were told whose jobs were handed in, the last moment, and
--- whether the last pass has more to come.
+-- A replay under way: the state, the daemons, what the users were told whose jobs were handed in, the last moment, whether the
+-- last pass has more to come, and when all daemons report again.
 pub record Standing : Type 0 where
   pub state : State
   pub played : List Played
   pub replies : List Reply
   pub moment : ℕ
   pub busy : Bool
+  pub round_at : ℕ
 
 -- one submission is handed in
 abbrev pub with_one : ℕ → Standing → Submission → Standing
@@ -104,28 +158,28 @@ with_due now at (submission ∷ others) =
 abbrev pub waiting : List Submission → Standing → List Submission
 waiting submissions at = drop (length at.replies) submissions
 
--- the least of moments, if there is any
-abbrev pub least : ℕ → List ℕ → ℕ
-least most moments = fold min most moments
+-- the least of moments
+abbrev pub least : ℕ → List Run → ℕ
+least most runs = fold (λ m (run : Run). min m (unwrap_or run.end m)) most runs
 
 abbrev pub least_end : ℕ → List Played → ℕ
-least_end most played = fold (λ m (one : Played). least m one.ends) most played
+least_end most played = fold (λ m (one : Played). least m one.runs) most played
 
 -- the moment of the next submission, if one is left
 abbrev pub next_submission : ℕ → List Submission → ℕ
 next_submission most [] = most
 next_submission most (submission ∷ others) = min most submission.moment
 
--- The next moment: of the first end, of the next submission, or so many seconds later; and never before the last one.
-unfoldable pub next_moment : ℕ → List Submission → Standing → ℕ
-next_moment interval submissions at =
-    max at.moment (next_submission (least_end (later at.moment interval) at.played) (waiting submissions at))
+-- The next moment: of the first end, of the next submission, or when all daemons report again; and never before the last one.
+unfoldable pub next_moment : List Submission → Standing → ℕ
+next_moment submissions at =
+    max at.moment (next_submission (least_end at.round_at at.played) (waiting submissions at))
 
--- each daemon has its turn
-abbrev pub turned : ℕ → Standing → Standing
-turned now at = record at {
-  state = state_behind_turns now at.state at.played;
-  played = played_behind_turns now at.state at.played;
+-- the daemons have a round
+abbrev pub turned : Round → ℕ → List Start → Standing → Standing
+turned round now ended at = record at {
+  state = state_behind_round round now ended at.state at.played;
+  played = played_behind_round round now ended at.state at.played;
 }
 
 -- a pass that started or planned something has more to come
@@ -141,17 +195,49 @@ passed now at = record at {
   busy = is_busy (told root now Pass at.state);
 }
 
--- An event: ends are reported, what is due is handed in, a pass is made, and what it started is launched.
-abbrev pub event_at : ℕ → List Submission → Standing → Standing
-event_at now submissions at =
-    let reported = turned now at in
-    turned now (passed now (with_due now reported (waiting submissions at)))
+-- whether all daemons report, where it is time for that
+abbrev pub due_round : ℕ → Standing → Round
+due_round now at = if nat_le at.round_at now then Each 1 else Each 0
+
+-- what has ended is told, the other nodes that ran it are cleared of it, and all report where that is due
+unfoldable pub cleared : ℕ → Standing → Standing
+cleared now at =
+    let ended = ended_starts now at.played in
+    turned (due_round now at) now ended (turned Others now ended (turned Ending now ended at))
+
+-- A pass that started something has its launches ordered; where it ended something that was over its limit, that is killed, and
+-- told to be gone.
+abbrev pub round_behind : Reply → Round
+round_behind (Passed ended started planned) =
+    if nat_lt 0 ended then Each 2 else (if nat_lt 0 started then Each 1 else Each 0)
+round_behind reply = Each 0
+
+-- a round in which all report puts off the next one
+abbrev pub put_off : ℕ → Round → ℕ → ℕ → ℕ
+put_off interval (Each n) now round_at = if nat_lt 0 n then later now interval else round_at
+put_off interval round now round_at = round_at
+
+abbrev pub with_round : ℕ → Round → ℕ → Standing → Standing
+with_round interval round now at = record at { round_at = put_off interval round now at.round_at }
+
+-- a pass is made, and its orders are given
+unfoldable pub launched : ℕ → ℕ → Standing → Standing
+launched interval now at =
+    let round = round_behind (told root now Pass at.state) in
+    with_round interval round now (turned round now [] (passed now at))
+
+-- An event: ends are told, what is due is handed in, a pass is made, and what it started is launched.
+abbrev pub event_at : ℕ → ℕ → List Submission → Standing → Standing
+event_at interval now submissions at =
+    launched interval now (with_due now
+    (with_round interval (due_round now at) now (cleared now at)) (waiting submissions at))
 
 unfoldable pub event : ℕ → List Submission → Standing → Standing
-event interval submissions at = event_at (next_moment interval submissions at) submissions at
+event interval submissions at = event_at interval (next_moment submissions at) submissions at
 
+-- something runs that ends by itself
 abbrev pub is_running : Played → Bool
-is_running one = nat_lt 0 (length one.ends)
+is_running one = list_any (λ (run : Run). is_some run.end) one.runs
 
 -- whether nothing is left to be handed in or to end, and the last pass had nothing to start
 unfoldable pub is_over : List Submission → Standing → Bool
@@ -183,7 +269,7 @@ jobs_asked = Show (ShowJob None)
 
 -- the daemon of the record's node: it was just started, for the first time
 abbrev pub played_of : Row → Option Played
-played_of (Node row) = Some (record { daemon = started row.name 1; ends = [] })
+played_of (Node row) = Some (record { daemon = started row.name 1; runs = []; launched = [] })
 played_of row = None
 
 -- what is kept of a replay beside the desk and the daemons
@@ -194,6 +280,7 @@ standing s played course = record {
   replies = course.replies.items;
   moment = course.moment;
   busy = course.busy;
+  round_at = course.round_at;
 }
 
 -- before the first event, whose moment is that of the first submission: each node that is shown has its daemon
@@ -204,6 +291,7 @@ begun now s = record {
   replies = [];
   moment = now;
   busy = false;
+  round_at = now;
 }
 
 abbrev pub first_moment : List Submission → ℕ

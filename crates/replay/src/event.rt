@@ -1,16 +1,20 @@
 //! An event of a replay.
 
-ghost use Rattle.std.specs.Prelude.{◌≡◌, ℕ, ◌+◌, ◌<◌, ◌^◌, All, List, OnOk, drop, length};
+ghost use Rattle.std.specs.Prelude.{◌≡◌, ℕ, ◌+◌, ◌<◌, ◌^◌, All, List, [], IfOk, OnOk, drop, length};
 ghost use Rattle.std.specs.List.{list_any};
+ghost use Rattle.request_data.specs.declared.request.Request.TheVariants.{Pass};
 ghost use Rattle.ctl_state.specs.State.{State};
 ghost use Rattle.ctl_desk.specs.Desk.{state_of};
+ghost use Rattle.node_daemon.specs.Turn.{root};
+ghost use Rattle.replay.specs.declared.handing.Course.{Course};
 ghost use Rattle.replay.specs.declared.played.Played.{Played};
-ghost use Rattle.replay.specs.Replay.{HaveReported, event, is_busy, is_over, is_running, least_end, next_moment, next_submission, passed, standing};
+ghost use Rattle.replay.specs.declared.turns.Round.{Round};
+ghost use Rattle.replay.specs.Replay.{HaveReported, IsFew, cleared, event, due_round, is_busy, is_over, is_running, launched, least_end, next_moment, next_submission, passed, put_off, round_behind, standing, told, turned, with_round};
 
 use crate::asking::pass;
 use crate::handing::{Course, hand_in, rest_of};
-use crate::played::{Played, is_running, least};
-use crate::turns::turn_all;
+use crate::played::{Played, ended_starts, is_running, least};
+use crate::turns::{Round, turn_all};
 use ctl_desk::own_desk::OwnDesk;
 use replay_plan::Submission;
 use reply_data::reply::Reply;
@@ -31,21 +35,76 @@ fn is_busy(reply: &Reply) -> bool
     }
 }
 
-// A pass is made.
+// Who has to be told of what a pass did.
+fn round_behind(reply: &Reply) -> Round
+    ensures is { result ≡ round_behind reply.now }
+    ensures few { IsFew result }
+{
+    match reply {
+        Reply::Passed { ended, started, .. } => {
+            if *ended > 0 {
+                Round::Each(2)
+            } else if *started > 0 {
+                Round::Each(1)
+            } else {
+                Round::Each(0)
+            }
+        }
+        _ => Round::Each(0),
+    }
+}
+
+// A pass is made; tells who has to be told.
 fn make_pass(
     alloc: Global,
     desk: &mut OwnDesk,
     now: u64,
     steps: &mut Steps<Plain>,
     course: &mut Course,
-) -> Result<(), Memory>
-    ensures { OnOk result ((played : List Played) → standing (state_of desk.new) played course.new
+) -> Result<Round, Memory>
+    ensures pass { OnOk result ((played : List Played) → standing (state_of desk.new) played course.new
         ≡ passed now (standing (state_of desk.old) played course.old)) }
+    ensures round { IfOk result (λ round. round ≡ round_behind (told root now Pass (state_of desk.old))) }
+    ensures few { IfOk result IsFew }
 {
     let reply = pass(alloc, desk, now, steps)?;
     course.moment = now;
     course.busy = is_busy(&reply);
-    Ok(())
+    Ok(round_behind(&reply))
+}
+
+// When all report again behind a round.
+fn put_off(interval: u64, round: Round, now: u64, round_at: u64) -> u64
+    ensures { result ≡ put_off interval round now round_at }
+{
+    match round {
+        Round::Each(count) => {
+            if count > 0 {
+                now.saturating_add(interval)
+            } else {
+                round_at
+            }
+        }
+        Round::Ending | Round::Others => round_at,
+    }
+}
+
+fn note_round(interval: u64, round: Round, now: u64, course: &mut Course)
+    ensures { (s : State) (played : List Played) → standing s played course.new
+        ≡ with_round interval round now (standing s played course.old) }
+{
+    course.round_at = put_off(interval, round, now, course.round_at);
+}
+
+fn due_round(now: u64, course: &Course) -> Round
+    ensures is { (s : State) (played : List Played) → result ≡ due_round now (standing s played course.now) }
+    ensures few { IsFew result }
+{
+    if course.round_at <= now {
+        Round::Each(1)
+    } else {
+        Round::Each(0)
+    }
 }
 
 fn least_end(most: u64, played: &[Played]) -> u64
@@ -53,7 +112,7 @@ fn least_end(most: u64, played: &[Played]) -> u64
 {
     played
         .iter()
-        .fold(most, |earliest, one| least(earliest, one.ends.as_slice()))
+        .fold(most, |earliest, one| least(earliest, one.runs.as_slice()))
 }
 
 fn next_submission(most: u64, submissions: &[Submission]) -> u64
@@ -74,10 +133,10 @@ fn waiting<'a>(submissions: &'a [Submission], course: &Course) -> &'a [Submissio
 
 // The moment of the next event.
 #[tactic(auto, unfolding(crate::specs::Replay::next_moment))]
-fn next_moment(interval: u64, submissions: &[Submission], played: &[Played], course: &Course) -> u64
-    ensures { (s : State) → result ≡ next_moment interval submissions.now (standing s played.now course.now) }
+fn next_moment(submissions: &[Submission], played: &[Played], course: &Course) -> u64
+    ensures { (s : State) → result ≡ next_moment submissions.now (standing s played.now course.now) }
 {
-    let least = least_end(course.moment.saturating_add(interval), played);
+    let least = least_end(course.round_at, played);
     next_submission(least, waiting(submissions, course)).max(course.moment)
 }
 
@@ -95,8 +154,53 @@ pub(crate) fn is_over(submissions: &[Submission], played: &[Played], course: &Co
     submissions.len() <= course.replies.len() && !course.busy && !is_any_running(played)
 }
 
-/// An event: ends are reported, what is due is handed in, a pass is made, and what it started is launched. It costs two
-/// reports of each node, and a pass.
+// What has ended is told, and the nodes are cleared of it.
+fn clear(
+    alloc: Global,
+    desk: &mut OwnDesk,
+    now: u64,
+    played: &mut [Played],
+    course: &Course,
+) -> Result<(), Memory>
+    requires { All (λ (one : Played). one.daemon.number + 8 < 2 ^ 64) played.old }
+    ensures cleared { OnOk result (standing (state_of desk.new) played.new course.now
+        ≡ cleared now (standing (state_of desk.old) played.old course.now)) }
+    ensures room { OnOk result (All (λ (one : Played). one.daemon.number + 2 < 2 ^ 64) played.new) }
+    ensures reported { OnOk result ((n : ℕ) → HaveReported n played.old → HaveReported (n + 6) played.new) }
+{
+    let ended = ended_starts(alloc, now, played)?;
+    let starts = ended.as_slice();
+    let due = due_round(now, course);
+    turn_all(alloc, desk, now, Round::Ending, starts, played)?;
+    turn_all(alloc, desk, now, Round::Others, starts, played)?;
+    turn_all(alloc, desk, now, due, starts, played)?;
+    Ok(())
+}
+
+// A pass is made, and its orders are given.
+fn launch(
+    alloc: Global,
+    desk: &mut OwnDesk,
+    now: u64,
+    steps: &mut Steps<Plain>,
+    interval: u64,
+    played: &mut [Played],
+    course: &mut Course,
+) -> Result<(), Memory>
+    requires { All (λ (one : Played). one.daemon.number + 2 < 2 ^ 64) played.old }
+    ensures launched { OnOk result (standing (state_of desk.new) played.new course.new
+        ≡ launched interval now (standing (state_of desk.old) played.old course.old)) }
+    ensures reported { OnOk result ((n : ℕ) → HaveReported n played.old → HaveReported (n + 2) played.new) }
+{
+    let round = make_pass(alloc, desk, now, steps, course)?;
+    turn_all(alloc, desk, now, round, &[], played)?;
+    note_round(interval, round, now, course);
+    Ok(())
+}
+
+/// An event: ends are told, what is due is handed in, a pass is made, and what it started is launched. It costs a pass, and
+/// the reports of the daemons that have something to tell; of all of them where one of these is due, or where the pass started
+/// something.
 #[tactic(auto, unfolding(crate::specs::Replay::event))]
 pub(crate) fn make_event(
     alloc: Global,
@@ -107,16 +211,17 @@ pub(crate) fn make_event(
     played: &mut [Played],
     course: &mut Course,
 ) -> Result<(), Memory>
-    requires { All (λ (one : Played). one.daemon.number + 2 < 2 ^ 64) played.old }
+    requires { All (λ (one : Played). one.daemon.number + 8 < 2 ^ 64) played.old }
     ensures event { OnOk result (standing (state_of desk.new) played.new course.new
         ≡ event interval submissions.now (standing (state_of desk.old) played.old course.old)) }
-    ensures reported { OnOk result ((n : ℕ) → HaveReported n played.old → HaveReported (n + 2) played.new) }
+    ensures reported { OnOk result ((n : ℕ) → HaveReported n played.old → HaveReported (n + 8) played.new) }
 {
-    let now = next_moment(interval, submissions, played, course);
+    let now = next_moment(submissions, played, course);
     let left = waiting(submissions, course);
-    turn_all(alloc, desk, now, played)?;
+    let round = due_round(now, course);
+    clear(alloc, desk, now, played, course)?;
+    note_round(interval, round, now, course);
     hand_in(desk, now, left, course)?;
-    make_pass(alloc, desk, now, steps, course)?;
-    turn_all(alloc, desk, now, played)?;
+    launch(alloc, desk, now, steps, interval, played, course)?;
     Ok(())
 }

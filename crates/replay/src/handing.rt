@@ -21,6 +21,8 @@ pub struct Course {
     pub moment: u64,
     /// Whether the last pass started or planned something.
     pub busy: bool,
+    /// When all daemons report again.
+    pub round_at: u64,
 }
 
 // Hands one submission in.

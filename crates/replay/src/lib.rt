@@ -11,5 +11,5 @@ mod played;
 mod replaying;
 mod turns;
 
-pub use played::Played;
+pub use played::{Played, Run};
 pub use replaying::{ReplayRefusal, Replayed, replay};

@@ -34,7 +34,8 @@ fn played_of(alloc: Global, row: &Row) -> Result<Option<Played>, Memory>
     match row {
         Row::Node(node) => Ok(Some(Played {
             daemon: DaemonState::new(alloc, &node.name, 1)?,
-            ends: Items::from_vec(Vec::new(alloc)),
+            runs: Items::from_vec(Vec::new(alloc)),
+            launched: Items::from_vec(Vec::new(alloc)),
         })),
         _ => Ok(None),
     }

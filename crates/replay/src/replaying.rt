@@ -1,10 +1,9 @@
 //! A replay, from the first submission to the last event.
 
-ghost use Rattle.std.specs.Prelude.{◌≡◌, Some, None, All, IfOk, OnOk, IsErrOf, IsSomeAnd, option_map, if◌then◌else◌};
+ghost use Rattle.std.specs.Prelude.{◌≡◌, Some, None, IfOk, OnOk, IsErrOf, IsSomeAnd, option_map, if◌then◌else◌};
 ghost use Rattle.ctl_desk.specs.Desk.{state_of};
 ghost use Rattle.node_daemon.specs.Turn.{root};
-ghost use Rattle.replay.specs.declared.played.Played.{Played};
-ghost use Rattle.replay.specs.Replay.{Standing, behind, events, first_moment, jobs_asked, most_events, replayed, standing, told};
+ghost use Rattle.replay.specs.Replay.{HaveReported, Standing, behind, events, first_moment, jobs_asked, most_events, replayed, standing, told};
 
 use crate::asking::ask_as_root;
 use crate::event::{is_over, make_event};
@@ -52,6 +51,8 @@ pub struct Replayed {
     pub shown: Reply,
     /// The moment of the last event.
     pub moment: u64,
+    /// The daemons of the nodes, in the order in which the controller shows the nodes, with all that each launched.
+    pub played: Vec<Played>,
 }
 
 fn first_moment(submissions: &[Submission]) -> u64
@@ -73,7 +74,7 @@ fn make_events(
     played: &mut [Played],
     course: &mut Course,
 ) -> Result<bool, Memory>
-    requires { All (λ (one : Played). one.daemon.number ≡ 0) played.old }
+    requires { HaveReported 0 played.old }
     ensures { IfOk result (λ over.
         events most_events interval submissions.now (standing (state_of desk.old) played.old course.old)
         ≡ (if over then Some (standing (state_of desk.new) played.new course.new) else None)) }
@@ -88,8 +89,8 @@ fn make_events(
 }
 
 /// Hands in what a plan says at a desk that nobody else asks, each at its moment, while the daemons of the cluster's nodes
-/// run what they are ordered for as long as it ran. A pass is made whenever a job is handed in or ends by itself, and so
-/// many seconds behind the last one at the latest. It is over when all were handed in, nothing runs, and a pass had
+/// run what they are ordered for as long as it ran. A pass is made whenever a job is handed in or ends by itself, and all
+/// daemons report when they did so many seconds before, with a pass behind that. It is over when all were handed in, nothing runs, and a pass had
 /// nothing to start or to plan. The submissions are in the order of their moments. The desk is left with the state of the
 /// last event, and keeps what was entered, also after a refusal (own).
 #[tactic(auto, unfolding(crate::specs::Replay::replayed))]
@@ -101,7 +102,7 @@ pub fn replay(
     steps: &mut Steps<Plain>,
 ) -> Result<Replayed, ReplayRefusal>
     ensures replies { IfOk result (λ end. IsSomeAnd (replayed interval submissions.now (state_of desk.old))
-        (λ at. (end.replies.items ≡ at.replies) × (end.moment ≡ at.moment) × (end.shown ≡ told root at.moment jobs_asked at.state))) }
+        (λ at. (end.replies.items ≡ at.replies) × (end.moment ≡ at.moment) × (end.played.items ≡ at.played) × (end.shown ≡ told root at.moment jobs_asked at.state))) }
     ensures spent { IsErrOf result ReplayRefusal.Spent → replayed interval submissions.now (state_of desk.old) ≡ None }
 {
     let now = first_moment(submissions);
@@ -110,6 +111,7 @@ pub fn replay(
         replies: Vec::new(alloc),
         moment: now,
         busy: false,
+        round_at: now,
     };
     if !make_events(
         alloc,
@@ -132,5 +134,6 @@ pub fn replay(
         replies: course.replies,
         shown,
         moment: course.moment,
+        played,
     })
 }

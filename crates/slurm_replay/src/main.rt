@@ -1,11 +1,14 @@
 //! slurm_replay: what a cluster would have done with the jobs that a trace tells of.
 #![tactic(auto)]
 
+mod picture;
 mod printed;
 mod told;
 mod wanted;
 
 use cluster_opening::{ClusterRefusal, open_desk};
+use ctl_desk::own_desk::OwnDesk;
+use picture::picture_text;
 use printed::push_head;
 use replay::{ReplayRefusal, Replayed, replay};
 use replay_plan::{ReplayPlan, plan_replay};
@@ -21,7 +24,7 @@ use wanted::{Wanted, wanted_in};
 /// What came of a run.
 #[derive(Drop)]
 enum Ended {
-    Lines(Vec<u8>),
+    Lines(Vec<u8>, Option<Vec<u8>>),
     BadCluster(ClusterRefusal),
     BadTrace(TraceRefusal),
     Spent,
@@ -34,6 +37,21 @@ struct Texts<'a> {
     conf: &'a [u8],
     assocs: &'a [u8],
     trace: &'a [u8],
+}
+
+// The picture of a replay, where one is wanted.
+fn drawn(
+    alloc: Global,
+    wanted: &Wanted<'_>,
+    desk: &mut OwnDesk,
+    jobs: &[TraceJob],
+    plan: &ReplayPlan,
+    end: &Replayed,
+) -> Result<Option<Vec<u8>>, Memory> {
+    match wanted.svg {
+        Some(_) => Ok(Some(picture_text(alloc, desk, jobs, plan, end)?)),
+        None => Ok(None),
+    }
 }
 
 // The lines of a replay.
@@ -49,6 +67,24 @@ fn lines_of(
     Ok(out)
 }
 
+// What is written of a replay.
+fn ended_with(
+    alloc: Global,
+    wanted: &Wanted<'_>,
+    desk: &mut OwnDesk,
+    jobs: &[TraceJob],
+    plan: &ReplayPlan,
+    end: &Replayed,
+) -> Ended {
+    let Ok(lines) = lines_of(alloc, jobs, plan, end) else {
+        return Ended::OutOfMemory;
+    };
+    match drawn(alloc, wanted, desk, jobs, plan, end) {
+        Ok(svg) => Ended::Lines(lines, svg),
+        Err(Memory) => Ended::OutOfMemory,
+    }
+}
+
 // Works a plan at the cluster of the files.
 fn work(alloc: Global, wanted: &Wanted<'_>, texts: &Texts<'_>, jobs: &[TraceJob]) -> Ended {
     let mut desk = match open_desk(alloc, texts.conf, texts.assocs) {
@@ -60,10 +96,7 @@ fn work(alloc: Global, wanted: &Wanted<'_>, texts: &Texts<'_>, jobs: &[TraceJob]
     };
     let submissions = plan.submissions.as_slice();
     match replay(alloc, wanted.interval, submissions, &mut desk, &mut start()) {
-        Ok(end) => match lines_of(alloc, jobs, &plan, &end) {
-            Ok(lines) => Ended::Lines(lines),
-            Err(Memory) => Ended::OutOfMemory,
-        },
+        Ok(end) => ended_with(alloc, wanted, &mut desk, jobs, &plan, &end),
         Err(ReplayRefusal::Spent) => Ended::Spent,
         Err(ReplayRefusal::Memory) => Ended::OutOfMemory,
     }
@@ -77,10 +110,13 @@ fn run(alloc: Global, wanted: &Wanted<'_>, texts: &Texts<'_>) -> Ended {
 }
 
 // Writes what came of it.
-fn tell(rt: &HostRuntime, ended: &Ended) -> io::Result<u8> {
+fn tell(rt: &HostRuntime, wanted: &Wanted<'_>, ended: &Ended) -> io::Result<u8> {
     match ended {
-        Ended::Lines(lines) => {
+        Ended::Lines(lines, svg) => {
             rt.write_all(lines.as_slice())?;
+            if let (Some(file), Some(text)) = (wanted.svg, svg) {
+                fs::write(rt, file, text.as_slice())?;
+            }
             return Ok(0);
         }
         Ended::BadCluster(ClusterRefusal::BadConf { line, kind }) => {
@@ -113,7 +149,7 @@ fn replay_files(rt: &HostRuntime, wanted: &Wanted<'_>) -> io::Result<u8> {
         trace: trace.as_slice(),
     };
     let ended = run(rt.alloc(), wanted, &texts);
-    tell(rt, &ended)
+    tell(rt, wanted, &ended)
 }
 
 fn main(rt: HostRuntime) -> io::Result<ExitCode> {
@@ -122,7 +158,7 @@ fn main(rt: HostRuntime) -> io::Result<ExitCode> {
         Some(wanted) => replay_files(&rt, &wanted)?,
         None => {
             eprintln!(rt;
-                "usage: slurm_replay -f CONF -a ASSOC [--swf] [--interval SECONDS] TRACE"
+                "usage: slurm_replay -f CONF -a ASSOC [--swf] [--interval SECONDS] [--svg FILE] TRACE"
             )?;
             2
         }

@@ -17,6 +17,8 @@ pub struct Wanted<'a> {
     /// The most seconds between two passes.
     pub interval: u64,
     pub taken: TakenNames,
+    /// Where the picture goes, if one is wanted.
+    pub svg: Option<&'a str>,
 }
 
 // Whether the words begin with `--swf`, and what is behind it.
@@ -38,7 +40,15 @@ fn interval_in(words: &[String]) -> Option<(u64, &[String])> {
     }
 }
 
-/// What the words `-f CONF -a ASSOC [--swf] [--interval SECONDS] TRACE` want; None where they are others. Accounts,
+// The file behind `--svg`, where the words begin with that, and what is behind it.
+fn svg_in(words: &[String]) -> (Option<&str>, &[String]) {
+    match words {
+        [word, file, rest @ ..] if word.as_str() == "--svg" => (Some(file.as_str()), rest),
+        _ => (None, words),
+    }
+}
+
+/// What the words `-f CONF -a ASSOC [--swf] [--interval SECONDS] [--svg FILE] TRACE` want; None where they are others. Accounts,
 /// partitions and qualities of service count where the trace is of sacct(1).
 pub fn wanted_in(words: &[String]) -> Option<Wanted<'_>> {
     let [conf_word, conf, assocs_word, assocs, rest @ ..] = words else {
@@ -49,6 +59,7 @@ pub fn wanted_in(words: &[String]) -> Option<Wanted<'_>> {
     }
     let (kind, rest) = kind_in(rest);
     let (interval, rest) = interval_in(rest)?;
+    let (svg, rest) = svg_in(rest);
     let [trace] = rest else {
         return None;
     };
@@ -64,5 +75,6 @@ pub fn wanted_in(words: &[String]) -> Option<Wanted<'_>> {
             partition: counts,
             qos: counts,
         },
+        svg,
     })
 }

@@ -8,5 +8,5 @@ abbrev pub invariant-loop : goal.invariant-loop
 invariant-loop l = record {
   leads : events (most_events - l.counter) l.interval l.submissions (standing (state_of l.desk) l.played l.course)
       ≡ events most_events l.interval l.submissions (standing (state_of l.fn.desk) l.fn.played l.fn.course);
-  reported : HaveReported (2 * l.counter) l.played;
+  reported : HaveReported (8 * l.counter) l.played;
 }

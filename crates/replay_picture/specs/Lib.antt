@@ -1,0 +1,11 @@
+pub mod Escape
+pub mod Shapes
+pub mod Scale
+pub mod Lanes
+pub mod Bars
+pub mod Nodes
+pub mod Axis
+pub mod Waiting
+pub mod Legend
+pub mod Picture
+pub mod Laws
