@@ -15,7 +15,7 @@ READ = {
         "grptres": "GrpTRES", "maxjobsperuser": "MaxJobsPerUser", "maxjobspu": "MaxJobsPerUser",
         "maxsubmitjobsperuser": "MaxSubmitJobsPerUser", "maxsubmitpu": "MaxSubmitJobsPerUser",
         "maxsubmitjobspu": "MaxSubmitJobsPerUser", "maxtresperuser": "MaxTRESPerUser", "maxtrespu": "MaxTRESPerUser",
-        "maxwall": "MaxWall", "maxwalldurationperjob": "MaxWall",
+        "maxwall": "MaxWall", "maxwalldurationperjob": "MaxWall", "preempt": "Preempt",
     },
 }
 
@@ -43,7 +43,9 @@ CHANGED = {
     "maxjobsperaccount": "MaxJobs of accounts", "maxsubmitpa": "MaxSubmitJobs of accounts",
     "maxsubmitjobspa": "MaxSubmitJobs of accounts", "maxsubmitjobsperaccount": "MaxSubmitJobs of accounts",
     "maxtresrunminspa": NO_SUCH, "maxtresrunminspu": NO_SUCH, "maxjobsaccruepa": NO_SUCH, "maxjobsaccruepu": NO_SUCH,
-    "preempt": "no job ends for another", "preemptmode": "no job ends for another",
-    "preemptexempttime": "no job ends for another", "gracetime": "no job ends for another",
+    "preempt": "Preempt of a QOS says whose jobs go for others",
+    "preemptmode": "PreemptMode of slurm.conf counts for all: OFF or REQUEUE",
+    "preemptexempttime": "a job may be requeued for another as soon as it runs",
+    "gracetime": "a job that is requeued for another goes at once",
     "usagethres": NO_SUCH, "limitfactor": NO_SUCH, "lineage": NO_SUCH,
 }

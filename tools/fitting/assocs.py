@@ -22,6 +22,7 @@ class Assocs:
         self.inherited = {}
         self.qos = {}
         self.wanted = []
+        self.preempting = []
         self.rows = []
 
     def take(self, line):
@@ -166,6 +167,8 @@ class Assocs:
             return self.processors(place, name, key, value)
         if name == "MaxWall":
             return self.wall(place, name, value)
+        if name == "Preempt":
+            return self.preempted(place, name, key, value)
         if name == "Fairshare" and value.lower() == "parent":
             self.report.changed(place, f"{key}=parent", "Fairshare=1: each user has a share of its own")
             return {}
@@ -185,6 +188,16 @@ class Assocs:
             self.report.fault(place, f"{name}={value}", "it is no time; left out")
             return {}
         return {name: fitted}
+
+    def preempted(self, place, name, key, value):
+        """The qualities of service whose jobs go for those of one."""
+        given = [one for one in value.split(",") if one]
+        known = [one for one in given if names.is_name(one)]
+        if known != given:
+            self.report.fault(
+                place, f"{key}={value}", "names of qualities of service between commas; the others are left out")
+        self.preempting += [(self.report, place, one) for one in known]
+        return {name: ",".join(known)} if known else {}
 
     def processors(self, place, name, key, value):
         """A limit of trackable resources: processors are the one that is counted."""
@@ -206,10 +219,23 @@ class Assocs:
                 self.report.changed(
                     0, f"QOS {name}",
                     "QOS without limits and of priority 0: a dump has none (--qos takes `sacctmgr -P show qos`)")
+        self.keep_known()
         if any(name not in ("", "normal") for name in self.wanted):
             self.report.changed(
                 0, "QOS lists of accounts and users",
                 "everybody may use each QOS; AllowQos of a partition keeps them apart, and -q asks for one")
+
+
+    def keep_known(self):
+        """Takes out of each Preempt what is no quality of service of the file."""
+        for own in self.qos.values():
+            given = own.get("Preempt", "").split(",")
+            own["Preempt"] = ",".join(name for name in given if name == "normal" or name in self.qos)
+            if not own["Preempt"]:
+                del own["Preempt"]
+        for report, place, name in self.preempting:
+            if name != "normal" and name not in self.qos:
+                report.fault(place, f"Preempt of {name}", "no quality of service has this name; left out")
 
 
 def write(name, options):

@@ -12,7 +12,7 @@ NUMBERS = {
 # Settings with a grammar of their own, in settings.py.
 OTHERS_READ = (
     "SlurmUser", "PriorityType", "PriorityDecayHalfLife", "PriorityMaxAge", "SchedulerType", "SchedulerParameters",
-    "SelectType", "SelectTypeParameters", "PreemptType",
+    "SelectType", "SelectTypeParameters", "PreemptType", "PreemptMode",
 )
 
 # Settings that the program takes with any value.
@@ -75,8 +75,7 @@ CHANGED = {
     "MaxNodeCount": "1,024 nodes at most",
     "MaxJobId": "67,043,328 is the greatest number of a job",
     "OverTimeLimit": "a job ends at its limit",
-    "PreemptMode": "there is no preemption",
-    "PreemptExemptTime": "there is no preemption",
+    "PreemptExemptTime": "a job may be requeued for another as soon as it runs",
     "PriorityUsageResetPeriod": "usage counts from the start of the server",
     "PriorityFlags": "Fair Tree, with ages that begin when a job may start",
     "PriorityFavorSmall": "a larger job has the larger term of size",
@@ -106,7 +105,7 @@ CHANGED = {
 
 # Values with which a rule is as it is here.
 AS_HERE = {
-    "PreemptMode": "OFF", "PriorityUsageResetPeriod": "NONE", "PriorityFavorSmall": "NO", "PrivateData": "NONE",
+    "PreemptExemptTime": "0", "PriorityUsageResetPeriod": "NONE", "PriorityFavorSmall": "NO", "PrivateData": "NONE",
     "TopologyPlugin": "topology/none", "MCSPlugin": "mcs/none", "BurstBufferType": "burst_buffer/none",
     "EnforcePartLimits": "NO", "OverTimeLimit": "0", "PriorityWeightTRES": "", "PriorityWeightAssoc": "0",
     "SuspendTime": "INFINITE", "FairShareDampeningFactor": "1",
@@ -129,7 +128,7 @@ PARTITION_CHANGED = {
     "MaxMemPerCPU": "no such limit: the nodes' RealMemory bounds a job",
     "MaxMemPerNode": "no such limit: the nodes' RealMemory bounds a job",
     "OverTimeLimit": "a job ends at its limit",
-    "PreemptMode": "there is no preemption: PriorityTier says who is planned first",
+    "PreemptMode": "PreemptMode of the whole cluster counts; PriorityTier says who is planned first",
     "QOS": "a partition has no limits of a QOS: AllowQos with that QOS is nearest",
     "SelectTypeParameters": "each processor and megabyte is given out by itself, in all partitions",
     "SuspendTime": "nodes stay on", "SuspendTimeout": "nodes stay on", "ResumeTimeout": "nodes stay on",

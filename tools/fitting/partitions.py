@@ -112,7 +112,7 @@ class Partitions:
         for name, instead in {**keys.PARTITION_FAULTS, **keys.PARTITION_CHANGED}.items():
             if name.lower() != low:
                 continue
-            if value.upper() in ("NO", "ALL", "NONE", "", "0") or (name, value.upper()) == ("PreemptMode", "OFF"):
+            if value.upper() in ("NO", "ALL", "NONE", "", "0"):
                 self.report.dropped(place, f"{key}={value}", "it is so here anyway")
             elif name in keys.PARTITION_FAULTS:
                 self.report.fault(place, f"{key}={value}", instead)

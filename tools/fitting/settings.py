@@ -169,7 +169,21 @@ class Settings:
         return key, fitted
 
     def preempttype(self, place, key, value):
-        """Whether jobs are ended for others."""
+        """By what it is decided which jobs go for others."""
+        if value.lower() == "preempt/qos":
+            return key, "preempt/qos"
         return self.only(
             place, key, value, "preempt/none",
-            "PriorityTier and a QOS say who is planned first, and no job ends for another")
+            "PriorityTier says who is planned first, and Preempt of a QOS (preempt/qos) whose jobs go for others")
+
+    def preemptmode(self, place, key, value):
+        """What becomes of jobs that go for others."""
+        modes = value.upper().split(",")
+        fitted = "REQUEUE" if "REQUEUE" in modes else "OFF"
+        gone = [mode for mode in modes if mode not in ("REQUEUE", "OFF")]
+        if gone:
+            self.report.changed(
+                place, f"{key}={value}", f"{fitted}: a job that goes for another is requeued, and nothing else")
+        elif value != fitted:
+            self.report.replaced(place, f"{key}={value}", fitted)
+        return key, fitted

@@ -1,6 +1,9 @@
 pub mod DepthLemmas
 pub mod IndexLemmas
+pub mod KnownLemmas
 pub mod ListLemmas
 pub mod QosLemmas
+pub mod SaidLemmas
+pub mod StepLemmas
 pub mod TreeLemmas
 pub mod OptionLemmas

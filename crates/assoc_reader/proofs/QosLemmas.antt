@@ -7,11 +7,12 @@ use Rattle.std.proofs.lemmas.List.Folds.{Any-from_list_any}
 use Rattle.std.proofs.lemmas.List.Quantifiers.{all_pairs_push}
 use Rattle.std.proofs.lemmas.Slice.Eq.{bytes_eq-Decides}
 use Rattle.host_lists.specs.Hosts.{has}
+use Rattle.plain_data.specs.Assocs.{qos_names}
 use Rattle.plain_data.specs.declared.assoc.QosConf.{QosConf}
 use Rattle.assoc_reader.specs.Words.{no_qos_words}
 use Rattle.assoc_reader.specs.declared.qos_words.QosWords.{QosWords}
 use Rattle.assoc_reader.specs.declared.refusal.AssocKind.TheVariants.{TwiceNamed, OverLimit}
-use Rattle.assoc_reader.specs.Qos.{qos_names, counted, qos_fault, qos_conf, with_normal, IsQosList}
+use Rattle.assoc_reader.specs.Qos.{counted, qos_fault, qos_conf, with_normal, IsQosList}
 use Rattle.assoc_reader.proofs.ListLemmas.{fails-at, list_any-of}
 
 -- whether one of the names is this one, told by the qualities of service
@@ -34,7 +35,7 @@ once-push : (qos : List QosConf) (more : QosConf) → has more.name (qos_names q
 once-push qos more none once =
     all_pairs_push (λ (one other : QosConf). one.name ≢ other.name) qos more once (λ k d within. differs more.name qos k d none within)
 
-names-push : (qos : List QosConf) (more : QosConf) → qos_names (qos ++ more ∷ []) ≡ qos_names qos ++ more.name ∷ []
+pub names-push : (qos : List QosConf) (more : QosConf) → qos_names (qos ++ more ∷ []) ≡ qos_names qos ++ more.name ∷ []
 names-push qos more = map-append (λ (one : QosConf). one.name) qos (more ∷ [])
 
 pub none-yet : IsQosList []

@@ -1,7 +1,7 @@
 -- What a file says: its lines one after the other.
 use Rattle.std.specs.Prelude.{ℕ, ◌+◌, nat_lt, Bool, true, false, if◌then◌else◌, List, [], ◌∷◌, ◌++◌, length, Option, Some, None, Result, Ok, Err, ok_or}
 use Rattle.std.specs.Str.{byte}
-use Rattle.plain_data.specs.Assocs.{AssocView}
+use Rattle.plain_data.specs.Assocs.{AssocView, qos_names}
 use Rattle.small_texts.specs.Fields.{fields}
 use Rattle.text_values.specs.Steps.{◌>>=◌}
 use Rattle.assoc_reader.specs.Words.{assoc_said, qos_said}
@@ -12,7 +12,7 @@ use Rattle.assoc_reader.specs.declared.refusal.AssocKind.TheVariants.{NotAscii, 
 use Rattle.assoc_reader.specs.declared.refusal.AssocRefusal.{AssocRefusal}
 use Rattle.assoc_reader.specs.declared.refusal.AssocRefusal.TheVariants.{At}
 use Rattle.assoc_reader.specs.Lines.{Form, is_skipped, is_ascii, form_in}
-use Rattle.assoc_reader.specs.Qos.{qos_names, qos_fault, qos_conf, with_normal}
+use Rattle.assoc_reader.specs.Qos.{qos_fault, qos_conf, with_normal, may_name}
 use Rattle.assoc_reader.specs.Tree.{parent_named, name_fault, with_assoc, no_assocs}
 use Rattle.assoc_reader.specs.declared.draft.Draft.{Draft}
 
@@ -30,10 +30,10 @@ alone (b ∷ rest) x = Err BadLine
 unfoldable pub after_cluster : Draft → Form → Result Draft AssocKind
 after_cluster draft form = assoc_said false form.rest >>= λ words. Ok (record draft { has_cluster = true })
 
--- a quality of service, behind the others
-unfoldable pub after_qos : Draft → Form → Result Draft AssocKind
-after_qos draft form =
-    unless (qos_fault (qos_names draft.qos) form.name) (qos_said form.rest)
+-- a quality of service, behind the others, where it is told which of them its list may name
+unfoldable pub after_qos : (List ℕ → Bool) → Draft → Form → Result Draft AssocKind
+after_qos is_known draft form =
+    unless (qos_fault (qos_names draft.qos) form.name) (qos_said is_known form.rest)
     >>= λ words. Ok (record draft { qos = draft.qos ++ qos_conf form.name words ∷ [] })
 
 -- the account of the lines that follow
@@ -57,23 +57,24 @@ before_cluster Account draft form = Err NoCluster
 before_cluster User draft form = Err NoCluster
 
 -- and there is only one of it
-abbrev pub behind_cluster : LineKind → Draft → Form → Result Draft AssocKind
-behind_cluster Cluster draft form = Err BadLine
-behind_cluster Qos draft form = after_qos draft form
-behind_cluster Parent draft form = after_parent draft form
-behind_cluster Account draft form = after_assoc false draft form
-behind_cluster User draft form = after_assoc true draft form
+abbrev pub behind_cluster : (List ℕ → Bool) → LineKind → Draft → Form → Result Draft AssocKind
+behind_cluster is_known Cluster draft form = Err BadLine
+behind_cluster is_known Qos draft form = after_qos is_known draft form
+behind_cluster is_known Parent draft form = after_parent draft form
+behind_cluster is_known Account draft form = after_assoc false draft form
+behind_cluster is_known User draft form = after_assoc true draft form
 
 -- a line of one of the forms, by what it speaks of
-unfoldable pub after_form : Draft → Form → Result Draft AssocKind
-after_form draft form =
-    if draft.has_cluster then behind_cluster form.kind draft form else before_cluster form.kind draft form
+unfoldable pub after_form : (List ℕ → Bool) → Draft → Form → Result Draft AssocKind
+after_form is_known draft form =
+    if draft.has_cluster then behind_cluster is_known form.kind draft form
+    else before_cluster form.kind draft form
 
 -- what the lines up to this one say; one that isn't ASCII is refused before its form is looked at
-unfoldable pub after_line : Draft → List ℕ → Result Draft AssocKind
-after_line draft line =
+unfoldable pub after_line : (List ℕ → Bool) → Draft → List ℕ → Result Draft AssocKind
+after_line is_known draft line =
     if is_skipped line then Ok draft
-    else (if is_ascii line then (ok_or (form_in line) BadLine >>= after_form draft) else Err NotAscii)
+    else (if is_ascii line then (ok_or (form_in line) BadLine >>= after_form is_known draft) else Err NotAscii)
 
 -- a refusal with the number of its line
 abbrev pub at_line : {X : Type 0} → ℕ → Result X AssocKind → Result X AssocRefusal
@@ -81,10 +82,10 @@ at_line number (Ok x) = Ok x
 at_line number (Err kind) = Err (At number kind)
 
 -- what lines from a number on say, up to the first bad one
-abbrev pub after_lines : Draft → ℕ → List (List ℕ) → Result Draft AssocRefusal
-after_lines draft number [] = Ok draft
-after_lines draft number (line ∷ lines) =
-    at_line number (after_line draft line) >>= λ next. after_lines next (number + 1) lines
+abbrev pub after_lines : (List ℕ → Bool) → Draft → ℕ → List (List ℕ) → Result Draft AssocRefusal
+after_lines is_known draft number [] = Ok draft
+after_lines is_known draft number (line ∷ lines) =
+    at_line number (after_line is_known draft line) >>= λ next. after_lines is_known next (number + 1) lines
 
 -- before the first line
 unfoldable pub nothing_said : Draft
@@ -96,8 +97,12 @@ whole_file draft =
     if draft.has_cluster then Ok (record { assocs = draft.tree.assocs; qos = with_normal draft.qos })
     else Err (At 0 NoCluster)
 
+-- what all lines of a file say, of which a list may also name one that comes later
+unfoldable pub lines_say : List (List ℕ) → Result Draft AssocRefusal
+lines_say lines = after_lines (may_name lines) nothing_said 1 lines
+
 -- what the bytes of a file say, or its first fault
 unfoldable pub assocs_in : List ℕ → Result AssocView AssocRefusal
 assocs_in file =
     if nat_lt 4_194_304 (length file) then Err (At 0 OverLimit)
-    else (after_lines nothing_said 1 (fields (byte "\n") file) >>= whole_file)
+    else (lines_say (fields (byte "\n") file) >>= whole_file)

@@ -1,9 +1,10 @@
 -- What the options of a line say.
-use Rattle.std.specs.Prelude.{ℕ, Bool, if◌then◌else◌, List, [], ◌∷◌, bytes_eq, codes, Option, Some, None, option_map, Result}
+use Rattle.std.specs.Prelude.{ℕ, Bool, if◌then◌else◌, List, [], ◌∷◌, bytes_eq, codes, Option, Some, None, option_map, option_and_then, Result}
+use Rattle.std.specs.List.{list_all}
 use Rattle.std.specs.Str.{byte}
 use Rattle.slurm_num.specs.Limits.{limit_of}
 use Rattle.small_texts.specs.Fields.{fields}
-use Rattle.text_values.specs.Names.{name_in}
+use Rattle.text_values.specs.Names.{name_in, names_in}
 use Rattle.text_values.specs.Numbers.{number_in, u32_in}
 use Rattle.assoc_reader.specs.Keys.{assoc_key, qos_key}
 use Rattle.assoc_reader.specs.Options.{with_option, said_by}
@@ -57,26 +58,36 @@ no_assoc_words = record {
 unfoldable pub assoc_said : Bool → List ℕ → Result AssocWords AssocKind
 assoc_said user rest = said_by (with_option (assoc_key user) with_assoc_value) no_assoc_words rest
 
--- the same of a quality of service
-unfoldable pub with_qos_value : QosWords → QosKey → List ℕ → Option QosWords
-with_qos_value words qos.Priority text = option_map (λ n. record words { priority = n }) (u32_in text)
-with_qos_value words qos.GrpJobs text =
-    option_map (λ n. record words { limits = record words.limits { grp_jobs = Some n } }) (limit_in text)
-with_qos_value words qos.GrpSubmitJobs text =
-    option_map (λ n. record words { limits = record words.limits { grp_submit = Some n } }) (limit_in text)
-with_qos_value words qos.GrpTres text =
-    option_map (λ n. record words { limits = record words.limits { grp_cpus = Some n } }) (cpus_in text)
-with_qos_value words qos.MaxJobsPerUser text =
-    option_map (λ n. record words { limits = record words.limits { user_jobs = Some n } }) (limit_in text)
-with_qos_value words qos.MaxSubmitJobsPerUser text =
-    option_map (λ n. record words { limits = record words.limits { user_submit = Some n } }) (limit_in text)
-with_qos_value words qos.MaxTresPerUser text =
-    option_map (λ n. record words { limits = record words.limits { user_cpus = Some n } }) (cpus_in text)
-with_qos_value words qos.MaxWall text =
-    option_map (λ limit. record words { limits = record words.limits { max_wall = Some limit } }) (limit_of text)
-with_qos_value words qos.WithoutEffect text = Some words
+-- these names, where each of them is known
+abbrev pub all_known : (List ℕ → Bool) → List (List ℕ) → Option (List (List ℕ))
+all_known is_known names = if list_all is_known names then Some names else None
 
--- a quality of service of which a line says nothing: priority 0, and no limits
+-- names between commas, each of which is known
+abbrev pub known_names_in : (List ℕ → Bool) → List ℕ → Option (List (List ℕ))
+known_names_in is_known text = option_and_then (all_known is_known) (names_in text)
+
+-- the same of a quality of service, where it is told which of them are known
+unfoldable pub with_qos_value : (List ℕ → Bool) → QosWords → QosKey → List ℕ → Option QosWords
+with_qos_value is_known words qos.Priority text = option_map (λ n. record words { priority = n }) (u32_in text)
+with_qos_value is_known words qos.GrpJobs text =
+    option_map (λ n. record words { limits = record words.limits { grp_jobs = Some n } }) (limit_in text)
+with_qos_value is_known words qos.GrpSubmitJobs text =
+    option_map (λ n. record words { limits = record words.limits { grp_submit = Some n } }) (limit_in text)
+with_qos_value is_known words qos.GrpTres text =
+    option_map (λ n. record words { limits = record words.limits { grp_cpus = Some n } }) (cpus_in text)
+with_qos_value is_known words qos.MaxJobsPerUser text =
+    option_map (λ n. record words { limits = record words.limits { user_jobs = Some n } }) (limit_in text)
+with_qos_value is_known words qos.MaxSubmitJobsPerUser text =
+    option_map (λ n. record words { limits = record words.limits { user_submit = Some n } }) (limit_in text)
+with_qos_value is_known words qos.MaxTresPerUser text =
+    option_map (λ n. record words { limits = record words.limits { user_cpus = Some n } }) (cpus_in text)
+with_qos_value is_known words qos.MaxWall text =
+    option_map (λ limit. record words { limits = record words.limits { max_wall = Some limit } }) (limit_of text)
+with_qos_value is_known words qos.Preempt text =
+    option_map (λ names. record words { preempt = names }) (known_names_in is_known text)
+with_qos_value is_known words qos.WithoutEffect text = Some words
+
+-- a quality of service of which a line says nothing: priority 0, no limits, and none that it preempts
 unfoldable pub no_qos_words : QosWords
 no_qos_words = record {
   priority = 0;
@@ -89,8 +100,9 @@ no_qos_words = record {
     user_cpus = None;
     max_wall = None;
   };
+  preempt = [];
 }
 
 -- what the options of a quality of service say
-unfoldable pub qos_said : List ℕ → Result QosWords AssocKind
-qos_said rest = said_by (with_option qos_key with_qos_value) no_qos_words rest
+unfoldable pub qos_said : (List ℕ → Bool) → List ℕ → Result QosWords AssocKind
+qos_said is_known rest = said_by (with_option qos_key (with_qos_value is_known)) no_qos_words rest

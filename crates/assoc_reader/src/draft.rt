@@ -1,17 +1,15 @@
 //! What the lines of a file say, as far as they are read.
 
-ghost use Rattle.std.specs.Prelude.{◌≡◌, IfOk};
-
 use crate::assoc_tree::AssocTree;
 use crate::assoc_words::read_assoc_words;
 use crate::keys::LineKind;
-use crate::lines::{LineForm, is_ascii, is_skipped, read_form};
+use crate::lines::{LineForm, copy_name, is_ascii, is_skipped, read_form};
 use crate::qos_table::QosTable;
 use crate::qos_words::read_qos_words;
 use crate::refusal::{AssocKind, Fault};
-use small_texts::memory_error::Memory;
 use small_texts::name::Name;
 use std::alloc::Global;
+use std::collections::HashSet;
 
 /// What lines say.
 #[derive(Drop)]
@@ -22,14 +20,9 @@ pub(crate) struct Draft {
     pub(crate) qos: QosTable,
 }
 
-fn copy_name(alloc: Global, text: &[u8]) -> Result<Name, Memory>
-    ensures { IfOk result (λ name. name ≡ text.now) }
-{
-    Name::read(alloc, text).map_err(|_| Memory)
-}
-
 impl Draft {
-    ghost use Rattle.std.specs.Prelude.{◌≡◌, OnOk, IsErrOf, Ok, Err};
+    ghost use Rattle.std.specs.Prelude.{◌≡◌, bytes_eq, OnOk, IsErrOf, Ok, Err};
+    ghost use Rattle.std.specs.HashSet.{contains};
     ghost use Rattle.assoc_reader.specs.declared.refusal.AssocKind.{AssocKind};
     ghost use Rattle.assoc_reader.specs.Lines.{form_of};
     ghost use Rattle.assoc_reader.specs.Reader.{nothing_said, after_cluster, after_qos, after_parent, after_assoc, before_cluster, behind_cluster, after_form, after_line};
@@ -57,22 +50,24 @@ impl Draft {
     }
 
     #[tactic(auto, unfolding(crate::specs::Reader::after_qos))]
-    fn read_qos(&mut self, alloc: Global, form: LineForm) -> Result<(), Fault>
-        ensures value { OnOk result (after_qos self.old (form_of form.entry) ≡ Ok self.new) }
+    fn read_qos(
+        &mut self,
+        alloc: Global,
+        known: &HashSet<Name>,
+        form: LineForm,
+    ) -> Result<(), Fault>
+        ensures value { OnOk result
+            (after_qos (contains bytes_eq known.now) self.old (form_of form.entry) ≡ Ok self.new) }
         ensures refused { (k : AssocKind) → IsErrOf result (Fault.Refused k)
-            → after_qos self.old (form_of form.entry) ≡ Err k }
+            → after_qos (contains bytes_eq known.now) self.old (form_of form.entry) ≡ Err k }
     {
         if let Some(kind) = self.qos.name_fault(form.name) {
             return Err(Fault::Refused(kind));
         }
-        match read_qos_words(form.rest) {
-            Ok(words) => {
-                let name = copy_name(alloc, form.name)?;
-                self.qos.push(name, words)?;
-                Ok(())
-            }
-            Err(kind) => Err(Fault::Refused(kind)),
-        }
+        let name = copy_name(alloc, form.name)?;
+        let words = read_qos_words(alloc, known, form.rest)?;
+        self.qos.push(name, words)?;
+        Ok(())
     }
 
     #[tactic(auto, unfolding(crate::specs::Reader::after_parent))]
@@ -120,14 +115,20 @@ impl Draft {
         }
     }
 
-    fn read_behind_cluster(&mut self, alloc: Global, form: LineForm) -> Result<(), Fault>
-        ensures value { OnOk result (behind_cluster form.entry.kind self.old (form_of form.entry) ≡ Ok self.new) }
+    fn read_behind_cluster(
+        &mut self,
+        alloc: Global,
+        known: &HashSet<Name>,
+        form: LineForm,
+    ) -> Result<(), Fault>
+        ensures value { OnOk result
+            (behind_cluster (contains bytes_eq known.now) form.entry.kind self.old (form_of form.entry) ≡ Ok self.new) }
         ensures refused { (k : AssocKind) → IsErrOf result (Fault.Refused k)
-            → behind_cluster form.entry.kind self.old (form_of form.entry) ≡ Err k }
+            → behind_cluster (contains bytes_eq known.now) form.entry.kind self.old (form_of form.entry) ≡ Err k }
     {
         match form.kind {
             LineKind::Cluster => Err(Fault::Refused(AssocKind::BadLine)),
-            LineKind::Qos => self.read_qos(alloc, form),
+            LineKind::Qos => self.read_qos(alloc, known, form),
             LineKind::Parent => self.read_parent(alloc, form),
             LineKind::Account => self.read_assoc(alloc, false, form),
             LineKind::User => self.read_assoc(alloc, true, form),
@@ -135,23 +136,36 @@ impl Draft {
     }
 
     #[tactic(auto, unfolding(crate::specs::Reader::after_form))]
-    fn read_form(&mut self, alloc: Global, form: LineForm) -> Result<(), Fault>
-        ensures value { OnOk result (after_form self.old (form_of form.entry) ≡ Ok self.new) }
+    fn read_form(
+        &mut self,
+        alloc: Global,
+        known: &HashSet<Name>,
+        form: LineForm,
+    ) -> Result<(), Fault>
+        ensures value { OnOk result
+            (after_form (contains bytes_eq known.now) self.old (form_of form.entry) ≡ Ok self.new) }
         ensures refused { (k : AssocKind) → IsErrOf result (Fault.Refused k)
-            → after_form self.old (form_of form.entry) ≡ Err k }
+            → after_form (contains bytes_eq known.now) self.old (form_of form.entry) ≡ Err k }
     {
         if self.has_cluster {
-            self.read_behind_cluster(alloc, form)
+            self.read_behind_cluster(alloc, known, form)
         } else {
             self.read_before_cluster(alloc, form)
         }
     }
 
-    /// Takes up what a line says. After an error the draft is of no use.
+    /// Takes up what a line says, where it is told which names the list of a quality of service may have. After an error
+    /// the draft is of no use.
     #[tactic(auto, unfolding(crate::specs::Reader::after_line))]
-    pub(crate) fn read_line(&mut self, alloc: Global, line: &[u8]) -> Result<(), Fault>
-        ensures value { OnOk result (after_line self.old line.now ≡ Ok self.new) }
-        ensures refused { (k : AssocKind) → IsErrOf result (Fault.Refused k) → after_line self.old line.now ≡ Err k }
+    pub(crate) fn read_line(
+        &mut self,
+        alloc: Global,
+        known: &HashSet<Name>,
+        line: &[u8],
+    ) -> Result<(), Fault>
+        ensures value { OnOk result (after_line (contains bytes_eq known.now) self.old line.now ≡ Ok self.new) }
+        ensures refused { (k : AssocKind) → IsErrOf result (Fault.Refused k)
+            → after_line (contains bytes_eq known.now) self.old line.now ≡ Err k }
     {
         if is_skipped(line) {
             return Ok(());
@@ -160,7 +174,7 @@ impl Draft {
             return Err(Fault::Refused(AssocKind::NotAscii));
         }
         match read_form(line) {
-            Some(form) => self.read_form(alloc, form),
+            Some(form) => self.read_form(alloc, known, form),
             None => Err(Fault::Refused(AssocKind::BadLine)),
         }
     }

@@ -40,6 +40,7 @@ pub(crate) enum QosKey {
     MaxSubmitJobsPerUser,
     MaxTresPerUser,
     MaxWall,
+    Preempt,
     /// Any value is good, and none has an effect.
     WithoutEffect,
 }
@@ -85,7 +86,7 @@ pub(crate) const USER_KEYS: [(&[u8], AssocKey); 13] = [
 ];
 
 /// The keys of a quality of service.
-pub(crate) const QOS_KEYS: [(&[u8], QosKey); 9] = [
+pub(crate) const QOS_KEYS: [(&[u8], QosKey); 10] = [
     (b"Priority", QosKey::Priority),
     (b"GrpJobs", QosKey::GrpJobs),
     (b"GrpSubmitJobs", QosKey::GrpSubmitJobs),
@@ -94,6 +95,7 @@ pub(crate) const QOS_KEYS: [(&[u8], QosKey); 9] = [
     (b"MaxSubmitJobsPerUser", QosKey::MaxSubmitJobsPerUser),
     (b"MaxTRESPerUser", QosKey::MaxTresPerUser),
     (b"MaxWall", QosKey::MaxWall),
+    (b"Preempt", QosKey::Preempt),
     (b"Description", QosKey::WithoutEffect),
 ];
 

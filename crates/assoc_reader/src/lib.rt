@@ -8,6 +8,7 @@ mod counts;
 mod cuts;
 mod draft;
 mod keys;
+mod known_qos;
 mod lines;
 mod name_index;
 mod options;

@@ -1,12 +1,14 @@
 //! The form of a line: a word, a dash, and a name in single quotes.
 
-ghost use Rattle.std.specs.Prelude.{◌≡◌, option_map};
+ghost use Rattle.std.specs.Prelude.{◌≡◌, option_map, IfOk};
 ghost use Rattle.small_texts.specs.Name.{is_name};
 ghost use Rattle.assoc_reader.specs.Lines.{is_skipped, is_ascii, form_in, form_of};
 
 use crate::cuts::cut_at;
 use crate::keys::{LineKind, line_kind};
-use small_texts::name::is_name;
+use small_texts::memory_error::Memory;
+use small_texts::name::{Name, is_name};
+use std::alloc::Global;
 
 /// A line of one of the forms, cut behind its name.
 #[derive(Clone, Copy)]
@@ -44,4 +46,11 @@ pub(crate) fn read_form(text: &[u8]) -> Option<LineForm<'_>>
     } else {
         None
     }
+}
+
+/// A name that a text is known to be.
+pub(crate) fn copy_name(alloc: Global, text: &[u8]) -> Result<Name, Memory>
+    ensures { IfOk result (λ name. name ≡ text.now) }
+{
+    Name::read(alloc, text).map_err(|_| Memory)
 }

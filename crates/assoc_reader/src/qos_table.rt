@@ -2,7 +2,8 @@
 
 ghost use Rattle.std.specs.Prelude.{◌≡◌, codes, bytes_eq};
 ghost use Rattle.host_lists.specs.Hosts.{has};
-ghost use Rattle.assoc_reader.specs.Qos.{qos_names, qos_conf};
+ghost use Rattle.plain_data.specs.Assocs.{qos_names};
+ghost use Rattle.assoc_reader.specs.Qos.{qos_conf};
 
 use crate::qos_words::QosWords;
 use crate::refusal::AssocKind;
@@ -57,12 +58,14 @@ fn make_qos(name: Name, words: QosWords) -> QosConf
         name,
         priority: words.priority,
         limits: words.limits,
+        preempt: words.preempt,
     }
 }
 
 impl QosTable {
     ghost use Rattle.std.specs.Prelude.{◌≡◌, ◌++◌, ◌∷◌, [], None, OnOk, IfOk};
-    ghost use Rattle.assoc_reader.specs.Qos.{qos_names, qos_fault, qos_conf, with_normal, IsQosList};
+    ghost use Rattle.plain_data.specs.Assocs.{qos_names};
+    ghost use Rattle.assoc_reader.specs.Qos.{qos_fault, qos_conf, with_normal, IsQosList};
 
     /// A table of none.
     pub(crate) fn new(alloc: Global) -> QosTable
@@ -109,7 +112,7 @@ impl QosTable {
         let mut qos = self.qos;
         if !has_qos(qos.as_slice(), NORMAL) {
             let name = Name::read(alloc, NORMAL).map_err(|_| Memory)?;
-            qos.push(make_qos(name, QosWords::new()))?;
+            qos.push(make_qos(name, QosWords::new(alloc)))?;
         }
         Ok(Items::from_vec(qos))
     }

@@ -1,17 +1,18 @@
 -- Where a job that asks no more finds no start, none is found, also beside more holds.
-use Rattle.std.proofs.Common.{◌≡◌, ℕ, ◌+◌, ◌-◌, ◌*◌, ◌/◌, ◌≤◌, ◌<◌, min, zero, suc, Bool, true, false, ◌&&◌, ◌||◌, not, cond, eqb, leb, List, ◌++◌, get_or, sum_by, All, arith, refl, sym, ap, subst, ◌∙◌, inl, inr, Some, None, Option}
+use Rattle.std.proofs.Common.{◌≡◌, ℕ, ◌+◌, ◌-◌, ◌*◌, ◌/◌, ◌≤◌, ◌<◌, min, zero, suc, Bool, true, false, ◌&&◌, ◌||◌, not, cond, eqb, leb, List, [], ◌∷◌, ◌++◌, get_or, length, map, take, sum_by, All, arith, refl, sym, ap, subst, ◌∙◌, inl, inr, Some, None, Option}
 use Rattle.std.specs.Prelude.{find, IfSome, option_map, option_and_then, unwrap_or, is_some}
 use Rattle.std.specs.List.Sorted.{IsPermutation}
 use Rattle.std.proofs.Math.Nat.{div-mul-le_self}
 use Rattle.std.proofs.lemmas.Nat.{le-div, mul-le}
 use Rattle.std.proofs.lemmas.Bool.{cases_lt, cases_Bool, leb-true, le-leb}
-use Rattle.std.proofs.lemmas.List.Sums.{sum_by-append}
+use Rattle.std.proofs.lemmas.List.Sums.{sum_by-append, sum_by-cons}
 use Rattle.std.proofs.lemmas.List.Sorted.{sum_by-IsPermutation}
 use Rattle.resource_profile.specs.declared.NodeRoom.{NodeRoom}
 use Rattle.resource_profile.specs.declared.Hold.{Hold}
 use Rattle.resource_profile.specs.Free.{room_at, covers, free_cpus, free_mem, least_after, least_over}
 use Rattle.backfill_planner.proofs.Windows.{over_lower, over_reached}
 use Rattle.backfill_planner.proofs.Barring.{barred-longer, unless-less}
+use Rattle.node_pick.specs.declared.Need.{Need}
 use Rattle.node_pick.specs.Sets.{capacity, Fits}
 use Rattle.node_pick.specs.Choosing.{numbers_from, chosen}
 use Rattle.plain_data.specs.declared.mem_ask.MemAsk.{MemAsk}
@@ -57,14 +58,37 @@ by_mem-lesser (PerCpu less) (PerCpu asked) less_cpus cpus room mem most more_mos
     let product = mul-le less less_cpus asked cpus is.1 order in
     omega (arith, higher, quotient-part mem (less * less_cpus) (asked * cpus) (omega (arith, one)) product)
 
-tasks-lesser : (lesser job : PlanJob) (room : NodeRoom) (cpus mem : ℕ) → IsLesser lesser job → tasks_given job room cpus mem ≤ tasks_given lesser room cpus mem
+-- what a part of the free megabytes takes, cut at a number
+by_mem-cut : (ask : MemAsk) (cpus : ℕ) (room : NodeRoom) (mem cut most : ℕ) → min cut (tasks_by_mem ask cpus room mem most) ≤ tasks_by_mem ask cpus room mem (min cut most)
+by_mem-cut AllMem cpus room mem cut most = elim (cases_Bool (eqb mem room.mem)) [
+  | inl whole ↦ rw whole (omega arith)
+  | inr partly ↦ rw partly (omega arith)
+]
+by_mem-cut (PerNode asked) cpus room mem cut most = elim (cases_Bool (leb asked mem)) [
+  | inl enough ↦ rw enough (omega arith)
+  | inr too_little ↦ rw too_little (omega arith)
+]
+by_mem-cut (PerCpu asked) cpus room mem cut most = omega arith
+
+-- no more of its tasks than it has are cut away by how many a node may have
+node-cut : (lesser job : PlanJob) (cpus less_cpus : ℕ) → IsLesser lesser job → cpus ≤ less_cpus → min lesser.need.tasks (min job.per_node cpus) ≤ min lesser.per_node less_cpus
+node-cut lesser job cpus less_cpus is order = elim is.per_node [
+  | inl wider ↦ omega (arith, wider, order)
+  | inr all ↦ omega (arith, all, order)
+]
+
+tasks-lesser : (lesser job : PlanJob) (room : NodeRoom) (cpus mem : ℕ) → IsLesser lesser job → min lesser.need.tasks (tasks_given job room cpus mem) ≤ tasks_given lesser room cpus mem
 tasks-lesser lesser job room cpus mem is =
     let same : may_have lesser room cpus mem ≡ may_have job room cpus mem = ap (λ (e : Bool). room.usable && (not e || (eqb cpus room.cpus && eqb mem room.mem))) is.exclusive in
     elim (cases_Bool (may_have job room cpus mem)) [
       | inl may ↦
           let also : may_have lesser room cpus mem ≡ true = same ∙ may in
-          rw (may, also) (by_mem-lesser lesser.mem_ask job.mem_ask lesser.cpus_per_task job.cpus_per_task room mem (min job.per_node (cpus / job.cpus_per_task)) (min lesser.per_node (cpus / lesser.cpus_per_task)) is.mem is.some_cpus is.cpus
-          (omega (arith, is.per_node, quotient-part cpus lesser.cpus_per_task job.cpus_per_task is.some_cpus is.cpus)))
+          rw (may, also) (omega (
+            arith,
+            by_mem-cut job.mem_ask job.cpus_per_task room mem lesser.need.tasks (min job.per_node (cpus / job.cpus_per_task)),
+            by_mem-lesser lesser.mem_ask job.mem_ask lesser.cpus_per_task job.cpus_per_task room mem (min lesser.need.tasks (min job.per_node (cpus / job.cpus_per_task))) (min lesser.per_node (cpus / lesser.cpus_per_task)) is.mem is.some_cpus is.cpus
+                (node-cut lesser job (cpus / job.cpus_per_task) (cpus / lesser.cpus_per_task) is (quotient-part cpus lesser.cpus_per_task job.cpus_per_task is.some_cpus is.cpus)),
+          ))
       | inr may_not ↦ rw may_not (omega arith)
     ]
 
@@ -84,7 +108,11 @@ unfolding least_after
 least_after-within free room from zero within = within from
 least_after-within free room from (suc count) within = omega (arith, within from)
 
-give-lesser : (rooms : List NodeRoom) (holds : List Hold) (lesser job : PlanJob) (second node : ℕ) → IsLesser lesser job → second ≤ LAST_START → give rooms holds job second node ≤ give rooms holds lesser second node
+cut-unless : (barred : Bool) (cut given : ℕ) → min cut (cond barred 0 given) ≤ cond barred 0 (min cut given)
+cut-unless true cut given = omega arith
+cut-unless false cut given = omega arith
+
+give-lesser : (rooms : List NodeRoom) (holds : List Hold) (lesser job : PlanJob) (second node : ℕ) → IsLesser lesser job → second ≤ LAST_START → min lesser.need.tasks (give rooms holds job second node) ≤ give rooms holds lesser second node
 give-lesser rooms holds lesser job second node is last =
     let window = is.window second last in
     let order = is.no_longer second last in
@@ -92,6 +120,9 @@ give-lesser rooms holds lesser job second node is last =
     let mem = least_over (λ m. free_mem rooms holds node m) second (window_end lesser second) in
     let barred : is_barred lesser.barred node second (window_end lesser second) ≡ true → is_barred job.barred node second (window_end job second) ≡ true =
     rw is.barred (barred-longer job.barred node second (window_end lesser second) (window_end job second) order) in
+    let given : ℕ = tasks_given job (room_at rooms node)
+    (least_over (λ m. free_cpus rooms holds node m) second (window_end job second))
+    (least_over (λ m. free_mem rooms holds node m) second (window_end job second)) in
     let wider = tasks-more job (room_at rooms node)
     (least_over (λ m. free_cpus rooms holds node m) second (window_end job second))
     (least_over (λ m. free_mem rooms holds node m) second (window_end job second))
@@ -100,13 +131,44 @@ give-lesser rooms holds lesser job second node is last =
     (least_after-within (λ m. free_cpus rooms holds node m) (room_at rooms node).cpus second (window_end lesser second - second - 1) (λ m. omega arith))
     (least-longer (λ m. free_mem rooms holds node m) second (window_end lesser second) (window_end job second) window order)
     (least_after-within (λ m. free_mem rooms holds node m) (room_at rooms node).mem second (window_end lesser second - second - 1) (λ m. omega arith)) in
-    unless-less (is_barred job.barred node second (window_end job second)) (is_barred lesser.barred node second (window_end lesser second)) _ _ barred
-    (omega (arith, wider, tasks-lesser lesser job (room_at rooms node) cpus mem is))
+    let cut = cut-unless (is_barred job.barred node second (window_end job second)) lesser.need.tasks given in
+    let less = unless-less (is_barred job.barred node second (window_end job second)) (is_barred lesser.barred node second (window_end lesser second)) (min lesser.need.tasks given) (tasks_given lesser (room_at rooms node) cpus mem) barred
+    (omega (arith, wider, tasks-lesser lesser job (room_at rooms node) cpus mem is)) in
+    omega (arith, cut, less)
 
-capacity-lesser : (rooms : List NodeRoom) (holds : List Hold) (lesser job : PlanJob) (second place : ℕ) → IsLesser lesser job → second ≤ LAST_START → capacity (capacities rooms holds job second) place ≤ capacity (capacities rooms holds lesser second) place
+cut-map : (f : ℕ → ℕ) (cut : ℕ) (xs : List ℕ) (i : ℕ) → min cut (get_or (map f xs) i 0) ≤ get_or (map (λ x. min cut (f x)) xs) i 0
+cut-map f cut [] i = omega arith
+cut-map f cut (x ∷ xs) zero = omega arith
+cut-map f cut (x ∷ xs) (suc i) = cut-map f cut xs i
+
+capacity-lesser : (rooms : List NodeRoom) (holds : List Hold) (lesser job : PlanJob) (second place : ℕ) → IsLesser lesser job → second ≤ LAST_START → min lesser.need.tasks (capacity (capacities rooms holds job second) place) ≤ capacity (capacities rooms holds lesser second) place
 unfolding capacities
 capacity-lesser rooms holds lesser job second place is last =
-    rw is.nodes (map-more (λ node. give rooms holds job second node) (λ node. give rooms holds lesser second node) job.nodes place (λ node. give-lesser rooms holds lesser job second node is last))
+    rw is.nodes (omega (
+      arith,
+      cut-map (λ node. give rooms holds job second node) lesser.need.tasks job.nodes place,
+      map-more (λ node. min lesser.need.tasks (give rooms holds job second node)) (λ node. give rooms holds lesser second node) job.nodes place (λ node. give-lesser rooms holds lesser job second node is last),
+    ))
+
+-- what is cut at each place comes to as much, up to where it is cut
+sum-cut : (f g : ℕ → ℕ) (cut : ℕ) (xs : List ℕ) → ((x : ℕ) → min cut (f x) ≤ g x) → min cut (sum_by f xs) ≤ sum_by g xs
+sum-cut f g cut [] less = omega arith
+sum-cut f g cut (x ∷ xs) less = omega (arith, sum_by-cons f x xs, sum_by-cons g x xs, less x, sum-cut f g cut xs less)
+
+giving-cut : (caps wider : List ℕ) (cut : ℕ) → ((place : ℕ) → min cut (capacity caps place) ≤ capacity wider place) → (set : List ℕ) → length set ≤ cut → All (λ place. 1 ≤ capacity caps place) set → All (λ place. 1 ≤ capacity wider place) set
+giving-cut caps wider cut less set few all k d inside = omega (arith, inside, few, all k d inside, less (get_or set k d))
+
+-- a set that fits still fits where of each place no more is cut away than what lies above all tasks
+fits-cut : (caps wider : List ℕ) (need : Need) (set : List ℕ) → ((place : ℕ) → min need.tasks (capacity caps place) ≤ capacity wider place) → Fits caps need set → Fits wider need set
+fits-cut caps wider need set less fits = record {
+  rising = fits.rising;
+  required = fits.required;
+  giving = giving-cut caps wider need.tasks less set fits.at_most_tasks fits.giving;
+  enough = omega (arith, fits.enough, sum-cut (λ place. capacity caps place) (λ place. capacity wider place) need.tasks set less);
+  at_most_tasks = fits.at_most_tasks;
+  at_least = fits.at_least;
+  at_most = fits.at_most;
+}
 
 -- no set fits where none fits one that is given more
 none-from : LowerLaws → (rooms : List NodeRoom) (holds others : List Hold) (job other : PlanJob) (second : ℕ) → ((set : List ℕ) → Fits (capacities rooms holds job second) job.need set → (found : List ℕ) × Fits (capacities rooms others other second) other.need found) → placement_at rooms others other second ≡ None → placement_at rooms holds job second ≡ None
@@ -122,7 +184,11 @@ none-from laws rooms holds others job other second then nothing =
 pub lesser-none : LowerLaws → (rooms : List NodeRoom) (holds : List Hold) (lesser job : PlanJob) (now bound : ℕ) → IsLesser lesser job → NoneBefore rooms holds lesser now bound → NoneBefore rooms holds job now bound
 lesser-none laws rooms holds lesser job now bound is none second low high last =
     none-from laws rooms holds holds job lesser second
-    (λ set fits. (_, laws.lesser (capacities rooms holds job second) (capacities rooms holds lesser second) job.need lesser.need set (λ place. capacity-lesser rooms holds lesser job second place is last) is.need fits))
+    (λ set fits. (
+      take lesser.need.tasks set,
+      fits-cut (capacities rooms holds job second) (capacities rooms holds lesser second) lesser.need (take lesser.need.tasks set) (λ place. capacity-lesser rooms holds lesser job second place is last)
+          (laws.lesser (capacities rooms holds job second) (capacities rooms holds job second) job.need lesser.need set (λ place. omega arith) is.need fits),
+    ))
     (none second low high last)
 
 -- beside more holds

@@ -1,5 +1,5 @@
 -- When one job asks no more than another one, and what is known of the seconds before a start.
-use Rattle.std.specs.Prelude.{◌≡◌, ℕ, ◌≤◌, ◌<◌, List, None}
+use Rattle.std.specs.Prelude.{◌≡◌, ◌⊎◌, ℕ, ◌≤◌, ◌<◌, List, None}
 use Rattle.resource_profile.specs.declared.NodeRoom.{NodeRoom}
 use Rattle.resource_profile.specs.declared.Hold.{Hold}
 use Rattle.node_pick.specs.Sets.{AsksNoMore}
@@ -17,14 +17,15 @@ IsNoMoreMem (PerNode lesser) (PerNode asked) = lesser ≤ asked
 IsNoMoreMem (PerCpu lesser) (PerCpu asked) = (1 ≤ lesser) × (lesser ≤ asked)
 IsNoMoreMem _ _ = ⊥
 
--- of the same nodes, barred at the same times, it asks for no more tasks, processors, megabytes and seconds
+-- Of the same nodes, barred at the same times, it asks for no more tasks, processors, megabytes and seconds; and a node
+-- may have as many tasks of it as of the other, or all of its own.
 pub record IsLesser (lesser job : PlanJob) : Type 0 where
   pub need : AsksNoMore lesser.need job.need
   pub nodes : lesser.nodes ≡ job.nodes
   pub barred : lesser.barred ≡ job.barred
   pub some_cpus : 1 ≤ lesser.cpus_per_task
   pub cpus : lesser.cpus_per_task ≤ job.cpus_per_task
-  pub per_node : job.per_node ≤ lesser.per_node
+  pub per_node : (job.per_node ≤ lesser.per_node) ⊎ (lesser.need.tasks ≤ lesser.per_node)
   pub exclusive : lesser.exclusive ≡ job.exclusive
   pub mem : IsNoMoreMem lesser.mem_ask job.mem_ask
   pub window : (second : ℕ) → second ≤ LAST_START → second < window_end lesser second

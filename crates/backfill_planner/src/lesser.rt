@@ -56,11 +56,14 @@ fn are_same(one: &[Barred], other: &[Barred]) -> bool
 }
 
 /// Whether of the same nodes, barred at the same times, one job asks for no more tasks, processors, megabytes and
-/// seconds than the other.
+/// seconds than the other, and may have as many tasks on a node, or all of its own.
 pub(crate) fn is_lesser(lesser: &PlanJob, job: &PlanJob) -> bool
     ensures { OnTrue result (IsLesser lesser.now job.now) }
 {
-    if lesser.exclusive != job.exclusive || job.per_node > lesser.per_node {
+    if lesser.exclusive != job.exclusive {
+        return false;
+    }
+    if job.per_node > lesser.per_node && lesser.need.tasks > lesser.per_node {
         return false;
     }
     if lesser.cpus_per_task.get() > job.cpus_per_task.get() {

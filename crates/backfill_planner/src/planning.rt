@@ -181,10 +181,8 @@ impl Planning {
         } = self;
         let job = &ranked[done];
         job.tell_plannable();
-        searches.add(Seen {
-            place: done,
-            bound: bound_of(&placed, base.horizon),
-        })?;
+        let bound = bound_of(&placed, base.horizon);
+        searches.add(ranked.as_slice(), moment, Seen { place: done, bound })?;
         if let Some(placed) = placed {
             hold(&mut profile, job, &placed)?;
             placements.push(placed)?;

@@ -55,8 +55,23 @@ impl Searches {
         bound
     }
 
-    // Keeps one search more in mind. Where there are many, the one goes that tells least.
-    pub(crate) fn add(&mut self, one: Seen) -> Result<(), Memory>
+    // Keeps one search more in mind, where those that are kept don't tell as much of its job. Where there are many, the
+    // one goes that tells least.
+    pub(crate) fn add(&mut self, ranked: &[PlanJob], now: u64, one: Seen) -> Result<(), Memory>
+        requires there { All (λ (seen : OneSeen). seen.place < length ranked.now) self.old.seen.items }
+        requires place { one.place < length ranked.now }
+        ensures { (rooms : List Room) (holds : List Hold) (ranked : List AJob) (now : ℕ)
+            → All (IsSeen rooms holds ranked now) self.old.seen.items → IsSeen rooms holds ranked now one
+            → All (IsSeen rooms holds ranked now) self.new.seen.items }
+    {
+        if self.bound(ranked, &ranked[one.place], now) >= one.bound {
+            return Ok(());
+        }
+        self.put(one)
+    }
+
+    // Puts one search more among those that are kept. Where there are many, the one goes that tells least.
+    fn put(&mut self, one: Seen) -> Result<(), Memory>
         ensures { (rooms : List Room) (holds : List Hold) (ranked : List AJob) (now : ℕ)
             → All (IsSeen rooms holds ranked now) self.old.seen.items → IsSeen rooms holds ranked now one
             → All (IsSeen rooms holds ranked now) self.new.seen.items }

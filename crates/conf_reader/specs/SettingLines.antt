@@ -1,5 +1,5 @@
 -- What the lines of settings say.
-use Rattle.std.specs.Prelude.{ℕ, ◌==◌, true, if◌then◌else◌, List, [], ◌∷◌, bytes_eq, codes, Option, Some, None}
+use Rattle.std.specs.Prelude.{ℕ, ◌==◌, Bool, true, false, ◌&&◌, if◌then◌else◌, List, [], ◌∷◌, bytes_eq, codes, Option, Some, None}
 use Rattle.std.specs.Prelude.{option_map, unwrap_or, Result}
 use Rattle.std.specs.List.{list_any}
 use Rattle.slurm_num.specs.Limits.{limit_of}
@@ -21,7 +21,7 @@ use Rattle.conf_reader.specs.declared.setting_lines.SettingEntry.TheVariants.{Mi
 use Rattle.conf_reader.specs.declared.setting_lines.SettingEntry.TheVariants.{SlurmUser, MaxAge, WeightAge}
 use Rattle.conf_reader.specs.declared.setting_lines.SettingEntry.TheVariants.{WeightFairshare, WeightJobSize}
 use Rattle.conf_reader.specs.declared.setting_lines.SettingEntry.TheVariants.{WeightPartition, WeightQos, Plans, Mem}
-use Rattle.conf_reader.specs.declared.setting_lines.SettingEntry.TheVariants.{WithoutEffect}
+use Rattle.conf_reader.specs.declared.setting_lines.SettingEntry.TheVariants.{ByQos, Requeues, WithoutEffect}
 use Rattle.conf_reader.specs.declared.setting_lines.SettingWords.{SettingWords}
 use Rattle.conf_values.specs.declared.refusal.ConfKind.{ConfKind}
 
@@ -41,6 +41,11 @@ only texts text = if list_any (bytes_eq text) texts then Some WithoutEffect else
 unfoldable pub select_parameters : List ℕ → Option SettingEntry
 select_parameters text =
     only (codes "CR_CPU_Memory" ∷ codes "CR_CPU" ∷ codes "CR_Core" ∷ codes "CR_Core_Memory" ∷ []) text
+
+-- whether a text is the one that turns something on, and not the one that leaves it off; letters count in their case
+abbrev pub choice_in : List ℕ → List ℕ → List ℕ → Option Bool
+choice_in off on text =
+    if bytes_eq text off then Some false else (if bytes_eq text on then Some true else None)
 
 -- what a key and its value say
 unfoldable pub setting_entry : SettingKey → List ℕ → Option SettingEntry
@@ -63,7 +68,9 @@ setting_entry key.SchedulerType text = only (codes "sched/backfill" ∷ []) text
 setting_entry key.SchedulerParameters text = option_map Plans (scheduler_in text)
 setting_entry key.SelectType text = only (codes "select/cons_tres" ∷ []) text
 setting_entry key.SelectTypeParameters text = select_parameters text
-setting_entry key.PreemptType text = only (codes "preempt/none" ∷ []) text
+setting_entry key.PreemptType text =
+    option_map ByQos (choice_in (codes "preempt/none") (codes "preempt/qos") text)
+setting_entry key.PreemptMode text = option_map Requeues (choice_in (codes "OFF") (codes "REQUEUE") text)
 setting_entry key.DefMemPerNode text = option_map Mem (mem_per_node text)
 setting_entry key.DefMemPerCpu text = option_map Mem (mem_per_cpu text)
 setting_entry key.WithoutEffect text = Some WithoutEffect
@@ -88,6 +95,8 @@ with_setting words (WeightPartition n) = record words { weight_partition = Some 
 with_setting words (WeightQos n) = record words { weight_qos = Some n }
 with_setting words (Plans plans) = record words { plans = plans }
 with_setting words (Mem ask) = record words { mem = Some ask }
+with_setting words (ByQos choice) = record words { by_qos = Some choice }
+with_setting words (Requeues choice) = record words { requeues = Some choice }
 with_setting words WithoutEffect = words
 
 -- a file that says nothing
@@ -108,11 +117,17 @@ no_settings = record {
   weight_qos = None;
   plans = no_items;
   mem = None;
+  by_qos = None;
+  requeues = None;
 }
 
 -- what the file says up to a line and with it
 unfoldable pub setting_line : SettingWords → List ℕ → Result SettingWords ConfKind
 setting_line before line = said_by with_setting setting_word before line
+
+-- jobs are preempted where the type and the mode both say so
+abbrev pub is_preempting : SettingWords → Bool
+is_preempting words = unwrap_or words.by_qos false && unwrap_or words.requeues false
 
 -- the settings of a file that says this, with their defaults
 unfoldable pub settings_of : SettingWords → Settings
@@ -133,4 +148,5 @@ settings_of words = record {
   bf_window = unwrap_or words.plans.window 1_440;
   bf_interval = unwrap_or words.plans.interval 30;
   mem_default = words.mem;
+  preempt = is_preempting words;
 }

@@ -4,7 +4,7 @@ ghost use Rattle.std.specs.Prelude.{ℕ, ◌≡◌, ◌≢◌, ◌==◌, ◌≤�
 ghost use Rattle.std.specs.Prelude.{codes, bytes_eq, IfOk, IfSome, OnOk, IsErrOf, Some, None, Ok, Err};
 ghost use Rattle.std.specs.List.{list_any};
 ghost use Rattle.conf_values.specs.Keys.{setting_key};
-ghost use Rattle.conf_reader.specs.SettingLines.{minutes_in, only, select_parameters, setting_entry, setting_word};
+ghost use Rattle.conf_reader.specs.SettingLines.{minutes_in, only, select_parameters, choice_in, setting_entry, setting_word};
 ghost use Rattle.conf_reader.specs.SettingLines.{setting_line};
 ghost use Rattle.text_values.specs.Numbers.{number_in};
 ghost use Rattle.conf_values.specs.declared.refusal.ConfKind.{ConfKind};
@@ -45,6 +45,10 @@ pub(crate) enum SettingEntry {
     WeightQos(u32),
     Plans(Scheduler),
     Mem(MemAsk),
+    /// `PreemptType`: whether it is `preempt/qos`.
+    ByQos(bool),
+    /// `PreemptMode`: whether it is `REQUEUE`.
+    Requeues(bool),
     WithoutEffect,
 }
 
@@ -66,6 +70,10 @@ pub struct SettingWords {
     pub(crate) weight_qos: Option<u32>,
     pub(crate) plans: Scheduler,
     pub(crate) mem: Option<MemAsk>,
+    /// Whether `PreemptType` is `preempt/qos`.
+    pub(crate) by_qos: Option<bool>,
+    /// Whether `PreemptMode` is `REQUEUE`.
+    pub(crate) requeues: Option<bool>,
 }
 
 // A time of at least a minute, with an end.
@@ -119,6 +127,31 @@ fn read_select_parameters(text: &[u8]) -> Option<SettingEntry>
     )
 }
 
+// Whether a text is the one that turns something on, and not the one that leaves it off.
+fn choice(text: &[u8], off: &[u8], on: &[u8]) -> Option<bool>
+    ensures { result ≡ choice_in off.now on.now text.now }
+{
+    if text == off {
+        Some(false)
+    } else if text == on {
+        Some(true)
+    } else {
+        None
+    }
+}
+
+fn read_preempt_type(text: &[u8]) -> Option<SettingEntry>
+    ensures { result ≡ option_map SettingEntry.ByQos (choice_in (codes "preempt/none") (codes "preempt/qos") text.now) }
+{
+    choice(text, b"preempt/none", b"preempt/qos").map(SettingEntry::ByQos)
+}
+
+fn read_preempt_mode(text: &[u8]) -> Option<SettingEntry>
+    ensures { result ≡ option_map SettingEntry.Requeues (choice_in (codes "OFF") (codes "REQUEUE") text.now) }
+{
+    choice(text, b"OFF", b"REQUEUE").map(SettingEntry::Requeues)
+}
+
 // What a key and its value say, where that takes no memory.
 #[tactic(auto, unfolding(crate::specs::SettingLines::setting_entry))]
 fn plain_entry(key: SettingKey, text: &[u8]) -> Option<SettingEntry>
@@ -145,7 +178,8 @@ fn plain_entry(key: SettingKey, text: &[u8]) -> Option<SettingEntry>
         SettingKey::SchedulerParameters => read_scheduler(text).map(SettingEntry::Plans),
         SettingKey::SelectType => only(text, &[b"select/cons_tres"]),
         SettingKey::SelectTypeParameters => read_select_parameters(text),
-        SettingKey::PreemptType => only(text, &[b"preempt/none"]),
+        SettingKey::PreemptType => read_preempt_type(text),
+        SettingKey::PreemptMode => read_preempt_mode(text),
         SettingKey::DefMemPerNode => read_mem_per_node(text).map(SettingEntry::Mem),
         SettingKey::DefMemPerCpu => read_mem_per_cpu(text).map(SettingEntry::Mem),
         SettingKey::WithoutEffect => Some(SettingEntry::WithoutEffect),
@@ -187,7 +221,7 @@ fn read_setting_word(alloc: Global, word: &[u8]) -> Result<SettingEntry, Fault>
 
 impl SettingWords {
     ghost use Rattle.std.specs.Prelude.{ℕ, ◌≡◌, IfOk, OnOk, IsErrOf, Ok, Err};
-    ghost use Rattle.conf_reader.specs.SettingLines.{with_setting, no_settings, setting_line, settings_of};
+    ghost use Rattle.conf_reader.specs.SettingLines.{with_setting, no_settings, setting_line, is_preempting, settings_of};
     ghost use Rattle.conf_values.specs.declared.refusal.ConfKind.{ConfKind};
 
     /// A file without lines of settings.
@@ -211,6 +245,8 @@ impl SettingWords {
             weight_qos: None,
             plans: Scheduler::new(),
             mem: None,
+            by_qos: None,
+            requeues: None,
         }
     }
 
@@ -234,8 +270,17 @@ impl SettingWords {
             SettingEntry::WeightQos(weight) => self.weight_qos = Some(weight),
             SettingEntry::Plans(plans) => self.plans = plans,
             SettingEntry::Mem(ask) => self.mem = Some(ask),
+            SettingEntry::ByQos(yes) => self.by_qos = Some(yes),
+            SettingEntry::Requeues(yes) => self.requeues = Some(yes),
             SettingEntry::WithoutEffect => {}
         }
+    }
+
+    // Whether the type and the mode both say that jobs are preempted.
+    fn is_preempting(&self) -> bool
+        ensures { result ≡ is_preempting self.now }
+    {
+        self.by_qos.unwrap_or(false) && self.requeues.unwrap_or(false)
     }
 
     /// The settings, with the defaults of what no line said.
@@ -243,6 +288,7 @@ impl SettingWords {
     pub fn into_settings(self, alloc: Global) -> Result<Settings, Memory>
         ensures { IfOk result (λ settings. settings ≡ settings_of self) }
     {
+        let preempt = self.is_preempting();
         let slurm_user = name_or_root(alloc, self.slurm_user)?;
         Ok(Settings {
             first_job_id: self.first_job_id.unwrap_or(Ranged::new(1)),
@@ -261,6 +307,7 @@ impl SettingWords {
             bf_window: self.plans.window.unwrap_or(Ranged::new(1_440)),
             bf_interval: self.plans.interval.unwrap_or(Ranged::new(30)),
             mem_default: self.mem,
+            preempt,
         })
     }
 

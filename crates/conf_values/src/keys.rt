@@ -28,6 +28,7 @@ pub enum SettingKey {
     SelectType,
     SelectTypeParameters,
     PreemptType,
+    PreemptMode,
     DefMemPerNode,
     DefMemPerCpu,
     /// Any value is good, and none has an effect.
@@ -75,7 +76,7 @@ pub enum PartitionKey {
 }
 
 /// The keys of settings.
-pub const SETTING_KEYS: [(&[u8], SettingKey); 62] = [
+pub const SETTING_KEYS: [(&[u8], SettingKey); 63] = [
     (b"FirstJobId", SettingKey::FirstJobId),
     (b"MaxJobCount", SettingKey::MaxJobCount),
     (b"MaxArraySize", SettingKey::MaxArraySize),
@@ -96,6 +97,7 @@ pub const SETTING_KEYS: [(&[u8], SettingKey); 62] = [
     (b"SelectType", SettingKey::SelectType),
     (b"SelectTypeParameters", SettingKey::SelectTypeParameters),
     (b"PreemptType", SettingKey::PreemptType),
+    (b"PreemptMode", SettingKey::PreemptMode),
     (b"DefMemPerNode", SettingKey::DefMemPerNode),
     (b"DefMemPerCPU", SettingKey::DefMemPerCpu),
     (b"ClusterName", SettingKey::WithoutEffect),

@@ -1,5 +1,5 @@
 -- What comes of passes in which nodes fall silent, or none does.
-use Rattle.std.proofs.Common.{ℕ, zero, suc, ◌≡◌, ◌≤◌, ◌+◌, ◌<◌, ◌^◌, ◌∙◌, Bool, true, false, ◌&&◌, List, [], ◌∷◌, length, map, count_by, refl, sym, ap, subst, arith}
+use Rattle.std.proofs.Common.{ℕ, zero, suc, ◌≡◌, ◌≤◌, ◌+◌, ◌*◌, ◌<◌, ◌^◌, ◌∙◌, Bool, true, false, ◌&&◌, List, [], ◌∷◌, length, map, count_by, refl, sym, ap, subst, arith}
 use Rattle.std.specs.List.{list_any}
 use Rattle.std.proofs.lemmas.Bool.{or_from, or_parts}
 use Rattle.std.proofs.lemmas.List.{length-map}
@@ -12,8 +12,7 @@ use Rattle.ctl_state.specs.Planning.{is_at}
 use Rattle.ctl_state.specs.Soundness.{IsSound}
 use Rattle.ctl_state.specs.State.{State, last_job_id}
 use Rattle.ctl_nodes.specs.Failing.{after_loss, loses}
-use Rattle.ctl_pass.specs.Limits.{is_over}
-use Rattle.ctl_pass.specs.Passing.{is_idle, jobs_planned, outcome, pass_after}
+use Rattle.ctl_pass.specs.Passing.{is_idle, jobs_ended, jobs_planned, outcome, pass_after}
 use Rattle.ctl_node_side.specs.declared.passing.PassOutcome.TheVariants.{Idle, Full, Passed}
 use Rattle.ctl_node_side.specs.Came.{Came}
 use Rattle.ctl_node_side.specs.Passes.{ended_by_pass, pass_is_idle, planned_by_pass}
@@ -68,13 +67,13 @@ pub came_full : (s s' : State) (now : ℕ) (room : Bool) → any_silent s now �
 came_full s s' now room none busy full same = (idle_by s now none ∙ busy, full, same)
 
 pub came_passed : (s s' : State) (now ended : ℕ) (room : Bool) → any_silent s now ≡ false → is_idle s now ≡ false
-    → room ≡ true → ended ≡ count_by (is_over now) s.jobs → s' ≡ pass_after s now
+    → room ≡ true → ended ≡ jobs_ended s now → s' ≡ pass_after s now
     → Came s s' now room (Passed (0 + ended) (length (outcome s now).starts) (length (outcome s now).stays))
 came_passed s s' now ended room none busy has are after =
     let is = silenced_none s now none in
     let ends : 0 + ended ≡ ended_by_pass s now =
     ap (λ n. n + ended) (sym (none-fails s now none))
-    ∙ ap (λ n. failing_count s now + n) (are ∙ ap (λ (t : State). count_by (is_over now) t.jobs) (sym is)) in (
+    ∙ ap (λ n. failing_count s now + n) (are ∙ ap (λ (t : State). jobs_ended t now) (sym is)) in (
       idle_by s now none ∙ busy,
       has,
       ends,
@@ -97,7 +96,7 @@ pub came_full_silenced : (s s' : State) (now : ℕ) (room : Bool) → any_silent
 came_full_silenced s s' now room some full same = (busy_silenced s now some, full, same)
 
 pub came_silenced : (s s' : State) (now failed ended : ℕ) (room : Bool) → any_silent s now ≡ true → room ≡ true
-    → failed ≡ failing_count s now → ended ≡ count_by (is_over now) (without_silent s now).jobs
+    → failed ≡ failing_count s now → ended ≡ jobs_ended (without_silent s now) now
     → s' ≡ pass_after (without_silent s now) now
     → Came s s' now room (Passed (failed + ended) (length (outcome (without_silent s now) now).starts)
     (length (outcome (without_silent s now) now).stays))
@@ -105,7 +104,7 @@ came_silenced s s' now failed ended room some has fails are after =
     let is = silenced_some s now some in
     let ends : failed + ended ≡ ended_by_pass s now =
     ap (λ n. n + ended) fails
-    ∙ ap (λ n. failing_count s now + n) (are ∙ ap (λ (t : State). count_by (is_over now) t.jobs) (sym is)) in (
+    ∙ ap (λ n. failing_count s now + n) (are ∙ ap (λ (t : State). jobs_ended t now) (sym is)) in (
       busy_silenced s now some,
       has,
       ends,
@@ -117,7 +116,7 @@ came_silenced s s' now failed ended room some has fails are after =
 -- the same by the state that it is worked in
 pub came_fallen : (s s' t : State) (now failed ended : ℕ) (room : Bool) → t ≡ without_silent s now
     → any_silent s now ≡ true → room ≡ true
-    → failed ≡ failing_count s now → ended ≡ count_by (is_over now) t.jobs → s' ≡ pass_after t now
+    → failed ≡ failing_count s now → ended ≡ jobs_ended t now → s' ≡ pass_after t now
     → Came s s' now room (Passed (failed + ended) (length (outcome t now).starts) (length (outcome t now).stays))
 came_fallen s s' t now failed ended room is some has fails are after =
     subst
@@ -125,7 +124,7 @@ came_fallen s s' t now failed ended room is some has fails are after =
     (Passed (failed + ended) (length (outcome t now).starts) (length (outcome t now).stays)))
     (sym is)
     (came_silenced s s' now failed ended room some has fails
-    (are ∙ ap (λ (t : State). count_by (is_over now) t.jobs) is) (after ∙ ap (λ t. pass_after t now) is))
+    (are ∙ ap (λ (t : State). jobs_ended t now) is) (after ∙ ap (λ t. pass_after t now) is))
 
 -- those that fail with the same nodes
 count-alike : (one other : JobRecord → Bool) → ((job : JobRecord) → one job ≡ other job) → (jobs : List JobRecord)
@@ -145,10 +144,11 @@ failing_alike s now lost same =
 abbrev pub FewJobs : Type 0
 FewJobs = (s : State) → IsSound s → length s.jobs ≤ last_job_id + 1
 
-pub few_ended : FewJobs → (s : State) (now ended : ℕ) → IsSound s → ended ≡ count_by (is_over now) s.jobs
-    → ended ≤ 67043329
-few_ended few s now ended sound is =
-    omega (arith, is, count_by-le-length (is_over now) s.jobs, few s sound)
+abbrev pub FewEnd : Type 0
+FewEnd = (s : State) (now : ℕ) → IsSound s → jobs_ended s now ≤ 2 * (last_job_id + 1)
+
+pub few_ended : FewEnd → (s : State) (now ended : ℕ) → IsSound s → ended ≡ jobs_ended s now → ended ≤ 134086658
+few_ended few s now ended sound is = omega (arith, is, few s now sound)
 
 pub few_failed : FewJobs → (s : State) (now failed : ℕ) (fails : JobRecord → Bool) → IsSound s
     → failed ≡ count_by fails s.jobs → failed ≤ 67043329

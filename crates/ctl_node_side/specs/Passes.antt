@@ -1,13 +1,12 @@
 -- A whole pass: it sees to the nodes that fall silent first, and then does all that it does where none does.
-use Rattle.std.specs.Prelude.{ℕ, ◌+◌, Bool, ◌&&◌, not, if◌then◌else◌, length, count_by}
+use Rattle.std.specs.Prelude.{ℕ, ◌+◌, Bool, ◌&&◌, not, if◌then◌else◌, length}
 use Rattle.reply_data.specs.declared.reply.Reply.TheVariants.{Passed}
 use Rattle.ctl_state.specs.State.{State}
 use Rattle.ctl_state.specs.Verdicts.{Verdict, Stays, Makes}
 use Rattle.backfill_planner.specs.Plans.{PlannedView}
 use Rattle.ctl_pass.specs.Freedom.{StartsAreFree}
 use Rattle.ctl_pass.specs.Inputs.{IsSteppedOver, input_of}
-use Rattle.ctl_pass.specs.Limits.{is_over}
-use Rattle.ctl_pass.specs.Passing.{is_idle, jobs_planned, outcome, pass_after}
+use Rattle.ctl_pass.specs.Passing.{is_idle, jobs_ended, jobs_planned, outcome, pass_after}
 use Rattle.ctl_node_side.specs.Silence.{any_silent, failing_count, silenced}
 
 -- the state after a pass
@@ -18,9 +17,10 @@ after_pass s now = pass_after (silenced s now) now
 abbrev pub pass_is_idle : State → ℕ → Bool
 pass_is_idle s now = not (any_silent s now) && is_idle (silenced s now) now
 
--- how many jobs a pass takes out of Running: those that fail with their nodes, and those past their limits
+-- how many jobs a pass takes out of Running: those that fail with their nodes, those past their limits, and those that
+-- go for another
 abbrev pub ended_by_pass : State → ℕ → ℕ
-ended_by_pass s now = failing_count s now + count_by (is_over now) (silenced s now).jobs
+ended_by_pass s now = failing_count s now + jobs_ended (silenced s now) now
 
 -- what a pass makes
 abbrev pub made_by_pass : State → ℕ → Verdict

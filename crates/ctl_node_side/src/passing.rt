@@ -17,7 +17,7 @@ use crate::laws::{kept_jobs_are_put_back, silence_keeps_all_sound};
 use crate::silence::{count_failing, fall_silent, silent_places};
 use backfill_planner::Planned;
 use cpu_ids::CpuIds;
-use ctl_pass::laws::{few_start_or_stay, there_are_few_jobs};
+use ctl_pass::laws::{few_end, few_start_or_stay, there_are_few_jobs};
 use ctl_pass::{Decided, act, decide, is_idle};
 use ctl_state::cluster::Cluster;
 use resource_profile::Steps;
@@ -145,6 +145,7 @@ fn pass_silenced<L>(
     silence_keeps_all_sound();
     kept_jobs_are_put_back();
     there_are_few_jobs();
+    few_end();
     let before = keep(alloc, cluster, silent)?;
     let failed = count_failing(silent, cluster.jobs.records()) as u32;
     fall_silent(cluster, moment, silent);

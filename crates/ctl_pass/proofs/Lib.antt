@@ -8,6 +8,11 @@ pub mod Due
 pub mod Starting
 pub mod Planned
 pub mod Begun
+pub mod RankOrders
+pub mod Gone
+pub mod Preempted
+pub mod Beside
+pub mod Serving
 pub mod Passes
 pub mod Few
 pub mod KeepingOut

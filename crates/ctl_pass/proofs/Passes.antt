@@ -5,7 +5,7 @@ use Rattle.std.specs.Prelude.{count_by}
 use Rattle.std.specs.Bool.{Decides}
 use Rattle.std.specs.Cmp.Lexicographic.{pointwise}
 use Rattle.std.specs.List.{list_all, list_any}
-use Rattle.std.proofs.lemmas.Bool.{cond_both, cases_Bool, both_ways, eq-eqb, eqb-true}
+use Rattle.std.proofs.lemmas.Bool.{and_parts, cond_both, cases_Bool, both_ways, eq-eqb, eqb-true}
 use Rattle.std.proofs.lemmas.List.{length-map, get_or_default}
 use Rattle.std.proofs.lemmas.List.Elements.{All-weaker, All-head, All-tail, All-map, All-filter, All-contains_itself, filter_agree}
 use Rattle.std.proofs.lemmas.List.Sums.{length-filter, count_by-le-length, sum_by-cons, sum_by-le-sum_by}
@@ -33,14 +33,16 @@ use Rattle.ctl_pass.specs.declared.pass.Decided.{Decided}
 use Rattle.ctl_pass.specs.Awaiting.{placements_of}
 use Rattle.ctl_pass.specs.Limits.{is_over, timed_out}
 use Rattle.ctl_pass.specs.Live.{has_array}
-use Rattle.ctl_pass.specs.Passing.{is_idle, HasArrays, IsDecided, outcome, pass_after, placements_due}
+use Rattle.ctl_pass.specs.Passing.{is_idle, jobs_ended, HasArrays, IsDecided, begun_in, outcome, pass_after, placements_due}
+use Rattle.ctl_pass.specs.Preempting.{preempted, victims_in}
 use Rattle.ctl_pass.specs.Readiness.{arrays_left, goes, jobs_left, ready, placements}
 use Rattle.ctl_pass.specs.SamePlans.{same_plans, same_shares, same_placements}
-use Rattle.ctl_pass.specs.Starting.{start_of, begun, begun_by, started, may_start}
+use Rattle.ctl_pass.specs.Starting.{HasStarted, WasHeldBack, start_of, begun, begun_by, started, may_start}
 use Rattle.ctl_pass.specs.Taking.{CanStart}
 use Rattle.ctl_pass.proofs.Due.{can-due, due-jobs}
 use Rattle.ctl_pass.proofs.Lists.{Any-kept, filter-whole, length-kept, sum_by-map, sum_by-more}
 use Rattle.ctl_pass.proofs.Planned.{PlanIds, PlanLaws, can-start_ready, plan-waits}
+use Rattle.ctl_pass.proofs.Preempted.{GoneLaws, by_victim, left-stopped, nobody-gone, nobody-went, sound-gone, started-stays}
 use Rattle.ctl_pass.proofs.Readied.{ReadyLaws, by_limit, going-known, left-known, length-left, readied, running-not_ended}
 use Rattle.ctl_pass.proofs.Starting.{IsGiven, StartLaws, all-given, sound-started, started-keeps, started-same}
 
@@ -73,12 +75,12 @@ idle_is law s now decided is =
       ← length-kept (λ (one : Reservation). ltb now one.end) s.reservations,
     ) refl
 
--- So is the state after a pass, from what was decided.
+-- So is the state after the starts, from what was decided.
 pub acted : (s : State) (now : ℕ) (decided : Decided) → IsDecided s now decided
     → record (ready s now) {
       jobs = fold (begun_by s.nodes now) (jobs_left s now) (placements_of decided.starts.items);
       plan = decided.stays.items;
-    } ≡ pass_after s now
+    } ≡ begun_in s now
 acted s now decided is =
     rw (is.starts, is.stays, due-jobs s now (jobs_left s now) (placements s now)) refl
 
@@ -143,14 +145,28 @@ unfolding started
 none-start s now jobs [] none = refl
 none-start s now jobs (placed ∷ later) none = grind (arith, nat_tests, none-start s now jobs later)
 
--- An idle pass changes nothing but the moment.
-pub idle-unchanged : NothingCharged → (s : State) (now : ℕ) → is_idle s now ≡ true → pass_after s now ≡ s
+-- an idle pass takes nobody out of Running
+idle-parts : (s : State) (now : ℕ) → is_idle s now ≡ true
+    → (count_by (is_over now) s.jobs ≡ 0) × (victims_in s now ≡ [])
+unfolding is_idle
+idle-parts s now idle =
+    let none : count_by (is_over now) s.jobs + length (victims_in s now) ≡ 0 =
+    eqb-true (jobs_ended s now) 0 (and_parts (eqb (jobs_ended s now) 0) _ idle).0 in
+    (omega (arith, none), nobody (victims_in s now) (omega (arith, none)))
+  where
+    nobody : (gone : List ℕ) → length gone ≡ 0 → gone ≡ []
+    nobody [] none = refl
+    nobody (id ∷ gone) none = absurd (omega (arith, none))
+
+-- where nobody ends, is dropped or starts, and the plan is the last one, all stays once the starts are made
+begun-unchanged : NothingCharged → (s : State) (now : ℕ) → is_idle s now ≡ true → begun_in s now ≡ s
 unfolding is_idle arrays_left
-idle-unchanged nothing s now idle =
+begun-unchanged nothing s now idle =
     let left = jobs_left s now in
     let none = none-start s now left (placements s now) in
     let arrays = filter-whole (λ (array : ArrayRecord). list_any (is_task_of array.id) left) s.arrays in
     let last = filter-whole (λ (one : Reservation). ltb now one.end) s.reservations in
+    let none_over : count_by (is_over now) s.jobs ≡ 0 = (idle-parts s now idle).0 in
     let same : ((outcome s now).jobs ≡ s.jobs) × ((outcome s now).stays ≡ s.plan)
     × (arrays_left left s.arrays ≡ s.arrays) × (lasting now s.reservations ≡ s.reservations) =
     grind (
@@ -159,14 +175,18 @@ idle-unchanged nothing s now idle =
       none,
       arrays,
       last,
-      ready-same now (goes s now) s.jobs,
+      ready-same now (goes s now) s.jobs none_over,
       (plans-same (outcome s now).stays s.plan).0,
     ) in
-    let none_over : count_by (is_over now) s.jobs ≡ 0 = grind (arith, nat_tests) in
     let usage : charged now s.jobs (map (timed_out now) s.jobs) s.usage ≡ s.usage =
     ap (λ jobs. charged now s.jobs jobs s.usage) (none-over now s.jobs none_over)
     ∙ sym (nothing now (record { records = s.jobs; usage = s.usage })).usage in
     rw (same.0, same.1, same.2, same.3, usage) refl
+
+-- An idle pass changes nothing but the moment.
+pub idle-unchanged : NothingCharged → (s : State) (now : ℕ) → is_idle s now ≡ true → pass_after s now ≡ s
+idle-unchanged nothing s now idle =
+    nobody-gone nothing s now (idle-parts s now idle).1 ∙ begun-unchanged nothing s now idle
 
 -- one for a job that waits, or that runs
 abbrev waits : JobRecord → ℕ
@@ -231,10 +251,12 @@ fewer s now jobs (placed ∷ later) each =
         (k, job, inside, is, rw (eq-eqb job.id placed.id here, pending) (omega arith))
 
 -- And only an idle pass does.
-pub unchanged-idle : OrderMoves JobRecord → PlanIds → (s : State) (now : ℕ) → pass_after s now ≡ s
+pub unchanged-idle : NothingCharged → OrderMoves JobRecord → PlanIds → (s : State) (now : ℕ) → pass_after s now ≡ s
     → is_idle s now ≡ true
 unfolding is_idle
-unchanged-idle moves ids s now same =
+unchanged-idle nothing moves ids s now passed =
+    let nobody : victims_in s now ≡ [] = nobody-went moves s now (ap (λ (after : State). after.jobs) passed) in
+    let same : begun_in s now ≡ s = sym (nobody-gone nothing s now nobody) ∙ passed in
     let plan = placements s now in
     let left = jobs_left s now in
     let jobs : (outcome s now).jobs ≡ s.jobs = ap (λ (after : State). after.jobs) same in
@@ -251,6 +273,7 @@ unchanged-idle moves ids s now same =
           let none_over : count_by (is_over now) s.jobs ≡ 0 = omega (arith, running, ap (sum_by runs) all) in
           rw (
             none_over,
+            nobody,
             eq-eqb (length left) (length s.jobs) (ap length all),
             eq-eqb (length (arrays_left left s.arrays)) (length s.arrays) (ap length arrays),
             eq-eqb (length (lasting now s.reservations)) (length s.reservations) (ap length last),
@@ -259,15 +282,16 @@ unchanged-idle moves ids s now same =
           ) refl
     ]
 
--- A job that runs after a pass ran before it just so, or a placement that begins now is of it.
-pub origins : (s : State) (now : ℕ)
-    → All (λ (job : JobRecord). is_running job.state ≡ true
-    → Contains s.jobs job ⊎ Any (λ (placed : Placed). (placed.id ≡ job.id)
-    × (placed.start ≡ now)) (placements s now)) (pass_after s now).jobs
-origins s now =
+-- where a job comes from that runs
+abbrev IsOrigin : State → ℕ → JobRecord → Type 0
+IsOrigin s now job = is_running job.state ≡ true
+    → Contains s.jobs job ⊎ Any (λ (placed : Placed). (placed.id ≡ job.id) × (placed.start ≡ now)) (placements s now)
+
+-- A job that runs after the starts ran before it just so, or a placement that begins now is of it.
+begun-origins : (s : State) (now : ℕ) → All (IsOrigin s now) (outcome s now).jobs
+begun-origins s now =
     let plan = placements s now in
-    let Origin : JobRecord → Type 0 = λ job. is_running job.state ≡ true
-    → Contains s.jobs job ⊎ Any (λ (placed : Placed). (placed.id ≡ job.id) × (placed.start ≡ now)) plan in
+    let Origin : JobRecord → Type 0 = IsOrigin s now in
     let ran = All-weaker (Contains s.jobs) (λ job. Origin (timed_out now job))
     (λ job is. by_limit Origin now job (λ over running runs. absurd (both_ways false refl runs))
     (λ within runs. inl is)) s.jobs (All-contains_itself s.jobs) in
@@ -286,27 +310,46 @@ origins s now =
     (All-filter (λ job. not (goes s now job)) Origin (map (timed_out now) s.jobs)
     (All-map Origin (timed_out now) s.jobs ran))
 
+-- So does one that runs after the pass: whoever goes runs no more.
+pub origins : (s : State) (now : ℕ)
+    → All (λ (job : JobRecord). is_running job.state ≡ true
+    → Contains s.jobs job ⊎ Any (λ (placed : Placed). (placed.id ≡ job.id)
+    × (placed.start ≡ now)) (placements s now)) (pass_after s now).jobs
+origins s now =
+    let gone = victims_in s now in
+    All-map (IsOrigin s now) (preempted now gone) (outcome s now).jobs
+    (All-weaker (IsOrigin s now) (λ job. IsOrigin s now (preempted now gone job))
+    (λ job has. by_victim (IsOrigin s now) now gone job
+    (λ goes runs. absurd (both_ways _ (left-stopped now job) runs)) (λ stays. has))
+    (outcome s now).jobs (begun-origins s now))
+
 -- The placements that are due in a pass can start one after another.
 pub can-start_due : ReadyLaws → PlanLaws → (s : State) (now : ℕ) → IsSound s → s.moment ≤ now → now ≤ last_moment
     → CanStart (readied s now) (placements_due s now)
 can-start_due readies plans s now sound raised in_time =
     can-due (readied s now) s (placements s now) (can-start_ready readies plans s now sound raised in_time)
 
--- A pass keeps all sound.
-pub sound-passed : ReadyLaws → PlanLaws → StartLaws → (s : State) (now : ℕ) → IsSound s → s.moment ≤ now
-    → now ≤ last_moment → IsSound (stamped now (pass_after s now))
-sound-passed readies plans starts s now sound raised in_time =
+-- The starts keep all sound.
+pub sound-begun : ReadyLaws → PlanLaws → StartLaws → (s : State) (now : ℕ) → IsSound s → s.moment ≤ now
+    → now ≤ last_moment → IsSound (stamped now (begun_in s now))
+sound-begun readies plans starts s now sound raised in_time =
     let left = readied s now in
     rw (← started-same s now now left.jobs left.jobs left.usage left.arrays left.reservations [] (placements s now))
     (sound-started starts left (jobs_left s now) (placements s now)
     (can-start_ready readies plans s now sound raised in_time))
 
+-- A pass keeps all sound.
+pub sound-passed : ReadyLaws → PlanLaws → StartLaws → GoneLaws → (s : State) (now : ℕ) → IsSound s → s.moment ≤ now
+    → now ≤ last_moment → IsSound (stamped now (pass_after s now))
+sound-passed readies plans starts going s now sound raised in_time =
+    sound-gone going s now in_time (sound-begun readies plans starts s now sound raised in_time)
+
 -- Each placement that is due is of a job that has started with all that was planned for it; or it stays, and was held
 -- back.
-pub given-passed : ReadyLaws → PlanLaws → StartLaws → (s : State) (now : ℕ) → IsSound s → s.moment ≤ now
+given-begun : ReadyLaws → PlanLaws → StartLaws → (s : State) (now : ℕ) → IsSound s → s.moment ≤ now
     → now ≤ last_moment → All (IsGiven s now (jobs_left s now) (outcome s now)) (placements s now)
 unfolding may_start
-given-passed readies plans starts s now sound raised in_time =
+given-begun readies plans starts s now sound raised in_time =
     let left = readied s now in
     let given : All (IsGiven s now left.jobs (started left now left.jobs (placements s now))) (placements s now) =
     λ k d below due. elim (all-given starts left left.jobs (placements s now)
@@ -316,3 +359,16 @@ given-passed readies plans starts s now sound raised in_time =
           inr (stands, record { before = held.before; some = held.some; waits = held.waits; reached = held.reached })
     ] in
     rw (← started-same s now now left.jobs left.jobs left.usage left.arrays left.reservations [] (placements s now)) given
+
+-- and stays so after the pass
+pub given-passed : ReadyLaws → PlanLaws → StartLaws → AwaitedThroughChanges → (s : State) (now : ℕ) → IsSound s
+    → s.moment ≤ now → now ≤ last_moment
+    → All (λ (placed : Placed). placed.start ≡ now → Any (HasStarted now placed) (pass_after s now).jobs
+    ⊎ (Contains (pass_after s now).plan placed
+    × WasHeldBack s now (jobs_left s now) (outcome s now).starts placed.id)) (placements s now)
+given-passed readies plans starts law s now sound raised in_time k d below due =
+    elim (given-begun readies plans starts s now sound raised in_time k d below due) [
+      | inl has ↦ inl (started-stays law plans.moves s now (get_or (placements s now) k d) sound
+          (plan-waits plans.moves plans.ids (ready s now) now k d below) has)
+      | inr held ↦ inr held
+    ]

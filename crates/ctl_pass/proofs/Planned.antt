@@ -93,14 +93,14 @@ pub record PlanLaws : Type 0 where
       → All IsPlannable ranked → StartsFit base (plan_of base ranked now) now
 
 -- Of what is counted, processors or megabytes, so much a part has of the node, and a hold holds at a moment.
-abbrev part_has : (ℕ → ℕ → ℕ) → ℕ → Part → ℕ
+abbrev pub part_has : (ℕ → ℕ → ℕ) → ℕ → Part → ℕ
 part_has counted node part = cond (is_on node part) (counted (length part.cpus) part.mem) 0
 
-abbrev hold_has : (ℕ → ℕ → ℕ) → ℕ → ℕ → Hold → ℕ
+abbrev pub hold_has : (ℕ → ℕ → ℕ) → ℕ → ℕ → Hold → ℕ
 hold_has counted node moment hold = cond (covers node moment hold) (counted hold.cpus hold.mem) 0
 
 -- what a job holds of its part, until a later moment
-abbrev hold_of : ℕ → JobRecord → Part → Hold
+abbrev pub hold_of : ℕ → JobRecord → Part → Hold
 hold_of now job part =
     record {
       node = part.node;
@@ -111,11 +111,11 @@ hold_of now job part =
           part.mem;
     }
 
-hold_end-later : (now : ℕ) (job : JobRecord) → now < hold_end now job
+pub hold_end-later : (now : ℕ) (job : JobRecord) → now < hold_end now job
 hold_end-later now job = grind (arith, nat_tests)
 
 -- at no moment more is held of a node than the parts have
-held-most : (counted : ℕ → ℕ → ℕ) (node moment now : ℕ) (jobs : List JobRecord)
+pub held-most : (counted : ℕ → ℕ → ℕ) (node moment now : ℕ) (jobs : List JobRecord)
     → sum_by (hold_has counted node moment) (flat_map (holds_of_job now) jobs) ≤ sum_by (part_has counted node)
     (parts_of jobs)
 held-most counted node moment now jobs =

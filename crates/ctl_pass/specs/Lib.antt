@@ -2,6 +2,9 @@ pub mod Limits
 pub mod Readiness
 pub mod Starting
 pub mod SamePlans
+pub mod Outcome
+pub mod Naming
+pub mod Preempting
 pub mod Passing
 pub mod Awaiting
 pub mod Live

@@ -1,8 +1,9 @@
--- A pass in a state in which no node falls silent: it ends what is over its limit, drops old records, plans the pending jobs, and starts those planned at once.
-use Rattle.std.specs.Prelude.{◌≡◌, ℕ, Bool, ◌&&◌, not, nat_eq, if◌then◌else◌, List, [], ◌∷◌, length, count_by, All, Option}
+-- A pass in a state in which no node falls silent: it ends what is over its limit, drops old records, plans the pending
+-- jobs, starts those planned at once, and takes from running jobs what the highest of the others needs.
+use Rattle.std.specs.Prelude.{◌≡◌, ℕ, ◌+◌, Bool, ◌&&◌, not, nat_eq, if◌then◌else◌, List, [], ◌∷◌, length, map, count_by, All, Option}
 use Rattle.reply_data.specs.declared.refusal.Refusal.{Refusal}
 use Rattle.reply_data.specs.declared.refusal.Refusal.TheVariants.{AccessDenied}
-use Rattle.backfill_planner.specs.declared.Placed.{Placed}
+use Rattle.ctl_state.specs.Events.{become}
 use Rattle.ctl_state.specs.State.{State}
 use Rattle.ctl_state.specs.Refusals.{refused_if, is_privileged}
 use Rattle.std.specs.List.{list_any}
@@ -17,26 +18,23 @@ use Rattle.ctl_pass.specs.Live.{has_array}
 use Rattle.ctl_pass.specs.Limits.{is_over}
 use Rattle.ctl_waiting.specs.Candidates.{ranked}
 use Rattle.ctl_pass.specs.Inputs.{input_of}
-use Rattle.ctl_pass.specs.Readiness.{arrays_left, jobs_left, ready, placements}
-use Rattle.ctl_pass.specs.Starting.{Started, due, started}
+use Rattle.ctl_pass.specs.Preempting.{preempted, victims_in}
+use Rattle.ctl_pass.specs.Readiness.{arrays_left, jobs_left, ready}
 use Rattle.ctl_pass.specs.SamePlans.{same_plans}
+pub use Rattle.ctl_pass.specs.Outcome.{begun_in, outcome, placements_due}
 
--- what comes of the plan
-abbrev pub outcome : State → ℕ → Started
-outcome s now = started s now (jobs_left s now) (placements s now)
-
--- the placements that start
-abbrev pub placements_due : State → ℕ → List Placed
-placements_due s now = due s now (jobs_left s now) (placements s now)
-
--- the state after a pass
+-- the state after a pass: the jobs that go for the highest candidate complete, and are charged to their associations
 abbrev pub pass_after : State → ℕ → State
-pass_after s now = record (ready s now) { jobs = (outcome s now).jobs; plan = (outcome s now).stays }
+pass_after s now = become now (map (preempted now (victims_in s now)) (outcome s now).jobs) (begun_in s now)
+
+-- how many jobs it takes out of Running: those past their limits, and those that go for another
+abbrev pub jobs_ended : State → ℕ → ℕ
+jobs_ended s now = count_by (is_over now) s.jobs + length (victims_in s now)
 
 -- nothing ends, is dropped or starts, and the plan is the last one
 unfoldable pub is_idle : State → ℕ → Bool
 is_idle s now =
-    nat_eq (count_by (is_over now) s.jobs) 0
+    nat_eq (jobs_ended s now) 0
     && (nat_eq (length (jobs_left s now)) (length s.jobs)
     && (nat_eq (length (arrays_left (jobs_left s now) s.arrays)) (length s.arrays)
     && (nat_eq (length (lasting now s.reservations)) (length s.reservations)
@@ -57,11 +55,12 @@ pub record HasArrays (jobs : List JobRecord) (arrays : LiveArrays) : Type 0 wher
 
 -- what was decided is what the pass makes, with its plan, and the starts are prepared
 pub record IsDecided (s : State) (now : ℕ) (decided : Decided) : Type 0 where
-  pub ended : decided.ended ≡ count_by (is_over now) s.jobs
+  pub ended : decided.ended ≡ jobs_ended s now
   pub starts : placements_of decided.starts.items ≡ placements_due s now
   pub prepared : All (IsPrepared s.nodes) decided.starts.items
   pub count : length decided.starts.items ≡ length (outcome s now).starts
   pub stays : decided.stays.items ≡ (outcome s now).stays
+  pub gone : decided.gone.items ≡ victims_in s now
   pub arrays : HasArrays (jobs_left s now) decided.arrays
   pub awaited : ShowsAwaited decided.awaited s.jobs
   pub planned : decided.planned ≡ input_of s now

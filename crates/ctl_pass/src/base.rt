@@ -30,8 +30,8 @@ fn count_of(cpus: &CpuIds) -> u32
     cpus.len() as u32
 }
 
-// Adds what the job holds.
-fn push_holds(now: u64, job: &JobRecord, holds: &mut Vec<Hold>) -> Result<(), Memory>
+/// Adds what the job holds.
+pub(crate) fn push_holds(now: u64, job: &JobRecord, holds: &mut Vec<Hold>) -> Result<(), Memory>
     requires started { unwrap_or job.now.started 0 ≤ last_moment }
     requires in_time { now ≤ last_moment }
     ensures { OnOk result (holds.new.items ≡ holds.old.items ++ Limits.holds_of_job now job.now) }

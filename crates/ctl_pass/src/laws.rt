@@ -1,8 +1,9 @@
 //! What holds of every pass. A law is the contract of a function that does nothing but call the laws
 //! that it rests on.
 
-ghost use Rattle.std.specs.Prelude.{◌≡◌, ◌⊎◌, ℕ, ◌≤◌, ◌<◌, [], All, Any, Contains, true, ◌+◌, fold, length, slice_index_or, take};
+ghost use Rattle.std.specs.Prelude.{◌≡◌, ◌⊎◌, ℕ, ◌≤◌, ◌<◌, [], All, Any, Contains, List, Some, true, false, ◌+◌, ◌*◌, fold, length, map, slice_index_or, take};
 ghost use Rattle.backfill_planner.specs.declared.Placed.{Placed};
+ghost use Rattle.backfill_planner.specs.declared.job.PlanJob.{PlanJob};
 ghost use Rattle.job_table.specs.declared.record.JobRecord.{JobRecord};
 ghost use Rattle.ctl_state.specs.State.{State, last_job_id, last_moment};
 ghost use Rattle.job_table.specs.JobStates.{is_running};
@@ -15,23 +16,30 @@ ghost use Rattle.ctl_pass.specs.Reserved.{PlansKeepToReservations};
 ghost use Rattle.ctl_pass.specs.Freedom.{StartsAreFree};
 ghost use Rattle.ctl_pass.specs.Taking.{CanStart, unplanned};
 ghost use Rattle.ctl_pass.specs.Inputs.{IsSteppedOver, input_of};
-ghost use Rattle.ctl_pass.specs.Passing.{outcome, pass_after, placements_due, is_idle};
+ghost use Rattle.preemption.specs.Going.{held_without, without};
+ghost use Rattle.resource_profile.specs.Profiles.{AreWithin};
+ghost use Rattle.ctl_state.specs.Planning.{room_of};
+ghost use Rattle.ctl_pass.specs.Limits.{holds_of_job};
+ghost use Rattle.ctl_pass.specs.Naming.{preempts_at_all};
+ghost use Rattle.ctl_pass.specs.Preempting.{gone_for, is_preemptable, makes_room, places_gone, preemptable, staying_holds, victims_in};
+ghost use Rattle.ctl_pass.specs.Passing.{begun_in, jobs_ended, outcome, pass_after, placements_due, is_idle};
 
 use backfill_planner::laws::{
     parts_are_apart, placements_are_first, placements_are_of_ranked_jobs,
     placements_keep_out_of_barred_times, starts_fit,
 };
 use ctl_state::laws::{
-    a_stable_sort_makes_the_order, charging_keeps_all_sound, every_change_but_a_start_lets_go,
-    jobs_are_kept, jobs_get_nodes_that_are_there, letting_go_keeps_all_sound, others_wait_on,
-    plans_keep_all_sound, reservations_keep_all_sound, taking_keeps_all_sound,
-    what_is_taken_is_counted,
+    a_stable_sort_makes_the_order, changing_keeps_all_sound, charging_keeps_all_sound,
+    every_change_but_a_start_lets_go, jobs_are_kept, jobs_get_nodes_that_are_there,
+    letting_go_keeps_all_sound, others_wait_on, parts_stay, plans_keep_all_sound,
+    reservations_keep_all_sound, taking_keeps_all_sound, what_is_taken_is_counted,
 };
 use ctl_waiting::laws::priorities_stay;
 use job_table::dependency_laws::passes_leave_standings;
 use job_table::laws::{jobs_run_on, who_is_awaited_stays, who_leaves_is_charged};
 use job_table::record::JobRecord;
 use node_state::reservation_laws::reservations_stay_apart;
+use preemption::laws::{nobody_goes_without_need as needed_of_any, victims_are_in_order};
 
 /// A pass keeps all sound.
 pub fn a_pass_keeps_all_sound()
@@ -54,6 +62,7 @@ pub fn a_pass_keeps_all_sound()
     what_is_taken_is_counted();
     others_wait_on();
     plans_keep_all_sound();
+    changing_keeps_all_sound();
 }
 
 /// A pass is idle exactly where it would change nothing but the moment.
@@ -197,12 +206,63 @@ pub(crate) fn what_is_due_can_start()
     starts_fit();
 }
 
+/// Where preemption is off nobody goes, and the pass leaves what its starts leave.
+pub fn without_preemption_nobody_goes()
+    ensures victims { (s : State) (now : ℕ) → preempts_at_all s.settings ≡ false → victims_in s now ≡ [] }
+    ensures pass { (s : State) (now : ℕ) → preempts_at_all s.settings ≡ false → pass_after s now ≡ begun_in s now }
+{
+    who_leaves_is_charged();
+}
+
+/// Whoever goes for a job might go for it: he ran before the pass and runs on, may be requeued, is of another quality of
+/// service that the job's names, and ranks below it. So each victim of a pass ran before it.
+pub fn victims_might_go()
+    ensures might { (s : State) (now : ℕ) (need : PlanJob) (high : JobRecord) → All (λ id.
+        Any (λ (job : JobRecord). (job.id ≡ id) × (is_preemptable s now high job ≡ true)) s.jobs)
+        (gone_for s now need high) }
+    ensures ran { (s : State) (now : ℕ) → All (λ id.
+        Any (λ (job : JobRecord). (job.id ≡ id) × (is_running job.state ≡ true)) s.jobs) (victims_in s now) }
+{
+    a_stable_sort_makes_the_order::<JobRecord>();
+}
+
+/// Once those go that go for a job, it fits; were any one of them given back, it wouldn't.
+pub fn nobody_goes_without_need()
+    ensures enough { (s : State) (now : ℕ) (need : PlanJob) (high : JobRecord) (places : List ℕ)
+        → places_gone s now need high ≡ Some places → makes_room s now need high places ≡ true }
+    ensures needed { (s : State) (now : ℕ) (need : PlanJob) (high : JobRecord) (places : List ℕ)
+        → places_gone s now need high ≡ Some places
+        → All (λ place. makes_room s now need high (without place places) ≡ false) places }
+{
+    needed_of_any();
+}
+
+/// What stays held while jobs may go for another is within the nodes, with all that those hold that might go.
+pub(crate) fn what_stays_held_fits()
+    ensures { (s : State) (now : ℕ) (high : JobRecord) → IsSound s → s.moment ≤ now → now ≤ last_moment
+        → AreWithin (map room_of s.nodes) (held_without (staying_holds s now high)
+        (map (holds_of_job now) (preemptable s now high)) []) }
+{
+    what_is_due_can_start();
+    parts_stay();
+    who_is_awaited_stays();
+    a_stable_sort_makes_the_order::<JobRecord>();
+}
+
 /// No more jobs start and stay than there are numbers.
 pub fn few_start_or_stay()
     ensures { (s : State) (now : ℕ) → IsSound s
         → length (outcome s now).starts + length (outcome s now).stays ≤ last_job_id + 1 }
 {
     a_stable_sort_makes_the_order::<JobRecord>();
+}
+
+/// No more jobs leave Running than twice as many as there are numbers: those past their limits, and victims.
+pub fn few_end()
+    ensures { (s : State) (now : ℕ) → IsSound s → jobs_ended s now ≤ 2 * (last_job_id + 1) }
+{
+    a_stable_sort_makes_the_order::<JobRecord>();
+    victims_are_in_order();
 }
 
 /// There are no more jobs than numbers.

@@ -1,4 +1,5 @@
-//! Passes: what is over its limit ends, old records go, the pending jobs are planned, and those planned at once start.
+//! Passes: what is over its limit ends, old records go, the pending jobs are planned, those planned at once start, and
+//! running jobs go for the highest of the others.
 #![tactic(auto)]
 
 mod base;
@@ -7,10 +8,13 @@ mod input;
 pub mod laws;
 mod limits;
 mod live_arrays;
+mod naming;
 mod pass;
+mod preemptable;
 mod same_plans;
 mod split;
 mod starts;
+mod victims;
 
 pub use input::{PlanInput, plan_input};
 pub use live_arrays::LiveArrays;

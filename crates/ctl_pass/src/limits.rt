@@ -6,6 +6,7 @@ ghost use Rattle.job_table.specs.Awaiting.{has_gone};
 ghost use Rattle.job_table.specs.Usage.{Charges};
 ghost use Rattle.job_table.specs.Walks.{map_at};
 ghost use Rattle.ctl_pass.specs.Limits;
+ghost use Rattle.ctl_pass.specs.Preempting.{preempted};
 
 use job_table::awaited::Awaited;
 use job_table::change::Change;
@@ -70,5 +71,22 @@ pub(crate) fn time_out(now: u64, jobs: &mut Jobs)
     who_leaves_is_charged();
     for place in 0..jobs.records().len() {
         time_one_out(now, jobs, place);
+    }
+}
+
+/// Takes the jobs with these numbers out of Running, to be requeued; their associations are charged. In constant time for
+/// each, beside its parts; it takes no memory.
+pub(crate) fn preempt(now: u64, jobs: &mut Jobs, gone: &[u32])
+    ensures records { jobs.new.records ≡ map (preempted now gone.now) jobs.old.records }
+    ensures charges { Charges now jobs.old jobs.new }
+{
+    who_leaves_is_charged();
+    for id in gone {
+        let change = Change::Leave {
+            to: Final::Requeue,
+            moment: now,
+            exit: None,
+        };
+        jobs.change(*id, change);
     }
 }

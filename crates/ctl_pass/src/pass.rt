@@ -1,6 +1,6 @@
 //! A pass: what it decides, and what it does.
 
-ghost use Rattle.std.specs.Prelude.{◌≡◌, ◌≤◌, ◌<◌, ◌&&◌, not, nat_eq, nat_lt, IfOk, IfSome, filter, length, option_copied};
+ghost use Rattle.std.specs.Prelude.{◌≡◌, ◌≤◌, ◌<◌, ◌&&◌, not, nat_eq, nat_lt, All, IfOk, IfSome, filter, length, option_copied};
 ghost use Rattle.std.specs.List.{list_all, list_any};
 ghost use Rattle.resource_profile.specs.Counts.{IsTickedUpTo};
 ghost use Rattle.ctl_state.specs.State.{state_of, last_moment};
@@ -17,15 +17,18 @@ ghost use Rattle.ctl_pass.specs.Readiness.{jobs_left, placements, ready};
 ghost use Rattle.ctl_pass.specs.SamePlans.{same_plans};
 ghost use Rattle.ctl_pass.specs.Inputs.{IsSteppedOver, input_of};
 ghost use Rattle.ctl_pass.specs.Passing;
+ghost use Rattle.ctl_pass.specs.Awaiting.{IsPrepared, placements_of};
+ghost use Rattle.ctl_pass.specs.Preempting.{victims_in};
 
 use crate::beginning::begin;
 use crate::input::{find_input, plan_over};
-use crate::laws::what_is_due_can_start;
-use crate::limits::{any_gone, count_over, time_out};
+use crate::laws::{few_end, what_is_due_can_start};
+use crate::limits::{any_gone, count_over, preempt, time_out};
 use crate::live_arrays::{LiveArrays, live_arrays};
 use crate::same_plans::are_same;
 use crate::split::split;
 use crate::starts::DueStart;
+use crate::victims::find_victims;
 use backfill_planner::{Placed, Planned};
 use ctl_state::cluster::Cluster;
 use ctl_state::counting::count_holding;
@@ -50,6 +53,8 @@ pub struct Decided {
     pub starts: Vec<DueStart>,
     /// The placements that begin later, or whose jobs reach a limit.
     pub stays: Vec<Placed>,
+    /// The numbers of the running jobs that go for the highest of the others.
+    pub gone: Vec<u32>,
     /// The arrays of which there are tasks afterwards.
     pub arrays: LiveArrays,
     /// The jobs for which pending ones wait: their records stay.
@@ -86,6 +91,7 @@ fn copy_all(alloc: Global, placements: &[Placed]) -> Result<Vec<Placed>, Memory>
 /// are sorted, and so are the users by what they have used and the candidates by rank, each once. What priorities rest on
 /// is found once. The jobs that hold processors are counted once, in one walk over all; each of them, each pending job
 /// and each placement that begins now costs its association's way up to root besides.
+/// Where preemption is on and a candidate doesn't start, it costs what `find_victims` says besides.
 /// It counts a step for each job that it searches for: at most one for each that it plans, and over an older plan none
 /// for those which stand as they stood in it.
 pub fn decide<L>(
@@ -112,6 +118,44 @@ pub fn decide<L>(
     decide_with(alloc, cluster, now, awaited, tally, plan, planned)
 }
 
+// What comes of the plan, and who goes.
+#[derive(Drop)]
+struct Choice {
+    starts: Vec<DueStart>,
+    stays: Vec<Placed>,
+    gone: Vec<u32>,
+}
+
+// What comes of this plan, and who goes.
+fn choose(
+    alloc: Global,
+    cluster: &Cluster,
+    now: u64,
+    mut tally: Tally,
+    plan: Vec<Placed>,
+    planned: &Planned,
+) -> Result<Choice, Memory>
+    requires sound { IsSound (state_of cluster.now) }
+    requires raised { cluster.now.moment ≤ now }
+    requires in_time { now ≤ last_moment }
+    requires counted { Shows cluster.now.assocs.records tally (holding cluster.now.jobs.records) }
+    requires plan { plan.items ≡ placements (state_of cluster.now) now }
+    requires planned { planned.now ≡ input_of (state_of cluster.now) now }
+    ensures starts { IfOk result (λ choice. placements_of choice.starts.items
+        ≡ Passing.placements_due (state_of cluster.now) now) }
+    ensures prepared { IfOk result (λ choice. All (IsPrepared cluster.now.nodes.records) choice.starts.items) }
+    ensures stays { IfOk result (λ choice. choice.stays.items ≡ (Passing.outcome (state_of cluster.now) now).stays) }
+    ensures gone { IfOk result (λ choice. choice.gone.items ≡ victims_in (state_of cluster.now) now) }
+{
+    let (starts, stays) = split(alloc, cluster, now, &mut tally, plan)?;
+    let gone = find_victims(alloc, cluster, now, &tally, planned, &starts)?;
+    Ok(Choice {
+        starts,
+        stays,
+        gone,
+    })
+}
+
 // What a pass with this plan does.
 fn decide_with(
     alloc: Global,
@@ -132,12 +176,18 @@ fn decide_with(
     ensures { IfOk result (Passing.IsDecided (state_of cluster.now) now) }
 {
     who_is_awaited_stays();
-    let (starts, stays) = split(alloc, cluster, now, tally, plan)?;
-    let age = cluster.settings.min_job_age.get();
-    Ok(Decided {
-        ended: count_over(now, cluster.jobs.records()) as u32,
+    few_end();
+    let Choice {
         starts,
         stays,
+        gone,
+    } = choose(alloc, cluster, now, tally, plan, &planned)?;
+    let age = cluster.settings.min_job_age.get();
+    Ok(Decided {
+        ended: (count_over(now, cluster.jobs.records()) + gone.len()) as u32,
+        starts,
+        stays,
+        gone,
         arrays: live_arrays(alloc, age, now, &awaited, cluster.jobs.records())?,
         awaited,
         planned,
@@ -224,6 +274,7 @@ pub fn act(cluster: &mut Cluster, now: u64, decided: Decided) -> Planned
     parts_stay();
     make_ready(cluster, now, &decided.arrays, &decided.awaited);
     begin(now, cluster, decided.starts);
+    preempt(now, &mut cluster.jobs, &decided.gone);
     cluster.plan = decided.stays;
     decided.planned
 }

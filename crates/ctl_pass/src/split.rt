@@ -36,9 +36,10 @@ fn any_begins(now: u64, placements: &[Placed]) -> bool
     placements.iter().any(|placed| placed.start == now)
 }
 
-// Whether the job with this number reaches no limit beside the jobs that are counted.
+/// Whether the job with this number reaches no limit beside the jobs that are counted. Linear in its association's way up
+/// to root.
 #[tactic(auto, unfolding(crate::specs::Starting::may_start))]
-fn may_start(cluster: &Cluster, tally: &Tally, id: u32) -> bool
+pub(crate) fn may_start(cluster: &Cluster, tally: &Tally, id: u32) -> bool
     ensures { (jobs : List JobRecord) → Shows cluster.now.assocs.records tally.now (holding jobs)
         → job_with id jobs ≡ job_with id cluster.now.jobs.records
         → result ≡ Starting.may_start (state_of cluster.now) jobs id }
@@ -76,6 +77,10 @@ fn settle(
     ensures stays { IfOk result (λ both. (jobs : List JobRecord)
         → CanBegin cluster.now.assocs.records cluster.now.jobs.records jobs tally.old placements.items
         → both.1.items ≡ (Starting.started (state_of cluster.now) now jobs placements.items).stays) }
+    ensures counted { OnOk result ((jobs : List JobRecord)
+        → CanBegin cluster.now.assocs.records cluster.now.jobs.records jobs tally.old placements.items
+        → Shows cluster.now.assocs.records tally.new
+        (holding (Starting.started (state_of cluster.now) now jobs placements.items).jobs)) }
 {
     what_is_taken_is_counted();
     sums_decide_what_is_shown();
@@ -92,31 +97,34 @@ fn settle(
     Ok((starts, stays))
 }
 
-/// The starts that come of the plan, and the placements that stay, where the jobs that hold processors are counted.
-/// Linear in the plan, and for each placement that begins now in its association's way up to root.
+/// The starts that come of the plan, and the placements that stay, where the jobs that hold processors are counted; those
+/// that start are counted then too. Linear in the plan, and for each placement that begins now in its association's way
+/// up to root.
 pub(crate) fn split(
     alloc: Global,
     cluster: &Cluster,
     now: u64,
-    mut tally: Tally,
+    tally: &mut Tally,
     placements: Vec<Placed>,
 ) -> Result<(Vec<DueStart>, Vec<Placed>), Memory>
     requires sound { IsSound (state_of cluster.now) }
     requires raised { cluster.now.moment ≤ now }
     requires in_time { now ≤ last_moment }
-    requires counted { Shows cluster.now.assocs.records tally (holding cluster.now.jobs.records) }
+    requires counted { Shows cluster.now.assocs.records tally.old (holding cluster.now.jobs.records) }
     requires plan { placements.items ≡ Readiness.placements (state_of cluster.now) now }
     ensures starts { IfOk result (λ both. placements_of both.0.items
         ≡ Passing.placements_due (state_of cluster.now) now) }
     ensures prepared { IfOk result (λ both. All (IsPrepared cluster.now.nodes.records) both.0.items) }
     ensures stays { IfOk result (λ both. both.1.items ≡ (Passing.outcome (state_of cluster.now) now).stays) }
+    ensures after { OnOk result (Shows cluster.now.assocs.records tally.new
+        (holding (Passing.outcome (state_of cluster.now) now).jobs)) }
 {
+    who_is_awaited_stays();
     if !any_begins(now, &placements) {
         return Ok((Vec::new(alloc), placements));
     }
     what_a_pass_plans_is_sound();
-    who_is_awaited_stays();
     a_stable_sort_makes_the_order::<JobRecord>();
     placements_are_of_ranked_jobs();
-    settle(alloc, cluster, now, &mut tally, placements)
+    settle(alloc, cluster, now, tally, placements)
 }

@@ -32,6 +32,7 @@ use Rattle.ctl_nodes.specs.Failing.{after_loss, lost_after}
 use Rattle.ctl_nodes.specs.Updating.{changes_any, lost_by, update_after}
 use Rattle.ctl_pass.specs.Limits.{timed_out}
 use Rattle.ctl_pass.specs.Passing.{outcome, pass_after}
+use Rattle.ctl_pass.specs.Preempting.{preempted, victims_in}
 use Rattle.ctl_pass.specs.Readiness.{goes as gone, jobs_left, placements, ready}
 use Rattle.ctl_node_side.specs.Answering.{is_restarted, node_of}
 use Rattle.ctl_node_side.specs.Reporting.{report_after, reported}
@@ -43,7 +44,7 @@ use Rattle.ctl_core.specs.Operating.{is_in_state, partition_after, partition_mad
 use Rattle.ctl_core.specs.Sizes.{has_room, size_of}
 use Rattle.ctl_core.specs.Step.{entered, is_closed, is_entered, made, raised, refusals_of, state_after, unless_full, verdict_of, worked}
 use Rattle.daemon_world.proofs.Requests.{Passes, pass_may, silenced_raised}
-use Rattle.daemon_world.proofs.Settling.{Settles, done_settles, loss_settles, over_settles, report_settles, settles_itself}
+use Rattle.daemon_world.proofs.Settling.{Settles, done_settles, gone_settles, loss_settles, over_settles, report_settles, settles_itself}
 use Rattle.daemon_world.proofs.Starting.{MayStart, starts_all}
 
 -- What jobs may have that no event takes from them: it stays where a start is settled, comes to a new job, and to one
@@ -140,12 +141,15 @@ pass-goes s t Q lasts now size next may all few =
       has = left k d below;
       few = λ waits. few_left k d below;
     } in
+    let begun : All Q (outcome t now).jobs =
+    All-weaker Both Q (λ job both. both.has) (outcome t now).jobs
+    (starts_all Both t now (λ job parts names waits both. record {
+      has = lasts.starts job now parts names waits (both.few waits) both.has;
+      few = λ never. absurd (both_ways false refl never);
+    }) (jobs_left t now) (placements t now) may begin) in
     record {
-      all = All-weaker Both Q (λ job both. both.has) (outcome t now).jobs
-          (starts_all Both t now (λ job parts names waits both. record {
-            has = lasts.starts job now parts names waits (both.few waits) both.has;
-            few = λ never. absurd (both_ways false refl never);
-          }) (jobs_left t now) (placements t now) may begin);
+      all = map-settles Q (preempted now (victims_in t now)) (outcome t now).jobs lasts.settles
+          (gone_settles now (victims_in t now)) begun;
       size = size;
       next = next;
     }

@@ -24,6 +24,7 @@ use Rattle.job_table.specs.declared.record.Part.{Part}
 use Rattle.job_table.specs.declared.change.Change.TheVariants.{Leave}
 use Rattle.job_table.specs.Changes.{changed}
 use Rattle.job_table.specs.JobStates.{is_ended, is_holding, is_pending, is_running}
+use Rattle.job_table.specs.Table.{has_id}
 use Rattle.ctl_state.specs.Holding.{has_members}
 use Rattle.ctl_state.specs.Refusals.{first_refusal, refused_if, unless_refused}
 use Rattle.ctl_state.specs.Soundness.{IsKept, IsSound, is_up_at}
@@ -38,6 +39,7 @@ use Rattle.ctl_nodes.specs.Failing.{after_loss}
 use Rattle.ctl_nodes.specs.Updating.{changes_any, is_among, lost_by, update_after}
 use Rattle.ctl_pass.specs.Limits.{is_over, timed_out}
 use Rattle.ctl_pass.specs.Passing.{outcome, pass_after}
+use Rattle.ctl_pass.specs.Preempting.{preempted, victims_in}
 use Rattle.ctl_pass.specs.Readiness.{goes as gone, jobs_left, placements, ready}
 use Rattle.ctl_node_side.specs.Passes.{after_pass, pass_is_idle}
 use Rattle.ctl_node_side.specs.Silence.{any_silent, falls_silent, silent_at, silenced, without_silent}
@@ -51,7 +53,7 @@ use Rattle.daemon_world.specs.Worlds.{IsNoReport}
 use Rattle.daemon_world.proofs.Altering.{keeps_down, keeps_drain, keeps_resume, keeps_silent, leaves_on, nodes_left}
 use Rattle.daemon_world.proofs.Holding.{IsAlike, again_alike, alike_holds, alike_on, cancel_alike, itself, leave_alike, loss_holds}
 use Rattle.daemon_world.proofs.LeftAlone.{left_same}
-use Rattle.daemon_world.proofs.Lists.{any_filter, any_left, any_map, any_none, any_weaker}
+use Rattle.daemon_world.proofs.Lists.{any_filter, any_left, any_map, any_none}
 use Rattle.daemon_world.proofs.Starting.{MayStart, Plans, plans_start, starts_any}
 
 -- the nodes stay, and what is held of them
@@ -175,6 +177,14 @@ holding-goes-on now place claim job on =
     })
     (λ not. on)
 
+-- whoever goes for another job holds on
+held-gone : (now place : ℕ) (claim : Claim) (gone : List ℕ) (job : JobRecord) → Holds place claim job
+    → Holds place claim (preempted now gone job)
+held-gone now place claim gone job holds =
+    cond_both (list_any (λ id. has_id id job) gone) (changed (Leave final.Requeue now None) job) job (Holds place claim)
+    (λ goes. alike_holds place claim job (changed (Leave final.Requeue now None) job)
+    (leave_alike final.Requeue now None job) holds) (λ stays. holds)
+
 not-ended : (state : JobState) → is_holding state ≡ true → is_ended state ≡ false
 not-ended Pending holds = refl
 not-ended Running holds = refl
@@ -204,8 +214,9 @@ pass-left : Plans → (s : State) (now : ℕ) (node : List ℕ) → IsSound s �
     → LeavesNode s (pass_after s now) node
 pass-left plans s now node sound may =
     left_held s (pass_after s now) node refl
-    (λ place claim held. any_weaker (HoldsOn place claim) (Holds place claim) (outcome s now).jobs
-    (λ job on. on.holds)
+    (λ place claim held. any_map (λ (job : JobRecord). Unit {0}) (HoldsOn place claim) (Holds place claim)
+    (preempted now (victims_in s now)) (outcome s now).jobs
+    (λ job any on. held-gone now place claim (victims_in s now) job on.holds) (λ k d below. tt)
     (starts_any (HoldsOn place claim) (λ job on. not-pending job.state on.state) s now (jobs_left s now)
     (placements s now) may (held-left s now place claim sound held)))
 

@@ -1,5 +1,6 @@
 -- What may happen to a job settles how its start ends, once.
 use Rattle.std.proofs.Common.{ℕ, ◌≡◌, ◌∙◌, Bool, true, false, List, [], ◌∷◌, Option, Some, None, IfSome, refl, sym, ap, subst, inl, inr}
+use Rattle.std.specs.List.{list_any}
 use Rattle.std.proofs.lemmas.Bool.{both_ways, cond_both}
 use Rattle.plain_data.specs.declared.limit.Limit.{Limit}
 use Rattle.plain_data.specs.declared.nice.Nice.{Nice}
@@ -14,11 +15,13 @@ use Rattle.job_table.specs.declared.record.Part.{Part}
 use Rattle.job_table.specs.declared.change.Change.TheVariants.{CancelPending, DropPart, Leave}
 use Rattle.job_table.specs.Changes.{changed, not_again, off_node, parts_off, with_left}
 use Rattle.job_table.specs.JobStates.{is_pending, is_running, left}
+use Rattle.job_table.specs.Table.{has_id}
 use Rattle.ctl_jobs.specs.declared.action.Action.{Action}
 use Rattle.ctl_jobs.specs.declared.action.Action.TheVariants as act
 use Rattle.ctl_jobs.specs.Actions.{cancelled_in, done_to, with_limit, with_nice}
 use Rattle.ctl_nodes.specs.Failing.{after_loss, failed, failing, loses, off_lost, parts_kept}
 use Rattle.ctl_pass.specs.Limits.{is_over, timed_out}
+use Rattle.ctl_pass.specs.Preempting.{preempted}
 use Rattle.ctl_node_side.specs.Reporting.{after_told, done_of, final_of as final_by, is_at, is_batch_host, is_listed, reported, script_over}
 use Rattle.daemon_world.specs.Finals.{IsSettled, StaysSettled, final_of}
 
@@ -163,6 +166,11 @@ pub over_settles : (now : ℕ) (job : JobRecord) → Settles job (timed_out now 
 over_settles now job =
     cond_both (is_over now job) (changed (Leave final.Timeout now None) job) job (Settles job)
     (λ over. leave_settles final.Timeout now None job) (λ not. settles_itself job)
+
+pub gone_settles : (now : ℕ) (gone : List ℕ) (job : JobRecord) → Settles job (preempted now gone job)
+gone_settles now gone job =
+    cond_both (list_any (λ id. has_id id job) gone) (changed (Leave final.Requeue now None) job) job (Settles job)
+    (λ goes. leave_settles final.Requeue now None job) (λ not. settles_itself job)
 
 -- ---- reports
 

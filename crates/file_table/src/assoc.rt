@@ -2,7 +2,7 @@
 //! than forty the last one stands for all.
 
 use crate::repeats::expand;
-use crate::shown::{show_limit, show_name, show_numbers};
+use crate::shown::{show_limit, show_name, show_names, show_numbers};
 use assoc_reader::read_assocs;
 use plain_data::assoc::{AssocConf, AssocFile, AssocLimits, QosConf, QosLimits};
 use plain_data::ranged::Ranged;
@@ -81,6 +81,10 @@ fn show_qos(rt: &impl Print, qos: &QosConf) -> io::Result<()> {
     show_qos_limits(rt, &qos.limits)?;
     if let Some(limit) = qos.limits.max_wall {
         show_limit(rt, " MaxWall=", limit)?;
+    }
+    let preempted = qos.preempt.as_slice();
+    if !preempted.is_empty() {
+        show_names(rt, " Preempt=", preempted)?;
     }
     println!(rt; "")
 }

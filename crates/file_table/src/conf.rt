@@ -1,6 +1,6 @@
 //! What a file slurm.conf(5) says: a line for the settings, and one for each node and each partition.
 
-use crate::shown::{show_limit, show_name, show_numbers};
+use crate::shown::{show_limit, show_name, show_names, show_numbers};
 use conf_reader::read_conf;
 use plain_data::conf::{Conf, NodeConf, NodeStart, PartConf, PartState, Settings};
 use plain_data::items::Items;
@@ -52,6 +52,9 @@ fn show_settings(rt: &impl Print, settings: &Settings) -> io::Result<()> {
             ("bf_interval", settings.bf_interval.get()),
         ],
     )?;
+    if settings.preempt {
+        print!(rt; " Preempt=true")?;
+    }
     show_mem(rt, &settings.mem_default)
 }
 
@@ -143,16 +146,6 @@ fn show_allowed(rt: &impl Print, key: &str, names: &Option<Items<Name>>) -> io::
         Some(names) => show_names(rt, key, names.as_slice()),
         None => print!(rt; "{key}ALL"),
     }
-}
-
-// Names, each with a comma behind it.
-fn show_names(rt: &impl Print, key: &str, names: &[Name]) -> io::Result<()> {
-    print!(rt; "{key}")?;
-    for name in names {
-        rt.write_all(name.as_bytes())?;
-        print!(rt; ",")?;
-    }
-    Ok(())
 }
 
 fn show_default_time(rt: &impl Print, limit: Option<Limit>) -> io::Result<()> {

@@ -18,6 +18,16 @@ pub(crate) fn show_name(rt: &impl Print, key: &str, name: &Name) -> io::Result<(
     rt.write_all(name.as_bytes())
 }
 
+/// Names behind their key, each with a comma behind it.
+pub(crate) fn show_names(rt: &impl Print, key: &str, names: &[Name]) -> io::Result<()> {
+    print!(rt; "{key}")?;
+    for name in names {
+        rt.write_all(name.as_bytes())?;
+        print!(rt; ",")?;
+    }
+    Ok(())
+}
+
 /// A limit of time behind its key.
 pub(crate) fn show_limit(rt: &impl Print, key: &str, limit: Limit) -> io::Result<()> {
     match limit {

@@ -1,5 +1,5 @@
 -- What contracts see of the association file, and what is true of every one.
-use Rattle.std.specs.Prelude.{◌≡◌, ◌≢◌, ℕ, zero, suc, ◌<◌, ◌≤◌, Bool, true, false, nat_eq, unwrap_or, List, [], ◌∷◌, length, map, count_by, slice_get, codes, AllPairs, Any, All, IfSome, Option, Some, None, option_map}
+use Rattle.std.specs.Prelude.{◌≡◌, ◌≢◌, ℕ, zero, suc, ◌<◌, ◌≤◌, Bool, true, false, nat_eq, unwrap_or, List, [], ◌∷◌, length, map, count_by, slice_get, codes, AllPairs, Any, All, Contains, IfSome, Option, Some, None, option_map}
 use Rattle.plain_data.specs.declared.assoc.AssocConf.{AssocConf}
 use Rattle.plain_data.specs.declared.assoc.QosConf.{QosConf}
 
@@ -41,6 +41,13 @@ pub record AreNamedApart (one other : AssocConf) : Type 0 where
   pub accounts : one.user ≡ false → other.user ≡ false → one.name ≢ other.name
   pub users : one.user ≡ true → other.user ≡ true → one.parent ≡ other.parent → one.name ≢ other.name
 
+abbrev pub qos_names : List QosConf → List (List ℕ)
+qos_names qos = map (λ (one : QosConf). one.name) qos
+
+-- the jobs that each may have requeued are of qualities of service among these
+abbrev pub PreemptAmong : List (List ℕ) → List QosConf → Type 0
+PreemptAmong names qos = All (λ (one : QosConf). All (Contains names) one.preempt) qos
+
 -- What is true of the associations and the qualities of service of a file.
 pub record IsAssocFile (assocs : List AssocConf) (qos : List QosConf) : Type 0 where
   pub under : (place : ℕ) → IfSome (slice_get assocs place) (StandsUnder assocs place)
@@ -53,3 +60,4 @@ pub record IsAssocFile (assocs : List AssocConf) (qos : List QosConf) : Type 0 w
   pub few_qos : length qos ≤ 64
   pub qos_once : AllPairs (λ (one other : QosConf). one.name ≢ other.name) qos
   pub has_normal : Any (λ (one : QosConf). one.name ≡ codes "normal") qos
+  pub preempts_known : PreemptAmong (qos_names qos) qos

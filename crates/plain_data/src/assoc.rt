@@ -61,6 +61,9 @@ pub struct QosConf {
     pub name: Name,
     pub priority: u32,
     pub limits: QosLimits,
+    /// `Preempt`: the qualities of service whose jobs may be requeued for those of this one, as the line names them; one
+    /// that names itself gains nothing by it.
+    pub preempt: Items<Name>,
 }
 
 /// What the association file says.

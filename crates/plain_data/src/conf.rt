@@ -37,6 +37,8 @@ pub struct Settings {
     pub bf_interval: Ranged<1, 10800>,
     /// `DefMemPerCPU` or `DefMemPerNode`; without one a job takes all memory of its nodes.
     pub mem_default: Option<MemAsk>,
+    /// Whether jobs may be requeued for others: `PreemptType=preempt/qos` and `PreemptMode=REQUEUE`.
+    pub preempt: bool,
 }
 
 /// How a node begins. `State` of a node in slurm.conf(5).

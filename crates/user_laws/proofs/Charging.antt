@@ -32,6 +32,8 @@ use Rattle.ctl_jobs.specs.Changing.{are_meant, are_naming, change_after, change_
 use Rattle.ctl_nodes.specs.Failing.{after_loss, lost_after}
 use Rattle.ctl_nodes.specs.Updating.{changes_any, lost_by, update_after}
 use Rattle.ctl_pass.specs.Limits.{is_over, timed_out}
+use Rattle.ctl_pass.specs.Passing.{begun_in}
+use Rattle.ctl_pass.specs.Preempting.{preempted, victims_in}
 use Rattle.ctl_pass.specs.Readiness.{goes, jobs_left, placements}
 use Rattle.ctl_pass.specs.Starting.{Started, begun, may_start, start_of, started}
 use Rattle.ctl_node_side.specs.Answering.{is_restarted, node_of}
@@ -128,6 +130,11 @@ over-goes now job =
     cond_both (is_over now job) (changed (Leave final.Timeout now None) job) job (GoesOn job)
     (λ over. leave_goes final.Timeout now None job) (λ not. goes_itself job)
 
+gone-goes : (now : ℕ) (gone : List ℕ) (job : JobRecord) → GoesOn job (preempted now gone job)
+gone-goes now gone job =
+    cond_both (list_any (λ id. has_id id job) gone) (changed (Leave final.Requeue now None) job) job (GoesOn job)
+    (λ goes. leave_goes final.Requeue now None job) (λ not. goes_itself job)
+
 gone-still : (s : State) (now : ℕ) (job : JobRecord) → not (goes s now job) ≡ false → is_running job.state ≡ false
 gone-still s now job out =
     let old = (and_parts (is_old s.settings.min_job_age now job) _ (not-false (goes s now job) out)).0 in
@@ -176,11 +183,15 @@ pass-used : Passes → (s : State) (now : ℕ) → IsSound s → s.moment ≤ no
 pass-used passes s now sound later in_time =
     let t = silenced s now in
     let over = become now (map (timed_out now) t.jobs) t in
+    let begun = begun_in t now in
+    let gone = victims_in t now in
     let may = pass_may passes s now sound later in_time in
     used-on now s t (after_pass s now) (silence-used s now)
     (used-on now t over (after_pass s now) (become-used now (timed_out now) t (over-goes now))
-    (same-used now over (after_pass s now) refl
-    (λ place. starts-used t now (jobs_left t now) (placements t now) place may ∙ left-used t now place)))
+    (used-on now over begun (after_pass s now)
+    (same-used now over begun refl
+    (λ place. starts-used t now (jobs_left t now) (placements t now) place may ∙ left-used t now place))
+    (become-used now (preempted now gone) begun (gone-goes now gone))))
 
 -- ---- every request
 

@@ -1,6 +1,7 @@
 -- After a pass no running job is past its limit.
 use Rattle.std.proofs.Common.{ℕ, ◌≡◌, ◌≤◌, ◌<◌, ◌+◌, ◌∙◌, Bool, true, false, ◌&&◌, not, List, [], ◌∷◌, map, count_by, cond, All, Some, None, refl, ap, subst, arith, inl, inr, nat_eq}
 use Rattle.std.specs.Prelude.{nat_le}
+use Rattle.std.specs.List.{list_any}
 use Rattle.std.proofs.lemmas.Bool.{and_cases, and_left, and_parts, both_ways, cases_Bool, cond_both, eqb-true, leb-false, lt-leb, not-true}
 use Rattle.std.proofs.lemmas.List.Elements.{All-cons, All-filter, All-nil, All-weaker}
 use Rattle.list_lemmas.proofs.Sums.{count-cons as count_cons}
@@ -26,7 +27,8 @@ use Rattle.ctl_state.specs.State.{State, last_moment}
 use Rattle.ctl_state.specs.Verdicts.{Makes, Stays}
 use Rattle.ctl_nodes.specs.Failing.{after_loss, failed, failing, loses, off_lost, parts_kept}
 use Rattle.ctl_pass.specs.Limits.{is_over, timed_out}
-use Rattle.ctl_pass.specs.Passing.{is_idle}
+use Rattle.ctl_pass.specs.Passing.{is_idle, jobs_ended, outcome}
+use Rattle.ctl_pass.specs.Preempting.{preempted, victims_in}
 use Rattle.ctl_pass.specs.Readiness.{goes, jobs_left, placements}
 use Rattle.ctl_pass.specs.Starting.{Started, begun, may_start, start_of, started}
 use Rattle.ctl_node_side.specs.Passes.{after_pass, made_by_pass, pass_is_idle}
@@ -79,19 +81,24 @@ silenced-limited s now all =
 
 -- ---- who is over leaves Running
 
+leave-within : (end : Final) (now : ℕ) (job : JobRecord) → Limited job → Within now (changed (Leave end now None) job)
+leave-within end now job is = record {
+  limited = leave-limited end now job is;
+  not_over = cond_both (is_running job.state) (record job { state = Completing end; ended = Some now; exit = None }) job
+      (λ (after : JobRecord). is_over now after ≡ false) (λ ran. refl) (λ not. and_left (is_running job.state) _ not);
+}
+
 over-within : (now : ℕ) (job : JobRecord) → Limited job → Within now (timed_out now job)
 over-within now job is =
     cond_both (is_over now job) (changed (Leave final.Timeout now None) job) job (Within now)
-    (λ over. record {
-      limited = leave-limited final.Timeout now job is;
-      not_over = cond_both (is_running job.state) (record job {
-        state = Completing final.Timeout;
-        ended = Some now;
-        exit = None;
-      }) job (λ (after : JobRecord). is_over now after ≡ false) (λ ran. refl)
-          (λ not. and_left (is_running job.state) _ not);
-    })
-    (λ not. record { limited = is; not_over = not })
+    (λ over. leave-within final.Timeout now job is) (λ not. record { limited = is; not_over = not })
+
+-- ---- and so does who goes for another
+
+gone-within : (now : ℕ) (gone : List ℕ) (job : JobRecord) → Within now job → Within now (preempted now gone job)
+gone-within now gone job is =
+    cond_both (list_any (λ id. has_id id job) gone) (changed (Leave final.Requeue now None) job) job (Within now)
+    (λ goes. leave-within final.Requeue now job is.limited) (λ stays. is)
 
 -- ---- who starts is within
 
@@ -124,9 +131,12 @@ pass-within : (s : State) (now : ℕ) → IsSound s → now ≤ last_moment → 
 pass-within s now sound in_time =
     let t = silenced s now in
     let limited = silenced-limited s now (All-weaker (IsKept s.moment) Limited (λ job kept. kept.limit) s.jobs sound.jobs) in
-    starts-within t now in_time (jobs_left t now) (placements t now)
+    let gone = victims_in t now in
+    all_mapped (Within now) (Within now) (preempted now gone) (outcome t now).jobs
+    (λ job is. gone-within now gone job is)
+    (starts-within t now in_time (jobs_left t now) (placements t now)
     (All-filter (λ job. not (goes t now job)) (Within now) (map (timed_out now) t.jobs)
-    (all_mapped Limited (Within now) (timed_out now) t.jobs (λ job is. over-within now job is) limited))
+    (all_mapped Limited (Within now) (timed_out now) t.jobs (λ job is. over-within now job is) limited)))
 
 -- ---- an idle pass finds none that is over
 
@@ -149,8 +159,8 @@ idle-within s now idle =
     let quiet = not-true (any_silent s now) parts.0 in
     let same : silenced s now ≡ s = rw quiet refl in
     let stays : is_idle s now ≡ true = subst (λ (t : State). is_idle t now ≡ true) same parts.1 in
-    none-passes (is_over now) s.jobs
-    (eqb-true (count_by (is_over now) s.jobs) 0 (and_parts (nat_eq (count_by (is_over now) s.jobs) 0) _ stays).0)
+    let none = eqb-true (jobs_ended s now) 0 (and_parts (nat_eq (jobs_ended s now) 0) _ stays).0 in
+    none-passes (is_over now) s.jobs (omega (arith, none))
 
 -- ---- both
 

@@ -28,6 +28,8 @@ use Rattle.ctl_jobs.specs.Changing.{are_meant, are_naming, change_after, change_
 use Rattle.ctl_nodes.specs.Failing.{after_loss, lost_after}
 use Rattle.ctl_nodes.specs.Updating.{changes_any, lost_by, update_after}
 use Rattle.ctl_pass.specs.Limits.{is_over, timed_out}
+use Rattle.ctl_pass.specs.Passing.{outcome}
+use Rattle.ctl_pass.specs.Preempting.{preempted, victims_in}
 use Rattle.ctl_pass.specs.Readiness.{goes, jobs_left, placements}
 use Rattle.ctl_pass.specs.Starting.{Started, begun, may_start, start_of, started}
 use Rattle.ctl_node_side.specs.Answering.{is_restarted, node_of}
@@ -224,16 +226,25 @@ found-id s now job =
     over ∙ cond_both (any_silent s now) (after_loss now (silent_at s now) job) job (SameId job)
     (λ is. (loss_goes now (silent_at s now) job).id) (λ not. refl)
 
+gone-id : (now : ℕ) (gone : List ℕ) (job : JobRecord) → (preempted now gone job).id ≡ job.id
+gone-id now gone job =
+    cond_both (list_any (λ id. has_id id job) gone) (changed (Leave final.Requeue now None) job) job (SameId job)
+    (λ is. (leave_goes final.Requeue now None job).id) (λ not. refl)
+
 pass-turns : (s : State) (now : ℕ) → Turns SameId (HasGone s now Pass) (λ job. ⊥) s.jobs (after_pass s now).jobs
 pass-turns s now =
     let t = silenced s now in
     let None_ = λ (job : JobRecord). ⊥ in
     let Found = λ (job after : JobRecord). after ≡ found_by_pass s now job in
-    turns_on SameId Found SameId (HasGone s now Pass) (HasGone s now Pass) None_ None_ s.jobs (jobs_left t now)
-    (after_pass s now).jobs
-    (λ x y z one two. two ∙ ap (λ (job : JobRecord). job.id) one ∙ found-id s now x) (λ x gone. gone)
+    let begun = (outcome t now).jobs in
+    let gone = victims_in t now in
+    turns_on SameId SameId SameId (HasGone s now Pass) (HasGone s now Pass) None_ None_ s.jobs begun
+    (after_pass s now).jobs (λ x y z one two. two ∙ one) (λ x out. out) (λ x y one never. absurd never)
+    (turns_on SameId Found SameId (HasGone s now Pass) (HasGone s now Pass) None_ None_ s.jobs (jobs_left t now) begun
+    (λ x y z one two. two ∙ ap (λ (job : JobRecord). job.id) one ∙ found-id s now x) (λ x out. out)
     (λ x y one never. absurd never) (left_turns s now)
-    (start-turns None_ None_ t now (jobs_left t now) (placements t now))
+    (start-turns None_ None_ t now (jobs_left t now) (placements t now)))
+    (turns_map SameId None_ None_ (preempted now gone) begun (gone-id now gone))
 
 -- ---- every request
 

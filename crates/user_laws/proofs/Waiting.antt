@@ -3,7 +3,7 @@ use Rattle.std.proofs.Common.{ℕ, ◌≡◌, ◌≤◌, ◌<◌, ◌∙◌, Boo
 use Rattle.std.specs.List.{list_all, list_any}
 use Rattle.std.proofs.lemmas.Bool.{and_parts, both_ways, cases_order, cond_both, eq-eqb}
 use Rattle.std.proofs.lemmas.List.{get_or_default}
-use Rattle.std.proofs.lemmas.List.Elements.{All-cons, All-contains, All-head, All-nil, All-tail, All-weaker}
+use Rattle.std.proofs.lemmas.List.Elements.{All-cons, All-contains, All-head, All-map, All-nil, All-tail, All-weaker}
 use Rattle.plain_data.specs.declared.dependency.DepKind.TheVariants.{AfterOk}
 use Rattle.plain_data.specs.declared.dependency.DepId.{DepId}
 use Rattle.plain_data.specs.declared.dependency.DepItem.{DepItem}
@@ -32,12 +32,14 @@ use Rattle.ctl_waiting.specs.Candidates.{is_candidate}
 use Rattle.ctl_waiting.specs.Reasons.{awaiting_reason, hindrance}
 use Rattle.ctl_nodes.specs.Failing.{after_loss}
 use Rattle.ctl_pass.specs.Limits.{is_over, timed_out}
+use Rattle.ctl_pass.specs.Passing.{outcome}
+use Rattle.ctl_pass.specs.Preempting.{preempted, victims_in}
 use Rattle.ctl_pass.specs.Readiness.{jobs_left, placements, ready}
 use Rattle.ctl_node_side.specs.Passes.{after_pass, pass_is_idle}
 use Rattle.ctl_node_side.specs.Silence.{any_silent, silent_at, silenced}
 use Rattle.ctl_core.specs.Step.{raised, state_after}
 use Rattle.user_laws.specs.Waiting.{AreCompleted, FoundOk, IsRunningThere, ItemsCompleted}
-use Rattle.user_laws.proofs.Lists.{any_of_all, none_is}
+use Rattle.user_laws.proofs.Lists.{any_of_all, any_weaker, none_is}
 use Rattle.user_laws.proofs.Old.{found_by_pass, pending_stays, silenced_job}
 use Rattle.user_laws.proofs.Starting.{IsStart, Passes, Waits, only_waits, pass_may, ready_rising, starts_was}
 use Rattle.user_laws.proofs.States.{not_both, not_ended}
@@ -225,7 +227,14 @@ all-wait s k d sound below waits =
 
 -- ---- starts leave what has completed
 
-named-same : (id : ℕ) (index : Option ℕ) (job after : JobRecord) → IsStart job after
+-- a job keeps what it is named by, and that it has completed
+record StaysOk (job after : JobRecord) : Type 0 where
+  pub id : after.id ≡ job.id
+  pub array : after.array ≡ job.array
+  pub index : after.index ≡ job.index
+  pub ended : job.state ≡ Ended final.Completed → after.state ≡ Ended final.Completed
+
+named-same : (id : ℕ) (index : Option ℕ) (job after : JobRecord) → StaysOk job after
     → is_named_by id index after ≡ is_named_by id index job
 named-same id None job after is = rw (is.id, is.array) refl
 named-same id (Some number) job after is = rw (is.array, is.index) refl
@@ -237,18 +246,47 @@ still-ended job after is ended = elim is.stays [
   | inr waits ↦ absurd (both_ways false refl (subst (λ state. is_pending state ≡ true) ended waits))
 ]
 
+start-ok : (job after : JobRecord) → IsStart job after → StaysOk job after
+start-ok job after is =
+    record { id = is.id; array = is.array; index = is.index; ended = still-ended job after is }
+
+-- so does one that goes for another: it ran
+gone-ok : (now : ℕ) (gone : List ℕ) (job : JobRecord) → StaysOk job (preempted now gone job)
+gone-ok now gone job =
+    cond_both (list_any (λ id. has_id id job) gone) (changed (Leave final.Requeue now None) job) job (StaysOk job)
+    (λ goes. cond_both (is_running job.state)
+    (record job { state = Completing final.Requeue; ended = Some now; exit = None }) job (StaysOk job)
+    (λ runs. record {
+      id = refl;
+      array = refl;
+      index = refl;
+      ended = λ ended. absurd (both_ways false refl (subst (λ state. is_running state ≡ true) ended runs));
+    })
+    (λ not. itself))
+    (λ stays. itself)
+  where
+    itself : StaysOk job job
+    itself = record { id = refl; array = refl; index = refl; ended = λ ended. ended }
+
+gone-was : (now : ℕ) (gone : List ℕ) (jobs : List JobRecord)
+    → All (λ (one : JobRecord). Any (λ (job : JobRecord). StaysOk job one) jobs) (map (preempted now gone) jobs)
+gone-was now gone jobs =
+    All-map (λ (one : JobRecord). Any (λ (job : JobRecord). StaysOk job one) jobs) (preempted now gone) jobs
+    (λ k d below. let job = get_or jobs k d in
+    (k, job, below, get_or_default jobs k job d below, gone-ok now gone job))
+
 completed-on : (jobs after : List JobRecord) (id : DepId)
-    → All (λ (one : JobRecord). Any (λ (job : JobRecord). IsStart job one) jobs) after → AreCompleted jobs id
+    → All (λ (one : JobRecord). Any (λ (job : JobRecord). StaysOk job one) jobs) after → AreCompleted jobs id
     → AreCompleted after id
 completed-on jobs after id was all =
     let Done = λ (job : JobRecord). is_named_by id.id id.index job ≡ true → job.state ≡ Ended final.Completed in
-    All-weaker (λ (one : JobRecord). Any (λ (job : JobRecord). IsStart job one) jobs) Done
-    (λ one any. any_of_all Done (λ (job : JobRecord). IsStart job one) (Done one) jobs
-    (λ job done is names. still-ended job one is (done (sym (named-same id.id id.index job one is) ∙ names))) all any)
+    All-weaker (λ (one : JobRecord). Any (λ (job : JobRecord). StaysOk job one) jobs) Done
+    (λ one any. any_of_all Done (λ (job : JobRecord). StaysOk job one) (Done one) jobs
+    (λ job done is names. is.ended (done (sym (named-same id.id id.index job one is) ∙ names))) all any)
     after was
 
 found-on : (jobs after : List JobRecord) (own : JobRecord)
-    → All (λ (one : JobRecord). Any (λ (job : JobRecord). IsStart job one) jobs) after → FoundOk jobs own
+    → All (λ (one : JobRecord). Any (λ (job : JobRecord). StaysOk job one) jobs) after → FoundOk jobs own
     → FoundOk after own
 found-on jobs after own was found = λ spec names all.
     All-weaker (λ (item : DepItem). item.kind ≡ AfterOk → All (AreCompleted jobs) item.ids)
@@ -295,8 +333,15 @@ pass-found passes planned s now sound later in_time = λ k d below waits first a
     let Candidate = λ (placed : Placed). Any (λ (one : JobRecord).
     (one.id ≡ placed.id) × (is_candidate (ready t now) now one ≡ true)) (jobs_left t now) in
     let all = all-wait s k d sound below waits in
-    found-on (jobs_left t now) (after_pass s now).jobs job
-    (starts_was t now (jobs_left t now) (placements t now) (pass_may passes s now sound later in_time))
+    let begun = (outcome t now).jobs in
+    let Started = λ (one : JobRecord). Any (λ (job : JobRecord). IsStart job one) (jobs_left t now) in
+    let Kept = λ (one : JobRecord). Any (λ (job : JobRecord). StaysOk job one) (jobs_left t now) in
+    found-on begun (after_pass s now).jobs job (gone-was now (victims_in t now) begun)
+    (found-on (jobs_left t now) begun job
+    (All-weaker Started Kept
+    (λ one any. any_weaker (λ (job : JobRecord). IsStart job one) (λ (job : JobRecord). StaysOk job one) (jobs_left t now)
+    (λ job is. start-ok job one is) any) begun
+    (starts_was t now (jobs_left t now) (placements t now) (pass_may passes s now sound later in_time)))
     (any_of_all Ran (IsRunningThere job) (FoundOk (jobs_left t now) job) (after_pass s now).jobs
     (λ after ran is. elim (ran is.runs) [
       | inl had ↦
@@ -308,7 +353,7 @@ pass-found passes planned s now sound later in_time = λ k d below waits first a
           (FoundOk (jobs_left t now) job) (placements t now)
           (λ one candidate this. planned-found passes s now k d sound later in_time below waits first one
           (this.0 ∙ is.id) candidate) (passes.plans.candidates t now) placed
-    ]) (planned s now) any)
+    ]) (planned s now) any))
 
 same-found : (s : State) → IsSound s → Found s s
 same-found s sound = λ k d below waits first any.

@@ -85,6 +85,7 @@ use Rattle.ctl_waiting.specs.Candidates.{candidates, needs_of, ranked}
 use Rattle.ctl_pass.specs.Readiness.{arrays_left, base_of, planned}
 use Rattle.ctl_pass.specs.Starting.{may_start, started}
 use Rattle.ctl_pass.specs.Passing.{is_idle}
+use Rattle.ctl_pass.specs.Preempting.{preemptor, victims_in}
 use Rattle.ctl_submit.specs.Submission.{is_placeable, new_jobs, basis_of, unended}
 use Rattle.ctl_jobs.specs.Actions.{job_refusal}
 use Rattle.ctl_jobs.specs.Changing.{target_refusal}
@@ -148,7 +149,7 @@ asked = tt
 unfoldable pub plans : Unit {0}
 unfolding numbers_from filled_sets sets fits chosen least_after capacities placement_at first_second placed_of
     plan_beside plan_of bounds_of ordered_by node_order plan_job times_held free_ids hindrance base_of candidates
-    needs_of ranked planned places_for barred_of standing is_awaited arrays_left holding limits_reached names_of may_start started is_idle is_placeable new_jobs
+    needs_of ranked planned places_for barred_of standing is_awaited arrays_left holding limits_reached names_of may_start started preemptor victims_in is_idle is_placeable new_jobs
     basis_of job_refusal target_refusal used_by used_when_left used_of charged used_running usage_at tree_of user_usage
     user_count rank_at greatest all_cpus greatest_factor greatest_qos parts_of is_above is_higher level_of path_of
     rank_among paths_of ranks_of

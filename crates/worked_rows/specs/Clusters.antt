@@ -33,6 +33,7 @@ usual_settings = record {
   bf_window = 1440;
   bf_interval = 30;
   mem_default = None;
+  preempt = false;
 }
 
 -- a partition of no nodes whose file gives nothing else
@@ -72,7 +73,7 @@ user_named name = record usual_account { parent = Some 0; name = name; user = tr
 unfoldable pub usual_assocs : AssocView
 usual_assocs = record {
   assocs = usual_account ∷ user_named (codes "alice") ∷ user_named (codes "bob") ∷ [];
-  qos = record { name = codes "normal"; priority = 0; limits = no_qos_limits } ∷ [];
+  qos = record { name = codes "normal"; priority = 0; limits = no_qos_limits; preempt = [] } ∷ [];
 }
 
 -- one node of four processors; a processor comes with 1,000 megabytes

@@ -1,6 +1,6 @@
 use Rattle.std.proofs.Common.{◌≡◌, drop}
 use Rattle.host_lists.specs.Hosts.{has}
-use Rattle.assoc_reader.specs.Qos.{qos_names}
+use Rattle.plain_data.specs.Assocs.{qos_names}
 use Rattle.assoc_reader.proofs.qos_table.has_qos.Given as goal
 
 abbrev pub invariant-loop-one : goal.invariant-loop-one

@@ -15,4 +15,5 @@ invariant_of-result c =
       few_qos = qos.0;
       qos_once = qos.1;
       has_normal = qos.2;
+      preempts_known = c.requires;
     })

@@ -45,7 +45,7 @@ finish-requires-clause-few g c =
       arith,
       few_failed c.there_are_few_jobs.ensures s c.args.moment c.count_failing-failed.result fails c.requires.sound
           (c.count_failing-failed.ensures ∙ ap (count_by fails) c.records.ensures.value),
-      few_ended c.there_are_few_jobs.ensures (state_of c.fall_silent.new.cluster) c.args.moment c.in-Ok.decided.ended
+      few_ended c.few_end.ensures (state_of c.fall_silent.new.cluster) c.args.moment c.in-Ok.decided.ended
           (finish-requires-clause-sound g c) c.in-Ok.ensures.decided.ended,
     )
 

@@ -5,5 +5,6 @@ pub returns : goal.returns
 returns c = record {
   idle = idle-unchanged c.who_leaves_is_charged.ensures.nothing;
   only =
-      unchanged-idle c.a_stable_sort_makes_the_order.ensures.moves c.placements_are_of_ranked_jobs.ensures.ids;
+      unchanged-idle c.who_leaves_is_charged.ensures.nothing c.a_stable_sort_makes_the_order.ensures.moves
+      c.placements_are_of_ranked_jobs.ensures.ids;
 }

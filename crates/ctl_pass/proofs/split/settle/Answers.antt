@@ -8,6 +8,7 @@ use Rattle.ctl_state.specs.State.{state_of}
 use Rattle.ctl_pass.specs.Awaiting.{IsPrepared, placements_of}
 use Rattle.ctl_pass.specs.Starting.{due, may_start, started}
 use Rattle.ctl_pass.specs.declared.starts.DueStart.{DueStart}
+use Rattle.ctl_pass.proofs.Due.{due-jobs}
 use Rattle.ctl_pass.proofs.Lists.{next}
 use Rattle.ctl_pass.proofs.Splits.{begun_all, first-begun, first-passed, may-as-said}
 use Rattle.ctl_pass.proofs.split.settle.Goals as goal
@@ -102,3 +103,20 @@ returns-clause-stays c = λ jobs can.
     c.next.result c.next.new.self c.in-None.is c.next.ensures.steps in
     let none = drop_all (length c.loop-placed.yielded) all (omega (arith, end.1)) in
     sym (append-nil c.loop-placed.stays.items) ∙ (rw none at (c.loop-placed.invariant.first jobs can)).all_stays
+
+pub returns-clause-counted : goal.returns-clause-counted
+unfolding due
+returns-clause-counted c = λ jobs can.
+    let s = state_of c.args.cluster.now in
+    let now = c.args.now in
+    let all = c.args.placements.items in
+    let starts = placements_of c.loop-placed.starts.items in
+    let first = c.into_iter-placed-iterator.result in
+    let gives = c.into_iter-placed-iterator.ensures.into_iter_gives in
+    let chain = YieldsList-from_vec {s = first} all gives.0 (omega (arith, gives.1, c.args.placements.ok.0)) in
+    let end = YieldsList-end chain c.loop-placed.yielded c.loop-placed.placed-iterator c.loop-placed.yielded_by
+    c.next.result c.next.new.self c.in-None.is c.next.ensures.steps in
+    let none = drop_all (length c.loop-placed.yielded) all (omega (arith, end.1)) in
+    let so_far = rw none at (c.loop-placed.invariant.first jobs can) in
+    let are : starts ≡ due s now jobs all = sym (append-nil starts) ∙ so_far.all_starts in
+    rw (due-jobs s now jobs all, ← are) so_far.can.counted

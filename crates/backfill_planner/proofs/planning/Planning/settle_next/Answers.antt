@@ -56,7 +56,7 @@ invariant_of-result c =
     let there : c.args.placed ≡ placement_of inside.base ranked inside.moment inside.done job = rw (← job_is) at (own job) in
     let counts_are : c.push-2.new.self.items ≡ inside.counts.items ++ length c.match-placed-2.placements.items ∷ [] = search rules in
     let horizon_is : c.base.inside.horizon ≡ inside.base.horizon = ap (λ (b : BaseView). b.horizon) c.base.view_is in
-    let bound_is : c.bound_of.result ≡ bound_of c.args.placed inside.base.horizon = c.bound_of.ensures ∙ ap (λ horizon. bound_of c.args.placed horizon) horizon_is in
+    let bound_is : c.bound_of-bound.result ≡ bound_of c.args.placed inside.base.horizon = c.bound_of-bound.ensures ∙ ap (λ horizon. bound_of c.args.placed horizon) horizon_is in
     let seen : IsSeen inside.base.rooms inside.profile.holds ranked inside.moment (record { place = inside.done; bound = bound_of c.args.placed inside.base.horizon }) → All (IsSeen inside.base.rooms inside.profile.holds ranked inside.moment) c.add.new.self.seen.items = λ one.
     c.add.ensures inside.base.rooms inside.profile.holds ranked inside.moment c.self.invariant.seen (rw bound_is one) in
     elim c.match-placed-2.branch [

@@ -1,0 +1,11 @@
+pub mod Changes
+pub mod Counts
+pub mod Fates
+pub mod Hours
+pub mod Laws
+pub mod Named
+pub mod Numbers
+pub mod Outcomes
+pub mod Spans
+pub mod Summaries
+pub mod Sums

@@ -1,0 +1,15 @@
+//! The texts of what a replay comes to: a line for each job with commas between its fields, a summary for people, and two
+//! replays side by side.
+#![tactic(auto)]
+
+mod cells;
+mod comparison;
+mod csv;
+mod fates;
+mod groups;
+mod summary;
+mod values;
+
+pub use comparison::{Worked, push_comparison};
+pub use csv::push_csv;
+pub use summary::push_summary;
