@@ -17,8 +17,5 @@ pub(crate) fn preempts_at_all(settings: &Settings) -> bool
 pub(crate) fn names(one: &QosRecord, other: &QosRecord) -> bool
     ensures { result ≡ Naming.names one.now other.now }
 {
-    one.conf
-        .preempt
-        .iter()
-        .any(|name| other.conf.name.is(name))
+    one.conf.preempt.iter().any(|name| other.conf.name.is(name))
 }
