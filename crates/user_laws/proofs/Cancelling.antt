@@ -1,5 +1,6 @@
 -- Only a cancel cancels.
 use Rattle.std.proofs.Common.{ℕ, ◌≡◌, ◌≢◌, ◌∙◌, Bool, true, false, ◌&&◌, List, [], ◌∷◌, All, Any, Option, Some, None, refl, sym, ap, subst, inl, inr, ◌⊎◌, nat_eq}
+use Rattle.std.specs.List.{list_any}
 use Rattle.std.proofs.lemmas.Bool.{both_ways, cond_both}
 use Rattle.std.proofs.lemmas.List.Elements.{All-weaker}
 use Rattle.backfill_planner.specs.declared.Placed.{Placed}
@@ -27,6 +28,8 @@ use Rattle.ctl_jobs.specs.Changing.{are_meant, are_naming, may_do}
 use Rattle.ctl_nodes.specs.Failing.{after_loss, failed, failing, loses, off_lost, parts_kept}
 use Rattle.ctl_nodes.specs.Updating.{lost_by}
 use Rattle.ctl_pass.specs.Limits.{is_over, timed_out}
+use Rattle.ctl_pass.specs.Outcome.{outcome}
+use Rattle.ctl_pass.specs.Preempting.{preempted, victims_in}
 use Rattle.ctl_pass.specs.Readiness.{jobs_left, placements}
 use Rattle.ctl_pass.specs.Starting.{Started, begun, may_start, start_of, started}
 use Rattle.ctl_node_side.specs.Answering.{is_restarted, node_of}
@@ -275,6 +278,18 @@ left-was s now user =
       | inr never ↦ absurd never
     ]) (jobs_left (silenced s now) now) (left_turns s now).was
 
+-- whoever goes for another is to be requeued
+gone-was : (s : State) (user : List ℕ) (now : ℕ) (gone : List ℕ) (job : JobRecord) → Was s user Pass job
+    → Was s user Pass (preempted now gone job)
+gone-was s user now gone job was =
+    let P = Was s user Pass in
+    cond_both (list_any (λ id. has_id id job) gone) (changed (Leave final.Requeue now None) job) job P
+    (λ goes. cond_both (is_running job.state)
+    (record job { state = Completing final.Requeue; ended = Some now; exit = None }) job P
+    (λ runs never. absurd (both_ways false refl never))
+    (λ rests. was))
+    (λ stays. was)
+
 pass-was : (s : State) (now : ℕ) (user : List ℕ) → All (Was s user Pass) (state_after s now user Pass).jobs
 pass-was s now user =
     let moment = raised s now in
@@ -283,7 +298,9 @@ pass-was s now user =
     step_is (λ (after : State). All P after.jobs) s now user Pass (itself-was s user Pass s.jobs)
     (λ reply after is. made_by (λ (reply : Reply) (after : State). All P after.jobs)
     (cond_both (pass_is_idle s moment) Stays _ (MakesBy (λ (reply : Reply) (after : State). All P after.jobs)) (λ idle. tt)
-    (λ busy. starts-was s t moment user (jobs_left t moment) (placements t moment) (left-was s moment user))) is.makes)
+    (λ busy. all_mapped P P (preempted moment (victims_in t moment)) (outcome t moment).jobs
+    (λ job was. gone-was s user moment (victims_in t moment) job was)
+    (starts-was s t moment user (jobs_left t moment) (placements t moment) (left-was s moment user)))) is.makes)
 
 -- ---- both
 

@@ -1,13 +1,17 @@
 -- What a pass starts and what stays planned are its plan.
-use Rattle.std.proofs.Common.{suc, ℕ, ◌≡◌, ◌≢◌, ◌≤◌, true, false, ◌&&◌, not, List, [], ◌∷◌, filter, All, Any, Contains, Option, Some, None, get_or, is_some, refl, sym, ap, subst, arith, inl, inr, nat_eq}
-use Rattle.std.proofs.lemmas.Bool.{and_from, and_parts, both_ways, cases_Bool, cond_both, eqb-true, false_from_ne_true}
+use Rattle.std.proofs.Common.{suc, ℕ, ◌≡◌, ◌≢◌, ◌≤◌, true, false, ◌&&◌, not, List, [], ◌∷◌, filter, All, Any, Contains, Option, Some, None, get_or, is_some, map, refl, sym, ap, subst, arith, inl, inr, ◌∙◌, nat_eq, Bool}
+use Rattle.std.proofs.lemmas.Bool.{and_from, and_parts, both_ways, cases_Bool, cond_both, eq-eqb, eqb-true, false_from_ne_true}
+use Rattle.std.specs.List.{list_any}
 use Rattle.std.proofs.lemmas.List.Elements.{All-contains, All-cons, All-head, All-nil, All-tail}
 use Rattle.std.proofs.lemmas.List.Folds.{Any-from_list_any, list_any-from_Any}
 use Rattle.backfill_planner.specs.declared.Placed.{Placed}
 use Rattle.reply_data.specs.declared.reply.Reply.{Reply}
 use Rattle.request_data.specs.declared.request.Request.TheVariants.{Pass}
+use Rattle.request_data.specs.declared.state.Final.TheVariants.{Requeue}
+use Rattle.request_data.specs.declared.state.JobState.{JobState}
+use Rattle.request_data.specs.declared.state.JobState.TheVariants.{Completing}
 use Rattle.job_table.specs.declared.record.JobRecord.{JobRecord}
-use Rattle.job_table.specs.declared.change.Change.TheVariants.{Start}
+use Rattle.job_table.specs.declared.change.Change.TheVariants.{Leave, Start}
 use Rattle.job_table.specs.Changes.{changed}
 use Rattle.job_table.specs.JobStates.{is_pending, is_running}
 use Rattle.job_table.specs.Table.{has_id, job_with}
@@ -15,8 +19,10 @@ use Rattle.ctl_state.specs.Events.{started_as}
 use Rattle.ctl_state.specs.Soundness.{IsSound, pending_ids}
 use Rattle.ctl_state.specs.State.{State, last_moment}
 use Rattle.ctl_state.specs.Verdicts.{Stays, stamped}
+use Rattle.ctl_pass.specs.Outcome.{outcome}
+use Rattle.ctl_pass.specs.Preempting.{preempted, victims_in}
 use Rattle.ctl_pass.specs.Readiness.{jobs_left, placements}
-use Rattle.ctl_pass.specs.Starting.{JobStart, Started, begun, is_free, may_start, start_of, started}
+use Rattle.ctl_pass.specs.Starting.{JobStart, Started, begun, is_free, may_start, start_of, started, HasStarted}
 use Rattle.ctl_node_side.specs.Passes.{after_pass, pass_is_idle}
 use Rattle.ctl_node_side.specs.Silence.{silenced}
 use Rattle.ctl_core.specs.Step.{is_made, raised, reply_of, state_after}
@@ -24,7 +30,7 @@ use Rattle.user_laws.specs.Planning.{plan_at}
 use Rattle.user_laws.specs.Whole.{IsParted, runs}
 use Rattle.user_laws.proofs.Begun.{WholePasses, stays_waits}
 use Rattle.user_laws.proofs.InTime.{idle_stays, unentered}
-use Rattle.user_laws.proofs.Lists.{any_here, any_mapped, any_of_all, any_there, any_weaker}
+use Rattle.user_laws.proofs.Lists.{any_here, any_mapped, any_of_all, any_passes, any_there, any_unmapped, any_weaker}
 use Rattle.user_laws.proofs.Starting.{MayStart, Waits, may_start_later, may_start_on, pass_may, waits_on}
 use Rattle.user_laws.proofs.States.{not_both}
 use Rattle.user_laws.proofs.Steps.{MakesBy, made_by, step_says}
@@ -167,6 +173,81 @@ all-parted s now jobs (placed ∷ later) may =
     (λ k d below same. may.apart 0 (suc k) d (omega arith) (omega (arith, below)) (sym same))))
     (all-parted s now jobs later (may_start_later jobs placed later may)))
 
+-- ---- who goes for another
+
+-- whoever runs once some have gone for another ran before
+ran-before : (now : ℕ) (gone : List ℕ) (id : ℕ) (job : JobRecord) → RunsThere id (preempted now gone job)
+    → RunsThere id job
+ran-before now gone id job =
+    let P = λ (one : JobRecord). RunsThere id one → RunsThere id job in
+    cond_both (list_any (λ id. has_id id job) gone) (changed (Leave Requeue now None) job) job P
+    (λ goes. cond_both (is_running job.state)
+    (record job { state = Completing Requeue; ended = Some now; exit = None }) job P
+    (λ runs is. absurd (both_ways false refl (and_parts (has_id id job) false is).1))
+    (λ rests is. is))
+    (λ stays is. is)
+
+runs-before : (now : ℕ) (gone : List ℕ) (id : ℕ) (jobs : List JobRecord)
+    → runs (map (preempted now gone) jobs) id ≡ true → runs jobs id ≡ true
+runs-before now gone id jobs is =
+    let test = λ (job : JobRecord). has_id id job && is_running job.state in
+    let goes = preempted now gone in
+    list_any-from_Any test jobs
+    (any_weaker (λ (job : JobRecord). RunsThere id (goes job)) (RunsThere id) jobs
+    (λ job one. ran-before now gone id job one)
+    (any_unmapped (RunsThere id) goes jobs (Any-from_list_any test (map goes jobs) is)))
+
+runs-started : (now : ℕ) (placed : Placed) (jobs : List JobRecord) → Any (HasStarted now placed) jobs
+    → runs jobs placed.id ≡ true
+runs-started now placed jobs any =
+    let test = λ (job : JobRecord). has_id placed.id job && is_running job.state in
+    list_any-from_Any test jobs
+    (any_weaker (HasStarted now placed) (RunsThere placed.id) jobs
+    (λ job started. and_from (has_id placed.id job) (is_running job.state) (eq-eqb job.id placed.id started.id)
+    (subst (λ (state : JobState). is_running state ≡ true) (sym started.state) refl)) any)
+
+-- who stays of a list passes the test
+stays-passed : (test : Placed → Bool) (plan : List Placed) (placed : Placed) → Contains (filter test plan) placed
+    → test placed ≡ true
+stays-passed test plan placed has =
+    any_of_all (λ (one : Placed). Unit {0}) (λ (one : Placed). (one ≡ placed) × (test one ≡ true)) (test placed ≡ true)
+    plan (λ one any is. subst (λ (one : Placed). test one ≡ true) is.0 is.1) (λ k d below. tt)
+    (any_passes (λ (one : Placed). one ≡ placed) test plan (has.0, placed, has.1, has.2, refl))
+
+same-filter : (p q : Placed → Bool) (xs : List Placed) → All (λ (x : Placed). q x ≡ p x) xs
+    → filter p xs ≡ filter q xs
+same-filter p q [] same = refl
+same-filter p q (x ∷ xs) same =
+    let later = same-filter p q xs (All-tail (λ (y : Placed). q y ≡ p y) x xs same) in
+    rw (All-head (λ (y : Placed). q y ≡ p y) x xs same) (elim (cases_Bool (p x)) [
+      | inl is ↦ rw is (ap (λ (rest : List Placed). x ∷ rest) later)
+      | inr not ↦ rw not later
+    ])
+
+-- of whoever is placed it runs after the pass exactly where it runs once the starts are made: who goes ran before
+run-as-started : WholePasses → (s : State) (now : ℕ) → IsSound s → s.moment ≤ now → now ≤ last_moment
+    → All (λ (placed : Placed). runs (after_pass s now).jobs placed.id
+    ≡ runs (outcome (silenced s now) now).jobs placed.id) (placements (silenced s now) now)
+run-as-started laws s now sound later in_time =
+    let t = silenced s now in
+    let parts = all-parted t now (jobs_left t now) (placements t now) (pass_may laws.passes s now sound later in_time) in
+    λ k d below.
+    let placed = get_or (placements t now) k d in
+    elim (cases_Bool (runs (outcome t now).jobs placed.id)) [
+      | inl is ↦ elim (laws.all s now sound later in_time k d below (parts.begin k d below is)) [
+            | inl started ↦ runs-started now placed (after_pass s now).jobs started ∙ sym is
+            | inr stays ↦
+                let kept = stays-passed (λ (placed : Placed). not (runs (outcome t now).jobs placed.id))
+                (placements t now) placed
+                (subst (λ (plan : List Placed). Contains plan placed) parts.rest stays.0) in
+                absurd (both_ways false refl (rw is at kept))
+          ]
+      | inr not ↦
+          false_from_ne_true (runs (after_pass s now).jobs placed.id)
+          (λ one. both_ways (runs (outcome t now).jobs placed.id) not
+          (runs-before now (victims_in t now) placed.id (outcome t now).jobs one)) ∙ sym not
+    ]
+
 pass-parted : WholePasses → (s : State) (now : ℕ) → IsSound s → s.moment ≤ now → now ≤ last_moment
     → IsParted (plan_at s now) now (after_pass s now).jobs (after_pass s now).plan
 pass-parted laws s now sound later in_time =
@@ -177,7 +258,8 @@ pass-parted laws s now sound later in_time =
     record {
       started = λ k d below is.
           let placed = get_or (placements t now) k d in
-          let due = parts.begin k d below is in (
+          let due = parts.begin k d below
+          (runs-before now (victims_in t now) placed.id (outcome t now).jobs is) in (
             due,
             elim (laws.all s now sound later in_time k d below due) [
               | inl started ↦ started
@@ -189,7 +271,10 @@ pass-parted laws s now sound later in_time =
                   (stays_waits (stamped now (after_pass s now)) placed.id behind pending)) is)
             ],
           );
-      rest = parts.rest;
+      rest = parts.rest
+      ∙ same-filter (λ (placed : Placed). not (runs (outcome t now).jobs placed.id))
+      (λ (placed : Placed). not (runs jobs placed.id)) (placements t now)
+      (λ k d below. ap not (run-as-started laws s now sound later in_time k d below));
     }
 
 -- an idle pass changes nothing
