@@ -21,6 +21,7 @@ use Rattle.ctl_node_side.specs.Passes.{after_pass, ended_by_pass, made_by_pass, 
 use Rattle.ctl_node_side.specs.Silence.{any_silent, failing_count, silenced, silent_at, without_silent}
 use Rattle.ctl_pass.specs.Limits.{is_over, timed_out}
 use Rattle.ctl_pass.specs.Passing.{outcome}
+use Rattle.ctl_pass.specs.Preempting.{preempted, victims_in}
 use Rattle.ctl_pass.specs.Readiness.{goes, jobs_left, placements}
 use Rattle.ctl_pass.specs.Starting.{Started, begun, may_start, start_of, started}
 use Rattle.ctl_state.specs.Refusals.{first_refusal, unless_refused}
@@ -149,12 +150,21 @@ silenced-same s now place none =
 
 -- ---- whole passes
 
+-- where nobody goes for another the jobs are as they were
+none-gone : (now : ℕ) (gone : List ℕ) (jobs : List JobRecord) → length gone ≡ 0
+    → map (preempted now gone) jobs ≡ jobs
+none-gone now [] [] none = refl
+none-gone now [] (job ∷ jobs) none = ap (λ (rest : List JobRecord). job ∷ rest) (none-gone now [] jobs none)
+none-gone now (id ∷ gone) jobs none = absurd (omega (arith, none))
+
 pass-same : (s : State) (now place : ℕ) → ended_by_pass s now ≡ 0
     → length (outcome (silenced s now) now).starts ≡ 0
     → cpus_run_by (after_pass s now).jobs place ≡ cpus_run_by s.jobs place
 pass-same s now place ended starts =
     let t = silenced s now in
-    ap (λ some. cpus_run_by some place) (none-started t now (jobs_left t now) (placements t now) starts)
+    ap (λ some. cpus_run_by some place)
+    (none-gone now (victims_in t now) (outcome t now).jobs (omega (arith, ended))
+    ∙ none-started t now (jobs_left t now) (placements t now) starts)
     ∙ left-same place now (goes t now) t.jobs (gone-still t now) (omega (arith, ended))
     ∙ silenced-same s now place (omega (arith, ended))
 
