@@ -235,13 +235,13 @@ run-as-started laws s now sound later in_time =
     let placed = get_or (placements t now) k d in
     elim (cases_Bool (runs (outcome t now).jobs placed.id)) [
       | inl is ↦ elim (laws.all s now sound later in_time k d below (parts.begin k d below is)) [
-            | inl started ↦ runs-started now placed (after_pass s now).jobs started ∙ sym is
-            | inr stays ↦
-                let kept = stays-passed (λ (placed : Placed). not (runs (outcome t now).jobs placed.id))
-                (placements t now) placed
-                (subst (λ (plan : List Placed). Contains plan placed) parts.rest stays.0) in
-                absurd (both_ways false refl (rw is at kept))
-          ]
+        | inl started ↦ runs-started now placed (after_pass s now).jobs started ∙ sym is
+        | inr stays ↦
+            let kept = stays-passed (λ (placed : Placed). not (runs (outcome t now).jobs placed.id))
+            (placements t now) placed
+            (subst (λ (plan : List Placed). Contains plan placed) parts.rest stays.0) in
+            absurd (both_ways false refl (rw is at kept))
+      ]
       | inr not ↦
           false_from_ne_true (runs (after_pass s now).jobs placed.id)
           (λ one. both_ways (runs (outcome t now).jobs placed.id) not
@@ -272,9 +272,9 @@ pass-parted laws s now sound later in_time =
             ],
           );
       rest = parts.rest
-      ∙ same-filter (λ (placed : Placed). not (runs (outcome t now).jobs placed.id))
-      (λ (placed : Placed). not (runs jobs placed.id)) (placements t now)
-      (λ k d below. ap not (run-as-started laws s now sound later in_time k d below));
+          ∙ same-filter (λ (placed : Placed). not (runs (outcome t now).jobs placed.id))
+          (λ (placed : Placed). not (runs jobs placed.id)) (placements t now)
+          (λ k d below. ap not (run-as-started laws s now sound later in_time k d below));
     }
 
 -- an idle pass changes nothing
