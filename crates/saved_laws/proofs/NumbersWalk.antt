@@ -30,6 +30,8 @@ use Rattle.ctl_jobs.specs.Changing.{are_meant, are_naming, change_made, done_if,
 use Rattle.ctl_nodes.specs.Failing.{after_loss}
 use Rattle.ctl_nodes.specs.Updating.{changes_any, lost_by}
 use Rattle.ctl_pass.specs.Limits.{timed_out}
+use Rattle.ctl_pass.specs.Outcome.{outcome}
+use Rattle.ctl_pass.specs.Preempting.{preempted, victims_in}
 use Rattle.ctl_pass.specs.Readiness.{arrays_left, goes as is_gone, jobs_left, placements}
 use Rattle.ctl_pass.specs.Starting.{Started, begun, may_start, start_of, started}
 use Rattle.ctl_node_side.specs.Answering.{is_restarted, node_of}
@@ -43,7 +45,7 @@ use Rattle.saved_laws.specs.Kept.{AreIndices, IsInTypes, Numbers, numbers_of}
 use Rattle.saved_laws.proofs.Comings.{MakesBy}
 use Rattle.saved_laws.proofs.NamesKept.{fixed_stays, numbers_fixed}
 use Rattle.saved_laws.proofs.NumbersKept.{AreFew, array_added, lone_added, numbers_at, thinned}
-use Rattle.saved_laws.proofs.Walks.{StaysTrue, done_if_true, loss_true, reported_true, started_true, timed_true}
+use Rattle.saved_laws.proofs.Walks.{StaysTrue, done_if_true, gone_true, loss_true, reported_true, started_true, timed_true}
 
 -- the jobs of the state are few, and its arrays those of which there are tasks
 abbrev pub Numbered : ℕ → State → Type 0
@@ -99,6 +101,12 @@ started-numbers s now jobs (placed ∷ later) =
     (λ job. started_true (λ (one : JobRecord). numbers_of one ≡ numbers_of job) (has-numbers job) now start.id start.parts
     start.nodes job refl) jobs)
     (λ stays. started-numbers s now jobs later)
+
+gone-numbers : (now : ℕ) (gone : List ℕ) (jobs : List JobRecord)
+    → map numbers_of (map (preempted now gone) jobs) ≡ map numbers_of jobs
+gone-numbers now gone jobs =
+    same-numbers (preempted now gone)
+    (λ job. gone_true (λ (one : JobRecord). numbers_of one ≡ numbers_of job) (has-numbers job) now gone job refl) jobs
 
 -- ---- what each request makes
 
@@ -205,14 +213,15 @@ submitted limit s moment user desc basis (Some array) is few below types room =
 
 passed-over : (limit : ℕ) (s : State) (now : ℕ) → Numbered limit s
     → AreFew limit s.next_id (arrays_left (jobs_left s now) s.arrays)
-    (map numbers_of (started s now (jobs_left s now) (placements s now)).jobs)
+    (map numbers_of (map (preempted now (victims_in s now)) (outcome s now).jobs))
 passed-over limit s now few =
     let timed : AreFew limit s.next_id s.arrays (map numbers_of (map (timed_out now) s.jobs)) =
     subst (AreFew limit s.next_id s.arrays) (sym (timed-numbers now s.jobs)) few in
     let left : AreFew limit s.next_id (arrays_left (jobs_left s now) s.arrays) (map numbers_of (jobs_left s now)) =
     thinned limit s.next_id s.arrays (map (timed_out now) s.jobs) (λ (job : JobRecord). not (is_gone s now job)) timed in
     subst (AreFew limit s.next_id (arrays_left (jobs_left s now) s.arrays))
-    (sym (started-numbers s now (jobs_left s now) (placements s now))) left
+    (sym (gone-numbers now (victims_in s now) (outcome s now).jobs
+    ∙ started-numbers s now (jobs_left s now) (placements s now))) left
 
 pub made_numbered : (limit : ℕ) (s : State) (moment : ℕ) (user : List ℕ) (request : Request) → IsSound s
     → s.settings.max_job_count ≡ limit → IsInTypes request → first_refusal (refusals_of s moment user request) ≡ None

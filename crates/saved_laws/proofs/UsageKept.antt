@@ -23,6 +23,8 @@ use Rattle.ctl_jobs.specs.Changing.{are_meant, are_naming, change_made, done_if,
 use Rattle.ctl_nodes.specs.Failing.{after_loss}
 use Rattle.ctl_nodes.specs.Updating.{changes_any, lost_by}
 use Rattle.ctl_pass.specs.Limits.{timed_out}
+use Rattle.ctl_pass.specs.Outcome.{outcome}
+use Rattle.ctl_pass.specs.Preempting.{preempted, victims_in}
 use Rattle.ctl_node_side.specs.Answering.{is_restarted, node_of}
 use Rattle.ctl_node_side.specs.Passes.{pass_is_idle}
 use Rattle.ctl_node_side.specs.Reporting.{reported}
@@ -33,7 +35,7 @@ use Rattle.ctl_core.specs.Step.{made}
 use Rattle.saved_laws.specs.Kept.{OnlyUsersUse}
 use Rattle.saved_laws.proofs.Comings.{MakesBy}
 use Rattle.saved_laws.proofs.NamesKept.{IsOfUser, fixed_stays, user_fixed}
-use Rattle.saved_laws.proofs.Walks.{met_true, silenced_true}
+use Rattle.saved_laws.proofs.Walks.{met_true, outcome_true, silenced_true}
 
 -- each job's association is a user's
 pub of_users : (s : State) → All (IsOfAccounts s.assocs s.qos) s.jobs → All (IsOfUser s.assocs) s.jobs
@@ -205,6 +207,11 @@ made_use s moment user Pass of only =
     let by = silenced-use s moment (record { assocs = refl; of = of; users = only }) in
     let t = silenced s moment in
     cond_both (pass_is_idle s moment) Stays _ (MakesBy Use) (λ idle. tt)
-    (λ busy. subst (λ assocs. OnlyUsersUse assocs (charged moment t.jobs (map (timed_out moment) t.jobs) t.usage)) (sym by.assocs)
-    (charged_users moment s.assocs t.jobs (map (timed_out moment) t.jobs) t.usage by.of by.users))
+    (λ busy. let used = charged moment t.jobs (map (timed_out moment) t.jobs) t.usage in
+    let jobs = (outcome t moment).jobs in
+    let after = map (preempted moment (victims_in t moment)) jobs in
+    subst (λ assocs. OnlyUsersUse assocs (charged moment jobs after used)) (sym by.assocs)
+    (charged_users moment s.assocs jobs after used
+    (outcome_true (IsOfUser s.assocs) (fixed_stays (IsOfUser s.assocs) (user_fixed s.assocs)) t moment by.of)
+    (charged_users moment s.assocs t.jobs (map (timed_out moment) t.jobs) t.usage by.of by.users)))
 made_use s moment user (Show query) of only = tt

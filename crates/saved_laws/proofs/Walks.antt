@@ -34,6 +34,8 @@ use Rattle.ctl_jobs.specs.Changing.{are_meant, are_naming, change_made, done_if,
 use Rattle.ctl_nodes.specs.Failing.{after_loss, failed, failing, loses, off_lost, parts_kept}
 use Rattle.ctl_nodes.specs.Updating.{changes_any, lost_by}
 use Rattle.ctl_pass.specs.Limits.{is_over, timed_out}
+use Rattle.ctl_pass.specs.Outcome.{outcome}
+use Rattle.ctl_pass.specs.Preempting.{preempted, victims_in}
 use Rattle.ctl_pass.specs.Readiness.{goes as is_gone, jobs_left, placements}
 use Rattle.ctl_pass.specs.Starting.{Started, begun, may_start, start_of, started}
 use Rattle.ctl_node_side.specs.Answering.{is_restarted, node_of}
@@ -161,6 +163,14 @@ module _ (J : JobRecord → Type 0) (stays : StaysTrue J) where
       (mapped (started_as now start.id start.parts start.nodes) (started_true now start.id start.parts start.nodes) jobs all))
       (λ stays. starts-true s now jobs later all)
 
+  -- the jobs once a pass has made its starts
+  pub outcome_true : (s : State) (now : ℕ) → All J s.jobs → All J (outcome s now).jobs
+  outcome_true s now all = starts-true s now (jobs_left s now) (placements s now) (left-true s now all)
+
+  pub gone_true : (now : ℕ) (gone : List ℕ) (job : JobRecord) → J job → J (preempted now gone job)
+  gone_true now gone job holds =
+      if-changed (list_any (λ id. has_id id job) gone) (Leave final.Requeue now None) job holds
+
   jobs-true : (s : State) (moment : ℕ) (user : List ℕ) (action : Action) (named : JobRecord → Bool) → All J s.jobs
       → MakesBy (λ (after : State). All J after.jobs) (change_made s moment user action named)
   jobs-true s moment user action named all =
@@ -214,6 +224,7 @@ module _ (J : JobRecord → Type 0) (stays : StaysTrue J) where
       ]
   made_true s moment user Pass all new =
       cond_both (pass_is_idle s moment) Stays _ (MakesBy (λ (after : State). All J after.jobs)) (λ idle. tt)
-      (λ busy. starts-true (silenced s moment) moment (jobs_left (silenced s moment) moment)
-      (placements (silenced s moment) moment) (left-true (silenced s moment) moment (silenced_true s moment all)))
+      (λ busy. let t = silenced s moment in
+      mapped (preempted moment (victims_in t moment)) (gone_true moment (victims_in t moment)) (outcome t moment).jobs
+      (outcome_true t moment (silenced_true s moment all)))
   made_true s moment user (Show query) all new = tt
