@@ -177,15 +177,15 @@ def drawn_limit(draws, run):
     return next((usual for usual in USUAL if usual >= wanted), USUAL[-1])
 
 
-def drawn_jobs(seed, days, cluster, stretch):
-    """The jobs of so many days, in the order in which they are handed in."""
+def drawn_jobs(seed, days, cluster, stretch, shorter):
+    """The jobs of so many days, in the order in which they are handed in; their runs are so many times shorter than drawn."""
     names = ("sizes", "runs", "users", "limits", "ends")
     sizes, runs, users, limits, ends = (Draws(seed, name) for name in names)
     sums, jobs = user_sums(cluster.users), []
     for submit, between in arrivals(seed, days, stretch):
         size = drawn_size(sizes, cluster.processors)
         log = drawn_log_run(runs, size)
-        run = max(1, int(math.exp(log)))
+        run = max(1, int(math.exp(log) / shorter))
         user, limit, failed = users.pick_by(sums) + 1, drawn_limit(limits, run), ends.share() < FAILED
         jobs.append(Job(len(jobs) + 1, submit, run, size, user, limit, failed, log, between))
     give_starts(jobs, cluster.processors)
