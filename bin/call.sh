@@ -65,7 +65,11 @@ explain() {
     fi ;;
     7) say "what came from port $port is no whole reply: the server ended while it answered, or another program has that port. $look" ;;
     8) say "this machine has no memory left for the call. $look" ;;
-    9) say "the script is longer than 65,536 bytes, and wasn't sent. Put its work into a file that a short script starts." ;;
+    9) if [ "$name" = scontrol ]; then
+        say "the configuration is longer than 65,536 bytes, and wasn't sent. Name many nodes by one line, as n[1-64]."
+    else
+        say "the script is longer than 65,536 bytes, and wasn't sent. Put its work into a file that a short script starts."
+    fi ;;
     10) say "no server takes calls on port $port of this machine. Start one (slurm slurmctld --serve ..), or name its port in SLURMCTLD_PORT." ;;
     esac
 }

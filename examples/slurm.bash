@@ -89,7 +89,7 @@ _slurm_keys() {
 # The words of scontrol.
 _slurm_scontrol() {
     if [[ ${#words[@]} == 2 ]]; then
-        _slurm_offer 'show hold uhold release requeue update create delete shutdown --help --version'
+        _slurm_offer 'show hold uhold release requeue update create delete reconfigure shutdown --help --version'
         return
     fi
     case "${words[1]} ${words[2]}" in

@@ -57,13 +57,13 @@ def sacct_text(jobs, cluster, begin):
 
 
 def conf_text(jobs, cluster, name):
-    """The slurm.conf of the cluster, which keeps the records of all jobs."""
+    """The slurm.conf of the cluster."""
     partitions = f"PartitionName=main Nodes=ALL Default=YES MaxTime={LONGEST}\n"
     if cluster.short:
         partitions += f"PartitionName=short Nodes=ALL MaxTime={cluster.short} PriorityTier=2\n"
     return (
         f"# The cluster of {name}.trace: {cluster.nodes} nodes of {cluster.of_each} processors, {cluster.processors} in all.\n"
-        f"ClusterName={name}\nMinJobAge=0\nMaxJobCount={min(KEPT, len(jobs) + RESERVE)}\n"
+        f"ClusterName={name}\nMaxJobCount={min(KEPT, len(jobs) + RESERVE)}\n"
         "SchedulerParameters=bf_window=10080,bf_interval=30\nDefMemPerCPU=1000\n"
         "PriorityWeightAge=1000\nPriorityWeightFairshare=1000\n"
         f"NodeName=n[1-{cluster.nodes}] CPUs={cluster.of_each} RealMemory={1000 * cluster.of_each}\n" + partitions

@@ -3,6 +3,7 @@ pub mod Command
 pub mod FramedHeader
 pub mod Header
 pub mod Queries
+pub mod Reconfigure
 pub mod Report
 pub mod Sbatch
 pub mod Wanted

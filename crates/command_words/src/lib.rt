@@ -8,6 +8,7 @@ pub mod fault;
 pub mod framed;
 pub mod header;
 mod queries;
+pub mod reconfigure;
 mod report;
 mod sbatch;
 mod wanted;

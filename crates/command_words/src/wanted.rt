@@ -1,11 +1,12 @@
 //! What the words of a command want.
 
 ghost use Rattle.std.specs.Prelude.{◌≡◌, option_copied, IfOk};
-ghost use Rattle.command_words.specs.Wanted.{wanted_by, without};
+ghost use Rattle.command_words.specs.Wanted.{scontrol_with, stray, wanted_by, without};
 
 use crate::alone::read_alone;
 use crate::command::Command;
 use crate::fault::{WordFault, WordKind};
+use crate::reconfigure::{by_words, is_reconfigure, read_reconfigure};
 use crate::sbatch::read_sbatch;
 use line_words::words::Words;
 use operands::bad_word::BadWord;
@@ -25,22 +26,46 @@ pub(crate) fn read_command(
 ) -> Result<Result<Request, WordFault>, Memory>
     ensures { IfOk result (λ asked. asked ≡ wanted_by command now words.now (option_copied attachment.entry)) }
 {
-    if let Command::Sbatch = command {
-        return read_sbatch(alloc, words, attachment, now);
+    match command {
+        Command::Sbatch => read_sbatch(alloc, words, attachment, now),
+        Command::Scontrol => read_scontrol(alloc, now, words, attachment),
+        _ => {
+            let asked = read_alone(alloc, command, now, words)?;
+            Ok(without(attachment, asked))
+        }
     }
-    let asked = read_alone(alloc, command, now, words)?;
-    Ok(without(attachment, asked))
+}
+
+// What is told of an attachment where none belongs.
+fn stray() -> Result<Request, WordFault>
+    ensures { result ≡ stray }
+{
+    Err(WordFault::Word {
+        word: 1,
+        kind: WordKind::StrayWord,
+    })
+}
+
+fn read_scontrol(
+    alloc: Global,
+    now: u64,
+    words: &Words,
+    attachment: Option<&[u8]>,
+) -> Result<Result<Request, WordFault>, Memory>
+    ensures { IfOk result (λ asked. asked ≡ scontrol_with now words.now (option_copied attachment.entry)) }
+{
+    match attachment {
+        Some(text) if is_reconfigure(words) => read_reconfigure(alloc, words, text),
+        Some(_) => Ok(stray()),
+        None => Ok(by_words(read_alone(alloc, Command::Scontrol, now, words)?)),
+    }
 }
 
 fn without(attachment: Option<&[u8]>, asked: Result<Request, BadWord>) -> Result<Request, WordFault>
     ensures { result ≡ without (option_copied attachment.entry) asked }
 {
-    match (attachment, asked) {
-        (None, Ok(request)) => Ok(request),
-        (None, Err(BadWord { word, kind })) => Err(WordFault::Word { word, kind }),
-        (Some(_), _) => Err(WordFault::Word {
-            word: 1,
-            kind: WordKind::StrayWord,
-        }),
+    match attachment {
+        None => by_words(asked),
+        Some(_) => stray(),
     }
 }

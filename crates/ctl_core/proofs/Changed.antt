@@ -7,6 +7,7 @@ use Rattle.std.specs.List.{list_any}
 use Rattle.std.proofs.lemmas.Bool.{cases_Bool, both_ways, cond_both}
 use Rattle.std.proofs.lemmas.Bool.Decides.{nat_tests}
 use Rattle.std.proofs.lemmas.List.Quantifiers.{position-Some}
+use Rattle.plain_data.specs.Confs.{ConfView}
 use Rattle.plain_data.specs.declared.job.JobDesc.{JobDesc}
 use Rattle.reply_data.specs.declared.refusal.Refusal.{Refusal}
 use Rattle.reply_data.specs.declared.refusal.Refusal.TheVariants.{AccessDenied, InvalidReservation, UnknownNode, MomentTooLarge, ShuttingDown}
@@ -14,7 +15,7 @@ use Rattle.reply_data.specs.declared.reply.Reply.{Reply}
 use Rattle.reply_data.specs.declared.reply.Reply.TheVariants.{Done, Idle}
 use Rattle.request_data.specs.declared.report.Report.{Report as Told}
 use Rattle.request_data.specs.declared.request.Request.{Request}
-use Rattle.request_data.specs.declared.request.Request.TheVariants.{Submit, Cancel, Hold, Release, Requeue, UpdateJob, UpdateNode, UpdatePartition, CreateReservation, DeleteReservation, Report, Pass, Shutdown, Show}
+use Rattle.request_data.specs.declared.request.Request.TheVariants.{Submit, Cancel, Hold, Release, Requeue, UpdateJob, UpdateNode, UpdatePartition, CreateReservation, DeleteReservation, Report, Pass, Shutdown, Reconfigure, Show}
 use Rattle.plain_data.specs.declared.conf.PartState.{PartState}
 use Rattle.node_state.specs.Partitions.{place_meant}
 use Rattle.job_table.specs.declared.record.JobRecord.{JobRecord}
@@ -37,6 +38,8 @@ use Rattle.ctl_nodes.specs.Updating.{changes_any, update_after, update_made}
 use Rattle.request_data.specs.declared.reservation.ReservationDesc.{ReservationDesc}
 use Rattle.node_state.specs.Reservations.{reservation_named}
 use Rattle.ctl_nodes.specs.Reserving.{created, deleted}
+use Rattle.ctl_reconfigure.specs.Reconfiguring.{reconfigure_made, reconfigured}
+use Rattle.ctl_reconfigure.specs.Same.{is_same}
 use Rattle.ctl_core.specs.Operating.{is_in_state, partition_after, partition_made, shut}
 use Rattle.ctl_core.specs.Sizes.{has_room}
 use Rattle.ctl_core.specs.Step.{raised, refusals_of, made, worked, ChangesNothing, early_refusals, unless_full, verdict_of, reply_of, is_closed}
@@ -53,6 +56,7 @@ pub record OnlyIdle : Type 0 where
   pub creations : (s : State) (desc : ReservationDesc) → created s desc ≢ s
   pub deletions : (s : State) (name : List ℕ) → is_none (reservation_named name s.reservations) ≡ false → deleted s name ≢ s
   pub passes : (s : State) (now : ℕ) → after_pass s now ≡ s → pass_is_idle s now ≡ true
+  pub confs : (s : State) (now : ℕ) (conf : ConfView) → reconfigured s now conf ≡ s → is_same s conf ≡ true
 
 -- the first of refusals that come to none: none of them stands
 none-first : (refusal : Refusal) (stands : Bool) (later : List (Option Refusal))
@@ -130,6 +134,11 @@ pub nodes-stay : ((s : State) (now : ℕ) (names : List (List ℕ)) (state : Nod
     → update_after s now names state ≡ s → update_made s now names state ≡ Stays
 nodes-stay only s now names state same = rw (only s now names state same)
 
+-- nor does a slurm.conf that says what the last one said
+pub confs-stay : ((s : State) (now : ℕ) (conf : ConfView) → reconfigured s now conf ≡ s → is_same s conf ≡ true)
+    → (s : State) (now : ℕ) (conf : ConfView) → reconfigured s now conf ≡ s → reconfigure_made s now conf ≡ Stays
+confs-stay only s now conf same = rw (only s now conf same)
+
 -- a partition that would be as it was is in its state
 pub partition-stays : (s : State) (place : ℕ) (state : PartState)
     → partition_after s place state ≡ s → partition_made s state (Some place) ≡ Stays
@@ -176,6 +185,14 @@ partition-changes s state (Some place) makes same =
           both_ways (is_in_state state (slice_get s.partitions place)) out was
     ]
 
+confs-change : OnlyIdle → (s : State) (now : ℕ) (conf : ConfView) {reply : Reply} {after : State}
+    → reconfigure_made s now conf ≡ Makes reply after → after ≢ s
+confs-change only s now conf makes same =
+    elim (cases_Bool (is_same s conf)) [
+      | inl is ↦ let stays = rw is at makes in absurd (cc)
+      | inr other ↦ both_ways (is_same s conf) other (only.confs s now conf (made-after (rw other at makes) ∙ same))
+    ]
+
 shut-changes : (s : State) {reply : Reply} {after : State} → s.is_shut ≡ false
     → Makes Done (shut s) ≡ Makes reply after → after ≢ s
 shut-changes s accepts makes same =
@@ -215,6 +232,8 @@ made-changes only s moment user (Report report) accepts none makes same =
     [ None ↦ λ none. refl | Some refusal ↦ λ none. none ] known.1 in
     told-changes s moment report (node_of s report) refl fresh makes same
 made-changes only s moment user Pass accepts none makes same = pass-changes only s moment makes same
+made-changes only s moment user (Reconfigure conf bytes) accepts none makes same =
+    confs-change only s moment conf makes same
 made-changes only s moment user (Show query) accepts none makes same = absurd (cc)
 
 -- What an accepted request makes is another state.
@@ -236,6 +255,8 @@ pub record IdleKeeps : Type 0 where
   pub nodes : (s : State) (now : ℕ) (names : List (List ℕ)) (state : NodeOrder)
       → IsSound s → changes_any s names state ≡ false → update_after s now names state ≡ s
   pub passes : (s : State) (now : ℕ) → pass_is_idle s now ≡ true → after_pass s now ≡ s
+  pub confs : (s : State) (now : ℕ) (conf : ConfView) → IsSound s → is_same s conf ≡ true
+      → reconfigured s now conf ≡ s
 
 -- a verdict whose reply is that nothing changes is refused for nothing, and has room or needs none
 judged-idle : (refusal : Option Refusal) (verdict : Verdict)
@@ -264,6 +285,14 @@ nodes-idle keeps s moment names state idle =
     elim (cases_Bool (changes_any s names state)) [
       | inl some ↦ let done = rw some at idle in absurd (cc)
       | inr none ↦ λ sound. keeps.nodes s moment names state sound none
+    ]
+
+confs-idle : IdleKeeps → (s : State) (moment : ℕ) (conf : ConfView)
+    → reply_by (reconfigure_made s moment conf) ≡ Idle → IsSound s → reconfigured s moment conf ≡ s
+confs-idle keeps s moment conf idle =
+    elim (cases_Bool (is_same s conf)) [
+      | inl is ↦ λ sound. keeps.confs s moment conf sound is
+      | inr other ↦ let done = rw other at idle in absurd (cc)
     ]
 
 partition-idle : (s : State) (state : PartState) (place : Option ℕ)
@@ -302,6 +331,7 @@ made-idle keeps s moment user Pass idle = elim (cases_Bool (pass_is_idle s momen
   | inl stays ↦ keeps.passes s moment stays
   | inr busy ↦ let passed = rw busy at idle in absurd (cc)
 ]
+made-idle keeps s moment user (Reconfigure conf bytes) idle = confs-idle keeps s moment conf idle
 made-idle keeps s moment user (CreateReservation desc) idle = absurd (cc)
 made-idle keeps s moment user (DeleteReservation name) idle = absurd (cc)
 made-idle keeps s moment user Shutdown idle = absurd (cc)

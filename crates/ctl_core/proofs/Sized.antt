@@ -6,7 +6,7 @@ use Rattle.std.proofs.lemmas.Bool.{cond_both}
 use Rattle.reply_data.specs.declared.refusal.Refusal.{Refusal}
 use Rattle.request_data.specs.declared.request.Request.{Request}
 use Rattle.request_data.specs.declared.report.Report.{Report as Told}
-use Rattle.request_data.specs.declared.request.Request.TheVariants.{Submit, Cancel, Hold, Release, Requeue, UpdateJob, UpdateNode, UpdatePartition, CreateReservation, DeleteReservation, Report, Pass, Shutdown, Show}
+use Rattle.request_data.specs.declared.request.Request.TheVariants.{Submit, Cancel, Hold, Release, Requeue, UpdateJob, UpdateNode, UpdatePartition, CreateReservation, DeleteReservation, Report, Pass, Shutdown, Reconfigure, Show}
 use Rattle.ctl_state.specs.State.{State}
 use Rattle.ctl_state.specs.Refusals.{first_refusal, unless_refused}
 use Rattle.ctl_state.specs.Verdicts.{Verdict, Refuses, Tells, Stays, Makes, reply_by, left_by}
@@ -19,6 +19,7 @@ use Rattle.ctl_jobs.specs.declared.action.Action.{Action}
 use Rattle.ctl_jobs.specs.declared.action.Action.TheVariants as act
 use Rattle.ctl_jobs.specs.Changing.{are_meant, are_naming, change_made, goes}
 use Rattle.ctl_nodes.specs.Updating.{changes_any}
+use Rattle.ctl_reconfigure.specs.Same.{is_same}
 use Rattle.ctl_core.specs.Operating.{is_in_state, partition_made}
 use Rattle.node_state.specs.Partitions.{place_meant}
 use Rattle.job_table.specs.declared.record.JobRecord.{JobRecord}
@@ -71,6 +72,8 @@ made-sized s moment user (Report report) =
     [ None ↦ tt | Some node ↦ met-sized s moment node report ]
 made-sized s moment user Pass =
     cond_both (pass_is_idle s moment) Stays _ (KeepsSize s) (λ idle. tt) (λ busy. silenced-sized s moment)
+made-sized s moment user (Reconfigure conf bytes) =
+    cond_both (is_same s conf) Stays _ (KeepsSize s) (λ same. tt) (λ other. refl)
 made-sized s moment user (Show query) = tt
 
 full-sized : (s : State) (room : Bool) (verdict : Verdict) → KeepsSize s verdict

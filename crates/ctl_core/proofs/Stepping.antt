@@ -4,13 +4,14 @@ use Rattle.std.specs.Prelude.{nat_le, nat_lt, slice_get, IfSome}
 use Rattle.std.specs.List.{list_any}
 use Rattle.std.proofs.lemmas.Bool.{cases_Bool, cond_both, leb-true, ltb-false}
 use Rattle.small_texts.specs.declared.memory_error.Memory.{Memory}
+use Rattle.plain_data.specs.Confs.{ConfView}
 use Rattle.plain_data.specs.declared.job.JobDesc.{JobDesc}
 use Rattle.reply_data.specs.declared.refusal.Refusal.{Refusal}
 use Rattle.reply_data.specs.declared.refusal.Refusal.TheVariants.{MomentTooLarge, ShuttingDown}
 use Rattle.reply_data.specs.declared.reply.Reply.{Reply}
 use Rattle.request_data.specs.declared.report.Report.{Report as Told}
 use Rattle.request_data.specs.declared.request.Request.{Request}
-use Rattle.request_data.specs.declared.request.Request.TheVariants.{Submit, Cancel, Hold, Release, Requeue, UpdateJob, UpdateNode, UpdatePartition, CreateReservation, DeleteReservation, Report, Pass, Shutdown, Show}
+use Rattle.request_data.specs.declared.request.Request.TheVariants.{Submit, Cancel, Hold, Release, Requeue, UpdateJob, UpdateNode, UpdatePartition, CreateReservation, DeleteReservation, Report, Pass, Shutdown, Reconfigure, Show}
 use Rattle.plain_data.specs.declared.conf.PartState.{PartState}
 use Rattle.reply_data.specs.declared.reply.Reply.TheVariants.{Done}
 use Rattle.node_state.specs.Partitions.{place_meant}
@@ -32,6 +33,10 @@ use Rattle.request_data.specs.declared.request.NodeOrder.{NodeOrder}
 use Rattle.ctl_nodes.specs.Updating.{changes_any, update_after}
 use Rattle.request_data.specs.declared.reservation.ReservationDesc.{ReservationDesc}
 use Rattle.ctl_nodes.specs.Reserving.{create_refusals, created, deleted}
+use Rattle.ctl_reconfigure.specs.Files.{IsFile}
+use Rattle.ctl_reconfigure.specs.Reconfiguring.{reconfigured}
+use Rattle.ctl_reconfigure.specs.Refusing.{reconfigure_refusals}
+use Rattle.ctl_reconfigure.specs.Same.{is_same}
 use Rattle.ctl_core.specs.Operating.{is_in_state, partition_made, shut, shutdown_refusals}
 use Rattle.ctl_core.specs.declared.reply.Decided.{Decided}
 use Rattle.ctl_core.specs.Sizes.{has_room, size_of}
@@ -67,6 +72,9 @@ pub record AllKeep : Type 0 where
   pub passes : (s : State) (now : ℕ)
       → IsSound s → s.moment ≤ now → now ≤ last_moment → IsSound (stamped now (after_pass s now))
   pub sizes : Sizing
+  pub reconfigurations : (s : State) (now : ℕ) (user : List ℕ) (conf : ConfView) → IsSound s → s.moment ≤ now
+      → now ≤ last_moment → IsFile conf → first_refusal (reconfigure_refusals s user conf) ≡ None
+      → IsSound (stamped now (reconfigured s now conf))
 
 -- a verdict makes what is sound, if whatever state it makes is
 sound-by : (s : State) (now : ℕ) (verdict : Verdict)
@@ -126,6 +134,9 @@ sound-made keep s moment user (Report report) sound later in_time ranges none =
 sound-made keep s moment user Pass sound later in_time ranges none =
     cond_both (pass_is_idle s moment) Stays _ (MakesSound s moment) (λ idle. tt)
     (λ busy. keep.passes s moment sound later in_time)
+sound-made keep s moment user (Reconfigure conf bytes) sound later in_time ranges none =
+    cond_both (is_same s conf) Stays _ (MakesSound s moment) (λ same. tt)
+    (λ other. keep.reconfigurations s moment user conf sound later in_time ranges none)
 sound-made keep s moment user (Show query) sound later in_time ranges none = tt
 
 sound-full : (s : State) (moment : ℕ) (room : Bool) (verdict : Verdict)

@@ -1,7 +1,9 @@
 -- How much a request takes of the history's room.
-use Rattle.std.specs.Prelude.{ℕ, ◌+◌, ◌*◌, Bool, true, false, ◌||◌, nat_le, List, length}
+use Rattle.std.specs.Prelude.{ℕ, ◌+◌, ◌*◌, Bool, true, false, ◌||◌, nat_le, List, length, sum_by}
+use Rattle.plain_data.specs.declared.conf.PartConf.{PartConf}
+use Rattle.plain_data.specs.Confs.{ConfView}
 use Rattle.request_data.specs.declared.request.Request.{Request}
-use Rattle.request_data.specs.declared.request.Request.TheVariants.{Submit, Cancel, Hold, Release, Requeue, UpdateJob, UpdateNode, UpdatePartition, CreateReservation, DeleteReservation, Report, Pass, Shutdown, Show}
+use Rattle.request_data.specs.declared.request.Request.TheVariants.{Submit, Cancel, Hold, Release, Requeue, UpdateJob, UpdateNode, UpdatePartition, CreateReservation, DeleteReservation, Report, Pass, Shutdown, Reconfigure, Show}
 use Rattle.request_data.specs.declared.reservation.ReservationDesc.{ReservationDesc}
 use Rattle.request_data.specs.declared.target.Targets.{Targets}
 use Rattle.request_data.specs.declared.target.Targets.TheVariants.{List as Listed, User}
@@ -19,6 +21,14 @@ targets_listed (User name) = 1
 abbrev pub reservation_listed : ReservationDesc → ℕ
 reservation_listed desc = 1 + (length desc.nodes + (length desc.users + length desc.accounts))
 
+-- how many nodes its partitions name, each as often as one does
+abbrev pub nodes_listed : List PartConf → ℕ
+nodes_listed partitions = sum_by (λ (partition : PartConf). length partition.nodes) partitions
+
+-- a slurm.conf counts its bytes, 512 for each node, and 4 for each that a partition names
+abbrev pub conf_listed : ConfView → ℕ → ℕ
+conf_listed conf bytes = 256 + (bytes + (512 * length conf.nodes + 4 * nodes_listed conf.partitions))
+
 -- the size of an entry: a submission's with 4 for each node that it names
 abbrev pub size_of : Request → ℕ
 size_of (Submit desc) = 2048 + 4 * (length desc.required + length desc.excluded)
@@ -34,6 +44,7 @@ size_of (DeleteReservation name) = listing 1
 size_of (Report report) = listing (1 + (length report.running + length report.done))
 size_of Pass = listing 0
 size_of Shutdown = shutdown_size
+size_of (Reconfigure conf bytes) = conf_listed conf bytes
 size_of (Show query) = listing 0
 
 abbrev pub is_shutdown : Request → Bool

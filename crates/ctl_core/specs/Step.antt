@@ -1,7 +1,7 @@
 -- One step of the controller: the reply to a request, and the state after it.
 use Rattle.std.specs.Prelude.{◌≡◌, ℕ, ◌+◌, Bool, true, false, ◌&&◌, not, if◌then◌else◌, nat_lt, max, min, List, [], ◌∷◌, Option, Some, None, IfSome}
 use Rattle.request_data.specs.declared.request.Request.{Request}
-use Rattle.request_data.specs.declared.request.Request.TheVariants.{Submit, Cancel, Hold, Release, Requeue, UpdateJob, UpdateNode, UpdatePartition, CreateReservation, DeleteReservation, Report, Pass, Shutdown, Show}
+use Rattle.request_data.specs.declared.request.Request.TheVariants.{Submit, Cancel, Hold, Release, Requeue, UpdateJob, UpdateNode, UpdatePartition, CreateReservation, DeleteReservation, Report, Pass, Shutdown, Reconfigure, Show}
 use Rattle.reply_data.specs.declared.refusal.Refusal.{Refusal}
 use Rattle.reply_data.specs.declared.refusal.Refusal.TheVariants.{HistoryFull, MomentTooLarge, ShuttingDown}
 use Rattle.reply_data.specs.declared.reply.Reply.{Reply}
@@ -20,6 +20,9 @@ use Rattle.ctl_submit.specs.Submission.{submit_refusals, submit_made}
 use Rattle.ctl_jobs.specs.declared.action.Action.TheVariants as act
 use Rattle.ctl_nodes.specs.Updating.{update_after, update_made, update_refusals}
 use Rattle.ctl_nodes.specs.Reserving.{create_made, create_refusals, delete_made, delete_refusals}
+use Rattle.ctl_reconfigure.specs.Files.{IsFile}
+use Rattle.ctl_reconfigure.specs.Reconfiguring.{reconfigure_made, reconfigured}
+use Rattle.ctl_reconfigure.specs.Refusing.{reconfigure_refusals}
 use Rattle.ctl_jobs.specs.Changing.{are_meant, are_naming, cancel_refusals, change_after, change_made, refusals}
 use Rattle.ctl_show.specs.Showing.{show_refusals, view_of}
 use Rattle.ctl_core.specs.Operating.{partition_after, partition_made, partition_refusals, shut, shutdown_refusals}
@@ -47,6 +50,7 @@ refusals_of s moment user (UpdatePartition name state) = partition_refusals s us
 refusals_of s moment user (CreateReservation desc) = create_refusals s moment user desc
 refusals_of s moment user (DeleteReservation name) = delete_refusals s user name
 refusals_of s moment user Shutdown = shutdown_refusals s user
+refusals_of s moment user (Reconfigure conf bytes) = reconfigure_refusals s user conf
 refusals_of s moment user (Report report) = report_refusals s user report
 refusals_of s moment user Pass = pass_refusals s user
 refusals_of s moment user (Show query) = show_refusals s query
@@ -65,12 +69,13 @@ made s moment user (UpdatePartition name state) = partition_made s state (place_
 made s moment user (CreateReservation desc) = create_made s desc
 made s moment user (DeleteReservation name) = delete_made s name
 made s moment user Shutdown = Makes Done (shut s)
+made s moment user (Reconfigure conf bytes) = reconfigure_made s moment conf
 made s moment user (Report report) = report_made s moment report
 made s moment user Pass = made_by_pass s moment
 made s moment user (Show query) = Tells (view_of s moment user query)
 
 -- What an idle request is: a pass, or another state of a partition, that leaves the state as it is, or, where all is
--- sound, what is done to jobs or said of nodes and changes none.
+-- sound, what is done to jobs or said of nodes and changes none, or a slurm.conf that says what the last one said.
 abbrev pub ChangesNothing : State → ℕ → List ℕ → Request → Type 0
 ChangesNothing s moment user (Cancel targets) =
     IsSound s → change_after s moment user act.Cancel (are_meant targets) ≡ s
@@ -85,6 +90,7 @@ ChangesNothing s moment user (UpdateJob target limit nice) =
 ChangesNothing s moment user (UpdateNode nodes state) = IsSound s → update_after s moment nodes state ≡ s
 ChangesNothing s moment user (UpdatePartition name state) =
     IfSome (place_meant (Some name) s.partitions) (λ place. partition_after s place state ≡ s)
+ChangesNothing s moment user (Reconfigure conf bytes) = IsSound s → reconfigured s moment conf ≡ s
 ChangesNothing s moment user Pass = after_pass s moment ≡ s
 ChangesNothing s moment user request = ⊥
 
@@ -185,6 +191,7 @@ takes_memory (Submit desc) = true
 takes_memory (CreateReservation desc) = true
 takes_memory (Report report) = true
 takes_memory Pass = true
+takes_memory (Reconfigure conf bytes) = true
 takes_memory (Show query) = true
 takes_memory request = false
 
@@ -192,4 +199,5 @@ takes_memory request = false
 abbrev pub IsInRange : Request → Type 0
 IsInRange (Submit desc) = IsAsked desc × IfSome desc.limit IsLimit
 IsInRange (UpdateJob target limit nice) = IfSome limit IsLimit
+IsInRange (Reconfigure conf bytes) = IsFile conf
 IsInRange request = Unit {0}

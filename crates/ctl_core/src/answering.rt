@@ -13,6 +13,7 @@ use crate::laws::a_step_keeps_all_sound;
 use crate::operating::{shut_down, update_nodes, update_partition};
 use crate::passing::pass;
 use crate::ranges::in_range;
+use crate::reconfiguring::reconfigure;
 use crate::reply::{Answered, Decided};
 use crate::reporting::report;
 use crate::reserving::{create_reservation, delete_reservation};
@@ -118,6 +119,9 @@ fn work<L>(
         }
         Request::DeleteReservation { name } => Ok(delete_reservation(cluster, user, name, room)),
         Request::Shutdown => Ok(shut_down(cluster, user)),
+        Request::Reconfigure { conf, .. } => {
+            reconfigure(alloc, cluster, moment, user, conf, room)
+        }
         Request::Report(told) => report(alloc, cluster, moment, user, told, room),
         Request::Pass => pass(alloc, cluster, kept, hint, moment, user, room, steps),
         Request::Show(query) => show(alloc, cluster, moment, user, query),

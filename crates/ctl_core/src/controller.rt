@@ -5,11 +5,12 @@ ghost use Rattle.request_data.specs.declared.request.Request.TheVariants.{Pass};
 ghost use Rattle.resource_profile.specs.Counts.{IsTickedUpTo};
 ghost use Rattle.ctl_state.specs.Index.{IsIndexed};
 ghost use Rattle.ctl_state.specs.State.{opening, state_of};
-ghost use Rattle.ctl_state.specs.Soundness.{IsSound, IsLimit, IsNode, HasLimits, HasRanges};
+ghost use Rattle.ctl_state.specs.Soundness.{IsSound, IsNode, HasLimits};
 ghost use Rattle.ctl_core.specs.Step.{IsHinted, input_at, kept_after, reply_of, state_after, is_entered, raised, steps_of, takes_memory};
 
 use crate::answering::ask;
 use crate::inputs::find_input;
+use crate::ranges::{is_limit, settings_in_range};
 use crate::reply::Decided;
 use backfill_planner::Planned;
 use ctl_pass::PlanInput;
@@ -22,7 +23,6 @@ use node_state::record::NodeRecord;
 use node_state::reservations::Reservations;
 use plain_data::assoc::AssocFile;
 use plain_data::conf::{Conf, Settings};
-use plain_data::limit::Limit;
 use request_data::request::Request;
 use resource_profile::{Steps, start};
 use run_limits::assocs::Assocs;
@@ -80,6 +80,7 @@ impl Ctl {
             jobs,
             arrays: Vec::new(alloc),
             plan: Vec::new(alloc),
+            gone: Vec::new(alloc),
             size: 0,
             is_shut: false,
             moment: 0,
@@ -112,7 +113,8 @@ impl Ctl {
     /// What is done to jobs is for each target logarithmic in the jobs and linear in the tasks of its array, of a user's
     /// jobs linear in all, and then linear in the plan; it takes no memory, nor does another state of a partition, which
     /// is linear in the partitions, or a shutdown. A report is linear in the jobs, and for each job
-    /// of the node in what it tells. A pass costs what its plan costs. A query of jobs or priorities ranks the users, is
+    /// of the node in what it tells. A new slurm.conf is linear in both files, in the jobs and their parts and in the
+    /// plan, and for each reservation in the nodes. A pass costs what its plan costs. A query of jobs or priorities ranks the users, is
     /// linear in the jobs, the parts of those that run or are shown and the plan, and for each job in the targets and
     /// states that it names; one of partitions is linear in the nodes, the jobs' parts and the nodes of the partitions
     /// that it shows.
@@ -235,14 +237,6 @@ fn nodes_in_range(nodes: &[NodeRecord])
     }
 }
 
-fn is_limit(limit: &Limit)
-    ensures { IsLimit limit.now }
-{
-    if let Limit::Minutes(minutes) = limit {
-        let _ = minutes.get();
-    }
-}
-
 fn has_limits(partition: &PartRecord)
     ensures { HasLimits partition.now }
 {
@@ -259,12 +253,4 @@ fn partitions_in_range(partitions: &[PartRecord])
     for partition in partitions {
         has_limits(partition);
     }
-}
-
-// It tells what the type of settings keeps of them.
-fn settings_in_range(settings: &Settings)
-    ensures { HasRanges settings.now }
-{
-    let _ = settings.bf_window.get();
-    let _ = settings.min_job_age.get();
 }

@@ -7,6 +7,7 @@ ghost use Rattle.request_data.specs.declared.request.NodeOrder.{NodeOrder};
 ghost use Rattle.reply_data.specs.declared.reply.Reply.{Reply};
 ghost use Rattle.reply_data.specs.declared.reply.Reply.TheVariants.{Idle, Refused};
 ghost use Rattle.reply_data.specs.declared.refusal.Refusal.{Refusal};
+ghost use Rattle.plain_data.specs.Confs.{ConfView};
 ghost use Rattle.plain_data.specs.declared.conf.PartState.{PartState};
 ghost use Rattle.job_table.specs.declared.record.JobRecord.{JobRecord};
 ghost use Rattle.resource_profile.specs.Counts.{IsTickedUpTo};
@@ -18,6 +19,7 @@ ghost use Rattle.ctl_node_side.specs.Passes.{after_pass, made_by_pass};
 ghost use Rattle.ctl_jobs.specs.declared.action.Action.{Action};
 ghost use Rattle.ctl_jobs.specs.Changing.{change_after, change_made};
 ghost use Rattle.ctl_nodes.specs.Updating.{update_after, update_made};
+ghost use Rattle.ctl_reconfigure.specs.Reconfiguring.{reconfigure_made, reconfigured};
 ghost use Rattle.ctl_core.specs.Operating.{partition_after, partition_made};
 ghost use Rattle.ctl_core.specs.Step.{verdict_of, reply_of, state_after, kept_after, steps_of, raised, input_at, ChangesNothing, IsHinted, IsInRange};
 
@@ -30,6 +32,9 @@ use ctl_nodes::laws::{an_idle_order_changes_nothing, updating_nodes_keeps_all_so
 use ctl_nodes::reservation_laws::{
     making_and_taking_reservations_changes_the_state,
     making_and_taking_reservations_keeps_all_sound,
+};
+use ctl_reconfigure::laws::{
+    a_reconfiguration_keeps_all_sound, an_idle_reconfiguration_changes_nothing,
 };
 use ctl_state::laws::{
     a_shutdown_keeps_all_sound, sizes_keep_all_sound, states_of_partitions_keep_all_sound,
@@ -48,6 +53,7 @@ pub fn a_step_keeps_all_sound()
     making_and_taking_reservations_keeps_all_sound();
     a_report_met_keeps_all_sound();
     a_whole_pass_keeps_all_sound();
+    a_reconfiguration_keeps_all_sound();
     sizes_keep_all_sound();
     states_of_partitions_keep_all_sound();
     a_shutdown_keeps_all_sound();
@@ -63,7 +69,8 @@ pub fn raised_moments_decide_alike()
 {}
 
 /// A request is idle only where it would change nothing but the moment: a pass, what is done to jobs, what is said of
-/// nodes, another state of a partition; and such a request is idle. What an accepted request makes is another state, also before it bears its moment.
+/// nodes, another state of a partition, a slurm.conf that says what the last one said; and such a request is idle. What
+/// an accepted request makes is another state, also before it bears its moment.
 pub fn idle_requests_change_nothing()
     ensures idle { (s : State) (now : ℕ) (user : List ℕ) (request : Request)
         → reply_of s now user request ≡ Idle → ChangesNothing s (raised s now) user request }
@@ -74,6 +81,8 @@ pub fn idle_requests_change_nothing()
         → update_after s moment names state ≡ s → update_made s moment names state ≡ Stays }
     ensures partition { (s : State) (place : ℕ) (state : PartState)
         → partition_after s place state ≡ s → partition_made s state (Some place) ≡ Stays }
+    ensures conf { (s : State) (moment : ℕ) (conf : ConfView)
+        → reconfigured s moment conf ≡ s → reconfigure_made s moment conf ≡ Stays }
     ensures made { (s after : State) (now : ℕ) (user : List ℕ) (request : Request) (reply : Reply)
         → verdict_of s now user request ≡ Makes reply after → after ≢ s }
 {
@@ -82,6 +91,7 @@ pub fn idle_requests_change_nothing()
     an_idle_order_changes_nothing();
     making_and_taking_reservations_changes_the_state();
     an_idle_whole_pass_changes_nothing();
+    an_idle_reconfiguration_changes_nothing();
 }
 
 /// A refused pass leaves the plan that is kept, and so does every other request.

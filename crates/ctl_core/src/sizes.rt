@@ -1,10 +1,11 @@
 //! How much requests take of the history's room.
 
-ghost use Rattle.std.specs.Prelude.{◌≡◌, ◌+◌, ◌*◌, ◌<◌, ◌^◌, ◌≤◌, IfSome, IsTrue, is_some, length, nat_le};
+ghost use Rattle.std.specs.Prelude.{◌≡◌, ◌+◌, ◌*◌, ◌<◌, ◌^◌, ◌≤◌, IfSome, IsTrue, is_some, length, nat_le, sum_by};
 ghost use Rattle.ctl_state.specs.State.{state_of, last_size, shutdown_size};
 ghost use Rattle.ctl_core.specs.Sizes;
 
 use ctl_state::cluster::Cluster;
+use plain_data::conf::{Conf, PartConf};
 use plain_data::items::Items;
 use plain_data::job::JobDesc;
 use request_data::report::Report;
@@ -79,6 +80,28 @@ fn size_of_reservation(desc: &ReservationDesc) -> u128
     listing(1 + (nodes + (users + accounts)))
 }
 
+// How many nodes the partitions name, each as often as one does.
+fn nodes_listed(partitions: &[PartConf]) -> u128
+    requires { length partitions.now ≤ 64 }
+    ensures value { result ≡ Sizes.nodes_listed partitions.now }
+    ensures small { result < 2 ^ 72 }
+{
+    let mut nodes = 0;
+    for partition in partitions {
+        nodes += partition.nodes.as_slice().len() as u128;
+    }
+    nodes
+}
+
+fn size_of_conf(conf: &Conf, bytes: u32) -> u128
+    ensures value { result ≡ Sizes.conf_listed conf.now bytes }
+    ensures small { result < 2 ^ 80 }
+{
+    let nodes = conf.nodes.as_slice().len() as u128;
+    let listed = nodes_listed(conf.partitions.as_slice());
+    256 + (u128::from(bytes) + (512 * nodes + 4 * listed))
+}
+
 // The size of an entry of the request.
 fn size_of(request: &Request) -> u128
     ensures value { result ≡ Sizes.size_of request.now }
@@ -96,6 +119,7 @@ fn size_of(request: &Request) -> u128
         Request::CreateReservation(desc) => size_of_reservation(desc),
         Request::DeleteReservation { .. } => listing(1),
         Request::Report(report) => size_of_report(report),
+        Request::Reconfigure { conf, bytes } => size_of_conf(conf, *bytes),
         Request::Pass | Request::Shutdown | Request::Show(_) => listing(0),
     }
 }

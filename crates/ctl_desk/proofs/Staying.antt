@@ -3,7 +3,7 @@ use Rattle.std.proofs.Common.{◌≡◌, ◌∙◌, ℕ, Bool, true, false, List
 use Rattle.std.specs.Prelude.{nat_lt}
 use Rattle.std.proofs.lemmas.Bool.{true≢false, false≢true}
 use Rattle.request_data.specs.declared.request.Request.{Request}
-use Rattle.request_data.specs.declared.request.Request.TheVariants.{Submit, Cancel, Hold, Release, Requeue, UpdateJob, UpdateNode, UpdatePartition, CreateReservation, DeleteReservation, Report, Pass, Shutdown, Show}
+use Rattle.request_data.specs.declared.request.Request.TheVariants.{Submit, Cancel, Hold, Release, Requeue, UpdateJob, UpdateNode, UpdatePartition, CreateReservation, DeleteReservation, Report, Pass, Shutdown, Reconfigure, Show}
 use Rattle.reply_data.specs.declared.refusal.Refusal.{Refusal}
 use Rattle.reply_data.specs.declared.refusal.Refusal.TheVariants.{MomentTooLarge, ShuttingDown}
 use Rattle.reply_data.specs.declared.view.View.{View}
@@ -48,6 +48,7 @@ enters_none s now user (DeleteReservation name) shut = closed_enters_none (nat_l
 enters_none s now user (Report report) shut = closed_enters_none (nat_lt last_moment now) s.is_shut (worked s (raised s now) user (Report report)) shut
 enters_none s now user Pass shut = closed_enters_none (nat_lt last_moment now) s.is_shut (worked s (raised s now) user Pass) shut
 enters_none s now user Shutdown shut = closed_enters_none (nat_lt last_moment now) s.is_shut (worked s (raised s now) user Shutdown) shut
+enters_none s now user (Reconfigure conf bytes) shut = closed_enters_none (nat_lt last_moment now) s.is_shut (worked s (raised s now) user (Reconfigure conf bytes)) shut
 enters_none s now user (Show query) shut =
     shown_enters_none (nat_lt last_moment now) (has_room s (Show query))
     (first_refusal (refusals_of s (raised s now) user (Show query))) _

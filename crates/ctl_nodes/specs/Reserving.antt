@@ -30,6 +30,7 @@ reservation_of nodes desc = record {
   start = desc.start;
   end = desc.end;
   nodes = places_among nodes desc.nodes;
+  names = desc.nodes;
   users = desc.users;
   accounts = desc.accounts;
 }

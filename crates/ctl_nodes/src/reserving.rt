@@ -80,9 +80,10 @@ fn reservation_of(nodes: &Nodes, desc: &ReservationDesc) -> Result<Reservation, 
 {
     Ok(Reservation {
         name: desc.name.copy()?,
-        start: desc.start,
+        start: Ranged::new(desc.start.get()),
         end: Ranged::new(desc.end.get()),
         nodes: places_among(nodes, desc.nodes.as_slice()),
+        names: desc.nodes.copy()?,
         users: desc.users.copy()?,
         accounts: desc.accounts.copy()?,
     })

@@ -22,7 +22,7 @@ use Rattle.saved_data.specs.declared.saved.Saved.{Saved}
 use Rattle.saved_data.specs.declared.parts.SavedNode.{SavedNode}
 use Rattle.saved_data.specs.declared.parts.SavedPartition.{SavedPartition}
 use Rattle.ctl_restore.proofs.Usages.{found-passes}
-use Rattle.ctl_restore.specs.Restored.{in_saved_state, restored_job, restored_node, restored_over, restored_partition, restored_placed, restored_reservation, restored_usage, restored_usages, standing_as, standings}
+use Rattle.ctl_restore.specs.Restored.{gone_names, in_saved_state, restored_job, restored_node, restored_over, restored_partition, restored_placed, restored_reservation, restored_usage, restored_usages, standing_as, standings}
 
 -- a partition in another state has its limits, and is on its nodes
 pub partition-keeps : (P : PartRecord → Type 0)
@@ -74,7 +74,7 @@ pub record AreRestored (s : State) (saved : Saved) : Type 0 where
   pub jobs : All (IsKept saved.moment) (map (restored_job s) saved.jobs)
   pub held : IsHeldOnce (map room_of (map (restored_node (standings saved)) s.nodes)) (parts_of (map (restored_job s) saved.jobs))
   pub up : AreUp (map (restored_node (standings saved)) s.nodes) (parts_of (map (restored_job s) saved.jobs))
-  pub plan : PlansPending (map (restored_job s) saved.jobs) (map (restored_placed s.nodes) saved.plan)
+  pub plan : PlansPending (map (restored_job s) saved.jobs) (map (restored_placed s.nodes (gone_names s.nodes saved.plan)) saved.plan)
 
 pub sound-restored : NodesHold → (s : State) (saved : Saved) → IsSound s → s.jobs ≡ [] → AreRestored s saved
     → IsSound (restored_over s saved)

@@ -25,7 +25,7 @@ use Rattle.saved_data.specs.declared.job.SavedJob.{SavedJob}
 use Rattle.saved_data.specs.declared.saved.Saved.{Saved}
 use Rattle.ctl_restore.specs.Fits.{Fits, IsEmptyOnce, IsKnown, IsKnownJob, IsStanding, is_node, is_partition, is_qos, is_user_of}
 use Rattle.ctl_restore.specs.Parts.{AreReserved, AreWellKept, HasParts}
-use Rattle.ctl_restore.specs.Restored.{came_back, restored, restored_job, restored_node, restored_over, restored_part, restored_placed, standings}
+use Rattle.ctl_restore.specs.Restored.{came_back, gone_names, restored, restored_job, restored_node, restored_over, restored_part, restored_placed, standings}
 use Rattle.ctl_restore.specs.Steps.{IsOnUp, IsPlain, IsUnheard}
 use Rattle.ctl_restore.proofs.Tasks.{all-unmap, pairs-map, pairs-unmap, together}
 use Rattle.ctl_restore.proofs.Assembly.{AreRestored}
@@ -112,7 +112,7 @@ below-restored s saved low = All-map (λ (job : JobRecord). job.id < saved.next_
 
 pub are-restored : (s : State) (saved : Saved) → IsPlain saved → IsKnown s saved → AreReserved s.nodes saved
     → AreWellKept saved.moment (map (restored_node (standings saved)) s.nodes) (map (restored_job s) saved.jobs)
-    → PlansPending (map (restored_job s) saved.jobs) (map (restored_placed s.nodes) saved.plan) → AreRestored s saved
+    → PlansPending (map (restored_job s) saved.jobs) (map (restored_placed s.nodes (gone_names s.nodes saved.plan)) saved.plan) → AreRestored s saved
 are-restored s saved plain known reserved kept plan = record {
   of_partitions = of-partitions s saved known.jobs;
   of_accounts = of-accounts s saved known.jobs;
@@ -134,7 +134,7 @@ unfolding restored_over
 well-kept s saved sound = record { held = sound.held; up = sound.up; kept = sound.jobs }
 
 pub plan-sound : (s : State) (saved : Saved) → IsSound (restored_over s saved)
-    → PlansPending (map (restored_job s) saved.jobs) (map (restored_placed s.nodes) saved.plan)
+    → PlansPending (map (restored_job s) saved.jobs) (map (restored_placed s.nodes (gone_names s.nodes saved.plan)) saved.plan)
 unfolding restored_over
 plan-sound s saved sound = sound.plan
 

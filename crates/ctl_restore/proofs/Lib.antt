@@ -8,6 +8,7 @@ mod Users
 mod Positions
 mod Numbered
 mod Planned
+pub mod Gone
 mod Reserved
 mod Usages
 mod Assembly

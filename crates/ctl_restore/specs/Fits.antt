@@ -13,7 +13,7 @@ use Rattle.job_table.specs.JobStates.{is_pending, is_running}
 use Rattle.run_limits.specs.declared.record.AssocRecord.{AssocRecord}
 use Rattle.run_limits.specs.declared.record.QosRecord.{QosRecord}
 use Rattle.run_limits.specs.Accounts.{place_in, qos_meant}
-use Rattle.ctl_state.specs.State.{State, last_moment, last_second, opening}
+use Rattle.ctl_state.specs.State.{State, last_second, opening}
 use Rattle.ctl_state.specs.Soundness.{IsSound}
 use Rattle.saved_data.specs.declared.job.SavedJob.{SavedJob}
 use Rattle.saved_data.specs.declared.parts.SavedArray.{SavedArray}
@@ -127,7 +127,7 @@ pub record IsWellTimed (job : SavedJob) : Type 0 where
 
 -- a reservation's second is one that its type holds
 pub record HasSeconds (line : SavedReservation) : Type 0 where
-  pub start : line.start ≤ last_moment
+  pub start : line.start ≤ last_second
   pub end : line.end ≤ last_second
 
 -- What is saved fits: all that must be is known, nothing is said twice, and it is that of a sound state.

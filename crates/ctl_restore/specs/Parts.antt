@@ -15,7 +15,7 @@ use Rattle.saved_data.specs.declared.parts.SavedUsage.{SavedUsage}
 use Rattle.saved_data.specs.declared.saved.Saved.{Saved}
 use Rattle.ctl_restore.specs.declared.restoring.Parts.{Parts}
 use Rattle.ctl_restore.specs.Fits.{AreOfOthers, HasSeconds, IsKnown, is_user_of}
-use Rattle.ctl_restore.specs.Restored.{is_gone, restored_array, restored_job, restored_placed, restored_reservation, standings}
+use Rattle.ctl_restore.specs.Restored.{gone_names, is_gone, restored_array, restored_job, restored_placed, restored_reservation, standings}
 use Rattle.ctl_restore.specs.Steps.{IsPlain, IsUnheard}
 
 -- the parts are those of what is saved, in a state that has only opened
@@ -23,7 +23,8 @@ pub record ArePartsOf (s : State) (saved : Saved) (parts : Parts) : Type 0 where
   pub dropped : parts.dropped.items ≡ filter (is_gone s.nodes) saved.dropped
   pub jobs : parts.jobs.items ≡ map (restored_job s) saved.jobs
   pub arrays : parts.arrays.items ≡ map restored_array saved.arrays
-  pub plan : parts.plan.items ≡ map (restored_placed s.nodes) saved.plan
+  pub plan : parts.plan.items ≡ map (restored_placed s.nodes (gone_names s.nodes saved.plan)) saved.plan
+  pub gone : parts.gone.items ≡ gone_names s.nodes saved.plan
 
 -- usage is told of associations that there are, and differ
 pub record TellsUsage (assocs : List AssocRecord) (saved : Saved) : Type 0 where

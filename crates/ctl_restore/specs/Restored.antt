@@ -1,7 +1,8 @@
 -- The state that a saved one stands for: the same, with places where it has names. Names that must lead somewhere are a
 -- matter of what fits.
-use Rattle.std.specs.Prelude.{ℕ, Bool, false, is_none, unwrap_or, List, map, length, filter, filter_map, find, bytes_eq, ◌++◌, Option, Some, None, option_map}
+use Rattle.std.specs.Prelude.{ℕ, ◌+◌, Bool, false, is_none, unwrap_or, List, map, length, filter, find, flat_map, position, bytes_eq, ◌++◌, Option, Some, None, option_map}
 use Rattle.std.specs.List.{range_with_len}
+use Rattle.host_lists.specs.Hosts.{distinct}
 use Rattle.plain_data.specs.Assocs.{AssocView}
 use Rattle.plain_data.specs.Confs.{ConfView}
 use Rattle.reply_data.specs.declared.view.NamedPart.{NamedPart}
@@ -87,6 +88,7 @@ restored_reservation nodes saved = record {
   start = saved.start;
   end = saved.end;
   nodes = places_among nodes saved.nodes;
+  names = saved.nodes;
   users = saved.users;
   accounts = saved.accounts;
 }
@@ -126,18 +128,34 @@ restored_job s job = record {
   last_nodes = job.last_nodes;
 }
 
--- a share of a node that is still there
-abbrev pub restored_share : List NodeRecord → SavedShare → Option Share
-restored_share nodes share =
-    option_map (λ place. record { node = place; tasks = share.tasks; cpus = share.cpus; mem = share.mem })
-    (place_named share.node nodes)
+-- the names in these shares that are no node's
+abbrev pub strangers : List NodeRecord → List SavedShare → List (List ℕ)
+strangers nodes shares =
+    filter (λ name. is_none (place_named name nodes)) (map (λ (share : SavedShare). share.node) shares)
 
-unfoldable pub restored_shares : List NodeRecord → List SavedShare → List Share
-restored_shares nodes shares = filter_map (restored_share nodes) shares
+-- the names in a plan that are no node's, each once, at its first place
+unfoldable pub gone_names : List NodeRecord → List SavedPlaced → List (List ℕ)
+gone_names nodes plan = distinct (flat_map (λ (placed : SavedPlaced). strangers nodes placed.shares) plan)
 
-abbrev pub restored_placed : List NodeRecord → SavedPlaced → Placed
-restored_placed nodes saved =
-    record { id = saved.id; start = saved.start; parts = restored_shares nodes saved.shares }
+-- the place of the node with this name, or behind those of the nodes the place among those that are gone
+abbrev pub planned_place : List NodeRecord → List (List ℕ) → List ℕ → ℕ
+planned_place nodes gone name =
+    unwrap_or (place_named name nodes) (length nodes + unwrap_or (position (bytes_eq name) gone) 0)
+
+abbrev pub restored_share : List NodeRecord → List (List ℕ) → SavedShare → Share
+restored_share nodes gone share = record {
+  node = planned_place nodes gone share.node;
+  tasks = share.tasks;
+  cpus = share.cpus;
+  mem = share.mem;
+}
+
+unfoldable pub restored_shares : List NodeRecord → List (List ℕ) → List SavedShare → List Share
+restored_shares nodes gone shares = map (restored_share nodes gone) shares
+
+abbrev pub restored_placed : List NodeRecord → List (List ℕ) → SavedPlaced → Placed
+restored_placed nodes gone saved =
+    record { id = saved.id; start = saved.start; parts = restored_shares nodes gone saved.shares }
 
 -- what is saved, put into a state that has only opened
 unfoldable pub restored_over : State → Saved → State
@@ -149,7 +167,8 @@ restored_over s saved = record s {
   jobs = map (restored_job s) saved.jobs;
   usage = restored_usages saved.usage s.assocs;
   arrays = map restored_array saved.arrays;
-  plan = map (restored_placed s.nodes) saved.plan;
+  plan = map (restored_placed s.nodes (gone_names s.nodes saved.plan)) saved.plan;
+  gone = gone_names s.nodes saved.plan;
   next_id = saved.next_id;
   moment = saved.moment;
 }

@@ -43,6 +43,7 @@ pub fn opened(alloc: Global, conf: Conf, assocs: AssocFile) -> Result<Cluster, M
         jobs,
         arrays: Vec::new(alloc),
         plan: Vec::new(alloc),
+        gone: Vec::new(alloc),
         size: 0,
         is_shut: false,
         moment: 0,

@@ -1,7 +1,8 @@
 //! The last plan, by what is saved of it.
 
-ghost use Rattle.std.specs.Prelude.{◌≡◌, ◌≢◌, ◌≤◌, ◌↔◌, IfOk, IsTrue, AllPairs, map, nat_eq};
+ghost use Rattle.std.specs.Prelude.{◌≡◌, ◌≢◌, ◌≤◌, ◌↔◌, IfOk, OnOk, IsTrue, AllPairs, bytes_eq, fold, map, nat_eq, position, unwrap_or};
 ghost use Rattle.backfill_planner.specs.declared.Placed.{Placed as OnePlaced};
+ghost use Rattle.host_lists.specs.Hosts.{with_name};
 ghost use Rattle.job_table.specs.Table.{job_with};
 ghost use Rattle.ctl_state.specs.Events.{waits};
 ghost use Rattle.ctl_state.specs.Soundness.{PlansPending};
@@ -12,47 +13,100 @@ ghost use Rattle.std.specs.List.{list_all};
 
 use backfill_planner::{Placed, Share};
 use ctl_state::jobs::is_pending;
+use indexmap::IndexSet;
 use job_table::jobs::Jobs;
 use node_state::nodes::Nodes;
 use plain_data::items::Items;
 use saved_data::parts::{SavedPlaced, SavedShare};
 use small_texts::memory_error::Memory;
+use small_texts::name::Name;
 use std::alloc::Global;
 use std::collections::HashSet;
 
-// The share, where its node is still there.
-fn restored_share(nodes: &Nodes, share: &SavedShare) -> Option<Share>
-    ensures { result ≡ spec.restored_share nodes.now.records share.now }
+// Adds the names in these shares that are no node's, each once.
+#[tactic(auto, using(crate::proofs::Gone::adding))]
+fn add_strangers(
+    gone: &mut IndexSet<Name>,
+    nodes: &Nodes,
+    shares: &[SavedShare],
+) -> Result<(), Memory>
+    ensures { OnOk result (gone.new.keys ≡ fold with_name gone.old.keys (spec.strangers nodes.now.records shares.now)) }
 {
-    let node = nodes.find(&share.node)?;
-    Some(Share {
-        node,
+    for share in shares {
+        if nodes.find(&share.node).is_none() {
+            gone.insert(share.node.copy()?)?;
+        }
+    }
+    Ok(())
+}
+
+// The names in the plan that are no node's, each once, in the order in which they come. Linear in its shares; it takes no
+// memory where there are none.
+#[tactic(auto, using(crate::proofs::Gone::adding), unfolding(crate::specs::Restored::gone_names))]
+fn gone_names(alloc: Global, nodes: &Nodes, plan: &[SavedPlaced]) -> Result<IndexSet<Name>, Memory>
+    ensures { IfOk result (λ gone. gone.keys ≡ spec.gone_names nodes.now.records plan.now) }
+{
+    let mut gone = IndexSet::new(alloc);
+    for placed in plan {
+        add_strangers(&mut gone, nodes, placed.shares.as_slice())?;
+    }
+    Ok(gone)
+}
+
+// The place of a name among those of nodes that are gone; any where it isn't there.
+fn gone_place(gone: &IndexSet<Name>, name: &Name) -> usize
+    ensures { result ≡ unwrap_or (position (bytes_eq name.now) gone.now.keys) 0 }
+{
+    gone.get_index_of(name).unwrap_or(0)
+}
+
+// The place of the node with this name: behind those of the nodes where it is gone.
+fn planned_place(nodes: &Nodes, gone: &IndexSet<Name>, name: &Name) -> Result<u32, Memory>
+    ensures { IfOk result (λ place. place ≡ spec.planned_place nodes.now.records gone.now.keys name.now) }
+{
+    if let Some(place) = nodes.find(name) {
+        return Ok(place);
+    }
+    let place = u32::try_from(gone_place(gone, name)).map_err(|_| Memory)?;
+    nodes.len().checked_add(place).ok_or(Memory)
+}
+
+fn restored_share(nodes: &Nodes, gone: &IndexSet<Name>, share: &SavedShare) -> Result<Share, Memory>
+    ensures { IfOk result (λ restored. restored ≡ spec.restored_share nodes.now.records gone.now.keys share.now) }
+{
+    Ok(Share {
+        node: planned_place(nodes, gone, &share.node)?,
         tasks: share.tasks,
         cpus: share.cpus,
         mem: share.mem,
     })
 }
 
+#[tactic(auto, unfolding(crate::specs::Restored::restored_shares))]
 fn restored_shares(
     alloc: Global,
     nodes: &Nodes,
+    gone: &IndexSet<Name>,
     shares: &[SavedShare],
 ) -> Result<Vec<Share>, Memory>
-    ensures { IfOk result (λ restored. restored.items ≡ spec.restored_shares nodes.now.records shares.now) }
+    ensures { IfOk result (λ restored. restored.items ≡ spec.restored_shares nodes.now.records gone.now.keys shares.now) }
 {
     let mut restored = Vec::with_capacity(alloc, shares.len())?;
     for share in shares {
-        if let Some(one) = restored_share(nodes, share) {
-            restored.push(one)?;
-        }
+        restored.push(restored_share(nodes, gone, share)?)?;
     }
     Ok(restored)
 }
 
-fn restored_placed(alloc: Global, nodes: &Nodes, placed: &SavedPlaced) -> Result<Placed, Memory>
-    ensures { IfOk result (λ restored. restored ≡ spec.restored_placed nodes.now.records placed.now) }
+fn restored_placed(
+    alloc: Global,
+    nodes: &Nodes,
+    gone: &IndexSet<Name>,
+    placed: &SavedPlaced,
+) -> Result<Placed, Memory>
+    ensures { IfOk result (λ restored. restored ≡ spec.restored_placed nodes.now.records gone.now.keys placed.now) }
 {
-    let shares = restored_shares(alloc, nodes, placed.shares.as_slice())?;
+    let shares = restored_shares(alloc, nodes, gone, placed.shares.as_slice())?;
     Ok(Placed {
         id: placed.id,
         start: placed.start,
@@ -60,19 +114,36 @@ fn restored_placed(alloc: Global, nodes: &Nodes, placed: &SavedPlaced) -> Result
     })
 }
 
-/// The plan, without shares of nodes that are gone (own). Linear in its shares.
+// The placements, where these names are those of nodes that are gone. Linear in their shares.
+fn restored_placements(
+    alloc: Global,
+    nodes: &Nodes,
+    gone: &IndexSet<Name>,
+    plan: &[SavedPlaced],
+) -> Result<Vec<Placed>, Memory>
+    ensures { IfOk result (λ restored. restored.items ≡ map (spec.restored_placed nodes.now.records gone.now.keys) plan.now) }
+{
+    let mut restored = Vec::with_capacity(alloc, plan.len())?;
+    for placed in plan {
+        restored.push(restored_placed(alloc, nodes, gone, placed)?)?;
+    }
+    Ok(restored)
+}
+
+/// The plan, and the names in it that are no node's. Linear in its shares.
 pub fn restored_plan(
     alloc: Global,
     nodes: &Nodes,
     plan: &[SavedPlaced],
-) -> Result<Vec<Placed>, Memory>
-    ensures { IfOk result (λ restored. restored.items ≡ map (spec.restored_placed nodes.now.records) plan.now) }
+) -> Result<(Vec<Placed>, Vec<Name>), Memory>
+    ensures plan { IfOk result (λ found. found.0.items
+        ≡ map (spec.restored_placed nodes.now.records (spec.gone_names nodes.now.records plan.now)) plan.now) }
+    ensures gone { IfOk result (λ found. found.1.items ≡ spec.gone_names nodes.now.records plan.now) }
 {
-    let mut restored = Vec::with_capacity(alloc, plan.len())?;
-    for placed in plan {
-        restored.push(restored_placed(alloc, nodes, placed)?)?;
-    }
-    Ok(restored)
+    let gone = gone_names(alloc, nodes, plan)?;
+    let placements = restored_placements(alloc, nodes, &gone, plan)?;
+    let names = gone.into_iter().collect(alloc)?;
+    Ok((placements, names))
 }
 
 // Whether there is a job with this number that waits.

@@ -44,6 +44,7 @@ fn restored_reservation(
         start,
         end,
         nodes: places_among(nodes, line.nodes.as_slice()),
+        names: line.nodes.copy()?,
         users: line.users.copy()?,
         accounts: line.accounts.copy()?,
     }))

@@ -59,6 +59,7 @@ struct Parts {
     jobs: Vec<JobRecord>,
     arrays: Vec<ArrayRecord>,
     plan: Vec<Placed>,
+    gone: Vec<Name>,
 }
 
 // What the associations have used, where the lines are of associations that differ.
@@ -136,11 +137,13 @@ fn find_parts(
     requires arrays { All IsList saved.now.arrays }
     ensures { IfOk result (ArePartsOf (state_of cluster.now) saved.now) }
 {
+    let (plan, gone) = restored_plan(alloc, &cluster.nodes, saved.plan.as_slice())?;
     Ok(Parts {
         dropped: still_dropped(alloc, &cluster.nodes, saved.dropped.as_slice())?,
         jobs: restored_jobs(alloc, cluster, users, saved.jobs.as_slice())?,
         arrays: restored_arrays(alloc, saved.arrays.as_slice())?,
-        plan: restored_plan(alloc, &cluster.nodes, saved.plan.as_slice())?,
+        plan,
+        gone,
     })
 }
 
@@ -205,6 +208,7 @@ fn put(
     cluster.reservations = reservations;
     cluster.arrays = parts.arrays;
     cluster.plan = parts.plan;
+    cluster.gone = parts.gone;
     cluster.next_id = saved.next_id;
     cluster.moment = saved.moment;
     Ok(())

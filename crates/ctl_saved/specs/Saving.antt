@@ -1,5 +1,5 @@
 -- What is saved of a state: the same, with names where it has places.
-use Rattle.std.specs.Prelude.{◌≤◌, ℕ, ◌&&◌, nat_lt, if◌then◌else◌, unwrap_or, List, [], map, filter_map, slice_get, AllPairs, Option, Some, None, option_map}
+use Rattle.std.specs.Prelude.{◌≤◌, ℕ, ◌&&◌, nat_lt, if◌then◌else◌, unwrap_or, List, [], ◌++◌, map, filter_map, slice_get, AllPairs, Option, Some, None, option_map}
 use Rattle.std.specs.List.{zip}
 use Rattle.reply_data.specs.declared.view.NamedPart.{NamedPart}
 use Rattle.node_state.specs.declared.record.DroppedNode.{DroppedNode}
@@ -44,10 +44,6 @@ saved_array array = record { id = array.id; indices = array.indices }
 abbrev pub name_at : List NodeRecord → ℕ → Option (List ℕ)
 name_at nodes place = option_map (λ (node : NodeRecord). node.conf.name) (slice_get nodes place)
 
--- the names of the nodes at these places
-unfoldable pub names_at : List NodeRecord → List ℕ → List (List ℕ)
-names_at nodes places = filter_map (name_at nodes) places
-
 -- what a part holds, by the name of its node
 abbrev pub named_part : List NodeRecord → Part → Option NamedPart
 named_part nodes part =
@@ -56,25 +52,29 @@ named_part nodes part =
 unfoldable pub named_parts : List NodeRecord → List Part → List NamedPart
 named_parts nodes parts = filter_map (named_part nodes) parts
 
+-- the name of the node at a place of a plan: behind the nodes stand those that are no longer there
+abbrev pub planned_name : List NodeRecord → List (List ℕ) → ℕ → Option (List ℕ)
+planned_name nodes gone place = slice_get (map (λ (node : NodeRecord). node.conf.name) nodes ++ gone) place
+
 -- a planned share, by the name of its node
-abbrev pub saved_share : List NodeRecord → Share → Option SavedShare
-saved_share nodes share =
+abbrev pub saved_share : List NodeRecord → List (List ℕ) → Share → Option SavedShare
+saved_share nodes gone share =
     option_map (λ name. record { node = name; tasks = share.tasks; cpus = share.cpus; mem = share.mem })
-    (name_at nodes share.node)
+    (planned_name nodes gone share.node)
 
-unfoldable pub saved_shares : List NodeRecord → List Share → List SavedShare
-saved_shares nodes shares = filter_map (saved_share nodes) shares
+unfoldable pub saved_shares : List NodeRecord → List (List ℕ) → List Share → List SavedShare
+saved_shares nodes gone shares = filter_map (saved_share nodes gone) shares
 
-abbrev pub saved_placed : List NodeRecord → Placed → SavedPlaced
-saved_placed nodes placed =
-    record { id = placed.id; start = placed.start; shares = saved_shares nodes placed.parts }
+abbrev pub saved_placed : List NodeRecord → List (List ℕ) → Placed → SavedPlaced
+saved_placed nodes gone placed =
+    record { id = placed.id; start = placed.start; shares = saved_shares nodes gone placed.parts }
 
-unfoldable pub saved_reservation : List NodeRecord → Reservation → SavedReservation
-saved_reservation nodes reservation = record {
+unfoldable pub saved_reservation : Reservation → SavedReservation
+saved_reservation reservation = record {
   name = reservation.name;
   start = reservation.start;
   end = reservation.end;
-  nodes = names_at nodes reservation.nodes;
+  nodes = reservation.names;
   users = reservation.users;
   accounts = reservation.accounts;
 }
@@ -125,10 +125,10 @@ saved_of s = record {
   nodes = map saved_node s.nodes;
   dropped = s.dropped;
   usage = saved_usages s.assocs s.usage;
-  reservations = map (saved_reservation s.nodes) s.reservations;
+  reservations = map saved_reservation s.reservations;
   arrays = map saved_array s.arrays;
   jobs = map (saved_job s.partitions s.nodes) s.jobs;
-  plan = map (saved_placed s.nodes) s.plan;
+  plan = map (saved_placed s.nodes s.gone) s.plan;
 }
 
 -- a state's arrays and dropped nodes stand in their order, as its jobs do

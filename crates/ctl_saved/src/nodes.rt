@@ -6,7 +6,6 @@ ghost use Rattle.ctl_saved.specs.Saving as spec;
 use node_state::partition_record::PartRecord;
 use node_state::record::{DroppedNode, NodeRecord};
 use node_state::reservation_record::Reservation;
-use plain_data::items::Items;
 use saved_data::parts::{SavedNode, SavedPartition, SavedReservation};
 use small_texts::memory_error::Memory;
 use small_texts::name::Name;
@@ -69,33 +68,15 @@ pub fn name_at(nodes: &[NodeRecord], place: u32) -> Result<Option<Name>, Memory>
     }
 }
 
-fn names_at(alloc: Global, nodes: &[NodeRecord], places: &[u32]) -> Result<Vec<Name>, Memory>
-    ensures { IfOk result (λ names. names.items ≡ spec.names_at nodes.now places.now) }
-{
-    let mut names = Vec::with_capacity(alloc, places.len())?;
-    for place in places {
-        if let Some(name) = name_at(nodes, *place)? {
-            names.push(name)?;
-        }
-    }
-    Ok(names)
-}
-
 #[tactic(auto, unfolding(crate::specs::Saving::saved_reservation))]
-fn saved_reservation(
-    alloc: Global,
-    nodes: &[NodeRecord],
-    reservation: &Reservation,
-) -> Result<SavedReservation, Memory>
-    ensures { IfOk result (λ saved. saved ≡ spec.saved_reservation nodes.now reservation.now) }
+fn saved_reservation(reservation: &Reservation) -> Result<SavedReservation, Memory>
+    ensures { IfOk result (λ saved. saved ≡ spec.saved_reservation reservation.now) }
 {
-    let places = reservation.nodes.to_vec(alloc)?;
-    let names = names_at(alloc, nodes, places.as_slice())?;
     Ok(SavedReservation {
         name: reservation.name.copy()?,
         start: reservation.start.get(),
         end: reservation.end.get(),
-        nodes: Items::from_vec(names),
+        nodes: reservation.names.copy()?,
         users: reservation.users.copy()?,
         accounts: reservation.accounts.copy()?,
     })
@@ -103,14 +84,13 @@ fn saved_reservation(
 
 pub fn saved_reservations(
     alloc: Global,
-    nodes: &[NodeRecord],
     reservations: &[Reservation],
 ) -> Result<Vec<SavedReservation>, Memory>
-    ensures { IfOk result (λ saved. saved.items ≡ map (spec.saved_reservation nodes.now) reservations.now) }
+    ensures { IfOk result (λ saved. saved.items ≡ map spec.saved_reservation reservations.now) }
 {
     let mut saved = Vec::with_capacity(alloc, reservations.len())?;
     for reservation in reservations {
-        saved.push(saved_reservation(alloc, nodes, reservation)?)?;
+        saved.push(saved_reservation(reservation)?)?;
     }
     Ok(saved)
 }

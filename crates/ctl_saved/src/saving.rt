@@ -33,14 +33,15 @@ pub fn saved_cluster(alloc: Global, cluster: &Cluster) -> Result<Saved, Memory>
         nodes: Items::from_vec(saved_nodes(alloc, nodes)?),
         dropped: Items::from_vec(copied_dropped(alloc, cluster.dropped.as_slice())?),
         usage: Items::from_vec(saved_usages(alloc, &cluster.assocs, jobs.usage())?),
-        reservations: Items::from_vec(saved_reservations(
-            alloc,
-            nodes,
-            cluster.reservations.records(),
-        )?),
+        reservations: Items::from_vec(saved_reservations(alloc, cluster.reservations.records())?),
         arrays: Items::from_vec(saved_arrays(alloc, cluster.arrays.as_slice())?),
         jobs: Items::from_vec(saved_jobs(alloc, partitions, nodes, jobs.records())?),
-        plan: Items::from_vec(saved_plan(alloc, nodes, cluster.plan.as_slice())?),
+        plan: Items::from_vec(saved_plan(
+            alloc,
+            nodes,
+            cluster.gone.as_slice(),
+            cluster.plan.as_slice(),
+        )?),
     })
 }
 

@@ -5,7 +5,7 @@ use Rattle.std.specs.List.{list_any}
 use Rattle.std.proofs.lemmas.Bool.{false≢true}
 use Rattle.std.proofs.lemmas.Bool.Decides.{Decides-ltb}
 use Rattle.std.proofs.lemmas.List.{length-map}
-use Rattle.std.proofs.lemmas.List.Folds.{list_any_at}
+use Rattle.std.proofs.lemmas.List.Folds.{list_any_at, list_any_none}
 use Rattle.slurm_io.specs.Faults.{CountsOne}
 use Rattle.slurm_net.specs.Host.{CountsIf, KeepsSessions}
 use Rattle.std.specs.List.{AllZip}
@@ -19,10 +19,12 @@ use Rattle.ctl_state.specs.State.{State}
 use Rattle.ctl_desk.specs.declared.entry.Entry.{Entry}
 use Rattle.ctl_desk.specs.History.{after_all, BookState, history_in, of_session, present}
 use Rattle.ctl_server.specs.Locked.{BookView}
+use Rattle.ctl_server.specs.declared.working.WorkerEnd.{WorkerEnd}
 use Rattle.ctl_server.specs.declared.working.WorkerEnd.TheVariants.{Shut, DoorFault, Memory}
 use Rattle.ctl_server.specs.declared.workers.Worked.{Worked}
+use Rattle.ctl_server.specs.Ends.{EndsServing, end_with}
 use Rattle.ctl_server.specs.Numbered.{AreOfWorker, AreServed}
-use Rattle.ctl_server.specs.Parts.{BeganWith, HasMet, HasSeenShut, IsBookOf, IsLeft, IsWhole, claims_of}
+use Rattle.ctl_server.specs.Parts.{BeganWith, EndBy, HasMet, HasSeenShut, IsBookOf, IsLeft, IsWhole, claims_of}
 use Rattle.ctl_server.proofs.Meeting.{front_claims, front_differ, numbers_differ, starts_trans}
 
 pass_in : {A : Type 0} → Worked A → BookView
@@ -136,9 +138,25 @@ fault_shown {A} lock faults_of sessions_of opening course all doors left any clo
     ∙ list_any_at (λ (one : Worked A). nat_lt 0 (faults_of one.door)) all k x any.2
     ((Decides-ltb 0 (faults_of (slice_index_or all k x).door)).1 failed))
 
+-- workers that all ended by the shutdown left doors of which none has failed
+pub none_shown : {A : Type 0} (lock : TableId) (faults_of : A → ℕ) (sessions_of : A → Option (List LinkSession))
+    (opening : State) (course : Option Course) (all : List (Worked A)) (doors : List A)
+    → All (IsLeft lock faults_of sessions_of opening course) all
+    → All (λ (one : Worked A). one.end ≡ Shut) all → doors ≡ map (λ (one : Worked A). one.door) all
+    → list_any (λ (door : A). nat_lt 0 (faults_of door)) doors ≡ false
+none_shown {A} lock faults_of sessions_of opening course all doors left shut closing =
+    ap (list_any (λ (door : A). nat_lt 0 (faults_of door))) closing
+    ∙ (any_mapped (λ (door : A). nat_lt 0 (faults_of door)) (λ (one : Worked A). one.door) all
+    ∙ list_any_none (λ (one : Worked A). nat_lt 0 (faults_of one.door)) all
+    (λ k x inside. ap (nat_lt 0) ((left k x inside).unfailed (shut k x inside))))
+
 pub counts_one : (failed : Bool) (before after : ℕ) → CountsIf failed before after → failed ≡ true → CountsOne before after
 counts_one true before after counts is = counts
 counts_one false before after counts is = absurd (false≢true is)
+
+counts_none : (failed : Bool) (before after : ℕ) → CountsIf failed before after → failed ≡ false → after ≡ before
+counts_none true before after counts is = absurd (false≢true (sym is))
+counts_none false before after counts is = counts
 
 -- where a shutdown was seen it stays
 abbrev pub StaysShut : Type 0
@@ -194,3 +212,29 @@ ends_shut {A} lock faults_of sessions_of opening course n all planner reporter d
       if_kept lock faults_of sessions_of opening course n all (planner ∷ reporter ∷ []) doors own
           pass book closed left shut met alone is opens closing count keeps,
     )
+
+-- how the server ends, by how its workers ended
+pub ends_by : {A : Type 0} (lock : TableId) (faults_of : A → ℕ) (sessions_of : A → Option (List LinkSession))
+    (opening : State) (course : Option Course) (n : ℕ) (all : List (Worked A)) (planner reporter : BookView) (doors : List A)
+    (own pass : BookView) (book : BookState) (closed : Option (List (List LinkSession))) (faults faults' : ℕ)
+    (end : WorkerEnd) → StaysShut → BeganWith opening own → HasSeenShut opening planner
+    → All (IsLeft lock faults_of sessions_of opening course) all → EndBy all end
+    → HasMet own (map (λ (one : Worked A). one.pass) all ++ planner ∷ reporter ∷ []) pass → own.taken ≡ []
+    → IsBookOf pass book → doors ≡ map (λ (one : Worked A). one.door) all → length all ≡ n
+    → KeepsSessions closed (map sessions_of doors)
+    → CountsIf (list_any (λ (door : A). nat_lt 0 (faults_of door)) doors) faults faults'
+    → EndsServing opening course n (end_with end book) closed faults faults'
+ends_by {A} lock faults_of sessions_of opening course n all planner reporter doors own pass book closed faults faults' Shut stays began seen_shut left by met alone is closing count keeps counts =
+    let ends = ends_shut lock faults_of sessions_of opening course n all planner reporter doors own pass book closed stays
+    began seen_shut left by met alone is closing count keeps in (
+      ends.0,
+      ends.1,
+      ends.2,
+      counts_none (list_any (λ (door : A). nat_lt 0 (faults_of door)) doors) faults faults' counts
+          (none_shown lock faults_of sessions_of opening course all doors left by closing),
+    )
+ends_by {A} lock faults_of sessions_of opening course n all planner reporter doors own pass book closed faults faults' DoorFault stays began seen_shut left by met alone is closing count keeps counts =
+    counts_one (list_any (λ (door : A). nat_lt 0 (faults_of door)) doors) faults faults' counts
+    (fault_shown lock faults_of sessions_of opening course all doors left by closing)
+ends_by {A} lock faults_of sessions_of opening course n all planner reporter doors own pass book closed faults faults' Memory stays began seen_shut left by met alone is closing count keeps counts =
+    tt

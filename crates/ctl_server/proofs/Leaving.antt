@@ -175,6 +175,9 @@ left_by lock out_of faults_of sessions_of moments course_of opening course seat 
       failed = λ is.
           let cause = subst (λ (end : WorkerEnd). IsCause end servings old new) is worked.1.cause in
           subst (λ (n : ℕ). 0 < n) (sym (cause.2.0 ∙ ap next_count ready.unfailed)) counted;
+      unfailed = λ is.
+          let cause = subst (λ (end : WorkerEnd). IsCause end servings old new) is worked.1.cause in
+          cause.2 ∙ ready.unfailed;
       served = λ apart. if_added old.sessions new.sessions (sessions_in servings)
           (λ sessions. (book : BookState) → IsWhole opening pass book → AreOfWorker course book pass.number sessions)
           worked.1.sessions ready.unserved

@@ -1,5 +1,5 @@
 -- How the parts end a server, clause by clause.
-use Rattle.std.proofs.Common.{◌≡◌, ℕ, List, length, Option, Some, None, IfSome, true, subst, inr}
+use Rattle.std.proofs.Common.{◌≡◌, ◌∙◌, ℕ, List, length, Option, Some, None, IfSome, true, subst, inr}
 use Rattle.std.specs.Io.KnownBytes.{Appends}
 use Rattle.slurm_io.specs.Faults.{CountsOne}
 use Rattle.slurm_net.specs.Course.{Course}
@@ -59,3 +59,10 @@ module _ (opening : State) (course : Option Course) (n : ℕ) (closed : Option (
     of_fault end before ends same is =
         subst (λ (b : ℕ). CountsOne b faults') same
         (subst (λ (e : ServeEnd). EndsServing opening course n e closed faults faults') is ends)
+
+    pub of_unfailed : (end : ServeEnd) (before : ℕ) → EndsServing opening course n end closed faults faults'
+        → faults ≡ before → IfShut end (λ _. faults' ≡ before)
+    of_unfailed (Shut book) before ends same = ends.3 ∙ same
+    of_unfailed DoorFault before ends same = tt
+    of_unfailed WriteFault before ends same = tt
+    of_unfailed Memory before ends same = tt

@@ -9,7 +9,15 @@ use Rattle.ctl_state.specs.State.{State}
 use Rattle.ctl_desk.specs.History.{BookState, history_in, present}
 use Rattle.ctl_server.specs.declared.ending.ServeEnd.{ServeEnd}
 use Rattle.ctl_server.specs.declared.ending.ServeEnd.TheVariants.{Shut, DoorFault, WriteFault, Memory}
+use Rattle.ctl_server.specs.declared.working.WorkerEnd.{WorkerEnd}
+use Rattle.ctl_server.specs.declared.working.WorkerEnd.TheVariants as worker
 use Rattle.ctl_server.specs.Numbered.{AreServed}
+
+-- how a server ends whose workers ended so, taken together: with its book where they saw the shutdown
+abbrev pub end_with : WorkerEnd → BookState → ServeEnd
+end_with worker.Shut book = Shut book
+end_with worker.DoorFault book = DoorFault
+end_with worker.Memory book = Memory
 
 -- a fact about the book with which a server ended
 abbrev pub IfShut : ServeEnd → (BookState → Type 0) → Type 0
@@ -24,12 +32,12 @@ Writes WriteFault old new faults faults' line = AppendsFront old new line × Cou
 Writes end old new faults faults' line = ((new ≡ old) ⊎ Appends old new line) × (faults' ≡ faults)
 
 -- How the parts of a server end it, by the lists of sessions that its host keeps and the host's count of faults: with a
--- book that has the opening and an accepted shutdown, and with the sessions of so many workers by it; or one of its
--- doors had failed.
+-- book that has the opening and an accepted shutdown, and with the sessions of so many workers by it, and no door had
+-- failed; or one of its doors had.
 abbrev pub EndsServing : State → Option Course → ℕ → ServeEnd → Option (List (List LinkSession)) → ℕ → ℕ → Type 0
 EndsServing opening course workers (Shut book) closed faults faults' =
     (book.opening ≡ opening) × ((present (history_in book)).is_shut ≡ true)
-    × IfSome closed (λ lists. (length lists ≡ workers) × AreServed course book lists)
+    × IfSome closed (λ lists. (length lists ≡ workers) × AreServed course book lists) × (faults' ≡ faults)
 EndsServing opening course workers DoorFault closed faults faults' = CountsOne faults faults'
 EndsServing opening course workers WriteFault closed faults faults' = ⊥
 EndsServing opening course workers Memory closed faults faults' = Unit {0}

@@ -5,6 +5,7 @@ pub mod Parts
 pub mod Prepared
 pub mod Locked
 pub mod Cause
+pub mod Daemons
 pub mod Run
 pub mod Served
 pub mod Serving

@@ -57,12 +57,13 @@ module _ {A C G : Type 0} (lock : TableId) (out_of : A → Option Wire) (faults_
       pub tells : IfSome course (λ _. moments_of seat.clock ≡ Some [])
       pub course_is : course_of seat.clock ≡ course
 
--- What a worker leaves: a pass, a door that has failed where it ended so, and, where the door tells its sessions and
--- memory wasn't wanting, these are the worker's by the whole history.
+-- What a worker leaves: a pass, a door that has failed where it ended so, and hasn't where it ended by the shutdown, and,
+-- where the door tells its sessions and memory wasn't wanting, these are the worker's by the whole history.
 pub record IsLeft {A : Type 0} (lock : TableId) (faults_of : A → ℕ) (sessions_of : A → Option (List LinkSession))
     (opening : State) (course : Option Course) (worked : Worked A) : Type 0 where
   pub own : worked.pass.lock ≡ lock
   pub failed : worked.end ≡ DoorFault → 0 < faults_of worked.door
+  pub unfailed : worked.end ≡ Shut → faults_of worked.door ≡ 0
   pub served : worked.end ≢ Memory → IfSome (sessions_of worked.door) (λ sessions. (book : BookState)
       → IsWhole opening worked.pass book → AreOfWorker course book worked.pass.number sessions)
 

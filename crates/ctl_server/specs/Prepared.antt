@@ -11,9 +11,8 @@ pub record HasRooms {A C G : Type 0} (workers : ℕ) (rooms : Rooms A C G) : Typ
   pub none_closed : rooms.room.items ≡ []
   pub room : workers ≤ vec_capacity rooms.room
 
--- a lock that keeps a book, with its first pass, and rooms for so many workers
-pub record IsPrepared {A C G : Type 0} (book : BookState) (workers : ℕ) (prepared : Prepared A C G) : Type 0 where
+-- a lock that keeps a book, with its first pass, which has taken in no other
+pub record IsLocked {A C G : Type 0} (book : BookState) (prepared : Prepared A C G) : Type 0 where
   pub lock : prepared.pass.lock ≡ prepared.lock
   pub first : prepared.pass.first ≡ Some book
   pub alone : prepared.pass.taken ≡ []
-  pub rooms : HasRooms workers prepared.rooms

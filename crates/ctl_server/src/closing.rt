@@ -3,7 +3,7 @@
 ghost use Rattle.std.specs.Prelude.{◌≡◌, ◌+◌, ◌≤◌, ◌++◌, ◌∷◌, [], All, map, Option, vec_capacity, vec_len};
 ghost use Rattle.slurm_net.specs.Course.{Course};
 ghost use Rattle.ctl_state.specs.State.{State};
-ghost use Rattle.ctl_server.specs.Ends.{EndsServing};
+ghost use Rattle.ctl_server.specs.Ends.{EndsServing, end_with};
 ghost use Rattle.ctl_server.specs.Parts.{BeganWith, EndBy, HasMet, HasSeenShut, IsBookOf, IsLeft};
 
 use crate::ending::ServeEnd;
@@ -36,14 +36,31 @@ fn meet_all<A: Drop>(
     end
 }
 
-// Takes the turn, and the book from the lock.
-fn take_book<R: Wait>(rt: &R, lock: BookLock, pass: BookPass) -> Book
+/// Takes the turn, and the book from the lock.
+pub(crate) fn take_book<R: Wait>(rt: &R, lock: BookLock, pass: BookPass) -> Book
     requires own { pass.lock ≡ lock }
     ensures { IsBookOf pass result }
 {
     let held = lock.enter(rt, pass);
     let _ = held.turn.number();
     lock.finish(held)
+}
+
+// How the server ends, by how its workers ended, taken together.
+fn end_with(end: WorkerEnd, book: Book) -> ServeEnd
+    ensures { result ≡ end_with end book }
+{
+    match end {
+        WorkerEnd::Shut => ServeEnd::Shut(book),
+        WorkerEnd::DoorFault => {
+            book.let_go();
+            ServeEnd::DoorFault
+        }
+        WorkerEnd::Memory => {
+            book.let_go();
+            ServeEnd::Memory
+        }
+    }
 }
 
 /// Takes in what the parts left, hands the doors back, and takes the book from the lock.
@@ -79,15 +96,5 @@ where
     host.close_doors(doors);
     let book = take_book(rt, lock, pass);
     what_is_shut_stays_shut();
-    match end {
-        WorkerEnd::Shut => ServeEnd::Shut(book),
-        WorkerEnd::DoorFault => {
-            book.let_go();
-            ServeEnd::DoorFault
-        }
-        WorkerEnd::Memory => {
-            book.let_go();
-            ServeEnd::Memory
-        }
-    }
+    end_with(end, book)
 }

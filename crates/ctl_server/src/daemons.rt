@@ -1,9 +1,11 @@
 //! The turns of the nodes' daemons, round after round.
 
-ghost use Rattle.std.specs.Prelude.{◌≡◌, true, false};
+ghost use Rattle.std.specs.Prelude.{◌≡◌, ◌++◌, IfOk, OnOk, true, false};
 ghost use Rattle.std.specs.Bool.{OnFalse, OnTrue};
+ghost use Rattle.std.specs.Option.{option_to_list};
 ghost use Rattle.ctl_desk.specs.Desk.{GoesOn, history_of};
 ghost use Rattle.ctl_desk.specs.History.{present};
+ghost use Rattle.ctl_server.specs.Daemons.{daemon_of, daemons_of, next_boot};
 
 use ctl_desk::desk::Desk;
 use node_daemon::daemon::DaemonState;
@@ -19,24 +21,46 @@ const SECONDS_A_REST: u64 = 30;
 
 // The boot number with which the daemon of a node begins: 1, or one above that of its last report. There is none above
 // the last.
-fn next_boot(node: &NodeRecord) -> Option<u64> {
+fn next_boot(node: &NodeRecord) -> Option<u64>
+    ensures { result ≡ next_boot node.now.heard }
+{
     match node.heard {
         Some(heard) => heard.boot.checked_add(1),
         None => Some(1),
     }
 }
 
+// The daemon of a node as the server begins, if there is a boot number for it.
+fn daemon_of(alloc: Global, node: &NodeRecord) -> Result<Option<DaemonState>, Memory>
+    ensures { IfOk result (λ daemon. daemon ≡ daemon_of node.now) }
+{
+    match next_boot(node) {
+        Some(boot) => {
+            let daemon = DaemonState::new(alloc, &node.conf.name, boot)?;
+            Ok(Some(daemon))
+        }
+        None => Ok(None),
+    }
+}
+
+// Adds what there is.
+fn push_found(daemons: &mut Vec<DaemonState>, found: Option<DaemonState>) -> Result<(), Memory>
+    ensures { OnOk result (daemons.new.items ≡ daemons.old.items ++ option_to_list found) }
+{
+    if let Some(daemon) = found {
+        daemons.push(daemon)?;
+    }
+    Ok(())
+}
+
 /// The daemons of these nodes as they are when the server begins: they run nothing. A node without a further boot number
 /// has none.
-pub(crate) fn start_daemons(
-    alloc: Global,
-    nodes: &[NodeRecord],
-) -> Result<Vec<DaemonState>, Memory> {
+pub(crate) fn start_daemons(alloc: Global, nodes: &[NodeRecord]) -> Result<Vec<DaemonState>, Memory>
+    ensures { IfOk result (λ daemons. daemons.items ≡ daemons_of nodes.now) }
+{
     let mut daemons = Vec::with_capacity(alloc, nodes.len())?;
     for node in nodes {
-        if let Some(boot) = next_boot(node) {
-            daemons.push(DaemonState::new(alloc, &node.conf.name, boot)?)?;
-        }
+        push_found(&mut daemons, daemon_of(alloc, node)?)?;
     }
     Ok(daemons)
 }

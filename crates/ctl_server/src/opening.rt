@@ -1,5 +1,9 @@
 //! What the parts of a server take of its book's settings.
 
+ghost use Rattle.std.specs.Prelude.{◌≡◌, IfOk};
+ghost use Rattle.ctl_desk.specs.History.{history_in, present};
+ghost use Rattle.ctl_server.specs.Daemons.{daemons_of};
+
 use crate::daemons::{rests_for, start_daemons};
 use ctl_desk::book::Book;
 use node_daemon::daemon::DaemonState;
@@ -17,8 +21,15 @@ pub(crate) struct Pace {
     pub daemons: Vec<DaemonState>,
 }
 
+impl Pace {
+    /// Lets it go.
+    pub(crate) fn let_go(self) {}
+}
+
 /// What the parts take of the settings of this book. Linear in its nodes.
-pub(crate) fn pace_of(alloc: Global, book: &Book) -> Result<Pace, Memory> {
+pub(crate) fn pace_of(alloc: Global, book: &Book) -> Result<Pace, Memory>
+    ensures daemons { IfOk result (λ pace. pace.daemons.items ≡ daemons_of (present (history_in book.now)).nodes) }
+{
     let ctl = book.ctl();
     let settings = ctl.settings();
     Ok(Pace {

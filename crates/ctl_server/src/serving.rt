@@ -11,10 +11,10 @@ ghost use Rattle.ctl_server.specs.Ends.{EndsServing, IfShut, IsUnopened, Writes}
 ghost use Rattle.ctl_server.specs.Line.{serving_line};
 ghost use Rattle.ctl_server.specs.Numbered.{AreServed};
 ghost use Rattle.ctl_server.specs.Parts.{BeganWith};
-ghost use Rattle.ctl_server.specs.Prepared.{HasRooms, IsPrepared};
+ghost use Rattle.ctl_server.specs.Prepared.{HasRooms, IsLocked};
 
 use crate::beside::{Planner, Reporter};
-use crate::closing::close;
+use crate::closing::{close, take_book};
 use crate::ending::ServeEnd;
 use crate::line::serving_line;
 use crate::opening::{Pace, pace_of};
@@ -38,8 +38,8 @@ struct Rooms<A, C, G> {
     room: Vec<A>,
 }
 
-// What is made before the doors are opened: the rooms, the lock, and what the parts take of the settings.
-#[derive(Drop)]
+// What is made before the doors are opened: the rooms, the lock, and what the parts take of the settings. Nobody lets go
+// of a lock: the book is taken out of it.
 struct Prepared<A, C, G> {
     lock: BookLock,
     pass: BookPass,
@@ -59,12 +59,42 @@ fn rooms_for<A: Drop, C: Drop, G: Drop>(
     Ok(Rooms { seats, room })
 }
 
-// What the parts take of the settings of this book, which goes on, or is let go where memory is wanting.
-fn paced(alloc: Global, book: Book) -> Result<(Pace, Book), Memory>
-    ensures { IfOk result (λ made. made.1 ≡ book) }
+// What is made before the lock: what the parts take of the settings, and the rooms.
+#[derive(Drop)]
+struct Beginnings<A, C, G> {
+    pace: Pace,
+    rooms: Rooms<A, C, G>,
+}
+
+// Makes that for so many workers at this book.
+fn beginnings_for<A: Drop, C: Drop, G: Drop>(
+    alloc: Global,
+    book: &Book,
+    workers: u32,
+) -> Result<Beginnings<A, C, G>, Memory>
+    ensures { IfOk result (λ made. HasRooms workers made.rooms) }
 {
-    match pace_of(alloc, &book) {
-        Ok(pace) => Ok((pace, book)),
+    let pace = pace_of(alloc, book)?;
+    match rooms_for(alloc, workers) {
+        Ok(rooms) => Ok(Beginnings { pace, rooms }),
+        Err(Memory) => {
+            pace.let_go();
+            Err(Memory)
+        }
+    }
+}
+
+// The same beside this book, which goes on, or is let go where memory is wanting.
+fn begun<A: Drop, C: Drop, G: Drop>(
+    alloc: Global,
+    book: Book,
+    workers: u32,
+) -> Result<(Beginnings<A, C, G>, Book), Memory>
+    ensures rooms { IfOk result (λ made. HasRooms workers made.0.rooms) }
+    ensures book { IfOk result (λ made. made.1 ≡ book) }
+{
+    match beginnings_for(alloc, &book, workers) {
+        Ok(beginnings) => Ok((beginnings, book)),
         Err(Memory) => {
             book.let_go();
             Err(Memory)
@@ -72,24 +102,53 @@ fn paced(alloc: Global, book: Book) -> Result<(Pace, Book), Memory>
     }
 }
 
-// Makes all that takes memory.
+// Lets go of what was made where there is no lock.
+fn let_beginnings_go<A: Drop, C: Drop, G: Drop>(_beginnings: Beginnings<A, C, G>) {}
+
+// Makes all that takes memory: what is small first, so that of all that is made the lock comes last.
 fn prepare<A: Drop, C: Drop, G: Drop>(
     alloc: Global,
     book: Book,
     workers: u32,
 ) -> Result<Prepared<A, C, G>, Memory>
     requires fresh { book.entries ≡ [] }
-    ensures { IfOk result (λ made. IsPrepared book workers made) }
+    ensures lock { IfOk result (λ made. IsLocked book made) }
+    ensures rooms { IfOk result (λ made. HasRooms workers made.rooms) }
 {
-    let (pace, book) = paced(alloc, book)?;
-    let (lock, pass) = TurnLock::new(alloc, book)?;
-    let rooms = rooms_for(alloc, workers)?;
-    Ok(Prepared {
+    let (beginnings, book) = begun(alloc, book, workers)?;
+    match TurnLock::new(alloc, book) {
+        Ok((lock, pass)) => {
+            let Beginnings { pace, rooms } = beginnings;
+            Ok(Prepared {
+                lock,
+                pass,
+                pace,
+                rooms,
+            })
+        }
+        Err(_) => {
+            let_beginnings_go(beginnings);
+            Err(Memory)
+        }
+    }
+}
+
+// Lets go of what was made where the doors weren't opened.
+fn let_prepared_go<R: Wait, A: Drop, C: Drop, G: Drop>(
+    rt: &R,
+    prepared: Prepared<A, C, G>,
+    _gates: Vec<G>,
+)
+    requires { prepared.pass.lock ≡ prepared.lock }
+{
+    let Prepared {
         lock,
         pass,
         pace,
         rooms,
-    })
+    } = prepared;
+    take_book(rt, lock, pass).let_go();
+    let_beginnings_go(Beginnings { pace, rooms });
 }
 
 // Opens the doors, and writes the line; where that fails the doors are closed again.
@@ -125,6 +184,20 @@ fn open_doors<H: Host, K: Sink>(
             Err(ServeEnd::WriteFault)
         }
     }
+}
+
+// Lets go of what is left where what the workers left is lost.
+fn let_all_go<R: Wait, A: Drop>(
+    rt: &R,
+    lock: BookLock,
+    pass: BookPass,
+    _planner: BookPass,
+    _reporter: BookPass,
+    _room: Vec<A>,
+)
+    requires { pass.lock ≡ lock }
+{
+    take_book(rt, lock, pass).let_go();
 }
 
 // Runs the parts at these doors, and ends them.
@@ -181,7 +254,10 @@ where
     let (worked, (planner, reporter)) = run_parts(rt, alloc, &lock, seats, planner, reporter);
     match worked {
         Ok(worked) => close(rt, lock, pass, worked, planner, reporter, room, host),
-        Err(Memory) => ServeEnd::Memory,
+        Err(Memory) => {
+            let_all_go(rt, lock, pass, planner, reporter, room);
+            ServeEnd::Memory
+        }
     }
 }
 
@@ -222,6 +298,7 @@ where
         (λ lists. AreServed (C.course clock.old) end lists)) }
     ensures written { Writes result (K.taken output.old) (K.taken output.new)
         (K.write_faults output.old) (K.write_faults output.new) (serving_line port) }
+    ensures unfailed { IfShut result (λ _. H.host_faults host.new ≡ H.host_faults host.old) }
     ensures door_fault { result ≡ DoorFault → CountsOne (H.host_faults host.old) (H.host_faults host.new) }
     ensures counts { (H.link_reads host.new ≡ H.link_reads host.old)
         × (H.link_writes host.new ≡ H.link_writes host.old) }
@@ -235,6 +312,9 @@ where
     };
     match open_doors(host, output, port, workers) {
         Ok(doors) => serve_doors(rt, alloc, prepared, doors, host, clock, gates),
-        Err(end) => end,
+        Err(end) => {
+            let_prepared_go(rt, prepared, gates);
+            end
+        }
     }
 }

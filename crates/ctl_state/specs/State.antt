@@ -37,8 +37,11 @@ pub record State : Type 0 where
   pub usage : List ℕ
   -- the arrays of which there are tasks, in the order of their numbers
   pub arrays : List ArrayRecord
-  -- the placements of the last pass that didn't start
+  -- the placements of the last pass that didn't start: a share's place is that of its node in the list of nodes or,
+  -- behind these, in the list of those that are gone
   pub plan : List Placed
+  -- the names of nodes that are no longer there and that the plan may name
+  pub gone : List (List ℕ)
   -- the number that the next job gets
   pub next_id : ℕ
   -- the sizes of the requests accepted so far, in sum
@@ -82,6 +85,7 @@ opening conf file = record {
   usage = replicate (length file.assocs) 0;
   arrays = [];
   plan = [];
+  gone = [];
   next_id = conf.settings.first_job_id;
   size = 0;
   is_shut = false;
@@ -102,6 +106,7 @@ state_of c = record {
   usage = c.jobs.usage;
   arrays = c.arrays.items;
   plan = c.plan.items;
+  gone = c.gone.items;
   next_id = c.next_id;
   size = c.size;
   is_shut = c.is_shut;

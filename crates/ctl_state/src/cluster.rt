@@ -33,8 +33,11 @@ pub struct Cluster {
     pub jobs: Jobs,
     /// The arrays of which there are tasks, in the order of their numbers.
     pub arrays: Vec<ArrayRecord>,
-    /// The placements of the last pass that didn't start.
+    /// The placements of the last pass that didn't start. A share's place is that of its node in the list of nodes or,
+    /// behind these, in the list of those that are gone.
     pub plan: Vec<Placed>,
+    /// The names of nodes that are no longer there and that the plan may name.
+    pub gone: Vec<Name>,
     /// The number that the next job gets.
     pub next_id: u32,
     /// The sizes of the requests accepted so far, in sum (own).

@@ -80,12 +80,12 @@ reached_beside s jobs job = limits_reached (beside s jobs) (counted_of job) (mos
 abbrev pub exceeds_wall : State → JobRecord → Bool
 exceeds_wall s job = exceeds_longest job.limit (qos_limits_at s.qos job.qos).max_wall
 
--- the node with this name is there, and not available
+-- the node with this name isn't available, or is no longer there
 abbrev pub is_unavailable : List NodeRecord → List ℕ → Bool
 is_unavailable nodes name =
-    unwrap_or (option_map (is_at (λ node. not (is_available node)) nodes) (place_named name nodes)) false
+    unwrap_or (option_map (is_at (λ node. not (is_available node)) nodes) (place_named name nodes)) true
 
--- a node that the job must have isn't available
+-- a node that the job must have isn't available, or is no longer there
 abbrev pub lacks_node : State → JobRecord → Bool
 lacks_node s job = list_any (is_unavailable s.nodes) job.terms.required
 

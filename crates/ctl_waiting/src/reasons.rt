@@ -104,17 +104,17 @@ fn exceeds_wall(cluster: &Cluster, job: &JobRecord) -> bool
     }
 }
 
-// Whether the node with this name is there, and not available.
+// Whether the node with this name isn't available, or is no longer there.
 fn is_unavailable(nodes: &Nodes, name: &Name) -> bool
     ensures { result ≡ Reasons.is_unavailable nodes.now.records name.now }
 {
     match nodes.find(name) {
         Some(place) => !nodes.available(place),
-        None => false,
+        None => true,
     }
 }
 
-// Whether a node that the job must have isn't available.
+// Whether a node that the job must have isn't available, or is no longer there.
 fn lacks_node(cluster: &Cluster, job: &JobRecord) -> bool
     ensures { result ≡ Reasons.lacks_node (state_of cluster.now) job.now }
 {

@@ -12,6 +12,7 @@ use Rattle.request_data.specs.declared.report.Start.{Start}
 use Rattle.node_state.specs.declared.record.NodeChange.TheVariants.{Heard as HeardFrom}
 use Rattle.node_state.specs.Laws.{PlacesAreNamed, PlacesStay}
 use Rattle.node_state.specs.Nodes.{place_named}
+use Rattle.node_state.specs.Renewing.{dropped_named}
 use Rattle.job_table.specs.declared.record.JobRecord.{JobRecord}
 use Rattle.job_table.specs.declared.record.Part.{Part}
 use Rattle.ctl_state.specs.Holding.{parts_of}
@@ -27,10 +28,11 @@ use Rattle.ctl_node_side.specs.Restarting.{met}
 use Rattle.node_daemon.specs.Daemon.{Daemon, are_due, is_among, is_same}
 use Rattle.node_daemon.specs.declared.running.Running.{Running}
 use Rattle.daemon_world.specs.Claims.{Claim, Holds, IsHeldAt, claim_launch, claim_run, claims_of, claims_ordered, times_claiming, times_over}
-use Rattle.daemon_world.specs.Together.{Fit, HeardBefore, HeardNoLife, HeardSince, HeardUpTo, InStep, IsAfter, IsUpTo, RunsNothing, Tells, is_emptied, kept_of, tells_over}
+use Rattle.daemon_world.specs.Together.{Fit, HeardBefore, HeardNoLife, HeardSince, HeardUpTo, InStep, IsAfter, IsUpTo, Pair, RunsNothing, Tells, is_emptied, kept_of, pair_heard, tells_over}
 use Rattle.daemon_world.proofs.Apart.{held_apart}
 use Rattle.daemon_world.proofs.Hearing.{came_up, emptied_by, heard_at, stays_up}
 use Rattle.daemon_world.proofs.Launching.{launches_held, launches_new, launches_once, listed_stays}
+use Rattle.daemon_world.proofs.LeftAlone.{kept_there}
 use Rattle.daemon_world.proofs.Lists.{any_map, count_append, count_no}
 use Rattle.daemon_world.proofs.Numbers.{after_up, due, since_before, up_to}
 
@@ -68,18 +70,29 @@ abbrev Quiet : State → Daemon → Report → ℕ → ℕ → Type 0
 Quiet s daemon report place now =
     (daemon.running ≡ []) ⊎ ((met s now place report ≡ s) × (report.boot ≡ daemon.boot))
 
+-- what is kept of the node that reports is of its last report
+kept-last : (s : State) (report : Report) (place : ℕ) (last : Option Heard)
+    → place_named report.node s.nodes ≡ Some place → heard_of s.nodes place ≡ last
+    → kept_of s report.node ≡ option_map pair_heard last
+kept-last s report place last there is = kept_there s report.node place there ∙ ap (option_map pair_heard) is
+
 quiet-by : (s : State) (reports : List Report) (orders : List Orders) (daemon : Daemon) (report : Report)
-    (place now : ℕ) → Comes s reports orders daemon report place now → (kept : Option Heard)
-    → kept_of s report.node ≡ kept → HeardBefore kept report.boot report.number → Quiet s daemon report place now
+    (place now : ℕ) → Comes s reports orders daemon report place now → (last : Option Heard)
+    → heard_of s.nodes place ≡ last → HeardBefore (option_map pair_heard last) report.boot report.number
+    → Quiet s daemon report place now
 quiet-by s reports orders daemon report place now comes None is news =
-    inl (comes.step.fresh (subst (λ kept. HeardNoLife kept daemon.boot) (sym is) tt))
+    inl (comes.step.fresh (subst (λ kept. HeardNoLife kept daemon.boot)
+    (sym (kept-last s report place None comes.there is)) tt))
 quiet-by s reports orders daemon report place now comes (Some heard) is news =
     elim (cases_lt heard.boot daemon.boot) [
-      | inl life ↦ inl (comes.step.fresh (subst (λ kept. HeardNoLife kept daemon.boot) (sym is) life))
+      | inl life ↦
+          inl (comes.step.fresh (subst (λ kept. HeardNoLife kept daemon.boot)
+          (sym (kept-last s report place (Some heard) comes.there is)) life))
       | inr same ↦
           let sent = comes.sent in
           let not_restarted : is_restarted s report ≡ false =
-          ap (λ kept. unwrap_or (option_map (λ (heard : Heard). nat_lt heard.boot report.boot) kept) false) is
+          ap (λ kept. unwrap_or (option_map (λ (heard : Heard). nat_lt heard.boot report.boot) kept) false)
+          (ap (option_and_then (heard_of s.nodes)) comes.there ∙ is)
           ∙ le-ltb heard.boot report.boot (omega (arith, same, sent.boot, news.boot)) in
           inr (
             cond-false (is_restarted s report) (stamped now (lost_after s now (nat_eq place))) s not_restarted,
@@ -90,7 +103,9 @@ quiet-by s reports orders daemon report place now comes (Some heard) is news =
 quiet : (s : State) (reports : List Report) (orders : List Orders) (daemon : Daemon) (report : Report)
     (place now : ℕ) → Comes s reports orders daemon report place now → Quiet s daemon report place now
 quiet s reports orders daemon report place now comes =
-    quiet-by s reports orders daemon report place now comes (kept_of s report.node) refl comes.news
+    quiet-by s reports orders daemon report place now comes (heard_of s.nodes place) refl
+    (subst (λ kept. HeardBefore kept report.boot report.number)
+    (kept_there s report.node place comes.there) comes.news)
 
 nothing-listed : (listed : List Start) (running : List Running) → lists_nothing listed ≡ true
     → All (λ (one : Running). is_among listed one.start ≡ true) running → running ≡ []
@@ -111,6 +126,11 @@ none-runs s reports orders daemon report place now comes none =
 
 -- ---- the nodes
 
+pub dropped_met : (s : State) (now place : ℕ) (report : Report) → (met s now place report).dropped ≡ s.dropped
+dropped_met s now place report =
+    cond_both (is_restarted s report) (stamped now (lost_after s now (nat_eq place))) s
+    (λ (t : State). t.dropped ≡ s.dropped) (λ some. refl) (λ none. refl)
+
 pub nodes_met : (s : State) (now place : ℕ) (report : Report) → (met s now place report).nodes ≡ s.nodes
 nodes_met s now place report =
     cond_both (is_restarted s report) (stamped now (lost_after s now (nat_eq place))) s
@@ -126,17 +146,15 @@ same_place lower s now place report name =
     (met s now place report).nodes
     ∙ ap (place_named name) (nodes_met s now place report)
 
-kept-after : Lower → (s : State) (reports : List Report) (orders : List Orders) (daemon : Daemon) (report : Report)
-    (place now : ℕ) → Comes s reports orders daemon report place now
-    → kept_of (after s now place report) report.node ≡ Some (heard_by now report)
-kept-after lower s reports orders daemon report place now comes =
+pub kept_after : Lower → (s : State) (now place : ℕ) (report : Report) → place_named report.node s.nodes ≡ Some place
+    → kept_of (after s now place report) report.node ≡ Some (pair_heard (heard_by now report))
+kept_after lower s now place report there =
     let nodes = (met s now place report).nodes in
-    let within = (lower.named report.node place s.nodes comes.there).0 in
+    let within = (lower.named report.node place s.nodes there).0 in
     let empty = lists_nothing report.running in
-    ap (option_and_then (heard_of (after s now place report).nodes))
-    (same_place lower s now place report report.node ∙ comes.there)
-    ∙ heard_at (heard_by now report) empty nodes place
-    (omega (arith, within, ap length (nodes_met s now place report)))
+    kept_there (after s now place report) report.node place (same_place lower s now place report report.node ∙ there)
+    ∙ ap (option_map pair_heard)
+    (heard_at (heard_by now report) empty nodes place (omega (arith, within, ap length (nodes_met s now place report))))
 
 -- ---- what fits
 
@@ -410,9 +428,9 @@ fit-ordered lower s reports orders daemon report place now comes is =
 
 -- ---- all together
 
-after-before : (kept : Option Heard) (a m b n : ℕ) → HeardBefore kept b n → IsAfter a m b n → HeardBefore kept a m
+after-before : (kept : Option Pair) (a m b n : ℕ) → HeardBefore kept b n → IsAfter a m b n → HeardBefore kept a m
 after-before None a m b n before later = tt
-after-before (Some heard) a m b n before later = record {
+after-before (Some pair) a m b n before later = record {
   boot = omega (arith, before.boot, later.boot);
   number = λ is. omega (
     arith,
@@ -424,10 +442,10 @@ after-before (Some heard) a m b n before later = record {
   );
 }
 
-since-after : (kept : Option Heard) (a m b n : ℕ) → HeardSince kept a m → HeardBefore kept b n → IsUpTo a m b n
+since-after : (kept : Option Pair) (a m b n : ℕ) → HeardSince kept a m → HeardBefore kept b n → IsUpTo a m b n
 since-after None a m b n since before = absurd since
-since-after (Some heard) a m b n since before =
-    up_to a m heard.boot heard.number b n since (after_up b n heard.boot heard.number before)
+since-after (Some pair) a m b n since before =
+    up_to a m pair.boot pair.number b n since (after_up b n pair.boot pair.number before)
 
 emptied-after : Lower → (s : State) (reports : List Report) (orders : List Orders) (daemon : Daemon)
     (report : Report) (place now : ℕ) → Comes s reports orders daemon report place now
@@ -458,11 +476,14 @@ accepts_on lower s reports orders daemon report place now comes =
     let s' = after s now place report in
     let node = report.node in
     let step = comes.step in
-    let kept = kept-after lower s reports orders daemon report place now comes in
+    let kept = kept_after lower s now place report comes.there in
     let made = answers s now place report in
     let one = answer s now place report in
     record {
       name = step.name;
+      apart = λ at there.
+          ap (dropped_named node) (dropped_met s now place report)
+          ∙ step.apart at (sym (same_place lower s now place report node) ∙ there);
       heard = subst (λ kept. HeardUpTo kept daemon.boot daemon.number) (sym kept) comes.sent;
       sent = step.sent;
       fresh = λ life.

@@ -1,5 +1,5 @@
 -- What is done to nodes leaves their names, and lets none come up at which something may run that nobody knows of.
-use Rattle.std.proofs.Common.{ℕ, zero, suc, ◌≡◌, ◌+◌, ◌∙◌, Bool, true, false, not, ◌||◌, cond, List, [], ◌∷◌, map, Option, Some, None, is_none, bytes_eq, refl, sym, ap, ap₂, inl, inr, ◌⊎◌, option_and_then}
+use Rattle.std.proofs.Common.{ℕ, zero, suc, ◌≡◌, ◌+◌, ◌∙◌, Bool, true, false, not, ◌||◌, cond, List, [], ◌∷◌, map, Option, Some, None, is_none, bytes_eq, refl, sym, ap, ap₂, inl, inr, ◌⊎◌}
 use Rattle.std.specs.Prelude.{nat_lt}
 use Rattle.std.specs.List.{prefix_len}
 use Rattle.std.proofs.lemmas.Bool.{and_from, and_parts, both_ways, cases_Bool, cond_both, cond-false, or_cases}
@@ -20,6 +20,7 @@ use Rattle.ctl_node_side.specs.Reporting.{heard_of}
 use Rattle.daemon_world.specs.Claims.{Claim, IsHeldAt}
 use Rattle.daemon_world.specs.Leaving.{LeavesNode}
 use Rattle.daemon_world.specs.Together.{is_emptied}
+use Rattle.daemon_world.proofs.LeftAlone.{placed}
 
 -- the node was up and isn't lost, or was never heard, or was emptied
 abbrev pub WasUp : NodeRecord → Bool → Type 0
@@ -213,46 +214,20 @@ was-emptied alter loses keeps (node ∷ nodes) (suc place) told = was-emptied al
 
 -- A step that does this to the nodes, and takes nothing from those that aren't lost, leaves each of them alone.
 pub nodes_left : (alter : NodeRecord → NodeRecord) (loses : NodeRecord → Bool) → Keeps alter loses
-    → (s s' : State) (node : List ℕ) → s'.nodes ≡ map alter s.nodes
+    → (s s' : State) (node : List ℕ) → s'.nodes ≡ map alter s.nodes → s'.dropped ≡ s.dropped
     → ((place : ℕ) (claim : Claim) → is_at loses s.nodes place ≡ false → IsHeldAt s.jobs place claim
     → IsHeldAt s'.jobs place claim)
     → LeavesNode s s' node
-nodes_left alter loses keeps s s' node nodes held = record {
+nodes_left alter loses keeps s s' node nodes dropped held = placed s s' node (record {
   place = ap (place_named node) nodes ∙ same-places alter keeps.conf node s.nodes;
-  kept = ap (λ (all : List NodeRecord). option_and_then (heard_of all) (place_named node all)) nodes
-      ∙ ap (option_and_then (heard_of (map alter s.nodes))) (same-places alter keeps.conf node s.nodes)
-      ∙ kept-by (place_named node s.nodes);
+  dropped = dropped;
+  heard = λ place there. ap (λ (all : List NodeRecord). heard_of all place) nodes
+      ∙ heard-same alter keeps.heard s.nodes place;
   held = λ place there up.
       elim (was-up alter loses keeps s.nodes place (ap (λ all. is_up_at all place) (sym nodes) ∙ up)) [
         | inl was ↦ inl (was.0, λ claim holds. held place claim was.1 holds)
-        | inr nothing ↦ elim nothing [
-          | inl never ↦ inr (inl (ap (option_and_then (heard_of s.nodes)) there ∙ never))
-          | inr emptied ↦ inr (inr emptied)
-        ]
+        | inr nothing ↦ inr nothing
       ];
   emptied = λ place there told.
       was-emptied alter loses keeps s.nodes place (ap (λ all. is_at is_emptied all place) (sym nodes) ∙ told);
-}
-  where
-    kept-by : (found : Option ℕ)
-        → option_and_then (heard_of (map alter s.nodes)) found ≡ option_and_then (heard_of s.nodes) found
-    kept-by None = refl
-    kept-by (Some place) = heard-same alter keeps.heard s.nodes place
-
--- one step after another
-pub leaves_on : (s t u : State) (node : List ℕ) → LeavesNode s t node → LeavesNode t u node → LeavesNode s u node
-leaves_on s t u node one two = record {
-  place = two.place ∙ one.place;
-  kept = two.kept ∙ one.kept;
-  held = λ place there up. elim (two.held place (one.place ∙ there) up) [
-    | inl later ↦ elim (one.held place there later.0) [
-      | inl first ↦ inl (first.0, λ claim holds. later.1 claim (first.1 claim holds))
-      | inr nothing ↦ inr nothing
-    ]
-    | inr nothing ↦ elim nothing [
-      | inl never ↦ inr (inl (sym one.kept ∙ never))
-      | inr emptied ↦ inr (inr (one.emptied place there emptied))
-    ]
-  ];
-  emptied = λ place there told. one.emptied place there (two.emptied place (one.place ∙ there) told);
-}
+})

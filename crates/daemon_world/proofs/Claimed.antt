@@ -6,8 +6,8 @@ use Rattle.std.proofs.lemmas.List.Elements.{All-cons, All-nil, All-weaker}
 use Rattle.request_data.specs.declared.report.Start.{Start}
 use Rattle.request_data.specs.declared.report.Done.{Done}
 use Rattle.ctl_state.specs.State.{State}
-use Rattle.node_daemon.specs.Daemon.{is_among, is_same}
-use Rattle.daemon_world.specs.Claims.{Claim, IsHeldAt, times_claiming, times_over}
+use Rattle.node_daemon.specs.Daemon.{Daemon, is_among, is_same}
+use Rattle.daemon_world.specs.Claims.{Claim, IsHeldAt, RunsOnce, claims_of, times_claiming, times_over}
 use Rattle.daemon_world.specs.Together.{Fit}
 use Rattle.daemon_world.proofs.Lists.{count_yes, none_counts}
 use Rattle.list_lemmas.proofs.Sums.{count-cons as count_cons}
@@ -53,6 +53,11 @@ fit_none s node = record {
   held = λ place is up. All-nil (IsHeldAt s.jobs place);
   once = λ start. omega arith;
 }
+
+-- what fits runs once
+pub runs_once : (s : State) (node : List ℕ) (daemon : Daemon) → Fit s node (claims_of daemon) daemon.over
+    → RunsOnce daemon
+runs_once s node daemon fit start = omega (arith, fit.once start)
 
 -- ---- what is told of
 

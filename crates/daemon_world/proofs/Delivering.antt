@@ -1,5 +1,5 @@
 -- What comes of a report at the controller: it is refused, or it is worked and answered by orders.
-use Rattle.std.proofs.Common.{ℕ, ◌≡◌, ◌≤◌, Bool, true, false, not, ◌&&◌, ◌||◌, nat_eq, List, [], ◌∷◌, Option, Some, None, is_none, refl, arith, inl, inr, ◌⊎◌}
+use Rattle.std.proofs.Common.{ℕ, ◌≡◌, ◌≤◌, ◌∙◌, Bool, true, false, not, ◌&&◌, ◌||◌, nat_eq, List, [], ◌∷◌, Option, Some, None, is_none, option_and_then, option_map, refl, sym, ap, subst, arith, inl, inr, ◌⊎◌}
 use Rattle.std.specs.Prelude.{nat_lt}
 use Rattle.std.proofs.lemmas.Bool.{and_parts, eqb-true, ltb-false, ltb-true, or_cases}
 use Rattle.reply_data.specs.declared.refusal.Refusal.{Refusal}
@@ -14,11 +14,12 @@ use Rattle.ctl_state.specs.Refusals.{first_refusal, is_privileged, refused_if, u
 use Rattle.ctl_state.specs.Verdicts.{Verdict, Refuses, Makes}
 use Rattle.ctl_node_side.specs.Answering.{last_heard, node_of, staleness}
 use Rattle.ctl_node_side.specs.Ordering.{orders_of}
-use Rattle.ctl_node_side.specs.Reporting.{is_after, report_after}
+use Rattle.ctl_node_side.specs.Reporting.{heard_of, is_after, report_after}
 use Rattle.ctl_node_side.specs.Restarting.{made_by_report, met}
 use Rattle.ctl_core.specs.Sizes.{has_room}
 use Rattle.ctl_core.specs.Step.{is_closed, raised, unless_full, verdict_of, worked}
-use Rattle.daemon_world.specs.Together.{HeardBefore, IsAfter, kept_of}
+use Rattle.daemon_world.specs.Together.{HeardBefore, IsAfter, kept_of, pair_heard}
+use Rattle.daemon_world.proofs.LeftAlone.{kept_there}
 
 -- the report is accepted, of the node at a place
 pub record IsAccepted (s : State) (now : ℕ) (report : Report) (verdict : Verdict) : Type 0 where
@@ -54,16 +55,24 @@ unless-stale true refusal none = refl
 unless-stale false refusal none = absurd (let never = none in cc)
 
 fresh-news : (report : Report) (kept : Option Heard) → staleness report kept ≡ None
-    → HeardBefore kept report.boot report.number
+    → HeardBefore (option_map pair_heard kept) report.boot report.number
 fresh-news report None none = tt
 fresh-news report (Some heard) none =
     by-tests heard.boot heard.number report.boot report.number
     (unless-stale (is_after heard report) (StaleReport heard.boot heard.number) none)
 
+news-of : (s : State) (report : Report) (place : ℕ) → place_named report.node s.nodes ≡ Some place
+    → staleness report (last_heard s report) ≡ None → HeardBefore (kept_of s report.node) report.boot report.number
+news-of s report place there none =
+    let last = ap (option_and_then (heard_of s.nodes)) there in
+    subst (λ kept. HeardBefore kept report.boot report.number)
+    (ap (option_map pair_heard) last ∙ sym (kept_there s report.node place there))
+    (fresh-news report (last_heard s report) none)
+
 -- by why it may be refused, and whether there is room
 by-parts : (s : State) (now : ℕ) (report : Report) (denied : Bool) (found : Option ℕ) (stale : Option Refusal)
     (room : Bool) → now ≤ last_moment → place_named report.node s.nodes ≡ found
-    → staleness report (kept_of s report.node) ≡ stale
+    → staleness report (last_heard s report) ≡ stale
     → Comes s now report
     (unless_refused (first_refusal
     (refused_if denied AccessDenied ∷ refused_if (is_none found) UnknownNode ∷ stale ∷ []))
@@ -76,7 +85,7 @@ by-parts s now report false (Some place) None true in_time is news =
     inr (record {
       place = place;
       node = is;
-      news = fresh-news report (kept_of s report.node) news;
+      news = news-of s report place is news;
       in_time = in_time;
       is = refl;
     })

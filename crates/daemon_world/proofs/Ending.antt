@@ -5,6 +5,7 @@ use Rattle.std.specs.List.{enumerate_from, list_any}
 use Rattle.std.proofs.lemmas.Bool.{both_ways, cond_both, ltb-false}
 use Rattle.std.proofs.lemmas.List.Elements.{All-append, All-cons, All-filter, All-map, All-nil, All-weaker}
 use Rattle.plain_data.specs.declared.array.ArraySpec.{ArraySpec}
+use Rattle.plain_data.specs.Confs.{ConfView}
 use Rattle.plain_data.specs.declared.conf.PartState.{PartState}
 use Rattle.plain_data.specs.declared.job.JobDesc.{JobDesc}
 use Rattle.reply_data.specs.declared.refusal.Refusal.{Refusal}
@@ -12,7 +13,7 @@ use Rattle.reply_data.specs.declared.refusal.Refusal.TheVariants.{MomentTooLarge
 use Rattle.request_data.specs.declared.report.Report.{Report as Told}
 use Rattle.request_data.specs.declared.request.NodeOrder.{NodeOrder}
 use Rattle.request_data.specs.declared.request.Request.{Request}
-use Rattle.request_data.specs.declared.request.Request.TheVariants.{Submit, Cancel, Hold, Release, Requeue, UpdateJob, UpdateNode, UpdatePartition, CreateReservation, DeleteReservation, Report, Pass, Shutdown, Show}
+use Rattle.request_data.specs.declared.request.Request.TheVariants.{Submit, Cancel, Hold, Release, Requeue, UpdateJob, UpdateNode, UpdatePartition, CreateReservation, DeleteReservation, Report, Pass, Shutdown, Reconfigure, Show}
 use Rattle.reply_data.specs.declared.reply.Reply.TheVariants.{Done}
 use Rattle.node_state.specs.Partitions.{place_meant}
 use Rattle.job_table.specs.declared.record.JobRecord.{JobRecord}
@@ -40,11 +41,13 @@ use Rattle.ctl_node_side.specs.Passes.{after_pass, pass_is_idle}
 use Rattle.ctl_node_side.specs.Restarting.{made_by_report, met}
 use Rattle.ctl_node_side.specs.Silence.{any_silent, silent_at, silenced, without_silent}
 use Rattle.ctl_submit.specs.Submission.{Basis, made_under, new_arrays, new_jobs, submit_after, task, basis_of}
+use Rattle.ctl_reconfigure.specs.Reconfiguring.{job_after, reconfigured}
+use Rattle.ctl_reconfigure.specs.Same.{is_same}
 use Rattle.ctl_core.specs.Operating.{is_in_state, partition_after, partition_made}
 use Rattle.ctl_core.specs.Sizes.{has_room, size_of}
 use Rattle.ctl_core.specs.Step.{entered, is_closed, is_entered, made, raised, refusals_of, state_after, unless_full, verdict_of, worked}
 use Rattle.daemon_world.proofs.Requests.{Passes, pass_may, silenced_raised}
-use Rattle.daemon_world.proofs.Settling.{Settles, done_settles, gone_settles, loss_settles, over_settles, report_settles, settles_itself}
+use Rattle.daemon_world.proofs.Settling.{Settles, done_settles, gone_settles, loss_settles, moved_settles, over_settles, report_settles, settles_itself}
 use Rattle.daemon_world.proofs.Starting.{MayStart, starts_all}
 
 -- What jobs may have that no event takes from them: it stays where a start is settled, comes to a new job, and to one
@@ -117,6 +120,15 @@ silence-goes s Q lasts now all =
     cond_both (any_silent s now) (without_silent s now) s (λ (t : State). Goes s t Q)
     (λ some. record { all = loss-goes s Q lasts now (silent_at s now) all; size = refl; next = omega arith })
     (λ none. record { all = all; size = refl; next = omega arith })
+
+reconfigured-goes : (s : State) (Q : JobRecord → Type 0) → Lasts s Q → (moment : ℕ) (conf : ConfView) → All Q s.jobs
+    → Goes s (reconfigured s moment conf) Q
+reconfigured-goes s Q lasts moment conf all = record {
+  all = map-settles Q (job_after s conf) s.jobs lasts.settles
+      (λ job. moved_settles (job_after s conf job).parts (job_after s conf job).partition job) all;
+  size = refl;
+  next = omega arith;
+}
 
 -- ---- starts
 
@@ -266,6 +278,9 @@ goes-made passes s Q lasts moment user (Report report) sound later in_time all f
 goes-made passes s Q lasts moment user Pass sound later in_time all few =
     cond_both (pass_is_idle s moment) Stays _ (GoesBy s Q) (λ idle. tt)
     (λ busy. whole-pass-goes passes s Q lasts moment sound later in_time all few)
+goes-made passes s Q lasts moment user (Reconfigure conf bytes) sound later in_time all few =
+    cond_both (is_same s conf) Stays (Makes Done (reconfigured s moment conf)) (GoesBy s Q) (λ idle. tt)
+    (λ other. reconfigured-goes s Q lasts moment conf all)
 goes-made passes s Q lasts moment user (Show query) sound later in_time all few = tt
 
 goes-full : (s : State) (Q : JobRecord → Type 0) (room : Bool) (verdict : Verdict) → GoesBy s Q verdict
@@ -317,6 +332,7 @@ sized (DeleteReservation name) = omega arith
 sized (Report report) = omega arith
 sized Pass = omega arith
 sized Shutdown = omega arith
+sized (Reconfigure conf bytes) = omega arith
 sized (Show query) = omega arith
 
 stays-on : (s : State) (Q : JobRecord → Type 0) → All Q s.jobs → GoesOn s s Q

@@ -14,9 +14,13 @@ pub mod Others
 pub mod Delivering
 pub mod Reporting
 pub mod Altering
+pub mod Naming
+pub mod Dropping
+pub mod Reconfiguring
 pub mod Starting
 pub mod Requests
 pub mod Whole
+pub mod Rising
 pub mod Settling
 pub mod Ending
 pub mod Once

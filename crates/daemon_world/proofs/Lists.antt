@@ -1,9 +1,12 @@
 -- Lists of which a member has something, and counts of members.
-use Rattle.std.proofs.Common.{zero, suc, ◌≡◌, ◌≤◌, ◌+◌, ◌∙◌, Bool, true, false, List, [], ◌∷◌, ◌++◌, map, count_by, filter, cond, All, Any, refl, sym, ap, subst, arith, inl, inr, ◌⊎◌}
-use Rattle.std.specs.List.{list_any}
-use Rattle.std.proofs.lemmas.Bool.{cases_Bool, cond_both, both_ways, or_from}
+use Rattle.std.proofs.Common.{ℕ, zero, suc, ◌≡◌, ◌≤◌, ◌+◌, ◌∙◌, Bool, true, false, ltb, List, [], ◌∷◌, ◌++◌, map, length, count_by, filter, find, get_or, position, slice_get, cond, All, Any, Option, Some, None, is_some, ◌||◌, option_and_then, refl, sym, ap, subst, arith, inl, inr, ◌⊎◌}
+use Rattle.std.specs.List.{list_any, position_or_len}
+use Rattle.std.proofs.lemmas.Bool.{cases_Bool, cond_both, both_ways, ltb-false, or_from}
 use Rattle.std.proofs.lemmas.List.Elements.{All-cons, All-head, All-nil, All-tail}
+use Rattle.std.proofs.lemmas.List.Folds.{find_at}
+use Rattle.std.proofs.lemmas.List.Quantifiers.{position-Some}
 use Rattle.std.proofs.lemmas.List.Sums.{sum_by-append}
+use Rattle.std.proofs.lemmas.Option.{slice_get-get_or, slice_get_past}
 use Rattle.list_lemmas.proofs.Sums.{count-cons as count_cons}
 
 -- ---- a member that has something
@@ -132,3 +135,91 @@ any_counts P p (x ∷ xs) on any = elim (any_cases P x xs any) [
   | inl here ↦ omega (arith, count_yes p x xs (on x here))
   | inr later ↦ omega (arith, count_cons p x xs, any_counts P p xs on later)
 ]
+
+-- ---- the first that passes
+
+-- it stands at the first place
+pub record IsFirst {X : Type 0} (p : X → Bool) (xs : List X) (x : X) : Type 0 where
+  pub place : ℕ
+  pub first : position p xs ≡ Some place
+  pub is : slice_get xs place ≡ Some x
+
+pub find_place : {X : Type 0} (p : X → Bool) (xs : List X) → find p xs ≡ option_and_then (slice_get xs) (position p xs)
+find_place p xs = find_at p xs ∙ at (ltb (position_or_len p xs) (length xs)) refl
+  where
+    at : (b : Bool) → ltb (position_or_len p xs) (length xs) ≡ b
+        → slice_get xs (position_or_len p xs)
+        ≡ option_and_then (slice_get xs)
+        (cond (ltb (position_or_len p xs) (length xs)) (Some (position_or_len p xs)) None)
+    at true below = rw below refl
+    at false past =
+        rw past (slice_get_past xs (position_or_len p xs) (ltb-false (position_or_len p xs) (length xs) past))
+
+-- what stands at the first place is the first
+pub found_in : {X : Type 0} (p : X → Bool) (xs : List X) (x : X)
+    → option_and_then (slice_get xs) (position p xs) ≡ Some x → IsFirst p xs x
+found_in {X} p xs x found = by (position p xs) refl found
+  where
+    by : (at : Option ℕ) → position p xs ≡ at → option_and_then (slice_get xs) at ≡ Some x → IsFirst p xs x
+    by None is never = absurd (let no = never in cc)
+    by (Some place) is there = record { place = place; first = is; is = there }
+
+pub found_at : {X : Type 0} (p : X → Bool) (xs : List X) (x : X) → find p xs ≡ Some x → IsFirst p xs x
+found_at p xs x found = found_in p xs x (sym (find_place p xs) ∙ found)
+
+-- where nothing stands there, there is no such place
+pub none_in : {X : Type 0} (p : X → Bool) (xs : List X) → option_and_then (slice_get xs) (position p xs) ≡ None
+    → position p xs ≡ None
+none_in p [] none = refl
+none_in p (x ∷ xs) none = by (position p (x ∷ xs)) refl none
+  where
+    by : (at : Option ℕ) → position p (x ∷ xs) ≡ at → option_and_then (slice_get (x ∷ xs)) at ≡ None → at ≡ None
+    by None is nothing = refl
+    by (Some place) is nothing =
+        let there = slice_get-get_or (x ∷ xs) place x (position-Some p (x ∷ xs) place x is).0 in
+        absurd (let never : Some (get_or (x ∷ xs) place x) ≡ None = sym there ∙ nothing in cc)
+
+pub none_at : {X : Type 0} (p : X → Bool) (xs : List X) → find p xs ≡ None → position p xs ≡ None
+none_at p xs none = none_in p xs (sym (find_place p xs) ∙ none)
+
+-- one passes exactly where there is a first one
+any-found : {X : Type 0} (p : X → Bool) (xs : List X) → list_any p xs ≡ is_some (find p xs)
+any-found p [] = refl
+any-found p (x ∷ xs) = by (p x) (any-found p xs)
+  where
+    by : (b : Bool) → list_any p xs ≡ is_some (find p xs) → (b || list_any p xs) ≡ is_some (cond b (Some x) (find p xs))
+    by true rest = refl
+    by false rest = rest
+
+pub any_is : {X : Type 0} (p : X → Bool) (xs : List X) → list_any p xs ≡ is_some (position p xs)
+any_is {X} p xs = any-found p xs ∙ by (find p xs) refl
+  where
+    by : (found : Option X) → find p xs ≡ found → is_some found ≡ is_some (position p xs)
+    by None none = ap is_some (sym (none_at p xs none))
+    by (Some x) is = ap is_some (sym (found_at p xs x is).first)
+
+-- the first that passes is the same where only those are left out that fail
+pub find_kept : {X : Type 0} (p q : X → Bool) (xs : List X) → ((x : X) → p x ≡ true → q x ≡ true)
+    → find p (filter q xs) ≡ find p xs
+find_kept p q [] all = refl
+find_kept p q (x ∷ xs) all = elim (cases_Bool (q x)) [
+  | inl stays ↦ rw stays (ap (λ rest. cond (p x) (Some x) rest) (find_kept p q xs all))
+  | inr goes ↦ rw goes (find_kept p q xs all ∙ sym (ap (λ b. cond b (Some x) (find p xs)) (fails (p x) refl goes)))
+]
+  where
+    fails : (b : Bool) → p x ≡ b → q x ≡ false → p x ≡ false
+    fails true is goes = absurd (both_ways (q x) goes (all x is))
+    fails false is goes = is
+
+-- and there is none where all are left out that pass
+pub find_none : {X : Type 0} (p q : X → Bool) (xs : List X) → ((x : X) → p x ≡ true → q x ≡ false)
+    → find p (filter q xs) ≡ None
+find_none p q [] all = refl
+find_none p q (x ∷ xs) all = elim (cases_Bool (q x)) [
+  | inl stays ↦ rw stays (ap (λ b. cond b (Some x) (find p (filter q xs))) (fails (p x) refl stays) ∙ find_none p q xs all)
+  | inr goes ↦ rw goes (find_none p q xs all)
+]
+  where
+    fails : (b : Bool) → p x ≡ b → q x ≡ true → p x ≡ false
+    fails true is stays = absurd (both_ways (q x) (all x is) stays)
+    fails false is stays = is

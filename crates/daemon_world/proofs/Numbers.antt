@@ -2,10 +2,9 @@
 use Rattle.std.proofs.Common.{ℕ, ◌≡◌, ◌<◌, ◌+◌, true, false, not, List, Option, Some, None, sym, arith, bytes_eq, nat_eq}
 use Rattle.std.proofs.lemmas.Bool.{and_parts, both_ways, eqb-true, not-true}
 use Rattle.std.proofs.lemmas.Slice.Eq.{bytes_eq-Decides}
-use Rattle.request_data.specs.declared.report.Heard.{Heard}
 use Rattle.reply_data.specs.declared.orders.Orders.{Orders}
 use Rattle.node_daemon.specs.Daemon.{Daemon, are_due}
-use Rattle.daemon_world.specs.Together.{HeardBefore, HeardNoLife, HeardSince, HeardUpTo, IsAfter, IsUpTo}
+use Rattle.daemon_world.specs.Together.{HeardBefore, HeardNoLife, HeardSince, HeardUpTo, IsAfter, IsUpTo, Pair}
 
 pub same : (boot number : ℕ) → IsUpTo boot number boot number
 same boot number = record { boot = omega arith; number = λ is. omega arith }
@@ -50,23 +49,23 @@ after_up_to a m b n c o after up = record {
 }
 
 -- by what was heard
-pub since_up : (kept : Option Heard) (a m b n : ℕ) → HeardSince kept a m → HeardUpTo kept b n → IsUpTo a m b n
+pub since_up : (kept : Option Pair) (a m b n : ℕ) → HeardSince kept a m → HeardUpTo kept b n → IsUpTo a m b n
 since_up None a m b n since up = absurd since
-since_up (Some heard) a m b n since up = up_to a m heard.boot heard.number b n since up
+since_up (Some pair) a m b n since up = up_to a m pair.boot pair.number b n since up
 
-pub heard_on : (kept : Option Heard) (b n c o : ℕ) → HeardUpTo kept b n → IsUpTo b n c o → HeardUpTo kept c o
+pub heard_on : (kept : Option Pair) (b n c o : ℕ) → HeardUpTo kept b n → IsUpTo b n c o → HeardUpTo kept c o
 heard_on None b n c o up more = tt
-heard_on (Some heard) b n c o up more = up_to heard.boot heard.number b n c o up more
+heard_on (Some pair) b n c o up more = up_to pair.boot pair.number b n c o up more
 
-pub since_before : (kept : Option Heard) (a m b n : ℕ) → HeardSince kept a m → HeardBefore kept b n → IsUpTo b n a m
+pub since_before : (kept : Option Pair) (a m b n : ℕ) → HeardSince kept a m → HeardBefore kept b n → IsUpTo b n a m
     → ⊥
 since_before None a m b n since before up = since
-since_before (Some heard) a m b n since before up =
-    never_both b n heard.boot heard.number before (up_to b n a m heard.boot heard.number up since)
+since_before (Some pair) a m b n since before up =
+    never_both b n pair.boot pair.number before (up_to b n a m pair.boot pair.number up since)
 
-pub since_life : (kept : Option Heard) (a m : ℕ) → HeardSince kept a m → HeardNoLife kept a → ⊥
+pub since_life : (kept : Option Pair) (a m : ℕ) → HeardSince kept a m → HeardNoLife kept a → ⊥
 since_life None a m since fresh = since
-since_life (Some heard) a m since fresh = omega (arith, since.boot, fresh)
+since_life (Some pair) a m since fresh = omega (arith, since.boot, fresh)
 
 -- the next report comes after
 pub next : (boot number : ℕ) → IsUpTo boot number boot (number + 1)
@@ -82,11 +81,11 @@ later_life a m boot number boot' up later = record {
   number = λ is. absurd (omega (arith, up.boot, later, is));
 }
 
-pub heard_in_life : (kept : Option Heard) (boot number boot' : ℕ) → HeardUpTo kept boot number → boot < boot'
+pub heard_in_life : (kept : Option Pair) (boot number boot' : ℕ) → HeardUpTo kept boot number → boot < boot'
     → HeardUpTo kept boot' 0
 heard_in_life None boot number boot' up later = tt
-heard_in_life (Some heard) boot number boot' up later =
-    later_life heard.boot heard.number boot number boot' up later
+heard_in_life (Some pair) boot number boot' up later =
+    later_life pair.boot pair.number boot number boot' up later
 
 -- ---- names
 

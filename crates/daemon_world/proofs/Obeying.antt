@@ -87,6 +87,7 @@ takes-on now s reports orders node daemon one is step fits answers nothing due_n
     let kept = kept_of s node in
     record {
       name = step.name;
+      apart = step.apart;
       heard = step.heard;
       sent = step.sent;
       fresh = λ life. absurd (since_life kept one.boot one.number since (subst (HeardNoLife kept) is_due.boot life));

@@ -1,5 +1,5 @@
 -- A report leaves the side of every other node as it is.
-use Rattle.std.proofs.Common.{ℕ, ◌≡◌, ◌<◌, ◌∙◌, Bool, false, List, [], ◌∷◌, length, HoldsAt, slice_get, arith, Some, None, Option, refl, sym, ap, inl, nat_eq, option_and_then, option_map, unwrap_or}
+use Rattle.std.proofs.Common.{ℕ, ◌≡◌, ◌<◌, ◌∙◌, Bool, false, List, [], ◌∷◌, length, HoldsAt, slice_get, arith, Some, Option, sym, ap, inl, nat_eq, option_and_then, option_map, unwrap_or}
 use Rattle.std.proofs.lemmas.Bool.{cond_both, ne_eqb}
 use Rattle.request_data.specs.declared.report.Report.{Report}
 use Rattle.node_state.specs.declared.record.NodeChange.TheVariants.{Heard as HeardFrom}
@@ -16,9 +16,10 @@ use Rattle.ctl_node_side.specs.Restarting.{met}
 use Rattle.daemon_world.specs.Claims.{Claim, Holds, IsHeldAt}
 use Rattle.daemon_world.specs.Leaving.{LeavesNode}
 use Rattle.daemon_world.specs.Together.{is_emptied}
-use Rattle.daemon_world.proofs.Accepting.{Lower, after, nodes_met, same_place}
+use Rattle.daemon_world.proofs.Accepting.{Lower, after, dropped_met, nodes_met, same_place}
 use Rattle.daemon_world.proofs.Hearing.{elsewhere}
 use Rattle.daemon_world.proofs.Holding.{loss_holds, report_holds}
+use Rattle.daemon_world.proofs.LeftAlone.{placed}
 use Rattle.daemon_world.proofs.Lists.{any_map}
 
 -- another node is at another place
@@ -67,27 +68,24 @@ same-at : (test : NodeRecord → Bool) (s : State) (now place at : ℕ) (report 
 same-at test s now place at report differ =
     ap (λ (one : Option NodeRecord). unwrap_or (option_map test one) false) (same-record s now place at report differ)
 
-kept-there : (s : State) (now place : ℕ) (report : Report) (found : Option ℕ)
-    → ((at : ℕ) → found ≡ Some at → place ≡ at → ⊥)
-    → option_and_then (heard_of (after s now place report).nodes) found ≡ option_and_then (heard_of s.nodes) found
-kept-there s now place report None differ = refl
-kept-there s now place report (Some at) differ =
-    ap (option_and_then (λ (one : NodeRecord). one.heard)) (same-record s now place at report (differ at refl))
+heard-there : (s : State) (now place at : ℕ) (report : Report) → (place ≡ at → ⊥)
+    → heard_of (after s now place report).nodes at ≡ heard_of s.nodes at
+heard-there s now place at report differ =
+    ap (option_and_then (λ (one : NodeRecord). one.heard)) (same-record s now place at report differ)
 
 pub others_left : Lower → (s : State) (now place : ℕ) (report : Report) (other : List ℕ) → (report.node ≡ other → ⊥)
     → place_named report.node s.nodes ≡ Some place
     → LeavesNode s (report_after (met s now place report) now place report) other
 others_left lower s now place report other differ here =
-    let s' = after s now place report in
     let away = λ (at : ℕ) (there : place_named other s.nodes ≡ Some at).
     apart lower s report.node other place at differ here there in
-    record {
+    placed s (after s now place report) other (record {
       place = same_place lower s now place report other;
-      kept = ap (option_and_then (heard_of s'.nodes)) (same_place lower s now place report other)
-          ∙ kept-there s now place report (place_named other s.nodes) away;
+      dropped = dropped_met s now place report;
+      heard = λ at there. heard-there s now place at report (away at there);
       held = λ at there up. inl (
         sym (same-at (λ (node : NodeRecord). is_up node.down) s now place at report (away at there)) ∙ up,
         λ claim held. held-there s now place at report claim (away at there) held,
       );
       emptied = λ at there told. sym (same-at is_emptied s now place at report (away at there)) ∙ told;
-    }
+    })

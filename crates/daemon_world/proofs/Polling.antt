@@ -143,6 +143,7 @@ polls_on now s reports orders node daemon step =
     let fit = fit_polled now s node daemon step.fit in
     record {
       name = step.name;
+      apart = step.apart;
       heard = heard_on (kept_of s node) daemon.boot daemon.number after.boot after.number step.heard on;
       sent = All-cons (λ (one : Report). one.node ≡ node → IsUpTo one.boot one.number after.boot after.number) report
           reports (λ is. record { boot = omega arith; number = λ same. omega arith })
@@ -182,6 +183,7 @@ restarts_on s reports orders node daemon boot later step =
     let never : (one : Orders) → are_due one after ≡ true → ⊥ = λ one is. both_ways false refl is in
     record {
       name = refl;
+      apart = step.apart;
       heard = heard_in_life (kept_of s node) daemon.boot daemon.number boot step.heard later;
       sent = All-weaker (λ (one : Report). one.node ≡ node → IsUpTo one.boot one.number daemon.boot daemon.number)
           (λ (one : Report). one.node ≡ node → IsUpTo one.boot one.number boot 0)

@@ -25,7 +25,7 @@ use Rattle.daemon_world.proofs.Others.{others_left}
 use Rattle.daemon_world.proofs.Sending.{more_orders}
 
 -- the state and the orders that a verdict on a report leaves
-abbrev left : State → ℕ → Report → Verdict → State
+abbrev pub left : State → ℕ → Report → Verdict → State
 left s now report verdict =
     if is_entered (reply_by verdict)
     then entered (raised s now) (size_of (Reports report)) (left_by s verdict)
@@ -96,7 +96,7 @@ each-reported lower s now reports orders daemons report verdict node sound sent 
     subst (λ (verdict : Verdict). InStep (left s now report verdict) reports (with_reply (reply_by verdict) orders) node
     (daemons node)) (sym accepted.is)
     (left_on s' (entered moment (size_of (Reports report)) s') reports (more ∷ orders) node (daemons node)
-    (left_same s' (entered moment (size_of (Reports report)) s') node refl refl)
+    (left_same s' (entered moment (size_of (Reports report)) s') node refl refl refl)
     (each-accepted lower s now reports orders daemons report verdict node sound sent each accepted))
 
 pub reports_on : Lower → (s : State) (now : ℕ) (reports : List Report) (orders : List Orders)

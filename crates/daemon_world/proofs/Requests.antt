@@ -12,12 +12,14 @@ use Rattle.reply_data.specs.declared.refusal.Refusal.TheVariants.{MomentTooLarge
 use Rattle.request_data.specs.declared.request.NodeOrder.{NodeOrder}
 use Rattle.request_data.specs.declared.request.NodeOrder.TheVariants as order
 use Rattle.request_data.specs.declared.request.Request.{Request}
-use Rattle.request_data.specs.declared.request.Request.TheVariants.{Submit, Cancel, Hold, Release, Requeue, UpdateJob, UpdateNode, UpdatePartition, CreateReservation, DeleteReservation, Report, Pass, Shutdown, Show}
+use Rattle.request_data.specs.declared.request.Request.TheVariants.{Submit, Cancel, Hold, Release, Requeue, UpdateJob, UpdateNode, UpdatePartition, CreateReservation, DeleteReservation, Report, Pass, Shutdown, Reconfigure, Show}
 use Rattle.request_data.specs.declared.state.Final.TheVariants as final
 use Rattle.request_data.specs.declared.state.JobState.{JobState}
 use Rattle.request_data.specs.declared.state.JobState.TheVariants.{Pending, Running, Completing, Ended}
 use Rattle.node_state.specs.declared.record.NodeChange.TheVariants as change
 use Rattle.node_state.specs.declared.record.NodeRecord.{NodeRecord}
+use Rattle.node_state.specs.Laws.{PlacesAreNamed}
+use Rattle.node_state.specs.Nodes.{place_named}
 use Rattle.node_state.specs.Partitions.{place_meant}
 use Rattle.job_table.specs.declared.record.JobRecord.{JobRecord}
 use Rattle.job_table.specs.declared.record.Part.{Part}
@@ -26,6 +28,7 @@ use Rattle.job_table.specs.Changes.{changed}
 use Rattle.job_table.specs.JobStates.{is_ended, is_holding, is_pending, is_running}
 use Rattle.job_table.specs.Table.{has_id}
 use Rattle.ctl_state.specs.Holding.{has_members}
+use Rattle.ctl_state.specs.Planning.{is_at}
 use Rattle.ctl_state.specs.Refusals.{first_refusal, refused_if, unless_refused}
 use Rattle.ctl_state.specs.Soundness.{IsKept, IsSound, is_up_at}
 use Rattle.ctl_state.specs.State.{State, last_moment}
@@ -41,33 +44,38 @@ use Rattle.ctl_pass.specs.Limits.{is_over, timed_out}
 use Rattle.ctl_pass.specs.Passing.{outcome, pass_after}
 use Rattle.ctl_pass.specs.Preempting.{preempted, victims_in}
 use Rattle.ctl_pass.specs.Readiness.{goes as gone, jobs_left, placements, ready}
+use Rattle.ctl_node_side.specs.Reporting.{heard_of}
 use Rattle.ctl_node_side.specs.Passes.{after_pass, pass_is_idle}
 use Rattle.ctl_node_side.specs.Silence.{any_silent, falls_silent, silent_at, silenced, without_silent}
 use Rattle.ctl_submit.specs.Submission.{made_under, new_arrays, new_jobs, submit_after, basis_of, Basis}
+use Rattle.ctl_reconfigure.specs.Same.{is_same}
 use Rattle.ctl_core.specs.Operating.{is_in_state, partition_made}
 use Rattle.ctl_core.specs.Sizes.{has_room, size_of}
 use Rattle.ctl_core.specs.Step.{entered, is_closed, is_entered, made, raised, refusals_of, state_after, unless_full, verdict_of, worked}
 use Rattle.daemon_world.specs.Claims.{Claim, Holds, IsClaimed, IsHeldAt}
 use Rattle.daemon_world.specs.Leaving.{LeavesNode}
+use Rattle.daemon_world.specs.Together.{IsNoneGone, is_emptied}
 use Rattle.daemon_world.specs.Worlds.{IsNoReport}
-use Rattle.daemon_world.proofs.Altering.{keeps_down, keeps_drain, keeps_resume, keeps_silent, leaves_on, nodes_left}
+use Rattle.daemon_world.proofs.Altering.{keeps_down, keeps_drain, keeps_resume, keeps_silent, nodes_left}
 use Rattle.daemon_world.proofs.Holding.{IsAlike, again_alike, alike_holds, alike_on, cancel_alike, itself, leave_alike, loss_holds}
-use Rattle.daemon_world.proofs.LeftAlone.{left_same}
+use Rattle.daemon_world.proofs.LeftAlone.{leaves_on, left_same, placed}
 use Rattle.daemon_world.proofs.Lists.{any_filter, any_left, any_map, any_none}
+use Rattle.daemon_world.proofs.Reconfiguring.{reconfigured_leaves}
 use Rattle.daemon_world.proofs.Starting.{MayStart, Plans, plans_start, starts_any}
 
 -- the nodes stay, and what is held of them
-pub left_held : (s s' : State) (node : List ℕ) → s'.nodes ≡ s.nodes
+pub left_held : (s s' : State) (node : List ℕ) → s'.nodes ≡ s.nodes → s'.dropped ≡ s.dropped
     → ((place : ℕ) (claim : Claim) → IsHeldAt s.jobs place claim → IsHeldAt s'.jobs place claim) → LeavesNode s s' node
-left_held s s' node nodes held = record {
-  place = (left_same s (record s { nodes = s'.nodes }) node nodes refl).place;
-  kept = (left_same s (record s { nodes = s'.nodes }) node nodes refl).kept;
+left_held s s' node nodes dropped held = placed s s' node (record {
+  place = ap (place_named node) nodes;
+  dropped = dropped;
+  heard = λ place there. ap (λ (all : List NodeRecord). heard_of all place) nodes;
   held = λ place there up. inl (
     ap (λ (all : List NodeRecord). is_up_at all place) (sym nodes) ∙ up,
     λ claim holds. held place claim holds,
   );
-  emptied = (left_same s (record s { nodes = s'.nodes }) node nodes refl).emptied;
-}
+  emptied = λ place there told. ap (λ (all : List NodeRecord). is_at is_emptied all place) (sym nodes) ∙ told;
+})
 
 -- each job keeps what it holds
 pub map_held : (jobs : List JobRecord) (after : JobRecord → JobRecord) (place : ℕ) (claim : Claim)
@@ -105,7 +113,7 @@ done-alike now user (act.Update limit nice) job =
 change-left : (s : State) (now : ℕ) (user : List ℕ) (action : Action) (named : JobRecord → Bool) (node : List ℕ)
     → LeavesNode s (change_after s now user action named) node
 change-left s now user action named node =
-    left_held s (change_after s now user action named) node refl
+    left_held s (change_after s now user action named) node refl refl
     (λ place claim. map_held s.jobs (done_if s now user action named) place claim
     (λ job. cond_both (named job && may_do s user action job) (done_to now user action job) job
     (λ (after : JobRecord). Holds place claim job → Holds place claim after)
@@ -123,15 +131,15 @@ update-left : (s : State) (now : ℕ) (names : List (List ℕ)) (state : NodeOrd
     → LeavesNode s (update_after s now names state) node
 update-left s now names order.Down node =
     nodes_left (changed_where change.Down (is_among names)) (is_among names) (keeps_down (is_among names)) s
-    (update_after s now names order.Down) node refl
+    (update_after s now names order.Down) node refl refl
     (λ place claim kept. loss-held s now (lost_by s.nodes names order.Down) place claim kept)
 update-left s now names order.Drain node =
     nodes_left (changed_where change.Drain (is_among names)) (λ node. false) (keeps_drain (is_among names)) s
-    (update_after s now names order.Drain) node refl
+    (update_after s now names order.Drain) node refl refl
     (λ place claim kept. loss-held s now (lost_by s.nodes names order.Drain) place claim refl)
 update-left s now names order.Resume node =
     nodes_left (changed_where change.Resume (is_among names)) (λ node. false) (keeps_resume (is_among names)) s
-    (update_after s now names order.Resume) node refl
+    (update_after s now names order.Resume) node refl refl
     (λ place claim kept. loss-held s now (lost_by s.nodes names order.Resume) place claim refl)
 
 -- ---- a pass
@@ -141,9 +149,9 @@ silence-left s now node =
     let silent = falls_silent s.settings.slurmd_timeout now in
     cond_both (any_silent s now) (without_silent s now) s (λ (t : State). LeavesNode s t node)
     (λ some. nodes_left (changed_where change.Silent silent) silent (keeps_silent silent) s (without_silent s now) node
-    refl
+    refl refl
     (λ place claim kept. loss-held s now (silent_at s now) place claim kept))
-    (λ none. left_same s s node refl refl)
+    (λ none. left_same s s node refl refl refl)
 
 -- a job that holds something neither waits nor has ended
 record HoldsOn (place : ℕ) (claim : Claim) (job : JobRecord) : Type 0 where
@@ -213,7 +221,7 @@ held-left s now place claim sound held =
 pass-left : Plans → (s : State) (now : ℕ) (node : List ℕ) → IsSound s → MayStart (ready s now).jobs (placements s now)
     → LeavesNode s (pass_after s now) node
 pass-left plans s now node sound may =
-    left_held s (pass_after s now) node refl
+    left_held s (pass_after s now) node refl refl
     (λ place claim held. any_map (λ (job : JobRecord). Unit {0}) (HoldsOn place claim) (Holds place claim)
     (preempted now (victims_in s now)) (outcome s now).jobs
     (λ job any on. held-gone now place claim (victims_in s now) job on.holds) (λ k d below. tt)
@@ -267,7 +275,7 @@ submit-made : (s : State) (now : ℕ) (user : List ℕ) (desc : JobDesc) (node :
 submit-made s now user desc node None = tt
 submit-made s now user desc node (Some basis) =
     let jobs = new_jobs s now user desc basis desc.array in
-    left_held s (submit_after s jobs (new_arrays s desc.array)) node refl
+    left_held s (submit_after s jobs (new_arrays s desc.array)) node refl refl
     (λ place claim held. any_left (Holds place claim) s.jobs jobs held)
 
 partition-made : (s : State) (state : PartState) (node : List ℕ) (place : Option ℕ)
@@ -275,38 +283,42 @@ partition-made : (s : State) (state : PartState) (node : List ℕ) (place : Opti
 partition-made s state node None = tt
 partition-made s state node (Some place) =
     cond_both (is_in_state state (slice_get s.partitions place)) Stays _ (LeavesBy s node) (λ had. tt)
-    (λ out. left_held s _ node refl (λ place claim held. held))
+    (λ out. left_held s _ node refl refl (λ place claim held. held))
 
-leaves-made : Passes → (s : State) (moment : ℕ) (user : List ℕ) (request : Request) (node : List ℕ) → IsSound s
-    → s.moment ≤ moment → moment ≤ last_moment → IsNoReport request → LeavesBy s node (made s moment user request)
-leaves-made passes s moment user (Submit desc) node sound later in_time own =
+leaves-made : Passes → PlacesAreNamed → (s : State) (moment : ℕ) (user : List ℕ) (request : Request) (node : List ℕ)
+    → IsSound s → IsNoneGone s node → s.moment ≤ moment → moment ≤ last_moment → IsNoReport request
+    → LeavesBy s node (made s moment user request)
+leaves-made passes law s moment user (Submit desc) node sound apart later in_time own =
     submit-made s moment user desc node (basis_of s user desc)
-leaves-made passes s moment user (Cancel targets) node sound later in_time own =
+leaves-made passes law s moment user (Cancel targets) node sound apart later in_time own =
     change-made s moment user act.Cancel (are_meant targets) node
-leaves-made passes s moment user (Hold targets for_owner) node sound later in_time own =
+leaves-made passes law s moment user (Hold targets for_owner) node sound apart later in_time own =
     change-made s moment user (act.Hold for_owner) (are_naming targets) node
-leaves-made passes s moment user (Release targets) node sound later in_time own =
+leaves-made passes law s moment user (Release targets) node sound apart later in_time own =
     change-made s moment user act.Release (are_naming targets) node
-leaves-made passes s moment user (Requeue target) node sound later in_time own =
+leaves-made passes law s moment user (Requeue target) node sound apart later in_time own =
     change-made s moment user act.Requeue (are_naming (target ∷ [])) node
-leaves-made passes s moment user (UpdateJob target limit nice) node sound later in_time own =
+leaves-made passes law s moment user (UpdateJob target limit nice) node sound apart later in_time own =
     change-made s moment user (act.Update limit nice) (are_naming (target ∷ [])) node
-leaves-made passes s moment user (UpdateNode nodes state) node sound later in_time own =
+leaves-made passes law s moment user (UpdateNode nodes state) node sound apart later in_time own =
     cond_both (changes_any s nodes state) _ Stays (LeavesBy s node) (λ some. update-left s moment nodes state node)
     (λ none. tt)
-leaves-made passes s moment user (UpdatePartition name state) node sound later in_time own =
+leaves-made passes law s moment user (UpdatePartition name state) node sound apart later in_time own =
     partition-made s state node (place_meant (Some name) s.partitions)
-leaves-made passes s moment user (CreateReservation desc) node sound later in_time own =
-    left_held s _ node refl (λ place claim held. held)
-leaves-made passes s moment user (DeleteReservation name) node sound later in_time own =
-    left_held s _ node refl (λ place claim held. held)
-leaves-made passes s moment user Shutdown node sound later in_time own =
-    left_held s _ node refl (λ place claim held. held)
-leaves-made passes s moment user (Report report) node sound later in_time own = absurd own
-leaves-made passes s moment user Pass node sound later in_time own =
+leaves-made passes law s moment user (CreateReservation desc) node sound apart later in_time own =
+    left_held s _ node refl refl (λ place claim held. held)
+leaves-made passes law s moment user (DeleteReservation name) node sound apart later in_time own =
+    left_held s _ node refl refl (λ place claim held. held)
+leaves-made passes law s moment user Shutdown node sound apart later in_time own =
+    left_held s _ node refl refl (λ place claim held. held)
+leaves-made passes law s moment user (Report report) node sound apart later in_time own = absurd own
+leaves-made passes law s moment user Pass node sound apart later in_time own =
     cond_both (pass_is_idle s moment) Stays _ (LeavesBy s node) (λ idle. tt)
     (λ busy. whole-pass-left passes s moment node sound later in_time)
-leaves-made passes s moment user (Show query) node sound later in_time own = tt
+leaves-made passes law s moment user (Reconfigure conf bytes) node sound apart later in_time own =
+    cond_both (is_same s conf) Stays _ (LeavesBy s node) (λ idle. tt)
+    (λ other. reconfigured_leaves law s moment conf node sound.nodes.named apart)
+leaves-made passes law s moment user (Show query) node sound apart later in_time own = tt
 
 leaves-full : (s : State) (node : List ℕ) (room : Bool) (verdict : Verdict) → LeavesBy s node verdict
     → LeavesBy s node (unless_full room verdict)
@@ -321,34 +333,35 @@ leaves-judged : (s : State) (node : List ℕ) (refusal : Option Refusal) (verdic
 leaves-judged s node None verdict leaves = leaves
 leaves-judged s node (Some refusal) verdict leaves = tt
 
-leaves-early : Passes → (s : State) (now : ℕ) (user : List ℕ) (request : Request) (node : List ℕ)
-    (early closed : Bool) → IsSound s → IsNoReport request → nat_lt last_moment now ≡ early
+leaves-early : Passes → PlacesAreNamed → (s : State) (now : ℕ) (user : List ℕ) (request : Request) (node : List ℕ)
+    (early closed : Bool) → IsSound s → IsNoneGone s node → IsNoReport request → nat_lt last_moment now ≡ early
     → LeavesBy s node
     (unless_refused (first_refusal (refused_if early MomentTooLarge ∷ refused_if closed ShuttingDown ∷ []))
     (worked s (raised s now) user request))
-leaves-early passes s now user request node true closed sound own is = tt
-leaves-early passes s now user request node false true sound own is = tt
-leaves-early passes s now user request node false false sound own is =
+leaves-early passes law s now user request node true closed sound apart own is = tt
+leaves-early passes law s now user request node false true sound apart own is = tt
+leaves-early passes law s now user request node false false sound apart own is =
     let moment = raised s now in
     let in_time = ltb-false last_moment now is in
     leaves-judged s node (first_refusal (refusals_of s moment user request)) _
     (leaves-full s node (has_room s request) (made s moment user request)
-    (leaves-made passes s moment user request node sound (omega arith) (omega (arith, sound.moment, in_time)) own))
+    (leaves-made passes law s moment user request node sound apart (omega arith)
+    (omega (arith, sound.moment, in_time)) own))
 
 leaves-left : (s : State) (moment size : ℕ) (node : List ℕ) (verdict : Verdict) → LeavesBy s node verdict
     → LeavesNode s (if is_entered (reply_by verdict) then entered moment size (left_by s verdict) else s) node
-leaves-left s moment size node (Refuses refusal) leaves = left_same s s node refl refl
-leaves-left s moment size node (Tells view) leaves = left_same s s node refl refl
-leaves-left s moment size node Stays leaves = left_same s s node refl refl
+leaves-left s moment size node (Refuses refusal) leaves = left_same s s node refl refl refl
+leaves-left s moment size node (Tells view) leaves = left_same s s node refl refl refl
+leaves-left s moment size node Stays leaves = left_same s s node refl refl refl
 leaves-left s moment size node (Makes reply after) leaves =
     cond_both (is_entered reply) (entered moment size after) s (λ (t : State). LeavesNode s t node)
     (λ enters. leaves_on s after (entered moment size after) node leaves
-    (left_same after (entered moment size after) node refl refl))
-    (λ other. left_same s s node refl refl)
+    (left_same after (entered moment size after) node refl refl refl))
+    (λ other. left_same s s node refl refl refl)
 
 -- Whatever is asked but a report leaves each node's side alone.
-pub asked_leaves : Passes → (s : State) (now : ℕ) (user : List ℕ) (request : Request) (node : List ℕ) → IsSound s
-    → IsNoReport request → LeavesNode s (state_after s now user request) node
-asked_leaves passes s now user request node sound own =
+pub asked_leaves : Passes → PlacesAreNamed → (s : State) (now : ℕ) (user : List ℕ) (request : Request) (node : List ℕ)
+    → IsSound s → IsNoneGone s node → IsNoReport request → LeavesNode s (state_after s now user request) node
+asked_leaves passes law s now user request node sound apart own =
     leaves-left s (raised s now) (size_of request) node (verdict_of s now user request)
-    (leaves-early passes s now user request node (nat_lt last_moment now) (is_closed s request) sound own refl)
+    (leaves-early passes law s now user request node (nat_lt last_moment now) (is_closed s request) sound apart own refl)

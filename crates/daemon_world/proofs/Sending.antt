@@ -14,6 +14,7 @@ pub more_reports : (s : State) (reports : List Report) (orders : List Orders) (n
     → InStep s (report ∷ reports) orders node daemon
 more_reports s reports orders node daemon report others step = record {
   name = step.name;
+  apart = step.apart;
   heard = step.heard;
   sent = All-cons (λ (one : Report). one.node ≡ node → IsUpTo one.boot one.number daemon.boot daemon.number) report
       reports (λ is. absurd (others is)) step.sent;
@@ -35,6 +36,7 @@ more_orders s reports orders node daemon more others step =
     let never : are_due more daemon ≡ true → ⊥ = λ is. others (sym (due more daemon is).node ∙ step.name) in
     record {
       name = step.name;
+      apart = step.apart;
       heard = step.heard;
       sent = step.sent;
       fresh = step.fresh;

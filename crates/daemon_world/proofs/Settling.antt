@@ -62,6 +62,11 @@ settled-itself (Ended end) = inl refl
 pub settles_itself : (job : JobRecord) → Settles job job
 settles_itself job = record { id = refl; starts = refl; settled = settled-itself job.state }
 
+-- one whose parts and partition are at other places now
+pub moved_settles : (parts : List Part) (partition : ℕ) (job : JobRecord)
+    → Settles job (record job { parts = parts; partition = partition })
+moved_settles parts partition job = record { id = refl; starts = refl; settled = settled-itself job.state }
+
 pub settles_on : (job middle after : JobRecord) → Settles job middle → Settles middle after → Settles job after
 settles_on job middle after one two = record {
   id = two.id ∙ one.id;

@@ -1,5 +1,5 @@
 -- Each event keeps all together, and so do all events.
-use Rattle.std.proofs.Common.{ℕ, zero, suc, ◌≡◌, ◌<◌, ◌∙◌, true, List, [], ◌∷◌, ◌++◌, Contains, Some, None, Option, option_and_then, bytes_eq, map, refl, sym, subst, arith}
+use Rattle.std.proofs.Common.{ℕ, zero, suc, ◌≡◌, ◌<◌, ◌∙◌, true, List, [], ◌∷◌, ◌++◌, Contains, Some, None, Option, option_map, bytes_eq, map, refl, sym, ap, subst, arith}
 use Rattle.std.proofs.lemmas.Bool.{cond_both}
 use Rattle.std.proofs.lemmas.List.Elements.{All-contains}
 use Rattle.plain_data.specs.Assocs.{AssocView}
@@ -10,6 +10,7 @@ use Rattle.request_data.specs.declared.report.Done.{Done}
 use Rattle.request_data.specs.declared.report.Report.{Report}
 use Rattle.request_data.specs.declared.request.Request.{Request}
 use Rattle.request_data.specs.declared.request.Request.TheVariants.{Report as Reports}
+use Rattle.node_state.specs.Laws.{PlacesAreNamed}
 use Rattle.node_state.specs.Nodes.{opened, place_named}
 use Rattle.ctl_state.specs.Soundness.{IsSound}
 use Rattle.ctl_state.specs.State.{State, opening}
@@ -19,7 +20,7 @@ use Rattle.node_daemon.specs.Daemon.{Daemon, are_due, given, polled, reported, s
 use Rattle.node_daemon.specs.declared.running.Running.{Running}
 use Rattle.node_daemon.specs.Turn.{root}
 use Rattle.daemon_world.specs.Claims.{claim_run, claims_of, claims_ordered}
-use Rattle.daemon_world.specs.Together.{Fit, HeardSince, HeardUpTo, InStep, Together, kept_of}
+use Rattle.daemon_world.specs.Together.{Fit, HeardSince, HeardUpTo, InStep, Together, kept_at, kept_of, pair_heard}
 use Rattle.daemon_world.specs.Worlds.{AllCanHappen, CanHappen, Event, HasComeAbout, IsAtRest, IsNoReport, World, opening_world, with_daemon, world_after, world_after_all}
 use Rattle.daemon_world.proofs.Accepting.{Lower}
 use Rattle.daemon_world.proofs.Claimed.{fit_none}
@@ -97,12 +98,13 @@ report_together lower steps w now report together sent = record {
       together.each;
 }
 
-pub request_together : Passes → StepsKeep → (w : World) (now : ℕ) (user : List ℕ) (request : Request) → Together w
+pub request_together : Passes → PlacesAreNamed → StepsKeep → (w : World) (now : ℕ) (user : List ℕ) (request : Request) → Together w
     → IsInRange request → IsNoReport request → Together (world_after w (Event.Asks now user request))
-request_together passes steps w now user request together ranges own = record {
+request_together passes law steps w now user request together ranges own = record {
   sound = steps w.state now user request together.sound ranges;
   each = λ node. left_on w.state (state_after w.state now user request) w.reports w.orders node (w.daemons node)
-      (asked_leaves passes w.state now user request node together.sound own) (together.each node);
+      (asked_leaves passes law w.state now user request node together.sound (together.each node).apart own)
+      (together.each node);
 }
 
 -- ---- any event, and all of them
@@ -120,7 +122,7 @@ event_together promises w (Event.ReportComes now report) together can =
 event_together promises w (Event.OrdersCome now orders) together can = orders_together w now orders together can
 event_together promises w (Event.Restarts node boot) together can = restarts_together w node boot together can
 event_together promises w (Event.Asks now user request) together can =
-    request_together promises.passes promises.steps w now user request together can.0 can.1
+    request_together promises.passes promises.lower.named promises.steps w now user request together can.0 can.1
 
 abbrev pub EventsKeep : Type 0
 EventsKeep = (w : World) (event : Event) → Together w → CanHappen w event → Together (world_after w event)
@@ -138,10 +140,10 @@ never-heard [] place = refl
 never-heard (node ∷ nodes) zero = refl
 never-heard (node ∷ nodes) (suc place) = never-heard nodes place
 
-none-kept : (nodes : List NodeConf) (found : Option ℕ)
-    → option_and_then (heard_of (map opened nodes)) found ≡ None
-none-kept nodes None = refl
-none-kept nodes (Some place) = never-heard nodes place
+none-kept : (conf : ConfView) (file : AssocView) (node : List ℕ) (found : Option ℕ)
+    → kept_at (opening conf file) node found ≡ None
+none-kept conf file node None = refl
+none-kept conf file node (Some place) = ap (option_map pair_heard) (never-heard conf.nodes place)
 
 fits-none : (s : State) (node : List ℕ) (daemon : Daemon) → IsAtRest node daemon
     → Fit s node (claims_of daemon) daemon.over
@@ -153,9 +155,10 @@ opens : (conf : ConfView) (file : AssocView) (node : List ℕ) (daemon : Daemon)
     → InStep (opening conf file) [] [] node daemon
 opens conf file node daemon rest =
     let s = opening conf file in
-    let kept : kept_of s node ≡ None = none-kept conf.nodes (place_named node s.nodes) in
+    let kept : kept_of s node ≡ None = none-kept conf file node (place_named node s.nodes) in
     record {
       name = rest.named;
+      apart = λ place there. refl;
       heard = subst (λ kept. HeardUpTo kept daemon.boot daemon.number) (sym kept) tt;
       sent = λ k d below. absurd (omega (arith, below));
       fresh = λ life. rest.running;

@@ -48,6 +48,10 @@ times_claiming claims start = count_by (λ (claim : Claim). is_same claim.start 
 abbrev pub times_over : List Done → Start → ℕ
 times_over over start = count_by (λ (done : Done). is_same done.start start) over
 
+-- no start runs there more than once
+abbrev pub RunsOnce : Daemon → Type 0
+RunsOnce daemon = (start : Start) → times_claiming (claims_of daemon) start ≤ 1
+
 -- the part is of the node at a place, and has the processors that are claimed
 abbrev pub IsClaimed : ℕ → Claim → Part → Type 0
 IsClaimed place claim part = (part.node ≡ place) × (part.cpus ≡ claim.cpus)

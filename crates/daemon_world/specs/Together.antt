@@ -1,12 +1,14 @@
 -- What holds the controller and a daemon together, whatever happens.
-use Rattle.std.specs.Prelude.{◌≡◌, ◌<◌, ◌≤◌, ℕ, ◌+◌, Bool, true, false, ◌&&◌, ◌||◌, List, [], ◌++◌, map, All, Option, Some, None, option_and_then}
+use Rattle.std.specs.Prelude.{◌≡◌, ◌<◌, ◌≤◌, ℕ, ◌+◌, Bool, true, false, ◌&&◌, ◌||◌, List, [], ◌++◌, map, All, Option, Some, None, IfSome, option_map}
 use Rattle.request_data.specs.declared.report.Start.{Start}
 use Rattle.request_data.specs.declared.report.Done.{Done}
 use Rattle.request_data.specs.declared.report.Heard.{Heard}
 use Rattle.request_data.specs.declared.report.Report.{Report}
 use Rattle.reply_data.specs.declared.orders.Orders.{Orders}
+use Rattle.node_state.specs.declared.record.DroppedNode.{DroppedNode}
 use Rattle.node_state.specs.declared.record.NodeRecord.{NodeRecord}
 use Rattle.node_state.specs.Nodes.{place_named}
+use Rattle.node_state.specs.Renewing.{dropped_named}
 use Rattle.ctl_state.specs.Planning.{is_at}
 use Rattle.ctl_state.specs.Soundness.{IsSound}
 use Rattle.ctl_state.specs.State.{State}
@@ -27,29 +29,52 @@ pub record IsAfter (life count last_life last_count : ℕ) : Type 0 where
   pub boot : last_life ≤ life
   pub number : life ≡ last_life → last_count < count
 
--- the last accepted report of the node with this name
-abbrev pub kept_of : State → List ℕ → Option Heard
-kept_of s node = option_and_then (heard_of s.nodes) (place_named node s.nodes)
+-- the numbers of an accepted report: of which of its daemon's lives it was, and which one of that life
+pub record Pair : Type 0 where
+  pub boot : ℕ
+  pub number : ℕ
+
+abbrev pub pair_heard : Heard → Pair
+pair_heard heard = record { boot = heard.boot; number = heard.number }
+
+abbrev pub pair_dropped : DroppedNode → Pair
+pair_dropped dropped = record { boot = dropped.boot; number = dropped.number }
+
+-- the last accepted report of the node with this name: of the one at its place, or else of the one that went
+abbrev pub kept_at : State → List ℕ → Option ℕ → Option Pair
+kept_at s node (Some place) = option_map pair_heard (heard_of s.nodes place)
+kept_at s node None = option_map pair_dropped (dropped_named node s.dropped)
+
+abbrev pub kept_of : State → List ℕ → Option Pair
+kept_of s node = kept_at s node (place_named node s.nodes)
+
+-- a node that is there is none that went
+abbrev pub IsNoneGone : State → List ℕ → Type 0
+IsNoneGone s node = (place : ℕ) → place_named node s.nodes ≡ Some place → dropped_named node s.dropped ≡ None
 
 -- the last accepted report came no later than these numbers, or there is none
-abbrev pub HeardUpTo : Option Heard → ℕ → ℕ → Type 0
+abbrev pub HeardUpTo : Option Pair → ℕ → ℕ → Type 0
 HeardUpTo None boot number = Unit {0}
-HeardUpTo (Some heard) boot number = IsUpTo heard.boot heard.number boot number
+HeardUpTo (Some pair) boot number = IsUpTo pair.boot pair.number boot number
 
 -- it came earlier, or there is none
-abbrev pub HeardBefore : Option Heard → ℕ → ℕ → Type 0
+abbrev pub HeardBefore : Option Pair → ℕ → ℕ → Type 0
 HeardBefore None boot number = Unit {0}
-HeardBefore (Some heard) boot number = IsAfter boot number heard.boot heard.number
+HeardBefore (Some pair) boot number = IsAfter boot number pair.boot pair.number
 
 -- it came no earlier than these numbers
-abbrev pub HeardSince : Option Heard → ℕ → ℕ → Type 0
+abbrev pub HeardSince : Option Pair → ℕ → ℕ → Type 0
 HeardSince None boot number = ⊥
-HeardSince (Some heard) boot number = IsUpTo boot number heard.boot heard.number
+HeardSince (Some pair) boot number = IsUpTo boot number pair.boot pair.number
 
 -- it was of an earlier life of the daemon, or there is none
-abbrev pub HeardNoLife : Option Heard → ℕ → Type 0
+abbrev pub HeardNoLife : Option Pair → ℕ → Type 0
 HeardNoLife None boot = Unit {0}
-HeardNoLife (Some heard) boot = heard.boot < boot
+HeardNoLife (Some pair) boot = pair.boot < boot
+
+-- where a report of the node was accepted before, the last accepted one came no earlier
+abbrev pub KeptRises : State → State → List ℕ → Type 0
+KeptRises s s' node = IfSome (kept_of s node) (λ pair. HeardSince (kept_of s' node) pair.boot pair.number)
 
 -- the node was set down, and then reported that nothing runs there
 abbrev pub is_emptied : NodeRecord → Bool
@@ -81,6 +106,7 @@ pub record RunsNothing (orders : List Orders) (daemon : Daemon) : Type 0 where
 pub record InStep (s : State) (reports : List Report) (orders : List Orders) (node : List ℕ) (daemon : Daemon)
     : Type 0 where
   pub name : daemon.node ≡ node
+  pub apart : IsNoneGone s node
   -- its numbers come no earlier than the last accepted ones, nor than those that it ever sent
   pub heard : HeardUpTo (kept_of s node) daemon.boot daemon.number
   pub sent : All (λ (one : Report). one.node ≡ node → IsUpTo one.boot one.number daemon.boot daemon.number) reports

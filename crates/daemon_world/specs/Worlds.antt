@@ -14,8 +14,8 @@ use Rattle.ctl_core.specs.Step.{IsInRange, reply_of, state_after}
 use Rattle.node_daemon.specs.Daemon.{Daemon, given, polled, reported, started}
 use Rattle.node_daemon.specs.Turn.{root}
 
--- The controller's state, the daemon of each node by the node's name, and all reports and orders ever sent. What was
--- sent may come late, more than once, out of turn, or never.
+-- The controller's state, the daemon of each node by the node's name, also of a node that isn't there yet or any more,
+-- and all reports and orders ever sent. What was sent may come late, more than once, out of turn, or never.
 pub record World : Type 0 where
   pub state : State
   pub daemons : List ℕ → Daemon
@@ -23,7 +23,7 @@ pub record World : Type 0 where
   pub orders : List Orders
 
 -- What may happen: a daemon polls, and sends its report; a report comes to the controller; orders come to their daemon;
--- a daemon is started anew with a boot number; a user asks for anything, a pass among it.
+-- a daemon is started anew with a boot number; a user asks for anything, a pass or another slurm.conf among it.
 pub data Event : Type 0 where
   Polls : (now : ℕ) (node : List ℕ) → Event
   ReportComes : (now : ℕ) (report : Report) → Event

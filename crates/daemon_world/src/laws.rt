@@ -7,10 +7,10 @@ ghost use Rattle.ctl_desk.specs.Desk.{Sight};
 ghost use Rattle.node_daemon.specs.Daemon.{Daemon, polled};
 ghost use Rattle.node_daemon.specs.Turn.{AnswersReport, IsCutTurn, after_reply};
 ghost use Rattle.simulation.specs.Simulation.{Simulated, rounds};
-ghost use Rattle.daemon_world.specs.Claims.{AreHeld, RunsApart, claims_of};
+ghost use Rattle.daemon_world.specs.Claims.{AreHeld, RunsApart, RunsOnce, claims_of};
 ghost use Rattle.daemon_world.specs.Courses.{Comes, Shows};
 ghost use Rattle.daemon_world.specs.Finals.{EndOnce};
-ghost use Rattle.daemon_world.specs.Together.{Together};
+ghost use Rattle.daemon_world.specs.Together.{KeptRises, Together};
 ghost use Rattle.daemon_world.specs.Turns.{IsAskedIn, Leads, state_told};
 ghost use Rattle.daemon_world.specs.Worlds.{AllCanHappen, CanHappen, Event, HasComeAbout, World, world_after, world_after_all};
 
@@ -25,10 +25,12 @@ use job_table::record::JobRecord;
 use node_daemon::laws::orders_are_due;
 use node_state::laws::{a_change_leaves_the_confs, names_lead_to_places};
 
-/// Whatever happens, the controller and each daemon stay together. It is own: Slurm's manuals promise nothing of lost
-/// and repeated messages.
+/// Whatever happens, the controller and each daemon stay together, and the numbers of a node's last accepted report
+/// don't fall. It is own: Slurm's manuals promise nothing of lost and repeated messages.
 pub fn every_event_keeps_all_together()
-    ensures { (w : World) (event : Event) → Together w → CanHappen w event → Together (world_after w event) }
+    ensures together { (w : World) (event : Event) → Together w → CanHappen w event → Together (world_after w event) }
+    ensures rises { (w : World) (event : Event) (node : List ℕ) → Together w → CanHappen w event
+        → KeptRises w.state (world_after w event).state node }
 {
     a_step_keeps_all_sound();
     a_report_met_keeps_all_sound();
@@ -43,12 +45,23 @@ pub fn every_event_keeps_all_together()
     a_stable_sort_makes_the_order::<JobRecord>();
 }
 
-/// Over every list of events from an opening world: no daemon runs two starts on one processor; and each start that the
-/// daemon of a node runs which isn't down is held on that node by the controller, with those processors.
+/// Over every list of events from an opening world: no daemon runs two starts on one processor, or one start twice; and
+/// each start that the daemon of a node runs which the configuration in force has and which isn't down is held on that
+/// node by the controller, with those processors.
 pub fn daemons_run_what_is_held()
     ensures apart { (w : World) (node : List ℕ) → HasComeAbout w → RunsApart (w.daemons node) }
+    ensures once { (w : World) (node : List ℕ) → HasComeAbout w → RunsOnce (w.daemons node) }
     ensures held { (w : World) (node : List ℕ) → HasComeAbout w → AreHeld w.state node (claims_of (w.daemons node)) }
     ensures together { (w : World) → HasComeAbout w → Together w }
+{
+    every_event_keeps_all_together();
+}
+
+/// The numbers of a node's last accepted report never fall, also where another slurm.conf dropped the node and one
+/// brought it back: what was accepted once is stale from then on.
+pub fn accepted_reports_rise()
+    ensures { (w : World) (events : List Event) (node : List ℕ) → HasComeAbout w → AllCanHappen w events
+        → KeptRises w.state (world_after_all w events).state node }
 {
     every_event_keeps_all_together();
 }

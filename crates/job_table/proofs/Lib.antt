@@ -7,3 +7,4 @@ pub mod Awaiting
 pub mod Folds
 pub mod Earlier
 pub mod Passes
+pub mod Moved

@@ -118,7 +118,7 @@ ids-map_at change place [] = refl
 ids-map_at change zero (job ∷ jobs) = ap (λ id. id ∷ map id_of jobs) (changed-id change job)
 ids-map_at change (suc place) (job ∷ jobs) = ap (λ ids. job.id ∷ ids) (ids-map_at change place jobs)
 
-rising-same : (jobs were : List JobRecord) → map id_of jobs ≡ map id_of were → HaveRisingIds were → HaveRisingIds jobs
+pub rising-same : (jobs were : List JobRecord) → map id_of jobs ≡ map id_of were → HaveRisingIds were → HaveRisingIds jobs
 rising-same jobs were same rising i j d before below =
     let earlier : i < length jobs = omega (arith, before, below) in
     let first : (get_or jobs i d).id ≡ (get_or were i d).id = at i d earlier in

@@ -8,3 +8,4 @@ pub mod Usage
 pub mod Awaiting
 pub mod Standing
 pub mod Laws
+pub mod Moving

@@ -7,10 +7,12 @@ ghost use Rattle.job_table.specs.Changes.{changed};
 ghost use Rattle.job_table.specs.Table.{HaveRisingIds, IsTable, changed_if, entry_of, is_old, job_with, put_back_if};
 ghost use Rattle.job_table.specs.Awaiting.{has_gone};
 ghost use Rattle.job_table.specs.Usage.{Charges, IsNoStart, charged_by, is_start};
+ghost use Rattle.job_table.specs.Moving.{partition_moved, parts_moved};
 ghost use Rattle.job_table.specs.Walks.{map_at};
 
 use crate::awaited::Awaited;
 use crate::change::{Change, apply};
+use crate::moving::{move_partition, move_parts};
 use crate::record::JobRecord;
 use crate::usage::charge;
 use indexmap::IndexMap;
@@ -181,6 +183,25 @@ impl Jobs {
         apply(alloc, &mut self.by_id[place], change);
     }
 
+    /// The jobs' parts are on the same nodes, which are at other places now: for each place the new one is told. Linear
+    /// in the jobs and their parts; it takes no memory.
+    pub fn move_parts(&mut self, places: &[u32])
+        ensures records { self.new.records ≡ map (parts_moved places.now) self.old.records }
+        ensures usage { self.new.usage ≡ self.old.usage }
+    {
+        let alloc = *self.by_id.allocator();
+        move_all_parts(alloc, &mut self.by_id, places);
+    }
+
+    /// The jobs are of the same partitions, which are at other places now: for each place the new one is told. Linear in
+    /// the jobs; it takes no memory.
+    pub fn move_partitions(&mut self, places: &[u32])
+        ensures records { self.new.records ≡ map (partition_moved places.now) self.old.records }
+        ensures usage { self.new.usage ≡ self.old.usage }
+    {
+        move_all_partitions(&mut self.by_id, places);
+    }
+
     /// Puts a record in the place of the one with its number, if there is one, in constant time: so a change is taken back
     /// whose job was copied before (own). It takes no memory.
     pub fn put_back(&mut self, job: JobRecord)
@@ -209,6 +230,24 @@ impl Jobs {
                 ensures { (result ≡ not (has_gone age now awaited.entry.now job.old)) × (job.new ≡ job.old) }
             { !has_gone(age, now, awaited, job) },
         );
+    }
+}
+
+fn move_all_parts(alloc: Global, by_id: &mut IndexMap<u32, JobRecord>, places: &[u32])
+    requires { IsTable by_id.old.entries }
+    ensures { by_id.new.entries ≡ map entry_of (map (parts_moved places.now) (values by_id.old)) }
+{
+    for place in 0..by_id.len() {
+        move_parts(alloc, &mut by_id[place], places);
+    }
+}
+
+fn move_all_partitions(by_id: &mut IndexMap<u32, JobRecord>, places: &[u32])
+    requires { IsTable by_id.old.entries }
+    ensures { by_id.new.entries ≡ map entry_of (map (partition_moved places.now) (values by_id.old)) }
+{
+    for place in 0..by_id.len() {
+        move_partition(&mut by_id[place], places);
     }
 }
 

@@ -7,6 +7,7 @@ pub mod change;
 pub mod dependency_laws;
 pub mod jobs;
 pub mod laws;
+mod moving;
 pub mod record;
 pub mod standing;
 pub mod targets;

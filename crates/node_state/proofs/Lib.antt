@@ -5,3 +5,7 @@ pub mod Built
 pub mod States
 pub mod Beside
 pub mod Shared
+pub mod FirstPlaces
+pub mod Renewed
+pub mod Moved
+pub mod Apart

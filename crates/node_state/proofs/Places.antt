@@ -11,7 +11,7 @@ use Rattle.node_state.specs.declared.record.NodeRecord.{NodeRecord}
 use Rattle.node_state.specs.Nodes.{is_named, place_named, AreNamedOnce}
 
 -- the first element that passes, with one more behind the others
-position-push : {X : Type 0} (p : X → Bool) (xs : List X) (y : X) → (p y ≡ true → position p xs ≡ None) → position p (xs ++ y ∷ []) ≡ (if p y then Some (length xs) else position p xs)
+pub position-push : {X : Type 0} (p : X → Bool) (xs : List X) (y : X) → (p y ≡ true → position p xs ≡ None) → position p (xs ++ y ∷ []) ≡ (if p y then Some (length xs) else position p xs)
 position-push p xs y alone =
     rw (position_or_len_push p xs y, length_push xs y) (at (p y) (position_or_len p xs) (length xs) (prefix_len-le-length (λ x. not (p x)) xs) alone) where
       at : (b : Bool) (n m : ℕ) → n ≤ m → (b ≡ true → cond (ltb n m) (Some n) None ≡ None)

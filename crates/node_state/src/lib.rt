@@ -5,11 +5,13 @@
 pub mod bounds;
 mod change;
 pub mod laws;
+pub mod names;
 pub mod nodes;
 pub mod partition_laws;
 pub mod partition_record;
 pub mod partitions;
 pub mod record;
+mod renewing;
 pub mod reservation_laws;
 pub mod reservation_record;
 pub mod reservations;

@@ -7,7 +7,8 @@ ghost use Rattle.node_state.specs.Nodes.{AreNamedOnce, place_named};
 ghost use Rattle.node_state.specs.Nodes as spec;
 
 use crate::change;
-use crate::record::{Held, NodeChange, NodeRecord};
+use crate::record::{DroppedNode, Held, NodeChange, NodeRecord};
+use crate::renewing::{held_for, records_for};
 use crate::standing::{has_features, is_available, opened};
 use cpu_ids::CpuIds;
 use plain_data::conf::NodeConf;
@@ -98,6 +99,7 @@ impl Nodes {
     ghost use Rattle.std.specs.List.{HoldsAt};
     ghost use Rattle.node_state.specs.Held.{GivesBack, HoldsNothing, Takes, free_cpus, held_at, holds_cpu, held_mem, IsWithin};
     ghost use Rattle.node_state.specs.Nodes as spec;
+    ghost use Rattle.node_state.specs.Renewing;
 
     /// The nodes of slurm.conf(5), before anything was heard of them. Linear in their number.
     pub fn build(alloc: Global, confs: Vec<NodeConf>) -> Result<Nodes, Memory>
@@ -109,6 +111,34 @@ impl Nodes {
         let records = records_of(alloc, confs)?;
         let places = places_of(alloc, records.as_slice())?;
         let held = nothing_held(alloc, records.as_slice())?;
+        Ok(Nodes {
+            records,
+            places,
+            held,
+        })
+    }
+
+    /// The nodes of another slurm.conf(5), matched by name with these: one that stays stands as it stood and keeps what
+    /// is held of it, and of the others one that was heard and dropped counts as heard at this moment, and as down. Linear
+    /// in the lines and in the dropped nodes.
+    pub fn renewed(
+        &self,
+        alloc: Global,
+        confs: Vec<NodeConf>,
+        dropped: &[DroppedNode],
+        moment: u64,
+    ) -> Result<Nodes, Memory>
+        requires few { length confs.items ≤ 1024 }
+        requires once { AllPairs (λ one other. one.name ≢ other.name) confs.items }
+        requires fits { All (Renewing.FitsHeld self.now) confs.items }
+        ensures records { IfOk result (λ nodes. nodes.records
+            ≡ map (Renewing.renewed self.now.records dropped.now moment) confs.items) }
+        ensures held { IfOk result (λ nodes. nodes.held
+            ≡ map (λ conf. Renewing.held_by_name self.now conf.name) confs.items) }
+    {
+        let held = held_for(alloc, self, confs.as_slice())?;
+        let records = records_for(alloc, self, dropped, moment, confs)?;
+        let places = places_of(alloc, records.as_slice())?;
         Ok(Nodes {
             records,
             places,

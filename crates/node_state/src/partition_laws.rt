@@ -10,3 +10,8 @@ pub fn a_state_leaves_the_rest()
     ensures on_nodes { PartitionLaws.OnNodesStays }
     ensures places { PartitionLaws.PlacesStay }
 {}
+
+/// The partitions that slurm.conf(5) makes are on nodes that there are.
+pub fn opened_partitions_are_on_nodes()
+    ensures { PartitionLaws.OnNodesOpened }
+{}

@@ -5,7 +5,7 @@ ghost use Rattle.node_state.specs.Reservations;
 
 use cpu_ids::CpuIds;
 use plain_data::items::Items;
-use plain_data::seconds::{Moment, Second};
+use plain_data::seconds::Second;
 use small_texts::name::Name;
 
 /// Nodes that are kept for some users from one second to before another. "RESERVATIONS" in scontrol(1).
@@ -13,11 +13,13 @@ use small_texts::name::Name;
 pub struct Reservation {
     pub name: Name,
     /// The second at which it begins.
-    pub start: Moment,
-    /// The second at which it is over; a duration may lead past the last moment that can be handed in.
+    pub start: Second,
+    /// The second at which it is over. A duration, or a saved state, may lead past the last moment that can be handed in.
     pub end: Second,
     /// The places of its nodes in the list of nodes.
     pub nodes: CpuIds,
+    /// Its nodes again, in the order in which they were asked for.
+    pub names: Items<Name>,
     /// Who may use it.
     pub users: Items<Name>,
     /// Whose users may use it.

@@ -1,8 +1,9 @@
 //! The reservations that there are.
 
-ghost use Rattle.std.specs.Prelude.{◌≡◌, ◌++◌, ◌∷◌, ◌<◌, [], false, filter, length, not, All, IfOk, OnOk, OnErr, option_copied};
+ghost use Rattle.std.specs.Prelude.{◌≡◌, ◌++◌, ◌∷◌, ◌<◌, ◌≤◌, [], false, filter, length, map, not, All, IfOk, OnOk, OnErr, option_copied};
 ghost use Rattle.std.specs.List.{list_any};
 ghost use Rattle.node_state.specs.declared.reservation_record.Reservation.{Reservation as OneReservation};
+ghost use Rattle.node_state.specs.Moving.{reservation_moved, row_moved, was_in};
 ghost use Rattle.node_state.specs.Reservations as spec;
 
 use crate::reservation_record::{Reservation, crosses};
@@ -93,11 +94,53 @@ impl Reservations {
         self.records.retain(|one| !name.is(&one.name));
     }
 
+    /// Their nodes are at other places now: for each place its old one is told, if its node was there. Linear in the
+    /// reservations, and for each in the places; it takes no memory.
+    pub fn move_nodes(&mut self, origins: &[Option<u32>])
+        requires { length origins.now ≤ 1024 }
+        ensures { self.new ≡ map (reservation_moved origins.now) self.old }
+    {
+        move_all(self.records.as_mut_slice(), origins);
+    }
+
     /// Drops those that are over. Linear in the reservations; it takes no memory.
     pub fn drop_ended(&mut self, now: u64)
         ensures { self.new ≡ spec.lasting now self.old }
     {
         self.records.retain(|one| now < one.end.get());
+    }
+}
+
+// Whether the old place, if there was one, is in the row.
+fn was_in(row: &CpuIds, origin: Option<u32>) -> bool
+    ensures { result ≡ was_in row.now origin }
+{
+    match origin {
+        Some(place) => row.contains(place),
+        None => false,
+    }
+}
+
+// The new places of the nodes of a row.
+fn row_moved(origins: &[Option<u32>], row: &CpuIds) -> CpuIds
+    requires { length origins.now ≤ 1024 }
+    ensures { result ≡ row_moved origins.now row.now }
+{
+    let mut moved = CpuIds::none();
+    for (place, origin) in origins.iter().enumerate() {
+        if was_in(row, *origin) {
+            moved.insert(place as u32);
+        }
+    }
+    moved
+}
+
+fn move_all(reservations: &mut [Reservation], origins: &[Option<u32>])
+    requires { length origins.now ≤ 1024 }
+    ensures { reservations.new ≡ map (reservation_moved origins.now) reservations.old }
+{
+    for reservation in reservations.iter_mut() {
+        reservation.nodes = row_moved(origins, &reservation.nodes);
     }
 }
 

@@ -1,14 +1,18 @@
 //! What the configuration and the association file say, with their limits and ranges.
 
+ghost use Rattle.std.specs.Prelude.{◌≡◌, IfOk};
+
+use crate::Plain;
 use crate::items::Items;
 use crate::limit::Limit;
 use crate::mem_ask::MemAsk;
 use crate::ranged::Ranged;
+use small_texts::memory_error::Memory;
 use small_texts::name::Name;
 use std::marker::Model;
 
 /// The settings of slurm.conf(5) that are of no node or partition.
-#[derive(Debug, Drop)]
+#[derive(PartialEq, Debug, Drop)]
 pub struct Settings {
     /// `FirstJobId`: the number of the first job.
     pub first_job_id: Ranged<1, 67043328>,
@@ -41,6 +45,33 @@ pub struct Settings {
     pub preempt: bool,
 }
 
+impl Settings {
+    /// Equal settings.
+    pub fn copy(&self) -> Result<Settings, Memory>
+        ensures { IfOk result (λ settings. settings ≡ self.now) }
+    {
+        Ok(Settings {
+            first_job_id: self.first_job_id,
+            max_job_count: self.max_job_count,
+            max_array_size: self.max_array_size,
+            min_job_age: self.min_job_age,
+            slurmd_timeout: self.slurmd_timeout,
+            job_requeue: self.job_requeue,
+            slurm_user: self.slurm_user.copy()?,
+            max_age: self.max_age,
+            weight_age: self.weight_age,
+            weight_fairshare: self.weight_fairshare,
+            weight_job_size: self.weight_job_size,
+            weight_partition: self.weight_partition,
+            weight_qos: self.weight_qos,
+            bf_window: self.bf_window,
+            bf_interval: self.bf_interval,
+            mem_default: self.mem_default,
+            preempt: self.preempt,
+        })
+    }
+}
+
 /// How a node begins. `State` of a node in slurm.conf(5).
 #[derive(Clone, Copy, PartialEq, Eq, Debug)]
 pub enum NodeStart {
@@ -52,7 +83,7 @@ pub enum NodeStart {
 }
 
 /// A node of slurm.conf(5).
-#[derive(Debug, Drop)]
+#[derive(PartialEq, Debug, Drop)]
 pub struct NodeConf {
     pub name: Name,
     /// Its processors.
@@ -63,6 +94,19 @@ pub struct NodeConf {
     pub weight: Ranged<0, 4294967280>,
     pub features: Items<Name>,
     pub state: NodeStart,
+}
+
+impl Plain for NodeConf {
+    fn copy(&self) -> Result<NodeConf, Memory> {
+        Ok(NodeConf {
+            name: self.name.copy()?,
+            cpus: self.cpus,
+            mem: self.mem,
+            weight: self.weight,
+            features: self.features.copy()?,
+            state: self.state,
+        })
+    }
 }
 
 /// What a partition does with jobs. `State` of a partition in slurm.conf(5).
@@ -79,7 +123,7 @@ pub enum PartState {
 }
 
 /// A partition of slurm.conf(5).
-#[derive(Debug, Drop)]
+#[derive(PartialEq, Debug, Drop)]
 pub struct PartConf {
     pub name: Name,
     /// Its nodes, each once, in the order of its line, or of the file where it has all of them.
@@ -109,8 +153,29 @@ pub struct PartConf {
     pub mem_default: Option<MemAsk>,
 }
 
+impl Plain for PartConf {
+    fn copy(&self) -> Result<PartConf, Memory> {
+        Ok(PartConf {
+            name: self.name.copy()?,
+            nodes: self.nodes.copy()?,
+            is_default: self.is_default,
+            max_time: self.max_time,
+            default_time: self.default_time,
+            state: self.state,
+            factor: self.factor,
+            tier: self.tier,
+            min_nodes: self.min_nodes,
+            max_nodes: self.max_nodes,
+            accounts: self.accounts.copy()?,
+            qos: self.qos.copy()?,
+            exclusive: self.exclusive,
+            mem_default: self.mem_default,
+        })
+    }
+}
+
 /// What slurm.conf(5) says.
-#[derive(Debug, Drop)]
+#[derive(PartialEq, Debug, Drop)]
 pub struct Conf {
     pub settings: Settings,
     /// The nodes, in the order of the file, 1,024 at most, each named once.
@@ -127,4 +192,19 @@ impl Model for Conf {
     ghost view = { λ conf. record { settings = conf.settings; nodes = conf.nodes; partitions = conf.partitions } };
 
     ghost invariant = { λ conf. IsConf conf.nodes conf.partitions };
+
+    ghost inverse = { λ conf. record { settings = conf.settings; nodes = conf.nodes; partitions = conf.partitions } };
+}
+
+impl Conf {
+    /// An equal configuration. Linear in its nodes, and in the nodes of its partitions.
+    pub fn copy(&self) -> Result<Conf, Memory>
+        ensures { IfOk result (λ conf. conf ≡ self.now) }
+    {
+        Ok(Conf {
+            settings: self.settings.copy()?,
+            nodes: self.nodes.copy()?,
+            partitions: self.partitions.copy()?,
+        })
+    }
 }

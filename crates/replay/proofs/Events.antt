@@ -1,11 +1,12 @@
 -- An event step by step, and events one after the other.
-use Rattle.std.proofs.Common.{◌≡◌, ℕ, suc, ◌+◌, true, false, if◌then◌else◌, Option, Some, None, List, [], length, drop, refl, sym, ap, ◌∙◌}
+use Rattle.std.proofs.Common.{◌≡◌, ℕ, suc, ◌+◌, Bool, true, false, ◌||◌, if◌then◌else◌, Option, Some, None, List, [], length, drop, refl, sym, ap, ◌∙◌}
 use Rattle.request_data.specs.declared.report.Start.{Start}
 use Rattle.request_data.specs.declared.request.Request.TheVariants.{Pass}
+use Rattle.std.specs.List.{filter_map}
 use Rattle.ctl_state.specs.State.{State}
 use Rattle.node_daemon.specs.Turn.{root}
 use Rattle.replay_plan.specs.declared.submission.Submission.{Submission}
-use Rattle.replay.specs.Replay.{Standing, cleared, ended_starts, event, event_at, events, due_round, is_over, launched, most_events, next_moment, passed, played_behind_round, round_behind, standing, state_behind_round, told, turned, with_due, with_round}
+use Rattle.replay.specs.Replay.{Standing, begun, behind, cleared, ended_starts, event, event_at, events, due_round, first_moment, is_over, launched, leads_to, most_events, next_moment, nodes_asked, passed, played_behind_round, played_of, replayed, round_behind, rows_of, standing, state_behind_round, told, turned, with_due, with_round}
 use Rattle.replay.specs.declared.handing.Course.{Course}
 use Rattle.replay.specs.declared.played.Played.{Played}
 use Rattle.replay.specs.declared.turns.Round.{Round}
@@ -94,3 +95,36 @@ goes_on n m interval submissions at after whole some leads is more =
 pub no_more : (n interval : ℕ) (submissions : List Submission) (at : Standing) → n ≡ 0
     → events n interval submissions at ≡ None
 no_more n interval submissions at none = ap (λ k. events k interval submissions at) none
+
+-- where it stops behind an event, what is left leads to where it did
+pub stops_here : (n m interval : ℕ) (submissions : List Submission) (at : Standing) (s : State) (played : List Played)
+    (course : Course) (over : Bool) (whole : Option Standing)
+    → n ≡ suc m → events n interval submissions at ≡ whole → standing s played course ≡ event interval submissions at
+    → over ≡ is_over submissions (standing s played course)
+    → leads_to interval submissions s (record { played = played; course = course; left = m; over = over }) ≡ whole
+unfolding leads_to
+stops_here n m interval submissions at s played course true whole some leads is over =
+    sym (ends_here n m interval submissions at (standing s played course) whole some leads is over)
+stops_here n m interval submissions at s played course false whole some leads is more =
+    goes_on n m interval submissions at (standing s played course) whole some leads is more
+
+-- it isn't over where it doesn't stop
+pub first_false : (over rests : Bool) → (over || rests) ≡ false → false ≡ over
+first_false true rests none = cc
+first_false false rests none = refl
+
+-- it begins with all events left
+pub begins_there : (n interval : ℕ) (submissions : List Submission) (s s' : State) (played : List Played) (course : Course)
+    → n ≡ most_events → standing s' played course ≡ begun (first_moment submissions) s
+    → leads_to interval submissions s' (record { played = played; course = course; left = n; over = false })
+    ≡ replayed interval submissions s
+unfolding leads_to replayed
+begins_there n interval submissions s s' played course all is =
+    ap (λ k. events k interval submissions (standing s' played course)) all ∙ ap (events most_events interval submissions) is
+
+pub begun_is : (now first : ℕ) (s s' : State) (played : List Played) (course : Course) → now ≡ first
+    → s' ≡ behind root now nodes_asked s → played ≡ filter_map played_of (rows_of (told root now nodes_asked s))
+    → course.replies.items ≡ [] → course.moment ≡ now → course.busy ≡ false → course.round_at ≡ now
+    → standing s' played course ≡ begun first s
+begun_is now first s s' played course is states daemons none at idle round =
+    rw (states, daemons, none, at, idle, round, is) refl

@@ -18,6 +18,7 @@ use Rattle.replay_plan.specs.declared.submission.Submission.{Submission}
 use Rattle.replay.specs.declared.handing.Course.{Course}
 use Rattle.replay.specs.declared.played.Played.{Played}
 use Rattle.replay.specs.declared.played.Run.{Run}
+use Rattle.replay.specs.declared.replaying.Rest.{Rest}
 use Rattle.replay.specs.declared.turns.Round.{Round}
 use Rattle.replay.specs.declared.turns.Round.TheVariants.{Each, Ending, Others}
 use Rattle.std.specs.List.{list_any}
@@ -301,3 +302,21 @@ first_moment (submission ∷ others) = submission.moment
 -- The replay of submissions from a state on, with passes so many seconds apart at the most.
 unfoldable pub replayed : ℕ → List Submission → State → Option Standing
 replayed interval submissions s = events most_events interval submissions (begun (first_moment submissions) s)
+
+-- A replay that rests, beside the desk: the daemons, what is kept of it, how many events are left, and whether it is over.
+pub record Progress : Type 0 where
+  pub played : List Played
+  pub course : Course
+  pub left : ℕ
+  pub over : Bool
+
+-- Where it ends that goes on from a state: here where it is over, else where the events that are left lead.
+unfoldable pub leads_to : ℕ → List Submission → State → Progress → Option Standing
+leads_to interval submissions s progress =
+    if progress.over then Some (standing s progress.played progress.course)
+    else events progress.left interval submissions (standing s progress.played progress.course)
+
+-- whether it may rest at a moment, where the history has so many entries
+abbrev pub may_rest : Option Rest → ℕ → ℕ → Bool
+may_rest None moment entries = false
+may_rest (Some rest) moment entries = nat_le rest.moment moment || nat_le rest.entries entries

@@ -12,4 +12,4 @@ mod replaying;
 mod turns;
 
 pub use played::{Played, Run};
-pub use replaying::{ReplayRefusal, Replayed, replay};
+pub use replaying::{ReplayRefusal, Replayed, Replaying, Rest, begin, finish, go_on, replay};

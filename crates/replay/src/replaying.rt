@@ -1,15 +1,17 @@
 //! A replay, from the first submission to the last event.
 
-ghost use Rattle.std.specs.Prelude.{◌≡◌, Some, None, IfOk, OnOk, IsErrOf, IsSomeAnd, option_map, if◌then◌else◌};
-ghost use Rattle.ctl_desk.specs.Desk.{state_of};
+ghost use Rattle.std.specs.Prelude.{◌≡◌, ◌≤◌, ◌-◌, ◌*◌, ◌||◌, ℕ, None, true, length, IfOk, IsErrOf, IsSomeAnd};
+ghost use Rattle.ctl_desk.specs.Desk.{seen, sight_of, state_of};
 ghost use Rattle.node_daemon.specs.Turn.{root};
-ghost use Rattle.replay.specs.Replay.{HaveReported, Standing, behind, events, first_moment, jobs_asked, most_events, replayed, standing, told};
+ghost use Rattle.replay.specs.Replay.{HaveReported, events, first_moment, jobs_asked, leads_to, may_rest, most_events, replayed, standing, told};
+ghost use Rattle.replay.specs.Resting.{Stopped};
 
 use crate::asking::ask_as_root;
 use crate::event::{is_over, make_event};
 use crate::handing::Course;
 use crate::nodes::start_daemons;
 use crate::played::Played;
+use ctl_desk::desk::Desk;
 use ctl_desk::own_desk::OwnDesk;
 use replay_plan::Submission;
 use reply_data::reply::Reply;
@@ -19,6 +21,7 @@ use resource_profile::{Plain, Steps};
 use small_texts::memory_error;
 use small_texts::memory_error::Memory;
 use std::alloc::Global;
+use std::marker::Model;
 
 // The most events of a replay.
 const MOST_EVENTS: u32 = 1_000_000_000;
@@ -55,6 +58,61 @@ pub struct Replayed {
     pub played: Vec<Played>,
 }
 
+/// When a replay rests before it is over (own): behind the first event at this moment or later, or behind which the
+/// history has so many entries.
+#[derive(Clone, Copy)]
+pub struct Rest {
+    pub moment: u64,
+    pub entries: u64,
+}
+
+/// A replay under way (own). It may go on at another desk than the one where it rested, if the controller stands there as it
+/// did.
+#[derive(Drop)]
+pub struct Replaying {
+    played: Vec<Played>,
+    course: Course,
+    // How many events are left before it is given up.
+    left: u32,
+    over: bool,
+}
+
+impl Model for Replaying {
+    ghost use Rattle.std.specs.Prelude.{◌≤◌, ◌-◌, ◌*◌};
+    ghost use Rattle.replay.specs.Replay.{HaveReported, Progress, most_events};
+
+    ghost Value = { Progress };
+
+    ghost view = { λ r. record { played = r.played.items; course = r.course; left = r.left; over = r.over } };
+
+    ghost invariant = { λ r. (r.left ≤ most_events) × HaveReported (8 * (most_events - r.left)) r.played.items };
+}
+
+impl Replaying {
+    ghost use Rattle.std.specs.Prelude.{◌≡◌};
+
+    /// Whether it is over.
+    pub fn is_over(&self) -> bool
+        ensures { result ≡ self.now.over }
+    {
+        self.over
+    }
+
+    /// The moment of its last event, or of the first submission before any.
+    pub fn moment(&self) -> u64
+        ensures { result ≡ self.now.course.moment }
+    {
+        self.course.moment
+    }
+}
+
+// Where events came to stop.
+#[derive(Clone, Copy)]
+struct Stop {
+    over: bool,
+    left: u32,
+}
+
 fn first_moment(submissions: &[Submission]) -> u64
     ensures { result ≡ first_moment submissions.now }
 {
@@ -64,66 +122,132 @@ fn first_moment(submissions: &[Submission]) -> u64
     }
 }
 
-// Makes events until all is over; tells whether it was.
+// Whether it may rest.
+fn may_rest(desk: &OwnDesk, course: &Course, rest: Option<Rest>) -> bool
+    ensures { result ≡ may_rest rest course.now.moment (length (seen (sight_of desk.now))) }
+{
+    match rest {
+        Some(rest) => rest.moment <= course.moment || rest.entries <= desk.seen_len(),
+        None => false,
+    }
+}
+
+// Whether it stops behind an event.
+fn stops(desk: &OwnDesk, course: &Course, rest: Option<Rest>, over: bool) -> bool
+    ensures { result ≡ (over || may_rest rest course.now.moment (length (seen (sight_of desk.now)))) }
+{
+    over || may_rest(desk, course, rest)
+}
+
+// Makes events until all is over or it may rest, but no more than are left; tells where it stopped.
 fn make_events(
     alloc: Global,
     desk: &mut OwnDesk,
     steps: &mut Steps<Plain>,
     interval: u64,
     submissions: &[Submission],
+    rest: Option<Rest>,
+    left: u32,
     played: &mut [Played],
     course: &mut Course,
-) -> Result<bool, Memory>
-    requires { HaveReported 0 played.old }
-    ensures { IfOk result (λ over.
-        events most_events interval submissions.now (standing (state_of desk.old) played.old course.old)
-        ≡ (if over then Some (standing (state_of desk.new) played.new course.new) else None)) }
+) -> Result<Option<Stop>, Memory>
+    requires few { left ≤ most_events }
+    requires reported { HaveReported (8 * (most_events - left)) played.old }
+    ensures { IfOk result (Stopped interval submissions.now rest (events left interval submissions.now (standing (state_of desk.old) played.old course.old))
+        (state_of desk.new) (length (seen (sight_of desk.new))) played.new course.new) }
 {
-    for _ in 0..MOST_EVENTS {
+    for count in 0..left {
         make_event(alloc, desk, steps, interval, submissions, played, course)?;
-        if is_over(submissions, played, course) {
-            return Ok(true);
+        let over = is_over(submissions, played, course);
+        if stops(desk, course, rest, over) {
+            let left = left - count - 1;
+            return Ok(Some(Stop { over, left }));
         }
     }
-    Ok(false)
+    Ok(None)
 }
 
-/// Hands in what a plan says at a desk that nobody else asks, each at its moment, while the daemons of the cluster's nodes
-/// run what they are ordered for as long as it ran. A pass is made whenever a job is handed in or ends by itself, and all
-/// daemons report when they did so many seconds before, with a pass behind that. It is over when all were handed in, nothing runs, and a pass had
-/// nothing to start or to plan. The submissions are in the order of their moments. The desk is left with the state of the
-/// last event, and keeps what was entered, also after a refusal (own).
-#[tactic(auto, unfolding(crate::specs::Replay::replayed))]
-pub fn replay(
+/// Begins a replay, before its first event: starts the daemons of the cluster's nodes.
+pub fn begin(
+    alloc: Global,
+    submissions: &[Submission],
+    desk: &mut OwnDesk,
+) -> Result<Replaying, Memory>
+    ensures { IfOk result (λ replaying. (interval : ℕ) → leads_to interval submissions.now (state_of desk.new) replaying
+        ≡ replayed interval submissions.now (state_of desk.old)) }
+{
+    let now = first_moment(submissions);
+    let played = start_daemons(alloc, desk, now)?;
+    Ok(Replaying {
+        played,
+        course: Course {
+            replies: Vec::new(alloc),
+            moment: now,
+            busy: false,
+            round_at: now,
+        },
+        left: MOST_EVENTS,
+        over: false,
+    })
+}
+
+/// Goes on with a replay until it is over or may rest. It leads to the same end as before, and needn't rest where it may
+/// not.
+#[tactic(auto, unfolding(crate::specs::Replay::leads_to))]
+pub fn go_on(
     alloc: Global,
     interval: u64,
     submissions: &[Submission],
+    rest: Option<Rest>,
     desk: &mut OwnDesk,
     steps: &mut Steps<Plain>,
-) -> Result<Replayed, ReplayRefusal>
-    ensures replies { IfOk result (λ end. IsSomeAnd (replayed interval submissions.now (state_of desk.old))
-        (λ at. (end.replies.items ≡ at.replies) × (end.moment ≡ at.moment) × (end.played.items ≡ at.played) × (end.shown ≡ told root at.moment jobs_asked at.state))) }
-    ensures spent { IsErrOf result ReplayRefusal.Spent → replayed interval submissions.now (state_of desk.old) ≡ None }
+    replaying: Replaying,
+) -> Result<Replaying, ReplayRefusal>
+    ensures leads { IfOk result (λ after. leads_to interval submissions.now (state_of desk.new) after
+        ≡ leads_to interval submissions.now (state_of desk.old) replaying) }
+    ensures rests { IfOk result (λ after.
+        (after.over || may_rest rest after.course.moment (length (seen (sight_of desk.new)))) ≡ true) }
+    ensures spent { IsErrOf result ReplayRefusal.Spent → leads_to interval submissions.now (state_of desk.old) replaying ≡ None }
 {
-    let now = first_moment(submissions);
-    let mut played = start_daemons(alloc, desk, now)?;
-    let mut course = Course {
-        replies: Vec::new(alloc),
-        moment: now,
-        busy: false,
-        round_at: now,
-    };
-    if !make_events(
+    if replaying.over {
+        return Ok(replaying);
+    }
+    let Replaying {
+        mut played,
+        mut course,
+        left,
+        ..
+    } = replaying;
+    let stop = make_events(
         alloc,
         desk,
         steps,
         interval,
         submissions,
+        rest,
+        left,
         played.as_mut_slice(),
         &mut course,
-    )? {
-        return Err(ReplayRefusal::Spent);
+    )?;
+    match stop {
+        Some(stop) => Ok(Replaying {
+            played,
+            course,
+            left: stop.left,
+            over: stop.over,
+        }),
+        None => Err(ReplayRefusal::Spent),
     }
+}
+
+/// What came of a replay so far, with the records of the jobs as they stand now.
+pub fn finish(alloc: Global, desk: &mut OwnDesk, replaying: Replaying) -> Result<Replayed, Memory>
+    ensures replies { IfOk result (λ end. end.replies ≡ replaying.course.replies) }
+    ensures moment { IfOk result (λ end. end.moment ≡ replaying.course.moment) }
+    ensures played { IfOk result (λ end. end.played.items ≡ replaying.played) }
+    ensures shown { IfOk result (λ end. end.shown ≡ told root replaying.course.moment jobs_asked (state_of desk.old)) }
+{
+    let Replaying { played, course, .. } = replaying;
     let shown = ask_as_root(
         alloc,
         desk,
@@ -136,4 +260,27 @@ pub fn replay(
         moment: course.moment,
         played,
     })
+}
+
+/// Hands in what a plan says at a desk that nobody else asks, each at its moment, while the daemons of the cluster's nodes
+/// run what they are ordered for as long as it ran. A pass is made whenever a job is handed in or ends by itself, and all
+/// daemons report when they did so many seconds before, with a pass behind that. It is over when all were handed in, nothing runs, and a pass had
+/// nothing to start or to plan. The submissions are in the order of their moments. The desk is left with the state of the
+/// last event, and keeps what was entered, also after a refusal (own).
+#[tactic(auto, unfolding(crate::specs::Replay::leads_to))]
+pub fn replay(
+    alloc: Global,
+    interval: u64,
+    submissions: &[Submission],
+    desk: &mut OwnDesk,
+    steps: &mut Steps<Plain>,
+) -> Result<Replayed, ReplayRefusal>
+    ensures replies { IfOk result (λ end. IsSomeAnd (replayed interval submissions.now (state_of desk.old))
+        (λ at. (end.replies.items ≡ at.replies) × (end.moment ≡ at.moment) × (end.played.items ≡ at.played) × (end.shown ≡ told root at.moment jobs_asked at.state))) }
+    ensures spent { IsErrOf result ReplayRefusal.Spent → replayed interval submissions.now (state_of desk.old) ≡ None }
+{
+    let begun = begin(alloc, submissions, desk)?;
+    let over = go_on(alloc, interval, submissions, None, desk, steps, begun)?;
+    let end = finish(alloc, desk, over)?;
+    Ok(end)
 }

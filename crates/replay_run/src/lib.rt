@@ -1,6 +1,7 @@
 //! A run of slurm_replay, but for its files: what its words want, and the text that comes of the texts of its files.
 #![tactic(auto)]
 
+mod gathering;
 mod picture;
 mod refusal;
 mod reporting;

@@ -15,8 +15,10 @@ use trace_text::{TraceJob, read_trace};
 #[derive(Drop)]
 pub struct Report {
     pub text: Vec<u8>,
-    /// The text of the picture, where one is wanted: of the first replay, where there are two.
+    /// The text of the picture, where one is wanted.
     pub picture: Option<Vec<u8>>,
+    /// That of the picture of the other replay, where one is wanted.
+    pub other_picture: Option<Vec<u8>>,
 }
 
 /// The texts of the files that are wanted.
@@ -47,13 +49,22 @@ fn assocs_for(
 fn work_at(
     alloc: Global,
     wanted: &Wanted<'_>,
+    is_drawn: bool,
     conf: &[u8],
     assocs: &[u8],
     jobs: &[TraceJob],
     plan: &ReplayPlan,
 ) -> Result<Worked, RunRefusal> {
     let assocs = assocs_for(alloc, wanted, assocs, jobs)?;
-    work(alloc, wanted, conf, assocs.as_slice(), jobs, plan)
+    work(
+        alloc,
+        wanted.interval,
+        is_drawn,
+        conf,
+        assocs.as_slice(),
+        jobs,
+        plan,
+    )
 }
 
 fn summed(alloc: Global, worked: &Worked) -> Result<replay_texts::Worked, Memory> {
@@ -121,21 +132,39 @@ fn report_of(
     jobs: &[TraceJob],
 ) -> Result<Report, RunRefusal> {
     let plan = plan_replay(alloc, wanted.taken, jobs)?;
-    let before = work_at(alloc, wanted, texts.conf, texts.assocs, jobs, &plan)?;
+    let before = work_at(
+        alloc,
+        wanted,
+        wanted.svg.is_some(),
+        texts.conf,
+        texts.assocs,
+        jobs,
+        &plan,
+    )?;
     if !is_compared(texts) {
         let text = told(alloc, wanted, &before)?;
         return Ok(Report {
             text,
             picture: before.picture,
+            other_picture: None,
         });
     }
     let conf = texts.other_conf.unwrap_or(texts.conf);
     let assocs = texts.other_assocs.unwrap_or(texts.assocs);
-    let after = work_at(alloc, wanted, conf, assocs, jobs, &plan)?;
+    let after = work_at(
+        alloc,
+        wanted,
+        wanted.other_svg.is_some(),
+        conf,
+        assocs,
+        jobs,
+        &plan,
+    )?;
     let text = compared(alloc, wanted, &before, &after)?;
     Ok(Report {
         text,
         picture: before.picture,
+        other_picture: after.picture,
     })
 }
 

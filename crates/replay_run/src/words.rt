@@ -7,7 +7,7 @@ use trace_text::TraceKind;
 
 /// What is told of the words behind an error in them.
 pub const USAGE: &str =
-    "usage: slurm_replay -f CONF -a ASSOC [--swf] [--interval SECONDS] [--add-users] [--csv] [--compare-conf CONF] [--compare-assoc ASSOC] [--most JOBS] [--svg FILE] TRACE";
+    "usage: slurm_replay -f CONF -a ASSOC [--swf] [--interval SECONDS] [--add-users] [--csv] [--compare-conf CONF] [--compare-assoc ASSOC] [--most JOBS] [--svg FILE] [--compare-svg FILE] TRACE";
 
 /// How many seconds lie between two passes at the most, where the words don't say.
 const USUAL_INTERVAL: u64 = 30;
@@ -37,6 +37,8 @@ pub struct Wanted<'a> {
     pub most: usize,
     /// Where the picture of the replay goes, if one is wanted.
     pub svg: Option<&'a str>,
+    /// Where that of the other replay goes, if one is wanted.
+    pub other_svg: Option<&'a str>,
 }
 
 /// What is wrong with the words (own).
@@ -52,6 +54,8 @@ pub enum WordFault<'a> {
     Missing(&'a str),
     /// A line for each job is wanted, and a comparison.
     CsvCompared,
+    /// A picture of the other replay is wanted, and none is.
+    NothingCompared,
 }
 
 impl<'a> fmt::Display for WordFault<'a> {
@@ -63,6 +67,7 @@ impl<'a> fmt::Display for WordFault<'a> {
             WordFault::BadNumber(word) => write!(f, "no number: {word}"),
             WordFault::Missing(word) => write!(f, "{word} is missing"),
             WordFault::CsvCompared => f.write_str("--csv goes with no comparison"),
+            WordFault::NothingCompared => f.write_str("--compare-svg goes with a comparison"),
         }
     }
 }
@@ -77,6 +82,7 @@ enum Valued {
     OtherAssocs,
     Most,
     Svg,
+    OtherSvg,
 }
 
 /// What words have said so far.
@@ -90,6 +96,7 @@ struct Draft<'a> {
     other_assocs: Option<&'a str>,
     most: Option<&'a str>,
     svg: Option<&'a str>,
+    other_svg: Option<&'a str>,
     swf: bool,
     csv: bool,
     add_users: bool,
@@ -104,6 +111,7 @@ const NOTHING_SAID: Draft<'static> = Draft {
     other_assocs: None,
     most: None,
     svg: None,
+    other_svg: None,
     swf: false,
     csv: false,
     add_users: false,
@@ -118,6 +126,7 @@ fn option_named(word: &str) -> Option<Valued> {
         "--compare-assoc" => Some(Valued::OtherAssocs),
         "--most" => Some(Valued::Most),
         "--svg" => Some(Valued::Svg),
+        "--compare-svg" => Some(Valued::OtherSvg),
         _ => None,
     }
 }
@@ -131,6 +140,7 @@ fn option_word(valued: Valued) -> &'static str {
         Valued::OtherAssocs => "--compare-assoc",
         Valued::Most => "--most",
         Valued::Svg => "--svg",
+        Valued::OtherSvg => "--compare-svg",
     }
 }
 
@@ -143,6 +153,7 @@ fn value_in<'a>(draft: &Draft<'a>, valued: Valued) -> Option<&'a str> {
         Valued::OtherAssocs => draft.other_assocs,
         Valued::Most => draft.most,
         Valued::Svg => draft.svg,
+        Valued::OtherSvg => draft.other_svg,
     }
 }
 
@@ -157,6 +168,7 @@ fn with_value<'a>(draft: Draft<'a>, valued: Valued, value: &'a str) -> Draft<'a>
         Valued::OtherAssocs => next.other_assocs = Some(value),
         Valued::Most => next.most = Some(value),
         Valued::Svg => next.svg = Some(value),
+        Valued::OtherSvg => next.other_svg = Some(value),
     }
     next
 }
@@ -218,6 +230,10 @@ fn drafted(words: &[String]) -> Result<Draft<'_>, WordFault<'_>> {
     }
 }
 
+fn is_compared(draft: &Draft<'_>) -> bool {
+    draft.other_conf.is_some() || draft.other_assocs.is_some()
+}
+
 // The number that was said, or what is usual.
 fn number_or(said: Option<&str>, usual: u64) -> Result<u64, WordFault<'_>> {
     match said {
@@ -245,8 +261,11 @@ pub fn wanted_in(words: &[String]) -> Result<Wanted<'_>, WordFault<'_>> {
     let trace = needed(draft.trace, "TRACE")?;
     let interval = number_or(draft.interval, USUAL_INTERVAL)?;
     let most = number_or(draft.most, USUAL_MOST)?;
-    if draft.csv && (draft.other_conf.is_some() || draft.other_assocs.is_some()) {
+    if draft.csv && is_compared(&draft) {
         return Err(WordFault::CsvCompared);
+    }
+    if draft.other_svg.is_some() && !is_compared(&draft) {
+        return Err(WordFault::NothingCompared);
     }
     let counts = !draft.swf;
     Ok(Wanted {
@@ -270,5 +289,6 @@ pub fn wanted_in(words: &[String]) -> Result<Wanted<'_>, WordFault<'_>> {
         other_assocs: draft.other_assocs,
         most: most as usize,
         svg: draft.svg,
+        other_svg: draft.other_svg,
     })
 }

@@ -1,1 +1,2 @@
+pub mod ShortName
 pub mod Starts

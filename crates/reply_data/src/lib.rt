@@ -5,4 +5,5 @@ pub mod orders;
 pub mod priority;
 pub mod refusal;
 pub mod reply;
+pub mod short_name;
 pub mod view;

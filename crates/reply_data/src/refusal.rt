@@ -1,5 +1,7 @@
 //! Why the controller refuses a request.
 
+use crate::short_name::ShortName;
+
 /// Which limit of submitted jobs a submission exceeds. "Limits" in sacctmgr(1).
 #[derive(Clone, Copy, PartialEq, Eq, Debug)]
 pub enum Which {
@@ -62,4 +64,7 @@ pub enum Refusal {
     ShuttingDown,
     /// 23: the job may not be started again.
     NotRequeueable,
+    /// 24: the node or the partition of this name can't go, or can't have so little, while jobs, reservations or
+    /// records of jobs name it.
+    CannotShrink { name: ShortName },
 }

@@ -6,7 +6,7 @@ use crate::query::Query;
 use crate::report::Report;
 use crate::reservation::ReservationDesc;
 use crate::target::{Target, Targets};
-use plain_data::conf::PartState;
+use plain_data::conf::{Conf, PartState};
 use plain_data::items::Items;
 use plain_data::job::JobDesc;
 use plain_data::limit::Limit;
@@ -74,6 +74,12 @@ pub enum Request {
     Report(Report),
     /// Ends what is over its limit, starts jobs and plans the others (own).
     Pass,
+    /// Puts another configuration in force. "reconfigure" in scontrol(1).
+    Reconfigure {
+        conf: Conf,
+        /// How many bytes its text had: it counts so much towards what is kept of the history.
+        bytes: u32,
+    },
     /// Ends the controller's work. "shutdown" in scontrol(1).
     Shutdown,
     /// Asks for records. squeue(1), sinfo(1), sprio(1), "show" in scontrol(1).
@@ -122,6 +128,10 @@ impl Request {
             }),
             Request::Report(report) => Ok(Request::Report(report.copy()?)),
             Request::Pass => Ok(Request::Pass),
+            Request::Reconfigure { conf, bytes } => Ok(Request::Reconfigure {
+                conf: conf.copy()?,
+                bytes: *bytes,
+            }),
             Request::Shutdown => Ok(Request::Shutdown),
             Request::Show(query) => Ok(Request::Show(query.copy()?)),
         }

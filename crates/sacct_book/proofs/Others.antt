@@ -14,7 +14,7 @@ use Rattle.request_data.specs.declared.target.Target.{Target}
 use Rattle.request_data.specs.declared.target.Targets.TheVariants.{List as Listed, User}
 use Rattle.request_data.specs.declared.request.NodeOrder.TheVariants as order
 use Rattle.request_data.specs.declared.request.Request.{Request}
-use Rattle.request_data.specs.declared.request.Request.TheVariants.{Submit, Cancel, Hold, Release, Requeue, UpdateJob, UpdateNode, UpdatePartition, CreateReservation, DeleteReservation, Report, Pass, Shutdown, Show}
+use Rattle.request_data.specs.declared.request.Request.TheVariants.{Submit, Cancel, Hold, Release, Requeue, UpdateJob, UpdateNode, UpdatePartition, CreateReservation, DeleteReservation, Report, Pass, Shutdown, Reconfigure, Show}
 use Rattle.reply_data.specs.declared.reply.Reply.TheVariants.{Done as IsDone}
 use Rattle.job_table.specs.declared.change.Change.{Change}
 use Rattle.job_table.specs.declared.change.Change.TheVariants.{Start, Leave, CancelPending, CancelRequeue, DropPart, SetHold, SetLimit, SetNice}
@@ -321,6 +321,8 @@ made-others targets place s now user (Report told) is =
     if-heard targets place s now told (is_restarted s told) refl is
 made-others targets place s now user Pass is = absurd (no-targets is)
 made-others targets place s now user Shutdown is = mild targets place s now user Shutdown refl is
+made-others targets place s now user (Reconfigure conf bytes) is =
+    mild targets place s now user (Reconfigure conf bytes) refl is
 made-others targets place s now user (Show query) is = mild targets place s now user (Show query) refl is
 
 -- Whatever a request does, the jobs that aren't named by the targets that it may change hold what they held.

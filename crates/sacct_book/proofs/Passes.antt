@@ -6,7 +6,7 @@ use Rattle.std.proofs.lemmas.List.Sums.{sum_by-cons}
 use Rattle.backfill_planner.specs.declared.Placed.{Placed}
 use Rattle.reply_data.specs.declared.refusal.Refusal.{Refusal}
 use Rattle.request_data.specs.declared.request.Request.{Request}
-use Rattle.request_data.specs.declared.request.Request.TheVariants.{Submit, Cancel, Hold, Release, Requeue, UpdateJob, UpdateNode, UpdatePartition, CreateReservation, DeleteReservation, Report, Pass, Shutdown, Show}
+use Rattle.request_data.specs.declared.request.Request.TheVariants.{Submit, Cancel, Hold, Release, Requeue, UpdateJob, UpdateNode, UpdatePartition, CreateReservation, DeleteReservation, Report, Pass, Shutdown, Reconfigure, Show}
 use Rattle.request_data.specs.declared.state.JobState.{JobState}
 use Rattle.request_data.specs.declared.state.JobState.TheVariants.{Pending, Running, Completing, Ended}
 use Rattle.request_data.specs.declared.state.Final.TheVariants.{Timeout}
@@ -226,4 +226,5 @@ still-any s now user (CreateReservation desc) place still = absurd (both_ways fa
 still-any s now user (DeleteReservation name) place still = absurd (both_ways false refl still)
 still-any s now user (Report report) place still = absurd (both_ways false refl still)
 still-any s now user Shutdown place still = absurd (both_ways false refl still)
+still-any s now user (Reconfigure conf bytes) place still = absurd (both_ways false refl still)
 still-any s now user (Show query) place still = absurd (both_ways false refl still)

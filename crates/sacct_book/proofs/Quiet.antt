@@ -1,9 +1,11 @@
 -- Requests that can't change what runs.
-use Rattle.std.proofs.Common.{ℕ, ◌≡◌, ◌∙◌, Bool, true, false, ◌&&◌, cond, List, [], ◌∷◌, ◌++◌, map, All, Option, Some, None, nat_eq, refl, arith}
+use Rattle.std.proofs.Common.{ℕ, ◌≡◌, ◌∙◌, Bool, true, false, ◌&&◌, cond, List, [], ◌∷◌, ◌++◌, map, length, All, Option, Some, None, nat_eq, refl, ap, arith}
+use Rattle.std.specs.Prelude.{sum_by}
 use Rattle.std.specs.List.{enumerate_from, list_any}
 use Rattle.std.proofs.lemmas.Bool.{both_ways, cond_both}
 use Rattle.std.proofs.lemmas.List.Elements.{All-cons, All-head, All-nil, All-tail}
 use Rattle.std.proofs.lemmas.List.Sums.{sum_by-append, sum_by-cons}
+use Rattle.plain_data.specs.Confs.{ConfView}
 use Rattle.plain_data.specs.declared.conf.PartState.{PartState}
 use Rattle.plain_data.specs.declared.array.ArraySpec.{ArraySpec}
 use Rattle.plain_data.specs.declared.job.JobDesc.{JobDesc}
@@ -13,7 +15,7 @@ use Rattle.reply_data.specs.declared.refusal.Refusal.{Refusal}
 use Rattle.reply_data.specs.declared.reply.Reply.TheVariants.{Done}
 use Rattle.request_data.specs.declared.request.NodeOrder.TheVariants as order
 use Rattle.request_data.specs.declared.request.Request.{Request}
-use Rattle.request_data.specs.declared.request.Request.TheVariants.{Submit, Cancel, Hold, Release, Requeue, UpdateJob, UpdateNode, UpdatePartition, CreateReservation, DeleteReservation, Report, Pass, Shutdown, Show}
+use Rattle.request_data.specs.declared.request.Request.TheVariants.{Submit, Cancel, Hold, Release, Requeue, UpdateJob, UpdateNode, UpdatePartition, CreateReservation, DeleteReservation, Report, Pass, Shutdown, Reconfigure, Show}
 use Rattle.node_state.specs.Partitions.{place_meant}
 use Rattle.job_table.specs.declared.record.JobRecord.{JobRecord}
 use Rattle.job_table.specs.declared.record.Part.{Part}
@@ -29,6 +31,8 @@ use Rattle.ctl_jobs.specs.Actions.{done_to, with_limit, with_nice}
 use Rattle.ctl_jobs.specs.Changing.{are_naming, change_after, change_made, done_if, goes, may_do}
 use Rattle.ctl_nodes.specs.Failing.{after_loss, loses}
 use Rattle.ctl_nodes.specs.Updating.{changes_any, update_after}
+use Rattle.ctl_reconfigure.specs.Reconfiguring.{job_after as job_moved, part_after, reconfigured}
+use Rattle.ctl_reconfigure.specs.Same.{is_same}
 use Rattle.ctl_core.specs.Operating.{is_in_state, partition_after, partition_made}
 use Rattle.ctl_core.specs.Sizes.{has_room, size_of}
 use Rattle.ctl_core.specs.Step.{early_refusals, entered, is_entered, made, raised, refusals_of, reply_of, state_after, unless_full, verdict_of, worked}
@@ -166,6 +170,25 @@ partition-leaves place s state (Some at) =
     cond_both (is_in_state state _) Stays (Makes Done (partition_after s at state)) (Leaves place s) (λ had. refl)
     (λ out. refl)
 
+-- jobs whose nodes are at other places hold as many processors
+moved-cpus : (s : State) (conf : ConfView) (parts : List Part)
+    → sum_by (λ (part : Part). length part.cpus) (map (part_after s conf) parts)
+    ≡ sum_by (λ (part : Part). length part.cpus) parts
+moved-cpus s conf [] = refl
+moved-cpus s conf (part ∷ parts) =
+    omega (
+      arith,
+      sum_by-cons (λ (part : Part). length part.cpus) part parts,
+      sum_by-cons (λ (part : Part). length part.cpus) (part_after s conf part) (map (part_after s conf) parts),
+      moved-cpus s conf parts,
+    )
+
+moved-counts : (place : ℕ) (s : State) (conf : ConfView) (job : JobRecord)
+    → counts place (job_moved s conf job) ≡ counts place job
+unfolding cpus_running
+moved-counts place s conf job =
+    ap (λ (held : ℕ). cond (nat_eq job.assoc place) (cond (is_running job.state) held 0) 0) (moved-cpus s conf job.parts)
+
 none-lost : (parts : List Part) → list_any (λ (part : Part). false) parts ≡ false
 none-lost [] = refl
 none-lost (part ∷ later) = none-lost later
@@ -203,6 +226,9 @@ made-leaves place s now user (DeleteReservation name) mild = refl
 made-leaves place s now user (Report report) mild = absurd (both_ways true mild refl)
 made-leaves place s now user Pass mild = absurd (both_ways true mild refl)
 made-leaves place s now user Shutdown mild = refl
+made-leaves place s now user (Reconfigure conf bytes) mild =
+    cond_both (is_same s conf) Stays (Makes Done (reconfigured s now conf)) (Leaves place s) (λ same. refl)
+    (λ other. map-same place (job_moved s conf) s.jobs (moved-counts place s conf))
 made-leaves place s now user (Show query) mild = refl
 
 -- ---- what holds of the jobs of a state, and of what a request makes of it, holds after the request

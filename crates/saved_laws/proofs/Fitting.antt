@@ -1,15 +1,18 @@
 -- What is saved of a state that is kept fits.
-use Rattle.std.proofs.Common.{ℕ, ◌≡◌, ◌≢◌, ◌∙◌, ◌<◌, ◌≤◌, ◌⊎◌, inl, inr, zero, suc, Bool, true, false, ◌&&◌, List, [], ◌∷◌, ◌++◌, map, get_or, All, AllPairs, Any, Option, Some, None, slice_get, refl, ap, sym, subst, arith}
+use Rattle.std.proofs.Common.{ℕ, ◌≡◌, ◌≢◌, ◌∙◌, ◌+◌, ◌<◌, ◌≤◌, ◌⊎◌, inl, inr, zero, suc, Bool, true, false, if◌then◌else◌, List, [], ◌∷◌, ◌++◌, map, get_or, All, AllPairs, Any, Option, Some, None, bytes_eq, slice_get, refl, ap, sym, subst, arith}
 use Rattle.std.specs.Prelude.{filter_map, is_none, is_some, option_map}
-use Rattle.std.specs.List.{cons_option, list_all}
-use Rattle.std.proofs.lemmas.List.{append-nil, length-map}
+use Rattle.std.specs.List.{cons_option}
+use Rattle.std.proofs.lemmas.List.{length-map}
 use Rattle.std.proofs.lemmas.List.Elements.{All-cons, All-map, All-nil, All-weaker}
+use Rattle.list_lemmas.proofs.Pairs.{pairs-append}
 use Rattle.plain_data.specs.Assocs.{AssocView}
 use Rattle.plain_data.specs.Confs.{ConfView}
 use Rattle.reply_data.specs.declared.view.NamedPart.{NamedPart}
 use Rattle.request_data.specs.declared.state.JobState.{JobState}
 use Rattle.request_data.specs.declared.state.JobState.TheVariants.{Pending, Running, Completing, Ended}
+use Rattle.node_state.specs.declared.record.DroppedNode.{DroppedNode}
 use Rattle.node_state.specs.declared.record.NodeRecord.{NodeRecord}
+use Rattle.node_state.specs.Nodes.{place_named}
 use Rattle.node_state.specs.declared.partition_record.PartRecord.{PartRecord}
 use Rattle.node_state.specs.declared.reservation_record.Reservation.{Reservation}
 use Rattle.job_table.specs.declared.record.JobRecord.{JobRecord}
@@ -19,7 +22,8 @@ use Rattle.job_table.specs.Usage.{greatest_usage}
 use Rattle.run_limits.specs.declared.record.AssocRecord.{AssocRecord}
 use Rattle.run_limits.specs.Accounts.{place_in}
 use Rattle.ctl_state.specs.declared.record.ArrayRecord.{ArrayRecord}
-use Rattle.ctl_state.specs.Soundness.{IsSound}
+use Rattle.backfill_planner.specs.declared.Placed.{Placed}
+use Rattle.ctl_state.specs.Soundness.{IsSound, PlansPending}
 use Rattle.ctl_state.specs.State.{State, opening}
 use Rattle.saved_data.specs.declared.job.SavedJob.{SavedJob}
 use Rattle.saved_data.specs.declared.parts.SavedArray.{SavedArray}
@@ -27,16 +31,17 @@ use Rattle.saved_data.specs.declared.parts.SavedNode.{SavedNode}
 use Rattle.saved_data.specs.declared.parts.SavedPartition.{SavedPartition}
 use Rattle.saved_data.specs.declared.parts.SavedReservation.{SavedReservation}
 use Rattle.saved_data.specs.declared.parts.SavedUsage.{SavedUsage}
-use Rattle.ctl_saved.specs.Saving.{name_at, named_part, named_parts, names_at, saved_array, saved_job, saved_node, saved_of, saved_partition, saved_reservation, saved_usages}
+use Rattle.ctl_saved.specs.Saving.{named_part, named_parts, saved_array, saved_job, saved_node, saved_of, saved_partition, saved_reservation, saved_usages}
 use Rattle.ctl_restore.specs.Fits.{AreOfOthers, Fits, HasItsTasks, HasSeconds, IsArray, IsKnownJob, IsLone, IsStanding, IsTaskOf, IsWellTimed, are_nodes, is_node, is_partition, is_qos, is_user_of, is_within}
-use Rattle.ctl_restore.specs.Restored.{came_back}
-use Rattle.saved_laws.specs.Kept.{AreFiles, AreNumbered, HasMoments, HasTasks, IsAlone, IsAsOpened, IsKept, IsReserved, IsTask, IsTimed, Numbers, Stands, is_numbered_in, numbers_of}
+use Rattle.ctl_restore.specs.Restored.{came_back, restored}
+use Rattle.saved_laws.specs.Kept.{AreDropped, AreFiles, AreNumbered, HasMoments, HasTasks, IsAlone, IsAsOpened, IsKept, IsReserved, IsTask, IsTimed, Numbers, Stands, is_numbered_in, numbers_of}
 use Rattle.saved_laws.proofs.AccountsBack.{LeadFrom, association_back, lines_all, lines_apart}
-use Rattle.saved_laws.proofs.AllBack.{all_back, found_of, partitions_apart, within_all}
-use Rattle.saved_laws.proofs.JobsBack.{IsFound, IsWithin}
+use Rattle.saved_laws.proofs.AllBack.{all_but_plan_back, found_of, gone_again, partitions_apart, plan_again, within_all}
+use Rattle.saved_laws.proofs.JobsBack.{IsFound, IsWithin, plan_pending}
+use Rattle.saved_laws.proofs.Named.{own_name}
 use Rattle.saved_laws.proofs.NumbersKept.{any_at, any_there, index_is, map_there}
 use Rattle.saved_laws.proofs.PlacesBack.{NodesApart, PartitionsApart, partition_back, partition_place_back, part_confs, place_back, same_part_confs}
-use Rattle.saved_laws.proofs.Positions.{all_at, all_unmap, pairs_map, there}
+use Rattle.saved_laws.proofs.Positions.{all_at, all_unmap, pairs_map, position-first, there}
 
 -- what holds of whatever stands at a place holds of all
 each-at : {A : Type 0} (P : A → Type 0) (xs : List A) → ((k : ℕ) (x : A) → slice_get xs k ≡ Some x → P x) → All P xs
@@ -51,28 +56,6 @@ node-known : (opened nodes : List NodeRecord) → map (λ (node : NodeRecord). n
     → slice_get nodes place ≡ Some node → is_node opened node.conf.name ≡ true
 unfolding is_node
 node-known opened nodes same apart place node is = ap is_some (place_back opened nodes same apart place node is)
-
-names-known : (opened nodes : List NodeRecord) → map (λ (node : NodeRecord). node.conf) nodes
-    ≡ map (λ (node : NodeRecord). node.conf) opened → NodesApart nodes → (places : List ℕ)
-    → are_nodes opened (names_at nodes places) ≡ true
-unfolding are_nodes names_at
-names-known opened nodes same apart [] = refl
-names-known opened nodes same apart (place ∷ places) =
-    by (slice_get nodes place) refl (names-known opened nodes same apart places)
-  where
-    by : (found : Option NodeRecord) → slice_get nodes place ≡ found
-        → list_all (is_node opened) (filter_map (name_at nodes) places) ≡ true
-        → list_all (is_node opened) (filter_map (name_at nodes) (place ∷ places)) ≡ true
-    by None none rest =
-        ap (λ (found : Option NodeRecord). list_all (is_node opened) (cons_option
-        (option_map (λ (node : NodeRecord). node.conf.name) found) (filter_map (name_at nodes) places))) none
-        ∙ rest
-    by (Some node) some rest =
-        ap (λ (found : Option NodeRecord). list_all (is_node opened) (cons_option
-        (option_map (λ (node : NodeRecord). node.conf.name) found) (filter_map (name_at nodes) places))) some
-        ∙ ap (λ (is : Bool). is && list_all (is_node opened) (filter_map (name_at nodes) places))
-        (node-known opened nodes same apart place node some)
-        ∙ rest
 
 parts-known : (opened nodes : List NodeRecord) → map (λ (node : NodeRecord). node.conf) nodes
     ≡ map (λ (node : NodeRecord). node.conf) opened → NodesApart nodes → (parts : List Part)
@@ -228,9 +211,10 @@ arrays-fit partitions nodes next arrays jobs numbered =
 
 -- ---- soundness
 
--- a sound state is sound before any size and shutdown
-pub cleared_sound : (s : State) → IsSound s → IsSound (record s { size = 0; is_shut = false })
-cleared_sound s sound = record {
+-- a sound state is sound before any size and shutdown, and with another plan of its waiting jobs
+cleared_sound : (s : State) (plan : List Placed) (gone : List (List ℕ)) → IsSound s → PlansPending s.jobs plan
+    → IsSound (record s { plan = plan; gone = gone; size = 0; is_shut = false })
+cleared_sound s plan gone sound planned = record {
   settings = sound.settings;
   nodes = sound.nodes;
   partitions = sound.partitions;
@@ -249,22 +233,62 @@ cleared_sound s sound = record {
   jobs = sound.jobs;
   held = sound.held;
   up = sound.up;
-  plan = sound.plan;
+  plan = planned;
 }
+
+-- the restored state is sound
+pub sound_back : (conf : ConfView) (file : AssocView) (s : State) → AreFiles conf file → IsSound s
+    → IsKept (opening conf file) s → IsSound (restored conf file (saved_of s))
+sound_back conf file s files sound kept =
+    let one = opening conf file in
+    subst IsSound (sym (all_but_plan_back conf file s files.conf files.file sound kept))
+    (cleared_sound s (plan_again one.nodes s) (gone_again s) sound
+    (plan_pending one.nodes s.nodes s.gone (gone_again s) s.jobs s.plan sound.plan))
 
 -- ---- all of it
 
 -- each saved reservation's nodes are known, and its seconds in their ranges
-reserved-known : (opened nodes : List NodeRecord) → map (λ (node : NodeRecord). node.conf) nodes
-    ≡ map (λ (node : NodeRecord). node.conf) opened → NodesApart nodes → (reservation : Reservation)
-    → are_nodes opened (saved_reservation nodes reservation).nodes ≡ true
-unfolding saved_reservation
-reserved-known opened nodes same apart reservation = names-known opened nodes same apart reservation.nodes
+reserved-known : (opened : List NodeRecord) (reservation : Reservation) → IsReserved opened reservation
+    → are_nodes opened (saved_reservation reservation).nodes ≡ true
+unfolding saved_reservation are_nodes is_node
+reserved-known opened reservation of = of.known
 
-has-seconds : (opened nodes : List NodeRecord) (reservation : Reservation) → IsReserved opened reservation
-    → HasSeconds (saved_reservation nodes reservation)
+has-seconds : (opened : List NodeRecord) (reservation : Reservation) → IsReserved opened reservation
+    → HasSeconds (saved_reservation reservation)
 unfolding saved_reservation
-has-seconds opened nodes reservation of = record { start = of.start; end = of.end }
+has-seconds opened reservation of = record { start = of.start; end = of.end }
+
+-- a dropped node has no node's name
+name-none : (name : List ℕ) (nodes : List NodeRecord) → place_named name nodes ≡ None
+    → All (λ (node : NodeRecord). node.conf.name ≢ name) nodes
+name-none name [] none = All-nil (λ (node : NodeRecord). node.conf.name ≢ name)
+name-none name (node ∷ nodes) none =
+    let first = position-first (λ (node : NodeRecord). bytes_eq node.conf.name name) node nodes in
+    All-cons (λ (node : NodeRecord). node.conf.name ≢ name) node nodes
+    (λ same. absurd (let some : place_named name (node ∷ nodes) ≡ Some 0 =
+    first ∙ ap (λ (is : Bool). if is then Some 0 else option_map (λ k. 1 + k) (place_named name nodes))
+    (ap (λ (other : List ℕ). bytes_eq other name) same ∙ own_name name) in cc))
+    (name-none name nodes (none-behind (bytes_eq node.conf.name name) (place_named name nodes) (sym first ∙ none)))
+  where
+    none-behind : (is : Bool) (found : Option ℕ)
+        → (if is then Some 0 else option_map (λ k. 1 + k) found) ≡ None → found ≡ None
+    none-behind true found none = absurd (cc)
+    none-behind false None none = refl
+    none-behind false (Some k) none = absurd (cc)
+
+-- no node is said of twice, neither as one that is there nor as one that is dropped
+standing-apart : (moment : ℕ) (nodes : List NodeRecord) (dropped : List DroppedNode) → NodesApart nodes
+    → AreDropped nodes dropped
+    → AllPairs (λ (one other : SavedNode). one.name ≢ other.name) (map saved_node nodes ++ map (came_back moment) dropped)
+standing-apart moment nodes dropped apart are =
+    let Apart : SavedNode → SavedNode → Type 0 = λ one other. one.name ≢ other.name in
+    pairs-append Apart (map saved_node nodes) (map (came_back moment) dropped) (pairs_map Apart saved_node nodes apart)
+    (pairs_map Apart (came_back moment) dropped are.once)
+    (All-map (λ (line : SavedNode). All (Apart line) (map (came_back moment) dropped)) saved_node nodes
+    (λ k d below. All-map (Apart (saved_node (get_or nodes k d))) (came_back moment) dropped
+    (All-weaker (λ (node : DroppedNode). place_named node.name nodes ≡ None)
+    (λ (node : DroppedNode). (get_or nodes k d).conf.name ≢ node.name)
+    (λ node none. name-none node.name nodes none k d below) dropped are.absent)))
 
 pub all_fits : (conf : ConfView) (file : AssocView) (s : State) → AreFiles conf file → IsSound s
     → IsKept (opening conf file) s → All (λ (job : JobRecord). job.starts ≤ 4000000000) s.jobs
@@ -280,9 +304,6 @@ all_fits conf file s files sound kept starts =
     λ j assoc at user. association_back file.assocs file.qos files.file j assoc at user ∙ ap Some (omega arith) in
     let inside = within_all s sound in
     let arrays = arrays-fit s.partitions s.nodes s.next_id s.arrays s.jobs kept.numbered in
-    let none : map saved_node s.nodes ≡ map saved_node s.nodes ++ map (came_back s.moment) s.dropped =
-    sym (append-nil (map saved_node s.nodes))
-    ∙ ap (λ dropped. map saved_node s.nodes ++ map (came_back s.moment) dropped) (sym stays.dropped) in
     record {
       known = record {
         partitions = All-map (λ (line : SavedPartition). is_partition one.partitions line.name ≡ true) saved_partition s.partitions
@@ -293,8 +314,8 @@ all_fits conf file s files sound kept starts =
             (λ k node at. node-known one.nodes s.nodes stays.nodes apart k node at));
         usage = subst (λ assocs. All (λ (line : SavedUsage). is_user_of one.assocs line.user line.account ≡ true)
             (saved_usages assocs s.usage)) (sym stays.assocs) (usage-known one.assocs s.usage lead);
-        reserved = All-map (λ (line : SavedReservation). are_nodes one.nodes line.nodes ≡ true) (saved_reservation s.nodes)
-            s.reservations (λ k d below. reserved-known one.nodes s.nodes stays.nodes apart (get_or s.reservations k d));
+        reserved = All-map (λ (line : SavedReservation). are_nodes one.nodes line.nodes ≡ true) saved_reservation
+            s.reservations (λ k d below. reserved-known one.nodes (get_or s.reservations k d) (kept.reserved k d below));
         jobs = All-map (IsKnownJob one) (saved_job s.partitions s.nodes) s.jobs
             (λ k d below. job-known one s stays apart split (get_or s.jobs k d)
             (found_of conf file s files.file stays (get_or s.jobs k d) (sound.of_accounts k d below) (kept.names k d below))
@@ -302,8 +323,7 @@ all_fits conf file s files sound kept starts =
       };
       once = record {
         partitions = pairs_map (λ (one other : SavedPartition). one.name ≢ other.name) saved_partition s.partitions split;
-        nodes = subst (λ lines. AllPairs (λ (one other : SavedNode). one.name ≢ other.name) lines) none
-            (pairs_map (λ (one other : SavedNode). one.name ≢ other.name) saved_node s.nodes apart);
+        nodes = standing-apart s.moment s.nodes s.dropped apart kept.dropped;
         usage = subst (λ assocs. AllPairs AreOfOthers (saved_usages assocs s.usage)) (sym stays.assocs)
             (usage-apart one.assocs s.usage lead);
         arrays = pairs_map (λ (one other : SavedArray). one.id < other.id) saved_array s.arrays kept.numbered.rising;
@@ -312,11 +332,11 @@ all_fits conf file s files sound kept starts =
           (All-weaker (Stands s.moment) (λ (node : NodeRecord). IsStanding s.moment (saved_node node))
           (λ node stands. record { empty = stands.empty; heard = stands.heard }) s.nodes kept.standing);
       usage = usage-few s.assocs s.usage kept.used.most;
-      seconds = All-map HasSeconds (saved_reservation s.nodes) s.reservations
-          (λ k d below. has-seconds one.nodes s.nodes (get_or s.reservations k d) (kept.reserved k d below));
+      seconds = All-map HasSeconds saved_reservation s.reservations
+          (λ k d below. has-seconds one.nodes (get_or s.reservations k d) (kept.reserved k d below));
       arrays = record { each = arrays.0; tasks = arrays.1; jobs = arrays.2 };
       timed = All-map IsWellTimed (saved_job s.partitions s.nodes) s.jobs
           (λ k d below. well-timed s.partitions s.nodes (get_or s.jobs k d) (kept.timed k d below) (starts k d below));
-      few = omega (arith, kept.few, files.most, length-map s.jobs (saved_job s.partitions s.nodes));
-      sound = subst IsSound (sym (all_back conf file s files.conf files.file sound kept)) (cleared_sound s sound);
+      few = omega (arith, kept.few, length-map s.jobs (saved_job s.partitions s.nodes));
+      sound = sound_back conf file s files sound kept;
     }

@@ -15,6 +15,7 @@ pub mod NumbersWalk
 pub mod Opened
 pub mod PassesSized
 pub mod PlacesBack
+pub mod PlanAgain
 pub mod PlanKept
 pub mod Positions
 pub mod RankingSized
@@ -31,3 +32,7 @@ pub mod Telling
 pub mod TimesKept
 pub mod UsageKept
 pub mod Walks
+pub mod ByNames
+pub mod Arranged
+pub mod Renewed
+pub mod Histories

@@ -64,7 +64,12 @@ module _ (J : JobRecord → Type 0) (fixed : IsOfFixed J) where
   changed-fixed (SetNice nice) job holds = fixed.same job (changed (SetNice nice) job) refl refl refl refl refl refl refl holds
 
   pub fixed_stays : StaysTrue J
-  fixed_stays = record { changes = changed-fixed; lefts = λ now end parts job completes holds. left-fixed now end parts job holds }
+  fixed_stays = record {
+    changes = changed-fixed;
+    lefts = λ now end parts job completes holds. left-fixed now end parts job holds;
+    moves = λ parts partition job holds.
+        fixed.same job (record job { parts = parts; partition = partition }) refl refl refl refl refl refl refl holds;
+  }
 
 abbrev numbers-by : ℕ → Option ℕ → Option ℕ → Option ℕ → Numbers
 numbers-by id array index at_once = record { id = id; array = array; index = index; at_once = at_once }

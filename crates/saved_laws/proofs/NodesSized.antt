@@ -12,6 +12,11 @@ use Rattle.ctl_node_side.specs.Answering.{is_restarted, node_of}
 use Rattle.ctl_node_side.specs.Ordering.{orders_of}
 use Rattle.ctl_node_side.specs.Reporting.{report_after}
 use Rattle.ctl_node_side.specs.Restarting.{made_by_report, met, report_made}
+use Rattle.plain_data.specs.Confs.{ConfView}
+use Rattle.ctl_reconfigure.specs.Blocking.{blocking_node, blocking_partition}
+use Rattle.ctl_reconfigure.specs.Reconfiguring.{reconfigure_made, reconfigured}
+use Rattle.ctl_reconfigure.specs.Refusing.{reconfigure_refusals}
+use Rattle.ctl_reconfigure.specs.Same.{is_same}
 use Rattle.ctl_core.specs.Operating.{is_in_state, partition_after, partition_made}
 use Rattle.saved_laws.specs.Rooms.{sized}
 use Rattle.saved_laws.proofs.Resized.{chosen_sized, making_sized, sized_by, staying_sized}
@@ -26,6 +31,16 @@ pub partition_made_sized : (size : ℕ) (s : State) (state : PartState) (place :
 partition_made_sized size s state None = refl
 partition_made_sized size s state (Some place) =
     staying_sized size (is_in_state state (slice_get s.partitions place)) Done (partition_after s place state)
+
+pub reconfigure_made_sized : (size : ℕ) (s : State) (moment : ℕ) (conf : ConfView)
+    → reconfigure_made (sized size s) moment conf ≡ sized_by size (reconfigure_made s moment conf)
+reconfigure_made_sized size s moment conf =
+    staying_sized size (is_same s conf) Done (reconfigured s moment conf)
+
+pub reconfigure_refusals_sized : (size : ℕ) (s : State) (user : List ℕ) (conf : ConfView)
+    → reconfigure_refusals (sized size s) user conf ≡ reconfigure_refusals s user conf
+unfolding blocking_node blocking_partition
+reconfigure_refusals_sized size s user conf = refl
 
 met_sized : (size : ℕ) (s : State) (now node : ℕ) (report : Report)
     → met (sized size s) now node report ≡ sized size (met s now node report)

@@ -14,7 +14,7 @@ use Rattle.reply_data.specs.declared.refusal.Refusal.TheVariants.{JobIdsSpent, J
 use Rattle.run_limits.specs.Submitting.{submit_limits}
 use Rattle.request_data.specs.declared.report.Report.{Report as Told}
 use Rattle.request_data.specs.declared.request.Request.{Request}
-use Rattle.request_data.specs.declared.request.Request.TheVariants.{Submit, Cancel, Hold, Release, Requeue, UpdateJob, UpdateNode, UpdatePartition, CreateReservation, DeleteReservation, Report, Pass, Shutdown, Show}
+use Rattle.request_data.specs.declared.request.Request.TheVariants.{Submit, Cancel, Hold, Release, Requeue, UpdateJob, UpdateNode, UpdatePartition, CreateReservation, DeleteReservation, Report, Pass, Shutdown, Reconfigure, Show}
 use Rattle.node_state.specs.Partitions.{place_meant}
 use Rattle.job_table.specs.declared.record.JobRecord.{JobRecord}
 use Rattle.ctl_state.specs.Events.{started_as}
@@ -30,7 +30,7 @@ use Rattle.ctl_jobs.specs.Changing.{are_meant, are_naming, change_made, done_if,
 use Rattle.ctl_nodes.specs.Failing.{after_loss}
 use Rattle.ctl_nodes.specs.Updating.{changes_any, lost_by}
 use Rattle.ctl_pass.specs.Limits.{timed_out}
-use Rattle.ctl_pass.specs.Outcome.{outcome}
+use Rattle.ctl_pass.specs.Passing.{outcome}
 use Rattle.ctl_pass.specs.Preempting.{preempted, victims_in}
 use Rattle.ctl_pass.specs.Readiness.{arrays_left, goes as is_gone, jobs_left, placements}
 use Rattle.ctl_pass.specs.Starting.{Started, begun, may_start, start_of, started}
@@ -39,13 +39,15 @@ use Rattle.ctl_node_side.specs.Passes.{pass_is_idle}
 use Rattle.ctl_node_side.specs.Reporting.{reported}
 use Rattle.ctl_node_side.specs.Restarting.{made_by_report, met}
 use Rattle.ctl_node_side.specs.Silence.{any_silent, silent_at, silenced}
+use Rattle.ctl_reconfigure.specs.Reconfiguring.{job_after as job_moved}
+use Rattle.ctl_reconfigure.specs.Same.{is_same}
 use Rattle.ctl_core.specs.Operating.{is_in_state, partition_made}
 use Rattle.ctl_core.specs.Step.{made, refusals_of}
 use Rattle.saved_laws.specs.Kept.{AreIndices, IsInTypes, Numbers, numbers_of}
 use Rattle.saved_laws.proofs.Comings.{MakesBy}
 use Rattle.saved_laws.proofs.NamesKept.{fixed_stays, numbers_fixed}
 use Rattle.saved_laws.proofs.NumbersKept.{AreFew, array_added, lone_added, numbers_at, thinned}
-use Rattle.saved_laws.proofs.Walks.{StaysTrue, done_if_true, gone_true, loss_true, reported_true, started_true, timed_true}
+use Rattle.saved_laws.proofs.Walks.{StaysTrue, done_if_true, loss_true, preempted_true, reported_true, started_true, timed_true}
 
 -- the jobs of the state are few, and its arrays those of which there are tasks
 abbrev pub Numbered : ℕ → State → Type 0
@@ -105,8 +107,8 @@ started-numbers s now jobs (placed ∷ later) =
 gone-numbers : (now : ℕ) (gone : List ℕ) (jobs : List JobRecord)
     → map numbers_of (map (preempted now gone) jobs) ≡ map numbers_of jobs
 gone-numbers now gone jobs =
-    same-numbers (preempted now gone)
-    (λ job. gone_true (λ (one : JobRecord). numbers_of one ≡ numbers_of job) (has-numbers job) now gone job refl) jobs
+    same-numbers (λ (job : JobRecord). preempted now gone job)
+    (λ job. preempted_true (λ (one : JobRecord). numbers_of one ≡ numbers_of job) (has-numbers job) now gone job refl) jobs
 
 -- ---- what each request makes
 
@@ -130,7 +132,7 @@ silenced-numbered limit s now few =
 
 -- ---- a submission has room
 
-passed : (one : Option Refusal) (later : List (Option Refusal)) → first_refusal (one ∷ later) ≡ None
+pub passed : (one : Option Refusal) (later : List (Option Refusal)) → first_refusal (one ∷ later) ≡ None
     → (one ≡ None) × (first_refusal later ≡ None)
 passed None later is = (refl, is)
 passed (Some refusal) later is = absurd (cc)
@@ -139,13 +141,13 @@ passed-all : (ones later : List (Option Refusal)) → first_refusal (ones ++ lat
 passed-all [] later is = is
 passed-all (one ∷ ones) later is = passed-all ones later (passed one (ones ++ later) is).1
 
-later-none : (n : ℕ) (refusals : List (Option Refusal)) → first_refusal refusals ≡ None
+pub later-none : (n : ℕ) (refusals : List (Option Refusal)) → first_refusal refusals ≡ None
     → first_refusal (drop n refusals) ≡ None
 later-none zero refusals is = is
 later-none (suc n) [] is = refl
 later-none (suc n) (one ∷ later) is = later-none n later (passed one later is).1
 
-not-refused : (stands : Bool) (refusal : Refusal) → refused_if stands refusal ≡ None → stands ≡ false
+pub not-refused : (stands : Bool) (refusal : Refusal) → refused_if stands refusal ≡ None → stands ≡ false
 not-refused true refusal is = absurd (cc)
 not-refused false refusal is = refl
 
@@ -213,18 +215,17 @@ submitted limit s moment user desc basis (Some array) is few below types room =
 
 passed-over : (limit : ℕ) (s : State) (now : ℕ) → Numbered limit s
     → AreFew limit s.next_id (arrays_left (jobs_left s now) s.arrays)
-    (map numbers_of (map (preempted now (victims_in s now)) (outcome s now).jobs))
+    (map numbers_of (started s now (jobs_left s now) (placements s now)).jobs)
 passed-over limit s now few =
     let timed : AreFew limit s.next_id s.arrays (map numbers_of (map (timed_out now) s.jobs)) =
     subst (AreFew limit s.next_id s.arrays) (sym (timed-numbers now s.jobs)) few in
     let left : AreFew limit s.next_id (arrays_left (jobs_left s now) s.arrays) (map numbers_of (jobs_left s now)) =
     thinned limit s.next_id s.arrays (map (timed_out now) s.jobs) (λ (job : JobRecord). not (is_gone s now job)) timed in
     subst (AreFew limit s.next_id (arrays_left (jobs_left s now) s.arrays))
-    (sym (gone-numbers now (victims_in s now) (outcome s now).jobs
-    ∙ started-numbers s now (jobs_left s now) (placements s now))) left
+    (sym (started-numbers s now (jobs_left s now) (placements s now))) left
 
 pub made_numbered : (limit : ℕ) (s : State) (moment : ℕ) (user : List ℕ) (request : Request) → IsSound s
-    → s.settings.max_job_count ≡ limit → IsInTypes request → first_refusal (refusals_of s moment user request) ≡ None
+    → s.settings.max_job_count ≤ limit → IsInTypes request → first_refusal (refusals_of s moment user request) ≡ None
     → Numbered limit s → MakesBy (Numbered limit) (made s moment user request)
 made_numbered limit s moment user (Submit desc) sound most types none few = by (basis_of s user desc) refl
   where
@@ -268,5 +269,12 @@ made_numbered limit s moment user (Report report) sound most types none few =
     ]
 made_numbered limit s moment user Pass sound most types none few =
     cond_both (pass_is_idle s moment) Stays _ (MakesBy (Numbered limit)) (λ idle. tt)
-    (λ busy. passed-over limit (silenced s moment) moment (silenced-numbered limit s moment few))
+    (λ busy.
+    let t = silenced s moment in
+    subst (AreFew limit t.next_id (arrays_left (jobs_left t moment) t.arrays))
+    (sym (gone-numbers moment (victims_in t moment) (outcome t moment).jobs))
+    (passed-over limit t moment (silenced-numbered limit s moment few)))
+made_numbered limit s moment user (Reconfigure conf bytes) sound most types none few =
+    cond_both (is_same s conf) Stays _ (MakesBy (Numbered limit)) (λ same. tt)
+    (λ other. subst (AreFew limit s.next_id s.arrays) (sym (same-numbers (job_moved s conf) (λ job. refl) s.jobs)) few)
 made_numbered limit s moment user (Show query) sound most types none few = tt

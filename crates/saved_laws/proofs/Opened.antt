@@ -1,12 +1,16 @@
--- What the two files say stays stays it was.
-use Rattle.std.proofs.Common.{ℕ, ◌≡◌, ◌∙◌, zero, suc, Bool, List, [], ◌∷◌, map, Some, None, refl, ap, slice_get}
+-- What the two files say is left as it was by each request but a new slurm.conf.
+use Rattle.std.proofs.Common.{ℕ, ◌≡◌, ◌∙◌, zero, suc, Bool, true, false, List, [], ◌∷◌, get_or, map, Some, None, refl, ap, sym, subst, slice_get}
 use Rattle.std.specs.List.{list_any}
-use Rattle.std.proofs.lemmas.Bool.{cond_both}
+use Rattle.std.proofs.lemmas.Bool.{both_ways, cond_both}
+use Rattle.plain_data.specs.Confs.{ConfView}
+use Rattle.plain_data.specs.declared.conf.NodeConf.{NodeConf}
+use Rattle.plain_data.specs.declared.conf.PartConf.{PartConf}
 use Rattle.plain_data.specs.declared.conf.PartState.{PartState}
+use Rattle.plain_data.specs.declared.conf.Settings.{Settings}
 use Rattle.plain_data.specs.declared.conf.PartState.TheVariants.{Up}
 use Rattle.request_data.specs.declared.report.Report.{Report as Told}
 use Rattle.request_data.specs.declared.request.Request.{Request}
-use Rattle.request_data.specs.declared.request.Request.TheVariants.{Submit, Cancel, Hold, Release, Requeue, UpdateJob, UpdateNode, UpdatePartition, CreateReservation, DeleteReservation, Report, Pass, Shutdown, Show}
+use Rattle.request_data.specs.declared.request.Request.TheVariants.{Submit, Cancel, Hold, Release, Requeue, UpdateJob, UpdateNode, UpdatePartition, CreateReservation, DeleteReservation, Report, Pass, Shutdown, Reconfigure, Show}
 use Rattle.node_state.specs.declared.record.DownBy.{DownBy}
 use Rattle.node_state.specs.declared.record.DownBy.TheVariants as down
 use Rattle.node_state.specs.declared.record.NodeChange.{NodeChange}
@@ -31,8 +35,66 @@ use Rattle.ctl_node_side.specs.Restarting.{made_by_report, met}
 use Rattle.ctl_node_side.specs.Silence.{any_silent, falls_silent, silenced}
 use Rattle.ctl_core.specs.Operating.{is_in_state, partition_made}
 use Rattle.ctl_core.specs.Step.{made}
-use Rattle.saved_laws.specs.Kept.{IsAsOpened, confs_of, without_states}
+use Rattle.saved_laws.specs.Kept.{AreDropped, AreGone, confs_of, in_force, is_reconfigure, part_confs_of, without_states}
 use Rattle.saved_laws.proofs.Comings.{MakesBy}
+use Rattle.saved_laws.proofs.PlacesBack.{same_places}
+
+-- what the two files say is as before, and so are the nodes that are dropped and gone
+pub record LeavesFiles (s after : State) : Type 0 where
+  pub settings : after.settings ≡ s.settings
+  pub assocs : after.assocs ≡ s.assocs
+  pub qos : after.qos ≡ s.qos
+  pub partitions : without_states after.partitions ≡ without_states s.partitions
+  pub nodes : confs_of after.nodes ≡ confs_of s.nodes
+  pub dropped : after.dropped ≡ s.dropped
+  pub gone : after.gone ≡ s.gone
+
+pub leaves_itself : (s : State) → LeavesFiles s s
+leaves_itself s = record {
+  settings = refl;
+  assocs = refl;
+  qos = refl;
+  partitions = refl;
+  nodes = refl;
+  dropped = refl;
+  gone = refl;
+}
+
+-- partitions that differ in their states alone are of the same lines
+lines-of : (partitions : List PartRecord) → part_confs_of (without_states partitions) ≡ part_confs_of partitions
+lines-of [] = refl
+lines-of (partition ∷ partitions) =
+    ap (λ (later : List PartConf). partition.conf ∷ later) (lines-of partitions)
+
+-- the same slurm.conf is in force
+pub same_force : (s after : State) → LeavesFiles s after → in_force after ≡ in_force s
+same_force s after leaves =
+    let lines : part_confs_of after.partitions ≡ part_confs_of s.partitions =
+    sym (lines-of after.partitions) ∙ ap part_confs_of leaves.partitions ∙ lines-of s.partitions in
+    ap (λ settings. force settings (confs_of after.nodes) (part_confs_of after.partitions)) leaves.settings
+    ∙ ap (λ nodes. force s.settings nodes (part_confs_of after.partitions)) leaves.nodes
+    ∙ ap (force s.settings (confs_of s.nodes)) lines
+  where
+    force : Settings → List NodeConf → List PartConf → ConfView
+    force settings nodes partitions = record { settings = settings; nodes = nodes; partitions = partitions }
+
+-- and the same nodes are absent
+pub left_dropped : (s after : State) → LeavesFiles s after → AreDropped s.nodes s.dropped
+    → AreDropped after.nodes after.dropped
+left_dropped s after leaves are =
+    subst (AreDropped after.nodes) (sym leaves.dropped) (record {
+      ordered = are.ordered;
+      once = are.once;
+      absent = λ k d below. same_places (get_or s.dropped k d).name after.nodes s.nodes leaves.nodes
+          ∙ are.absent k d below;
+    })
+
+pub left_gone : (s after : State) → LeavesFiles s after → AreGone s.nodes s.gone → AreGone after.nodes after.gone
+left_gone s after leaves are =
+    subst (AreGone after.nodes) (sym leaves.gone) (record {
+      once = are.once;
+      absent = λ k d below. same_places (get_or s.gone k d) after.nodes s.nodes leaves.nodes ∙ are.absent k d below;
+    })
 
 -- ---- no change of a node changes what slurm.conf says of it
 
@@ -97,9 +159,9 @@ silenced-confs s now =
     cond_both (any_silent s now) _ s (λ (t : State). confs_of t.nodes ≡ confs_of s.nodes)
     (λ some. confs_where change.Silent (falls_silent s.settings.slurmd_timeout now) s.nodes) (λ none. refl)
 
-silenced-opened : (opened s : State) (now : ℕ) → IsAsOpened opened s → IsAsOpened opened (silenced s now)
+silenced-opened : (opened s : State) (now : ℕ) → LeavesFiles opened s → LeavesFiles opened (silenced s now)
 silenced-opened opened s now stays =
-    cond_both (any_silent s now) _ s (IsAsOpened opened)
+    cond_both (any_silent s now) _ s (LeavesFiles opened)
     (λ some. record {
       settings = stays.settings;
       assocs = stays.assocs;
@@ -107,13 +169,14 @@ silenced-opened opened s now stays =
       partitions = stays.partitions;
       nodes = confs_where change.Silent (falls_silent s.settings.slurmd_timeout now) s.nodes ∙ stays.nodes;
       dropped = stays.dropped;
+      gone = stays.gone;
     })
     (λ none. stays)
 
-met-opened : (opened s : State) (now node : ℕ) (report : Told) → IsAsOpened opened s
-    → IsAsOpened opened (met s now node report)
+met-opened : (opened s : State) (now node : ℕ) (report : Told) → LeavesFiles opened s
+    → LeavesFiles opened (met s now node report)
 met-opened opened s now node report stays =
-    cond_both (is_restarted s report) _ s (IsAsOpened opened)
+    cond_both (is_restarted s report) _ s (LeavesFiles opened)
     (λ restarted. record {
       settings = stays.settings;
       assocs = stays.assocs;
@@ -121,13 +184,14 @@ met-opened opened s now node report stays =
       partitions = stays.partitions;
       nodes = stays.nodes;
       dropped = stays.dropped;
+      gone = stays.gone;
     })
     (λ not. stays)
 
 jobs-opened : (opened s : State) (moment : ℕ) (user : List ℕ) (action : Action) (named : JobRecord → Bool)
-    → IsAsOpened opened s → MakesBy (IsAsOpened opened) (change_made s moment user action named)
+    → LeavesFiles opened s → MakesBy (LeavesFiles opened) (change_made s moment user action named)
 jobs-opened opened s moment user action named stays =
-    cond_both (list_any (goes s user action named) s.jobs) _ Stays (MakesBy (IsAsOpened opened))
+    cond_both (list_any (goes s user action named) s.jobs) _ Stays (MakesBy (LeavesFiles opened))
     (λ some. record {
       settings = stays.settings;
       assocs = stays.assocs;
@@ -135,13 +199,14 @@ jobs-opened opened s moment user action named stays =
       partitions = stays.partitions;
       nodes = stays.nodes;
       dropped = stays.dropped;
+      gone = stays.gone;
     })
     (λ none. tt)
 
-pub made_opened : (opened s : State) (moment : ℕ) (user : List ℕ) (request : Request) → IsAsOpened opened s
-    → MakesBy (IsAsOpened opened) (made s moment user request)
-made_opened opened s moment user (Submit desc) stays =
-    elim (basis_of s user desc) as (λ basis. MakesBy (IsAsOpened opened) (made_under s moment user desc basis)) [
+pub made_opened : (opened s : State) (moment : ℕ) (user : List ℕ) (request : Request)
+    → is_reconfigure request ≡ false → LeavesFiles opened s → MakesBy (LeavesFiles opened) (made s moment user request)
+made_opened opened s moment user (Submit desc) other stays =
+    elim (basis_of s user desc) as (λ basis. MakesBy (LeavesFiles opened) (made_under s moment user desc basis)) [
       | None ↦ tt
       | Some basis ↦ record {
         settings = stays.settings;
@@ -150,18 +215,19 @@ made_opened opened s moment user (Submit desc) stays =
         partitions = stays.partitions;
         nodes = stays.nodes;
         dropped = stays.dropped;
+        gone = stays.gone;
       }
     ]
-made_opened opened s moment user (Cancel targets) stays = jobs-opened opened s moment user act.Cancel (are_meant targets) stays
-made_opened opened s moment user (Hold targets for_owner) stays =
+made_opened opened s moment user (Cancel targets) other stays = jobs-opened opened s moment user act.Cancel (are_meant targets) stays
+made_opened opened s moment user (Hold targets for_owner) other stays =
     jobs-opened opened s moment user (act.Hold for_owner) (are_naming targets) stays
-made_opened opened s moment user (Release targets) stays = jobs-opened opened s moment user act.Release (are_naming targets) stays
-made_opened opened s moment user (Requeue target) stays =
+made_opened opened s moment user (Release targets) other stays = jobs-opened opened s moment user act.Release (are_naming targets) stays
+made_opened opened s moment user (Requeue target) other stays =
     jobs-opened opened s moment user act.Requeue (are_naming (target ∷ [])) stays
-made_opened opened s moment user (UpdateJob target limit nice) stays =
+made_opened opened s moment user (UpdateJob target limit nice) other stays =
     jobs-opened opened s moment user (act.Update limit nice) (are_naming (target ∷ [])) stays
-made_opened opened s moment user (UpdateNode names state) stays =
-    cond_both (changes_any s names state) _ Stays (MakesBy (IsAsOpened opened))
+made_opened opened s moment user (UpdateNode names state) other stays =
+    cond_both (changes_any s names state) _ Stays (MakesBy (LeavesFiles opened))
     (λ some. record {
       settings = stays.settings;
       assocs = stays.assocs;
@@ -169,13 +235,14 @@ made_opened opened s moment user (UpdateNode names state) stays =
       partitions = stays.partitions;
       nodes = confs_where (change_by state) (is_among names) s.nodes ∙ stays.nodes;
       dropped = stays.dropped;
+      gone = stays.gone;
     })
     (λ none. tt)
-made_opened opened s moment user (UpdatePartition name state) stays =
-    elim (place_meant (Some name) s.partitions) as (λ place. MakesBy (IsAsOpened opened) (partition_made s state place)) [
+made_opened opened s moment user (UpdatePartition name state) other stays =
+    elim (place_meant (Some name) s.partitions) as (λ place. MakesBy (LeavesFiles opened) (partition_made s state place)) [
       | None ↦ tt
       | Some place ↦
-          cond_both (is_in_state state (slice_get s.partitions place)) Stays _ (MakesBy (IsAsOpened opened)) (λ had. tt)
+          cond_both (is_in_state state (slice_get s.partitions place)) Stays _ (MakesBy (LeavesFiles opened)) (λ had. tt)
           (λ out. record {
             settings = stays.settings;
             assocs = stays.assocs;
@@ -183,34 +250,38 @@ made_opened opened s moment user (UpdatePartition name state) stays =
             partitions = shapes-at place state s.partitions ∙ stays.partitions;
             nodes = stays.nodes;
             dropped = stays.dropped;
+            gone = stays.gone;
           })
     ]
-made_opened opened s moment user (CreateReservation desc) stays = record {
+made_opened opened s moment user (CreateReservation desc) other stays = record {
   settings = stays.settings;
   assocs = stays.assocs;
   qos = stays.qos;
   partitions = stays.partitions;
   nodes = stays.nodes;
   dropped = stays.dropped;
+  gone = stays.gone;
 }
-made_opened opened s moment user (DeleteReservation name) stays = record {
+made_opened opened s moment user (DeleteReservation name) other stays = record {
   settings = stays.settings;
   assocs = stays.assocs;
   qos = stays.qos;
   partitions = stays.partitions;
   nodes = stays.nodes;
   dropped = stays.dropped;
+  gone = stays.gone;
 }
-made_opened opened s moment user Shutdown stays = record {
+made_opened opened s moment user Shutdown other stays = record {
   settings = stays.settings;
   assocs = stays.assocs;
   qos = stays.qos;
   partitions = stays.partitions;
   nodes = stays.nodes;
   dropped = stays.dropped;
+  gone = stays.gone;
 }
-made_opened opened s moment user (Report report) stays =
-    elim (node_of s report) as (λ node. MakesBy (IsAsOpened opened) (made_by_report s moment report node)) [
+made_opened opened s moment user (Report report) other stays =
+    elim (node_of s report) as (λ node. MakesBy (LeavesFiles opened) (made_by_report s moment report node)) [
       | None ↦ tt
       | Some node ↦
           let stays = met-opened opened s moment node report stays in
@@ -222,11 +293,12 @@ made_opened opened s moment user (Report report) stays =
             nodes = confs_at node (change.Heard (heard_by moment report) (lists_nothing report.running))
                 (met s moment node report).nodes ∙ stays.nodes;
             dropped = stays.dropped;
+            gone = stays.gone;
           }
     ]
-made_opened opened s moment user Pass stays =
+made_opened opened s moment user Pass other stays =
     let stays = silenced-opened opened s moment stays in
-    cond_both (pass_is_idle s moment) Stays _ (MakesBy (IsAsOpened opened)) (λ idle. tt)
+    cond_both (pass_is_idle s moment) Stays _ (MakesBy (LeavesFiles opened)) (λ idle. tt)
     (λ busy. record {
       settings = stays.settings;
       assocs = stays.assocs;
@@ -234,5 +306,7 @@ made_opened opened s moment user Pass stays =
       partitions = stays.partitions;
       nodes = stays.nodes;
       dropped = stays.dropped;
+      gone = stays.gone;
     })
-made_opened opened s moment user (Show query) stays = tt
+made_opened opened s moment user (Reconfigure conf bytes) other stays = absurd (both_ways true other refl)
+made_opened opened s moment user (Show query) other stays = tt

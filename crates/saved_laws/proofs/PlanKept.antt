@@ -1,8 +1,8 @@
--- The plan stays on nodes that there are.
-use Rattle.std.proofs.Common.{ℕ, ◌≡◌, ◌<◌, ◌≤◌, Bool, ◌&&◌, List, [], ◌∷◌, filter, length, map, get_or, All, Option, Some, None, IfSome, nat_eq, slice_get, refl, sym, subst, arith}
+-- The plan stays on nodes that there are, or that are gone.
+use Rattle.std.proofs.Common.{ℕ, ◌≡◌, ◌<◌, ◌≤◌, Bool, true, false, ◌&&◌, List, [], ◌∷◌, filter, length, map, get_or, All, Option, Some, None, IfSome, nat_eq, slice_get, refl, sym, subst, arith}
 use Rattle.std.specs.Prelude.{filter_map}
 use Rattle.std.specs.List.{cons_option, list_any}
-use Rattle.std.proofs.lemmas.Bool.{cond_both}
+use Rattle.std.proofs.lemmas.Bool.{both_ways, cond_both}
 use Rattle.std.proofs.lemmas.List.{length-map}
 use Rattle.std.proofs.lemmas.List.Elements.{All-cons, All-filter, All-head, All-nil, All-tail}
 use Rattle.std.proofs.lemmas.List.Sorted.{All-permutation}
@@ -12,7 +12,7 @@ use Rattle.plain_data.specs.declared.limit.Limit.TheVariants.{Minutes, Unlimited
 use Rattle.plain_data.specs.declared.seconds.TheConstants.{LAST_START}
 use Rattle.request_data.specs.declared.report.Report.{Report as Told}
 use Rattle.request_data.specs.declared.request.Request.{Request}
-use Rattle.request_data.specs.declared.request.Request.TheVariants.{Submit, Cancel, Hold, Release, Requeue, UpdateJob, UpdateNode, UpdatePartition, CreateReservation, DeleteReservation, Report, Pass, Shutdown, Show}
+use Rattle.request_data.specs.declared.request.Request.TheVariants.{Submit, Cancel, Hold, Release, Requeue, UpdateJob, UpdateNode, UpdatePartition, CreateReservation, DeleteReservation, Report, Pass, Shutdown, Reconfigure, Show}
 use Rattle.backfill_planner.specs.Bases.{BaseView}
 use Rattle.backfill_planner.specs.Placements.{AreParts, IsOnRooms, IsPlannable}
 use Rattle.backfill_planner.specs.Plans.{plan_of}
@@ -45,7 +45,7 @@ use Rattle.ctl_node_side.specs.Restarting.{made_by_report, met}
 use Rattle.ctl_node_side.specs.Silence.{any_silent, silenced}
 use Rattle.ctl_core.specs.Operating.{is_in_state, partition_made}
 use Rattle.ctl_core.specs.Step.{made}
-use Rattle.saved_laws.specs.Kept.{IsOnNodes}
+use Rattle.saved_laws.specs.Kept.{IsOnNodes, is_reconfigure}
 use Rattle.saved_laws.proofs.Comings.{MakesBy}
 use Rattle.saved_laws.proofs.Positions.{all_at}
 
@@ -190,42 +190,47 @@ silenced-moment : (s : State) (now : ℕ) → s.moment ≤ now → (silenced s n
 silenced-moment s now later =
     cond_both (any_silent s now) _ s (λ (t : State). t.moment ≤ now) (λ some. omega arith) (λ none. later)
 
-pub made_plan : PlanLaws → (s : State) (moment : ℕ) (user : List ℕ) (request : Request) → IsSound s → s.moment ≤ moment
-    → moment ≤ last_moment → Plans (length s.nodes) s → MakesBy (Plans (length s.nodes)) (made s moment user request)
-made_plan laws s moment user (Submit desc) sound later in_time there =
-    elim (basis_of s user desc) as (λ basis. MakesBy (Plans (length s.nodes)) (made_under s moment user desc basis))
+pub made_plan : PlanLaws → (count : ℕ) (s : State) (moment : ℕ) (user : List ℕ) (request : Request)
+    → is_reconfigure request ≡ false → IsSound s → s.moment ≤ moment → moment ≤ last_moment → length s.nodes ≤ count
+    → Plans count s → MakesBy (Plans count) (made s moment user request)
+made_plan laws count s moment user (Submit desc) other sound later in_time more there =
+    elim (basis_of s user desc) as (λ basis. MakesBy (Plans count) (made_under s moment user desc basis))
     [ None ↦ tt | Some basis ↦ there ]
-made_plan laws s moment user (Cancel targets) sound later in_time there =
-    jobs-plan (length s.nodes) s moment user act.Cancel (are_meant targets) there
-made_plan laws s moment user (Hold targets for_owner) sound later in_time there =
-    jobs-plan (length s.nodes) s moment user (act.Hold for_owner) (are_naming targets) there
-made_plan laws s moment user (Release targets) sound later in_time there =
-    jobs-plan (length s.nodes) s moment user act.Release (are_naming targets) there
-made_plan laws s moment user (Requeue target) sound later in_time there =
-    jobs-plan (length s.nodes) s moment user act.Requeue (are_naming (target ∷ [])) there
-made_plan laws s moment user (UpdateJob target limit nice) sound later in_time there =
-    jobs-plan (length s.nodes) s moment user (act.Update limit nice) (are_naming (target ∷ [])) there
-made_plan laws s moment user (UpdateNode names state) sound later in_time there =
-    cond_both (changes_any s names state) _ Stays (MakesBy (Plans (length s.nodes))) (λ some. there) (λ none. tt)
-made_plan laws s moment user (UpdatePartition name state) sound later in_time there =
+made_plan laws count s moment user (Cancel targets) other sound later in_time more there =
+    jobs-plan count s moment user act.Cancel (are_meant targets) there
+made_plan laws count s moment user (Hold targets for_owner) other sound later in_time more there =
+    jobs-plan count s moment user (act.Hold for_owner) (are_naming targets) there
+made_plan laws count s moment user (Release targets) other sound later in_time more there =
+    jobs-plan count s moment user act.Release (are_naming targets) there
+made_plan laws count s moment user (Requeue target) other sound later in_time more there =
+    jobs-plan count s moment user act.Requeue (are_naming (target ∷ [])) there
+made_plan laws count s moment user (UpdateJob target limit nice) other sound later in_time more there =
+    jobs-plan count s moment user (act.Update limit nice) (are_naming (target ∷ [])) there
+made_plan laws count s moment user (UpdateNode names state) other sound later in_time more there =
+    cond_both (changes_any s names state) _ Stays (MakesBy (Plans count)) (λ some. there) (λ none. tt)
+made_plan laws count s moment user (UpdatePartition name state) other sound later in_time more there =
     elim (place_meant (Some name) s.partitions) as (λ place.
-    MakesBy (Plans (length s.nodes)) (partition_made s state place)) [
+    MakesBy (Plans count) (partition_made s state place)) [
       | None ↦ tt
       | Some place ↦
-          cond_both (is_in_state state (slice_get s.partitions place)) Stays _ (MakesBy (Plans (length s.nodes)))
+          cond_both (is_in_state state (slice_get s.partitions place)) Stays _ (MakesBy (Plans count))
           (λ had. tt) (λ out. there)
     ]
-made_plan laws s moment user (CreateReservation desc) sound later in_time there = there
-made_plan laws s moment user (DeleteReservation name) sound later in_time there = there
-made_plan laws s moment user Shutdown sound later in_time there = there
-made_plan laws s moment user (Report report) sound later in_time there =
-    elim (node_of s report) as (λ node. MakesBy (Plans (length s.nodes)) (made_by_report s moment report node))
-    [ None ↦ tt | Some node ↦ met-plan (length s.nodes) s moment node report there ]
-made_plan laws s moment user Pass sound later in_time there =
+made_plan laws count s moment user (CreateReservation desc) other sound later in_time more there = there
+made_plan laws count s moment user (DeleteReservation name) other sound later in_time more there = there
+made_plan laws count s moment user Shutdown other sound later in_time more there = there
+made_plan laws count s moment user (Report report) other sound later in_time more there =
+    elim (node_of s report) as (λ node. MakesBy (Plans count) (made_by_report s moment report node))
+    [ None ↦ tt | Some node ↦ met-plan count s moment node report there ]
+made_plan laws count s moment user Pass other sound later in_time more there =
     let t = silenced s moment in
     let planned : All (IsOnNodes (length s.nodes)) (placements t moment) =
     subst (λ count. All (IsOnNodes count) (placements t moment)) (silenced-count s moment)
     (planned-there laws t moment (laws.silence s moment sound later in_time) (silenced-moment s moment later) in_time) in
-    cond_both (pass_is_idle s moment) Stays _ (MakesBy (Plans (length s.nodes))) (λ idle. tt)
-    (λ busy. stays-there (length s.nodes) t moment (jobs_left t moment) (placements t moment) planned)
-made_plan laws s moment user (Show query) sound later in_time there = tt
+    let within : All (IsOnNodes count) (placements t moment) =
+    λ k d below i e inside. omega (arith, planned k d below i e inside, more) in
+    cond_both (pass_is_idle s moment) Stays _ (MakesBy (Plans count)) (λ idle. tt)
+    (λ busy. stays-there count t moment (jobs_left t moment) (placements t moment) within)
+made_plan laws count s moment user (Reconfigure conf bytes) other sound later in_time more there =
+    absurd (both_ways true other refl)
+made_plan laws count s moment user (Show query) other sound later in_time more there = tt

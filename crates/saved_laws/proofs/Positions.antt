@@ -69,7 +69,7 @@ by-first false n m = elim (cases_Bool (ltb n m)) [
       ∙ ap (λ (is : Bool). option_map (λ k. 1 + k) (cond is (Some n) None)) (sym past)
 ]
 
-position-first : {A : Type 0} (p : A → Bool) (x : A) (xs : List A)
+pub position-first : {A : Type 0} (p : A → Bool) (x : A) (xs : List A)
     → position p (x ∷ xs) ≡ (if p x then Some 0 else option_map (λ k. 1 + k) (position p xs))
 position-first p x xs = by-first (p x) (position_or_len p xs) (length xs)
 

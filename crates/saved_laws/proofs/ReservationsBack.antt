@@ -1,7 +1,7 @@
 -- Reservations come back.
-use Rattle.std.proofs.Common.{ℕ, ◌≡◌, ◌≢◌, ◌∙◌, ◌+◌, ◌<◌, ◌≤◌, zero, suc, Bool, true, false, ◌||◌, cond, List, [], ◌∷◌, map, filter, length, All, Option, Some, None, bytes_eq, nat_eq, slice_get, refl, ap, sym, arith, inl, inr}
-use Rattle.std.specs.Prelude.{filter_map, option_map, unwrap_or}
-use Rattle.std.specs.List.{cons_option, list_any, range_with_len}
+use Rattle.std.proofs.Common.{ℕ, ◌≡◌, ◌∙◌, ◌+◌, ◌<◌, ◌≤◌, zero, suc, Bool, true, false, ◌||◌, cond, List, [], ◌∷◌, map, filter, length, All, nat_eq, slice_get, refl, ap, sym, arith, inl, inr}
+use Rattle.std.specs.Prelude.{option_map, unwrap_or}
+use Rattle.std.specs.List.{list_any, range_with_len}
 use Rattle.std.proofs.lemmas.Bool.{cases_Bool, eqb-true, false_from_ne_true, eq-eqb}
 use Rattle.std.proofs.lemmas.Bool.Decides.{nat_tests}
 use Rattle.std.proofs.lemmas.List.{length-map}
@@ -13,17 +13,14 @@ use Rattle.node_state.specs.Reservations.{has}
 use Rattle.ctl_state.specs.Planning.{is_at}
 use Rattle.ctl_nodes.specs.Reserving.{places_among}
 use Rattle.ctl_nodes.specs.Updating.{is_among}
-use Rattle.ctl_saved.specs.Saving.{name_at, names_at, saved_reservation}
+use Rattle.ctl_saved.specs.Saving.{saved_reservation}
 use Rattle.ctl_restore.specs.Restored.{restored_reservation}
 use Rattle.saved_laws.specs.Kept.{IsReserved, confs_of}
-use Rattle.saved_laws.proofs.Named.{other_name, own_name}
-use Rattle.saved_laws.proofs.PlacesBack.{NodesApart}
-use Rattle.saved_laws.proofs.Positions.{one_place, there}
 
 -- ---- rows of numbers
 
 -- two tests that agree on a row keep the same of it
-agreeing : (one other : ℕ → Bool) (low count : ℕ)
+pub agreeing : (one other : ℕ → Bool) (low count : ℕ)
     → ((k : ℕ) → low ≤ k → k < low + count → one k ≡ other k)
     → filter one (range_with_len low count) ≡ filter other (range_with_len low count)
 agreeing one other low zero agree = refl
@@ -56,7 +53,7 @@ first-kept test k low kept same none true is =
 first-kept test k low kept same none false is = none ∙ sym is ∙ ap test (sym same)
 
 -- it has those that pass
-kept-there : (test : ℕ → Bool) (k low count : ℕ) → low ≤ k → k < low + count
+pub kept-there : (test : ℕ → Bool) (k low count : ℕ) → low ≤ k → k < low + count
     → list_any (nat_eq k) (filter test (range_with_len low count)) ≡ test k
 kept-there test k low zero above below = absurd (omega (arith, above, below))
 kept-there test k low (suc count) above below = elim (cases_Bool (nat_eq k low)) [
@@ -71,49 +68,6 @@ kept-there test k low (suc count) above below = elim (cases_Bool (nat_eq k low))
   where
     later : (k low : ℕ) → low ≤ k → nat_eq k low ≡ false → low + 1 ≤ k
     later k low above not = grind (arith, nat_tests)
-
--- ---- names of nodes
-
--- of these places' names the one of a node is that of its own place alone
-has-own : (nodes : List NodeRecord) → NodesApart nodes → (k : ℕ) (node : NodeRecord) → slice_get nodes k ≡ Some node
-    → (places : List ℕ) → has (names_at nodes places) node.conf.name ≡ list_any (nat_eq k) places
-unfolding names_at
-has-own nodes apart k node is [] = refl
-has-own nodes apart k node is (place ∷ places) =
-    by (slice_get nodes place) refl (has-own nodes apart k node is places)
-  where
-    same-test : (other : NodeRecord) → slice_get nodes place ≡ Some other
-        → bytes_eq node.conf.name other.conf.name ≡ nat_eq k place
-    same-test other some = elim (cases_Bool (nat_eq k place)) [
-      | inl same ↦
-          let equal : Some node ≡ Some other = sym is ∙ ap (slice_get nodes) (eqb-true k place same) ∙ some in
-          let one : node ≡ other = cc in
-          ap (λ (one : NodeRecord). bytes_eq node.conf.name one.conf.name) (sym one) ∙ own_name node.conf.name ∙ sym same
-      | inr differ ↦
-          other_name node.conf.name other.conf.name (λ equal.
-          let same : k ≡ place = one_place (λ (one other : NodeRecord). one.conf.name ≢ other.conf.name) nodes apart k place node
-          other is some (λ apart. apart equal) (λ apart. apart (sym equal)) in
-          absurd (let there = eq-eqb k place same in let not = differ in cc))
-          ∙ sym differ
-    ]
-
-    by : (found : Option NodeRecord) → slice_get nodes place ≡ found
-        → has (filter_map (name_at nodes) places) node.conf.name ≡ list_any (nat_eq k) places
-        → has (filter_map (name_at nodes) (place ∷ places)) node.conf.name ≡ (nat_eq k place || list_any (nat_eq k) places)
-    by None none rest =
-        let differs : nat_eq k place ≡ false =
-        false_from_ne_true (nat_eq k place) (λ same.
-        let at : slice_get nodes k ≡ None = ap (slice_get nodes) (eqb-true k place same) ∙ none in
-        absurd (let some = is in cc)) in
-        ap (λ (found : Option NodeRecord). has (cons_option (option_map (λ (node : NodeRecord). node.conf.name) found)
-        (filter_map (name_at nodes) places)) node.conf.name) none
-        ∙ rest
-        ∙ ap (λ (is : Bool). is || list_any (nat_eq k) places) (sym differs)
-    by (Some other) some rest =
-        ap (λ (found : Option NodeRecord). has (cons_option (option_map (λ (node : NodeRecord). node.conf.name) found)
-        (filter_map (name_at nodes) places)) node.conf.name) some
-        ∙ ap (λ (is : Bool). is || has (filter_map (name_at nodes) places) node.conf.name) (same-test other some)
-        ∙ ap (λ (later : Bool). nat_eq k place || later) rest
 
 -- ---- the places of nodes by their names, whatever becomes of the nodes
 
@@ -146,39 +100,16 @@ same_places_among names one other same =
 
 -- ---- what comes back
 
--- the names of places that have some names lead back to these
-among-back : (nodes : List NodeRecord) → NodesApart nodes → (names : List (List ℕ))
-    → places_among nodes (names_at nodes (places_among nodes names)) ≡ places_among nodes names
-among-back nodes apart names =
-    agreeing (is_at (is_among (names_at nodes (places_among nodes names))) nodes) (is_at (is_among names) nodes) 0 (length nodes)
-    (λ k above below. at k (omega (arith, below)))
-  where
-    at : (k : ℕ) → k < length nodes
-        → is_at (is_among (names_at nodes (places_among nodes names))) nodes k ≡ is_at (is_among names) nodes k
-    at k below =
-        let here = there nodes k below in
-        let places = places_among nodes names in
-        ap (λ (found : Option NodeRecord). unwrap_or (option_map (is_among (names_at nodes places)) found) false) here.1
-        ∙ has-own nodes apart k here.0 here.1 places
-        ∙ kept-there (is_at (is_among names) nodes) k 0 (length nodes) (omega arith) (omega (arith, below))
-
-reservation-back : (opened nodes : List NodeRecord) → confs_of nodes ≡ confs_of opened → NodesApart nodes
-    → (reservation : Reservation) → IsReserved nodes reservation
-    → restored_reservation opened (saved_reservation nodes reservation) ≡ reservation
+reservation-back : (opened : List NodeRecord) (reservation : Reservation) → IsReserved opened reservation
+    → restored_reservation opened (saved_reservation reservation) ≡ reservation
 unfolding restored_reservation saved_reservation
-reservation-back opened nodes same apart reservation of =
-    ap (λ places. record reservation { nodes = places })
-    (sym (same_places_among (names_at nodes reservation.nodes) nodes opened same)
-    ∙ ap (λ places. places_among nodes (names_at nodes places)) of.places
-    ∙ among-back nodes apart of.names
-    ∙ sym of.places)
+reservation-back opened reservation of = ap (λ places. record reservation { nodes = places }) (sym of.places)
 
-pub reservations_back : (opened nodes : List NodeRecord) → confs_of nodes ≡ confs_of opened → NodesApart nodes
-    → (reservations : List Reservation) → All (IsReserved nodes) reservations
-    → map (restored_reservation opened) (map (saved_reservation nodes) reservations) ≡ reservations
-reservations_back opened nodes same apart [] of = refl
-reservations_back opened nodes same apart (one ∷ others) of =
-    ap (λ back. back ∷ map (restored_reservation opened) (map (saved_reservation nodes) others))
-    (reservation-back opened nodes same apart one (All-head (IsReserved nodes) one others of))
-    ∙ ap (λ later. one ∷ later)
-    (reservations_back opened nodes same apart others (All-tail (IsReserved nodes) one others of))
+pub reservations_back : (opened : List NodeRecord) (reservations : List Reservation)
+    → All (IsReserved opened) reservations
+    → map (restored_reservation opened) (map saved_reservation reservations) ≡ reservations
+reservations_back opened [] of = refl
+reservations_back opened (one ∷ others) of =
+    ap (λ back. back ∷ map (restored_reservation opened) (map saved_reservation others))
+    (reservation-back opened one (All-head (IsReserved opened) one others of))
+    ∙ ap (λ later. one ∷ later) (reservations_back opened others (All-tail (IsReserved opened) one others of))

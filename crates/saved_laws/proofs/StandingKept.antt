@@ -1,20 +1,25 @@
 -- How nodes stand stays as it may.
-use Rattle.std.proofs.Common.{ℕ, ◌≡◌, ◌≤◌, zero, suc, Bool, false, List, [], ◌∷◌, map, All, Option, Some, None, IfSome, refl, slice_get, arith}
+use Rattle.std.proofs.Common.{ℕ, ◌≡◌, ◌≤◌, zero, suc, Bool, false, List, [], ◌∷◌, get_or, map, All, Option, Some, None, IfSome, refl, slice_get, arith}
+use Rattle.std.specs.Option.{option_and_then}
 use Rattle.std.specs.List.{list_any}
 use Rattle.std.proofs.lemmas.Bool.{cond_both}
 use Rattle.std.proofs.lemmas.List.Elements.{All-cons, All-head, All-map, All-tail, All-weaker}
+use Rattle.plain_data.specs.Confs.{ConfView}
+use Rattle.plain_data.specs.declared.conf.NodeConf.{NodeConf}
 use Rattle.request_data.specs.declared.report.Heard.{Heard as HeardLast}
 use Rattle.request_data.specs.declared.report.Report.{Report as Told}
 use Rattle.request_data.specs.declared.request.NodeOrder.{NodeOrder}
 use Rattle.request_data.specs.declared.request.NodeOrder.TheVariants as order
 use Rattle.request_data.specs.declared.request.Request.{Request}
-use Rattle.request_data.specs.declared.request.Request.TheVariants.{Submit, Cancel, Hold, Release, Requeue, UpdateJob, UpdateNode, UpdatePartition, CreateReservation, DeleteReservation, Report, Pass, Shutdown, Show}
+use Rattle.request_data.specs.declared.request.Request.TheVariants.{Submit, Cancel, Hold, Release, Requeue, UpdateJob, UpdateNode, UpdatePartition, CreateReservation, DeleteReservation, Report, Pass, Shutdown, Reconfigure, Show}
+use Rattle.node_state.specs.declared.record.DroppedNode.{DroppedNode}
 use Rattle.node_state.specs.declared.record.DownBy.{DownBy}
 use Rattle.node_state.specs.declared.record.DownBy.TheVariants as down
 use Rattle.node_state.specs.declared.record.NodeChange.{NodeChange}
 use Rattle.node_state.specs.declared.record.NodeChange.TheVariants as change
 use Rattle.node_state.specs.declared.record.NodeRecord.{NodeRecord}
-use Rattle.node_state.specs.Nodes.{change_at, changed, noted, resumed, set_down, silent}
+use Rattle.node_state.specs.Nodes.{change_at, changed, noted, place_named, resumed, set_down, silent}
+use Rattle.node_state.specs.Renewing.{come, dropped_named, node_named, renewed, renewed_from}
 use Rattle.node_state.specs.Partitions.{place_meant}
 use Rattle.job_table.specs.declared.record.JobRecord.{JobRecord}
 use Rattle.ctl_state.specs.State.{State}
@@ -30,10 +35,13 @@ use Rattle.ctl_node_side.specs.Passes.{pass_is_idle}
 use Rattle.ctl_node_side.specs.Reporting.{heard_by, lists_nothing}
 use Rattle.ctl_node_side.specs.Restarting.{made_by_report, met}
 use Rattle.ctl_node_side.specs.Silence.{any_silent, falls_silent, silenced}
+use Rattle.ctl_reconfigure.specs.Reconfiguring.{reconfigured}
+use Rattle.ctl_reconfigure.specs.Same.{is_same}
 use Rattle.ctl_core.specs.Operating.{is_in_state, partition_made}
 use Rattle.ctl_core.specs.Step.{made}
 use Rattle.saved_laws.specs.Kept.{Stands}
 use Rattle.saved_laws.proofs.Comings.{MakesBy}
+use Rattle.saved_laws.proofs.Positions.{all_at}
 
 -- ---- one node
 
@@ -150,6 +158,35 @@ silenced-stand s moment stand =
     (λ some. where-stand moment change.Silent (falls_silent s.settings.slurmd_timeout moment) s.nodes tt stand)
     (λ none. stand)
 
+-- the nodes of a new slurm.conf
+at-stands : (moment : ℕ) (nodes : List NodeRecord) (place : Option ℕ) → All (Stands moment) nodes
+    → IfSome (option_and_then (slice_get nodes) place) (Stands moment)
+at-stands moment nodes None stand = tt
+at-stands moment nodes (Some place) stand =
+    each (slice_get nodes place) (λ node is. all_at (Stands moment) nodes place node stand is)
+  where
+    each : (found : Option NodeRecord) → ((node : NodeRecord) → found ≡ Some node → Stands moment node)
+        → IfSome found (Stands moment)
+    each None stands = tt
+    each (Some node) stands = stands node refl
+
+come-stands : (moment : ℕ) (conf : NodeConf) (found : Option DroppedNode) → Stands moment (come moment conf found)
+come-stands moment conf None = record { empty = λ is. absurd (cc); heard = tt }
+come-stands moment conf (Some dropped) = record { empty = λ is. absurd (cc); heard = omega arith }
+
+from-stands : (dropped : List DroppedNode) (moment : ℕ) (conf : NodeConf) (found : Option NodeRecord)
+    → IfSome found (Stands moment) → Stands moment (renewed_from dropped moment conf found)
+from-stands dropped moment conf None stands = come-stands moment conf (dropped_named conf.name dropped)
+from-stands dropped moment conf (Some node) stands = record { empty = stands.empty; heard = stands.heard }
+
+renewed-stand : (s : State) (moment : ℕ) (conf : ConfView) → Standing moment s
+    → Standing moment (reconfigured s moment conf)
+renewed-stand s moment conf stand =
+    All-map (Stands moment) (renewed s.nodes s.dropped moment) conf.nodes
+    (λ k d below. from-stands s.dropped moment (get_or conf.nodes k d)
+    (node_named (get_or conf.nodes k d).name s.nodes)
+    (at-stands moment s.nodes (place_named (get_or conf.nodes k d).name s.nodes) stand))
+
 ordered : (moment : ℕ) (state : NodeOrder) → IsHeardBy moment (change_by state)
 ordered moment order.Down = tt
 ordered moment order.Drain = tt
@@ -191,4 +228,7 @@ made_standing s moment user (Report report) stand =
 made_standing s moment user Pass stand =
     cond_both (pass_is_idle s moment) Stays _ (MakesBy (Standing moment)) (λ idle. tt)
     (λ busy. silenced-stand s moment stand)
+made_standing s moment user (Reconfigure conf bytes) stand =
+    cond_both (is_same s conf) Stays _ (MakesBy (Standing moment)) (λ same. tt)
+    (λ other. renewed-stand s moment conf stand)
 made_standing s moment user (Show query) stand = tt

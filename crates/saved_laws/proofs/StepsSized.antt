@@ -5,7 +5,7 @@ use Rattle.reply_data.specs.declared.refusal.Refusal.{Refusal}
 use Rattle.reply_data.specs.declared.refusal.Refusal.TheVariants.{HistoryFull}
 use Rattle.reply_data.specs.declared.reply.Reply.TheVariants.{Refused}
 use Rattle.request_data.specs.declared.request.Request.{Request}
-use Rattle.request_data.specs.declared.request.Request.TheVariants.{Submit, Cancel, Hold, Release, Requeue, UpdateJob, UpdateNode, UpdatePartition, CreateReservation, DeleteReservation, Report, Pass, Shutdown, Show}
+use Rattle.request_data.specs.declared.request.Request.TheVariants.{Submit, Cancel, Hold, Release, Requeue, UpdateJob, UpdateNode, UpdatePartition, CreateReservation, DeleteReservation, Report, Pass, Shutdown, Reconfigure, Show}
 use Rattle.node_state.specs.Partitions.{place_meant}
 use Rattle.ctl_state.specs.Refusals.{first_refusal, unless_refused}
 use Rattle.ctl_state.specs.State.{State, last_size}
@@ -16,7 +16,7 @@ use Rattle.ctl_core.specs.Sizes.{has_room, size_of}
 use Rattle.ctl_core.specs.Step.{early_refusals, entered, is_closed, is_entered, made, raised, refusals_of, reply_of, state_after, unless_full, verdict_of, worked}
 use Rattle.saved_laws.specs.Rooms.{IsNoFuller, sized}
 use Rattle.saved_laws.proofs.JobsSized.{cancel_refusals_sized, change_made_sized, refusals_sized}
-use Rattle.saved_laws.proofs.NodesSized.{partition_made_sized, report_made_sized, update_made_sized}
+use Rattle.saved_laws.proofs.NodesSized.{partition_made_sized, reconfigure_made_sized, reconfigure_refusals_sized, report_made_sized, update_made_sized}
 use Rattle.saved_laws.proofs.PassesSized.{made_by_pass_sized}
 use Rattle.saved_laws.proofs.Resized.{sized_by}
 use Rattle.saved_laws.proofs.ShowingSized.{show_refusals_sized, view_of_sized}
@@ -39,6 +39,7 @@ refusals-of-sized size s moment user (DeleteReservation name) = refl
 refusals-of-sized size s moment user Shutdown = refl
 refusals-of-sized size s moment user (Report report) = refl
 refusals-of-sized size s moment user Pass = refl
+refusals-of-sized size s moment user (Reconfigure conf bytes) = reconfigure_refusals_sized size s user conf
 refusals-of-sized size s moment user (Show query) = show_refusals_sized size s query
 
 -- what a request makes that isn't refused is the same
@@ -61,6 +62,7 @@ made-sized size s moment user (DeleteReservation name) = refl
 made-sized size s moment user Shutdown = refl
 made-sized size s moment user (Report report) = report_made_sized size s moment report
 made-sized size s moment user Pass = made_by_pass_sized size s moment
+made-sized size s moment user (Reconfigure conf bytes) = reconfigure_made_sized size s moment conf
 made-sized size s moment user (Show query) = ap Tells (view_of_sized size s moment user query)
 
 -- where a request has room, it has it in a history that is no fuller

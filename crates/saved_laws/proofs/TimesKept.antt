@@ -101,7 +101,12 @@ changed-timed (SetNice nice) job timed =
     record { eligible = timed.eligible; started = timed.started; moments = timed.moments }
 
 pub timed_stays : StaysTrue IsTimed
-timed_stays = record { changes = changed-timed; lefts = left-timed }
+timed_stays = record {
+  changes = changed-timed;
+  lefts = left-timed;
+  moves = λ parts partition job timed.
+      record { eligible = timed.eligible; started = timed.started; moments = timed.moments };
+}
 
 pub new_timed : (s : State) (moment : ℕ) (user : List ℕ) (desc : JobDesc) (basis : Basis)
     → All IsTimed (new_jobs s moment user desc basis desc.array)

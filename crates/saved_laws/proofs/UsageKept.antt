@@ -7,7 +7,7 @@ use Rattle.std.proofs.lemmas.List.Elements.{All-cons, All-head, All-nil, All-tai
 use Rattle.list_lemmas.proofs.Sums.{sum_by-none}
 use Rattle.request_data.specs.declared.report.Report.{Report as Told}
 use Rattle.request_data.specs.declared.request.Request.{Request}
-use Rattle.request_data.specs.declared.request.Request.TheVariants.{Submit, Cancel, Hold, Release, Requeue, UpdateJob, UpdateNode, UpdatePartition, CreateReservation, DeleteReservation, Report, Pass, Shutdown, Show}
+use Rattle.request_data.specs.declared.request.Request.TheVariants.{Submit, Cancel, Hold, Release, Requeue, UpdateJob, UpdateNode, UpdatePartition, CreateReservation, DeleteReservation, Report, Pass, Shutdown, Reconfigure, Show}
 use Rattle.node_state.specs.Partitions.{place_meant}
 use Rattle.job_table.specs.declared.record.JobRecord.{JobRecord}
 use Rattle.job_table.specs.Usage.{charged, greatest_usage, grown, used_of, used_when_left}
@@ -23,19 +23,20 @@ use Rattle.ctl_jobs.specs.Changing.{are_meant, are_naming, change_made, done_if,
 use Rattle.ctl_nodes.specs.Failing.{after_loss}
 use Rattle.ctl_nodes.specs.Updating.{changes_any, lost_by}
 use Rattle.ctl_pass.specs.Limits.{timed_out}
-use Rattle.ctl_pass.specs.Outcome.{outcome}
+use Rattle.ctl_pass.specs.Passing.{begun_in, outcome}
 use Rattle.ctl_pass.specs.Preempting.{preempted, victims_in}
 use Rattle.ctl_node_side.specs.Answering.{is_restarted, node_of}
-use Rattle.ctl_node_side.specs.Passes.{pass_is_idle}
+use Rattle.ctl_node_side.specs.Passes.{after_pass, pass_is_idle}
 use Rattle.ctl_node_side.specs.Reporting.{reported}
 use Rattle.ctl_node_side.specs.Restarting.{made_by_report, met}
 use Rattle.ctl_node_side.specs.Silence.{any_silent, silent_at, silenced}
+use Rattle.ctl_reconfigure.specs.Same.{is_same}
 use Rattle.ctl_core.specs.Operating.{is_in_state, partition_made}
 use Rattle.ctl_core.specs.Step.{made}
 use Rattle.saved_laws.specs.Kept.{OnlyUsersUse}
 use Rattle.saved_laws.proofs.Comings.{MakesBy}
 use Rattle.saved_laws.proofs.NamesKept.{IsOfUser, fixed_stays, user_fixed}
-use Rattle.saved_laws.proofs.Walks.{met_true, outcome_true, silenced_true}
+use Rattle.saved_laws.proofs.Walks.{begun_true, met_true, silenced_true}
 
 -- each job's association is a user's
 pub of_users : (s : State) → All (IsOfAccounts s.assocs s.qos) s.jobs → All (IsOfUser s.assocs) s.jobs
@@ -207,11 +208,13 @@ made_use s moment user Pass of only =
     let by = silenced-use s moment (record { assocs = refl; of = of; users = only }) in
     let t = silenced s moment in
     cond_both (pass_is_idle s moment) Stays _ (MakesBy Use) (λ idle. tt)
-    (λ busy. let used = charged moment t.jobs (map (timed_out moment) t.jobs) t.usage in
-    let jobs = (outcome t moment).jobs in
-    let after = map (preempted moment (victims_in t moment)) jobs in
-    subst (λ assocs. OnlyUsersUse assocs (charged moment jobs after used)) (sym by.assocs)
-    (charged_users moment s.assocs jobs after used
-    (outcome_true (IsOfUser s.assocs) (fixed_stays (IsOfUser s.assocs) (user_fixed s.assocs)) t moment by.of)
-    (charged_users moment s.assocs t.jobs (map (timed_out moment) t.jobs) t.usage by.of by.users)))
+    (λ busy.
+    let over : OnlyUsersUse s.assocs (begun_in t moment).usage =
+    charged_users moment s.assocs t.jobs (map (timed_out moment) t.jobs) t.usage by.of by.users in
+    let begun = begun_true (IsOfUser s.assocs) (fixed_stays (IsOfUser s.assocs) (user_fixed s.assocs)) s moment of in
+    subst (λ assocs. OnlyUsersUse assocs (after_pass s moment).usage) (sym by.assocs)
+    (charged_users moment s.assocs (outcome t moment).jobs
+    (map (preempted moment (victims_in t moment)) (outcome t moment).jobs) (begun_in t moment).usage begun over))
+made_use s moment user (Reconfigure conf bytes) of only =
+    cond_both (is_same s conf) Stays _ (MakesBy Use) (λ same. tt) (λ other. only)
 made_use s moment user (Show query) of only = tt

@@ -10,7 +10,7 @@ use Rattle.backfill_planner.specs.declared.Placed.{Placed}
 use Rattle.request_data.specs.declared.report.Done.{Done}
 use Rattle.request_data.specs.declared.report.Report.{Report as Told}
 use Rattle.request_data.specs.declared.request.Request.{Request}
-use Rattle.request_data.specs.declared.request.Request.TheVariants.{Submit, Cancel, Hold, Release, Requeue, UpdateJob, UpdateNode, UpdatePartition, CreateReservation, DeleteReservation, Report, Pass, Shutdown, Show}
+use Rattle.request_data.specs.declared.request.Request.TheVariants.{Submit, Cancel, Hold, Release, Requeue, UpdateJob, UpdateNode, UpdatePartition, CreateReservation, DeleteReservation, Report, Pass, Shutdown, Reconfigure, Show}
 use Rattle.request_data.specs.declared.state.Final.{Final}
 use Rattle.request_data.specs.declared.state.Final.TheVariants as final
 use Rattle.request_data.specs.declared.state.JobState.{JobState}
@@ -34,7 +34,7 @@ use Rattle.ctl_jobs.specs.Changing.{are_meant, are_naming, change_made, done_if,
 use Rattle.ctl_nodes.specs.Failing.{after_loss, failed, failing, loses, off_lost, parts_kept}
 use Rattle.ctl_nodes.specs.Updating.{changes_any, lost_by}
 use Rattle.ctl_pass.specs.Limits.{is_over, timed_out}
-use Rattle.ctl_pass.specs.Outcome.{outcome}
+use Rattle.ctl_pass.specs.Passing.{outcome}
 use Rattle.ctl_pass.specs.Preempting.{preempted, victims_in}
 use Rattle.ctl_pass.specs.Readiness.{goes as is_gone, jobs_left, placements}
 use Rattle.ctl_pass.specs.Starting.{Started, begun, may_start, start_of, started}
@@ -43,15 +43,19 @@ use Rattle.ctl_node_side.specs.Passes.{pass_is_idle}
 use Rattle.ctl_node_side.specs.Reporting.{after_told, done_of, final_of, is_at, is_batch_host, is_listed, reported, script_over}
 use Rattle.ctl_node_side.specs.Restarting.{made_by_report, met}
 use Rattle.ctl_node_side.specs.Silence.{any_silent, silent_at, silenced}
+use Rattle.ctl_reconfigure.specs.Reconfiguring.{job_after as job_moved}
+use Rattle.ctl_reconfigure.specs.Same.{is_same}
 use Rattle.ctl_core.specs.Operating.{is_in_state, partition_made}
 use Rattle.ctl_core.specs.Step.{made}
 use Rattle.saved_laws.proofs.Comings.{MakesBy}
 
--- each change leaves it true
+-- each change leaves it true, and so do other places in the lists of nodes and of partitions
 pub record StaysTrue (J : JobRecord → Type 0) : Type 0 where
   pub changes : (change : Change) (job : JobRecord) → J job → J (changed change job)
   pub lefts : (now : ℕ) (end : Final) (parts : List Part) (job : JobRecord) → is_completing job.state ≡ true → J job
       → J (with_left now end parts job)
+  pub moves : (parts : List Part) (partition : ℕ) (job : JobRecord) → J job
+      → J (record job { parts = parts; partition = partition })
 
 -- ---- one job
 
@@ -131,6 +135,10 @@ module _ (J : JobRecord → Type 0) (stays : StaysTrue J) where
       → J (started_as now id parts nodes job)
   started_true now id parts nodes job holds = if-changed (has_id id job) (Start now parts nodes) job holds
 
+  pub preempted_true : (now : ℕ) (gone : List ℕ) (job : JobRecord) → J job → J (preempted now gone job)
+  preempted_true now gone job holds =
+      if-changed (list_any (λ id. has_id id job) gone) (Leave final.Requeue now None) job holds
+
   -- ---- all jobs
 
   mapped : (f : JobRecord → JobRecord) → ((job : JobRecord) → J job → J (f job)) → (jobs : List JobRecord)
@@ -163,13 +171,11 @@ module _ (J : JobRecord → Type 0) (stays : StaysTrue J) where
       (mapped (started_as now start.id start.parts start.nodes) (started_true now start.id start.parts start.nodes) jobs all))
       (λ stays. starts-true s now jobs later all)
 
-  -- the jobs once a pass has made its starts
-  pub outcome_true : (s : State) (now : ℕ) → All J s.jobs → All J (outcome s now).jobs
-  outcome_true s now all = starts-true s now (jobs_left s now) (placements s now) (left-true s now all)
-
-  pub gone_true : (now : ℕ) (gone : List ℕ) (job : JobRecord) → J job → J (preempted now gone job)
-  gone_true now gone job holds =
-      if-changed (list_any (λ id. has_id id job) gone) (Leave final.Requeue now None) job holds
+  -- once those have started that do
+  pub begun_true : (s : State) (now : ℕ) → All J s.jobs → All J (outcome (silenced s now) now).jobs
+  begun_true s now all =
+      let t = silenced s now in
+      starts-true t now (jobs_left t now) (placements t now) (left-true t now (silenced_true s now all))
 
   jobs-true : (s : State) (moment : ℕ) (user : List ℕ) (action : Action) (named : JobRecord → Bool) → All J s.jobs
       → MakesBy (λ (after : State). All J after.jobs) (change_made s moment user action named)
@@ -224,7 +230,11 @@ module _ (J : JobRecord → Type 0) (stays : StaysTrue J) where
       ]
   made_true s moment user Pass all new =
       cond_both (pass_is_idle s moment) Stays _ (MakesBy (λ (after : State). All J after.jobs)) (λ idle. tt)
-      (λ busy. let t = silenced s moment in
-      mapped (preempted moment (victims_in t moment)) (gone_true moment (victims_in t moment)) (outcome t moment).jobs
-      (outcome_true t moment (silenced_true s moment all)))
+      (λ busy.
+      let t = silenced s moment in
+      let gone = victims_in t moment in
+      mapped (preempted moment gone) (preempted_true moment gone) (outcome t moment).jobs (begun_true s moment all))
+  made_true s moment user (Reconfigure conf bytes) all new =
+      cond_both (is_same s conf) Stays _ (MakesBy (λ (after : State). All J after.jobs)) (λ same. tt)
+      (λ other. mapped (job_moved s conf) (λ job holds. stays.moves _ _ job holds) s.jobs all)
   made_true s moment user (Show query) all new = tt

@@ -1,16 +1,20 @@
--- What is kept of each state that a controller of two files comes to.
-use Rattle.std.specs.Prelude.{◌≡◌, ◌+◌, ◌<◌, ◌≤◌, ◌⊎◌, ◌&&◌, ℕ, Bool, true, false, List, [], length, map, max, nat_le, nat_lt, slice_get, is_none, is_some, unwrap_or, IfSome, All, AllPairs, Any, Option, Some}
+-- What is kept of each state that a controller comes to.
+use Rattle.std.specs.Prelude.{◌≡◌, ◌≢◌, ◌+◌, ◌<◌, ◌≤◌, ◌⊎◌, ◌&&◌, ℕ, Bool, true, false, List, [], length, map, max, nat_le, nat_lt, slice_get, is_none, is_some, unwrap_or, IfSome, All, AllPairs, Any, Option, None, Some}
+use Rattle.std.specs.List.{list_all}
 use Rattle.plain_data.specs.Assocs.{AssocView, IsAssocFile}
 use Rattle.plain_data.specs.Confs.{ConfView, IsConf}
 use Rattle.plain_data.specs.declared.array.ArraySpec.{ArraySpec}
 use Rattle.plain_data.specs.declared.conf.NodeConf.{NodeConf}
+use Rattle.plain_data.specs.declared.conf.PartConf.{PartConf}
 use Rattle.plain_data.specs.declared.conf.PartState.TheVariants.{Up}
 use Rattle.request_data.specs.declared.request.Request.{Request}
-use Rattle.request_data.specs.declared.request.Request.TheVariants.{Submit, CreateReservation}
+use Rattle.request_data.specs.declared.request.Request.TheVariants.{Submit, CreateReservation, Reconfigure}
 use Rattle.request_data.specs.declared.state.JobState.{JobState}
 use Rattle.request_data.specs.declared.state.JobState.TheVariants.{Pending, Running, Completing, Ended}
 use Rattle.node_state.specs.declared.record.DownBy.TheVariants.{Set}
+use Rattle.node_state.specs.declared.record.DroppedNode.{DroppedNode}
 use Rattle.node_state.specs.declared.record.NodeRecord.{NodeRecord}
+use Rattle.node_state.specs.Nodes.{place_named}
 use Rattle.node_state.specs.declared.partition_record.PartRecord.{PartRecord}
 use Rattle.node_state.specs.Partitions.{in_state}
 use Rattle.job_table.specs.declared.record.JobRecord.{JobRecord}
@@ -21,15 +25,25 @@ use Rattle.run_limits.specs.declared.record.AssocRecord.{AssocRecord}
 use Rattle.run_limits.specs.Accounts.{qos_meant}
 use Rattle.node_state.specs.declared.reservation_record.Reservation.{Reservation}
 use Rattle.ctl_state.specs.declared.record.ArrayRecord.{ArrayRecord}
-use Rattle.ctl_state.specs.State.{State, last_moment, last_second}
+use Rattle.ctl_state.specs.State.{State, last_moment, last_second, opening}
 use Rattle.ctl_submit.specs.Submission.{account_at}
 use Rattle.ctl_nodes.specs.Reserving.{places_among}
+use Rattle.saved_data.specs.Order.{IsNotBehind}
+
+-- a controller has no more jobs, whatever MaxJobCount says
+abbrev pub most_jobs : ℕ
+most_jobs = 20000
 
 -- what is true of each two files that a controller opens with, as their types keep it
 pub record AreFiles (first : ConfView) (second : AssocView) : Type 0 where
   pub conf : IsConf first.nodes first.partitions
   pub file : IsAssocFile second.assocs second.qos
-  pub most : first.settings.max_job_count ≤ 20000
+  pub most : first.settings.max_job_count ≤ most_jobs
+
+-- the request is a new slurm.conf
+abbrev pub is_reconfigure : Request → Bool
+is_reconfigure (Reconfigure conf bytes) = true
+is_reconfigure request = false
 
 -- the indices rise, and are in their range
 pub record AreIndices (indices : List ℕ) : Type 0 where
@@ -37,9 +51,10 @@ pub record AreIndices (indices : List ℕ) : Type 0 where
   pub small : All (λ index. index ≤ 99999) indices
   pub few : (1 ≤ length indices) × (length indices ≤ 10001)
 
--- the request is in the ranges of its arrays and seconds, as their types keep them
+-- the request is in the ranges of its arrays, seconds and settings, as their types keep them
 abbrev pub IsInTypes : Request → Type 0
 IsInTypes (Submit desc) = IfSome desc.array (λ (array : ArraySpec). AreIndices array.indices)
+IsInTypes (Reconfigure conf bytes) = conf.settings.max_job_count ≤ most_jobs
 IsInTypes (CreateReservation desc) = (desc.start ≤ last_moment) × (desc.end ≤ last_second)
 IsInTypes request = Unit {0}
 
@@ -47,18 +62,38 @@ IsInTypes request = Unit {0}
 abbrev pub confs_of : List NodeRecord → List NodeConf
 confs_of nodes = map (λ (node : NodeRecord). node.conf) nodes
 
+-- and of the partitions
+abbrev pub part_confs_of : List PartRecord → List PartConf
+part_confs_of partitions = map (λ (partition : PartRecord). partition.conf) partitions
+
+-- The slurm.conf in force: the one that opened the state, or the last one that was taken since. Its first number of a job
+-- is the opening's.
+abbrev pub in_force : State → ConfView
+in_force s =
+    record { settings = s.settings; nodes = confs_of s.nodes; partitions = part_confs_of s.partitions }
+
 -- the partitions but for their states
 abbrev pub without_states : List PartRecord → List PartRecord
 without_states partitions = map (in_state Up) partitions
 
--- What stays as it was when the state opened: all that the two files say. No node is dropped.
+-- What is as when the state opened: all that the two files say.
 pub record IsAsOpened (opened s : State) : Type 0 where
   pub settings : s.settings ≡ opened.settings
   pub assocs : s.assocs ≡ opened.assocs
   pub qos : s.qos ≡ opened.qos
   pub partitions : without_states s.partitions ≡ without_states opened.partitions
   pub nodes : confs_of s.nodes ≡ confs_of opened.nodes
-  pub dropped : s.dropped ≡ []
+
+-- dropped nodes stand once each in byte order of their names, and none of them is there
+pub record AreDropped (nodes : List NodeRecord) (dropped : List DroppedNode) : Type 0 where
+  pub ordered : AllPairs (λ (one other : DroppedNode). IsNotBehind one.name other.name) dropped
+  pub once : AllPairs (λ (one other : DroppedNode). one.name ≢ other.name) dropped
+  pub absent : All (λ (node : DroppedNode). place_named node.name nodes ≡ None) dropped
+
+-- nodes that are gone stand once each, and none of them is there
+pub record AreGone (nodes : List NodeRecord) (gone : List (List ℕ)) : Type 0 where
+  pub once : AllPairs (λ one other. one ≢ other) gone
+  pub absent : All (λ name. place_named name nodes ≡ None) gone
 
 -- a node is empty since it was set down only where it was set down and heard; it wasn't heard later than this
 pub record Stands (moment : ℕ) (node : NodeRecord) : Type 0 where
@@ -123,11 +158,11 @@ pub record AreNumbered (next_id : ℕ) (lists : List ArrayRecord) (numbers : Lis
   pub arrays : All (HasTasks next_id numbers) lists
   pub jobs : All (λ (job : Numbers). IsAlone job ⊎ Any (IsTask job) lists) numbers
 
--- the reservation's nodes are those with some names, and its seconds are in their ranges
+-- the reservation's nodes are those with its names, all of which are there, and its seconds are in their ranges
 pub record IsReserved (nodes : List NodeRecord) (reservation : Reservation) : Type 0 where
-  pub names : List (List ℕ)
-  pub places : reservation.nodes ≡ places_among nodes names
-  pub start : reservation.start ≤ last_moment
+  pub places : reservation.nodes ≡ places_among nodes reservation.names
+  pub known : list_all (λ name. is_some (place_named name nodes)) reservation.names ≡ true
+  pub start : reservation.start ≤ last_second
   pub end : reservation.end ≤ last_second
 
 -- associations that are no user's have used nothing, and none more than the most
@@ -140,14 +175,21 @@ pub record OnlyUsersUse (assocs : List AssocRecord) (totals : List ℕ) : Type 0
 abbrev pub IsOnNodes : ℕ → Placed → Type 0
 IsOnNodes count placed = All (λ (share : Share). share.node < count) placed.parts
 
--- What is kept of each state that a controller of two files comes to, beside what is sound.
+-- What is kept of each state that a controller comes to, where two files open this state, beside what is sound.
 pub record IsKept (opened s : State) : Type 0 where
   pub files : IsAsOpened opened s
   pub standing : All (Stands s.moment) s.nodes
   pub names : All (IsOfItsNames opened) s.jobs
   pub timed : All IsTimed s.jobs
-  pub few : length s.jobs ≤ opened.settings.max_job_count
+  pub few : length s.jobs ≤ most_jobs
   pub numbered : AreNumbered s.next_id s.arrays (map numbers_of s.jobs)
   pub reserved : All (IsReserved opened.nodes) s.reservations
   pub used : OnlyUsersUse s.assocs s.usage
-  pub planned : All (IsOnNodes (length opened.nodes)) s.plan
+  pub dropped : AreDropped s.nodes s.dropped
+  pub gone : AreGone s.nodes s.gone
+  pub planned : All (IsOnNodes (length opened.nodes + length s.gone)) s.plan
+
+-- The same where the slurm.conf in force and this association file open it, which are as their types keep them.
+pub record IsKeptOver (file : AssocView) (s : State) : Type 0 where
+  pub files : AreFiles (in_force s) file
+  pub kept : IsKept (opening (in_force s) file) s

@@ -1,56 +1,27 @@
 //! What the types of requests and of the two files keep of them.
 
-ghost use Rattle.std.specs.Prelude.{IfSome};
-ghost use Rattle.ctl_state.specs.Soundness.{IsAsked, IsLimit};
-ghost use Rattle.ctl_core.specs.Step.{IsInRange};
-ghost use Rattle.saved_laws.specs.Kept.{AreFiles, IsInTypes};
+ghost use Rattle.std.specs.Prelude.{◌≤◌};
+ghost use Rattle.saved_laws.specs.Kept.{AreFiles, IsInTypes, most_jobs};
 ghost use Rattle.saved_laws.specs.Scripts.{KeepsRanges};
 
+use ctl_core::ranges::in_range;
 use plain_data::assoc::AssocFile;
-use plain_data::conf::Conf;
-use plain_data::job::JobDesc;
-use plain_data::limit::Limit;
+use plain_data::conf::{Conf, Settings};
 use request_data::request::Request;
+
+// It tells what the type of settings keeps of how many jobs there may be.
+fn few_jobs(settings: &Settings)
+    ensures { settings.now.max_job_count ≤ most_jobs }
+{
+    let _ = settings.max_job_count.get();
+}
 
 /// It does nothing: its contract tells what the types keep of each two files.
 pub fn files_keep_their_ranges(conf: &Conf, assocs: &AssocFile)
     ensures { AreFiles conf.now assocs.now }
 {
-    let _ = conf.settings.max_job_count.get();
+    few_jobs(&conf.settings);
     let _ = assocs.qos.as_slice().len();
-}
-
-fn is_asked(desc: &JobDesc)
-    ensures { IsAsked desc.now }
-{
-    let _ = desc.tasks.get();
-    let _ = desc.cpus_per_task.get();
-    let _ = desc.run.get();
-    let _ = desc.exit.get();
-    if let Some(begin) = &desc.begin {
-        let _ = begin.get();
-    }
-}
-
-fn is_limit(limit: &Option<Limit>)
-    ensures { IfSome limit.now IsLimit }
-{
-    if let Some(Limit::Minutes(minutes)) = limit {
-        let _ = minutes.get();
-    }
-}
-
-fn in_range(request: &Request)
-    ensures { IsInRange request.now }
-{
-    match request {
-        Request::Submit(desc) => {
-            is_asked(desc);
-            is_limit(&desc.limit);
-        }
-        Request::UpdateJob { limit, .. } => is_limit(limit),
-        _ => {}
-    }
 }
 
 fn in_types(request: &Request)
@@ -63,6 +34,7 @@ fn in_types(request: &Request)
                 let _ = array.indices.iter();
             }
         }
+        Request::Reconfigure { conf, .. } => few_jobs(&conf.settings),
         Request::CreateReservation(desc) => {
             let _ = desc.start.get();
             let _ = desc.end.get();

@@ -1,6 +1,6 @@
 //! What is saved can be read again.
 
-ghost use Rattle.std.specs.Prelude.{◌≡◌, ◌≤◌, ℕ, Ok, IfOk, false, List, map, All};
+ghost use Rattle.std.specs.Prelude.{◌≡◌, ◌≤◌, ℕ, Ok, IfOk, false, List, [], map, All};
 ghost use Rattle.plain_data.specs.Assocs.{AssocView};
 ghost use Rattle.plain_data.specs.Confs.{ConfView};
 ghost use Rattle.job_table.specs.declared.record.JobRecord.{JobRecord};
@@ -16,13 +16,14 @@ ghost use Rattle.ctl_desk.specs.History.{after_all};
 ghost use Rattle.ctl_saved.specs.Saving.{saved_of};
 ghost use Rattle.ctl_restore.specs.Restored.{restored};
 ghost use Rattle.ctl_session.specs.Meaning.{meaning_of};
-ghost use Rattle.saved_laws.specs.Kept.{AreFiles, IsKept};
+ghost use Rattle.saved_laws.specs.Gone.{NamesEachGone};
+ghost use Rattle.saved_laws.specs.Kept.{AreFiles, IsKept, IsKeptOver, in_force, is_reconfigure};
 ghost use Rattle.saved_laws.specs.Scripts.{KeepsRanges};
 ghost use Rattle.saved_rules.specs.Rules.{AsksByRules, RequestByRules};
 ghost use Rattle.script_run.specs.Behind.{AreByRules};
 ghost use Rattle.script_run.specs.Script.{state_behind_all};
 
-use crate::keeping::what_is_kept_stays_kept;
+use crate::keeping::{what_is_in_force_stays_where_none_is_taken, what_is_kept_stays_kept};
 use crate::restoring::what_is_saved_comes_back;
 use ctl_core::controller::Ctl;
 use saved_rules::what_is_asked_is_by_the_rules;
@@ -48,30 +49,63 @@ pub fn what_jobs_ask_for_stays_by_the_rules()
     what_is_saved_comes_back();
 }
 
-/// The text of a controller's state is read again as what was saved, and opens the two files of the controller in that
-/// state, but that the history takes no room yet and no shutdown was accepted, if no job was started more than
-/// 4,000,000,000 times: behind each history of the two files in which all that is asked keeps the ranges of its types and
-/// what is handed in is by the rules of sbatch(1), as all is that a block asks; and wherever all is kept of the state, as
-/// of a restored one, and its jobs are by these rules.
+/// The text of a controller's state is read again as what was saved, and opens the slurm.conf in force and the
+/// association file in the state that is restored of it, if no job was started more than 4,000,000,000 times: that is
+/// this state, but that the history takes no room yet and no shutdown was accepted, where the plan names each node that
+/// is gone. It is so behind each history of two files in which all that is asked keeps the ranges of its types and what
+/// is handed in is by the rules of sbatch(1), as all is that a block asks; and wherever all is kept of the state, as of a
+/// restored one, and its jobs are by these rules. Where there is no new slurm.conf in the history, the plan names each:
+/// the text opens the two files in this state; and likewise behind a history that begins in a restored state in which no
+/// node is gone.
 pub fn saved_text_opens_the_state_again(alloc: Global, ctl: &Ctl) -> Result<Vec<u8>, SaveRefusal>
     ensures kept_read { (conf : ConfView) (file : AssocView) → IsKept (opening conf file) ctl.now.state
         → AreByRules ctl.now.state → IfOk result (λ text. IsSavedText text.items (saved_of ctl.now.state)) }
     ensures kept_opens { (conf : ConfView) (file : AssocView) → AreFiles conf file
         → IsKept (opening conf file) ctl.now.state → AreByRules ctl.now.state
         → All (λ (job : JobRecord). job.starts ≤ 4000000000) ctl.now.state.jobs
+        → IfOk result (λ text. Restores conf file text.items (Ok (restored conf file (saved_of ctl.now.state)))) }
+    ensures kept_same { (conf : ConfView) (file : AssocView) → AreFiles conf file
+        → IsKept (opening conf file) ctl.now.state → AreByRules ctl.now.state
+        → All (λ (job : JobRecord). job.starts ≤ 4000000000) ctl.now.state.jobs → NamesEachGone ctl.now.state
         → IfOk result (λ text. Restores conf file text.items
         (Ok (record ctl.now.state { size = 0; is_shut = false }))) }
-    ensures read { (conf : ConfView) (file : AssocView) (entries : List Entry) → IsSound (opening conf file)
-        → All (λ (e : Entry). KeepsRanges e.request × RequestByRules e.request) entries
+    ensures kept_whole { (conf : ConfView) (file : AssocView) → AreFiles conf file
+        → IsKept (opening conf file) ctl.now.state → AreByRules ctl.now.state
+        → All (λ (job : JobRecord). job.starts ≤ 4000000000) ctl.now.state.jobs → ctl.now.state.gone ≡ []
+        → IfOk result (λ text. Restores conf file text.items
+        (Ok (record ctl.now.state { size = 0; is_shut = false }))) }
+    ensures read { (conf : ConfView) (file : AssocView) (entries : List Entry) → AreFiles conf file
+        → IsSound (opening conf file) → All (λ (e : Entry). KeepsRanges e.request × RequestByRules e.request) entries
         → ctl.now.state ≡ after_all (opening conf file) entries
         → IfOk result (λ text. IsSavedText text.items (saved_of ctl.now.state)) }
     ensures opens { (conf : ConfView) (file : AssocView) (entries : List Entry) → AreFiles conf file
         → IsSound (opening conf file) → All (λ (e : Entry). KeepsRanges e.request × RequestByRules e.request) entries
         → ctl.now.state ≡ after_all (opening conf file) entries
         → All (λ (job : JobRecord). job.starts ≤ 4000000000) ctl.now.state.jobs
+        → IfOk result (λ text. Restores (in_force ctl.now.state) file text.items
+        (Ok (restored (in_force ctl.now.state) file (saved_of ctl.now.state)))) }
+    ensures same { (conf : ConfView) (file : AssocView) (entries : List Entry) → AreFiles conf file
+        → IsSound (opening conf file) → All (λ (e : Entry). KeepsRanges e.request × RequestByRules e.request) entries
+        → ctl.now.state ≡ after_all (opening conf file) entries
+        → All (λ (job : JobRecord). job.starts ≤ 4000000000) ctl.now.state.jobs → NamesEachGone ctl.now.state
+        → IfOk result (λ text. Restores (in_force ctl.now.state) file text.items
+        (Ok (record ctl.now.state { size = 0; is_shut = false }))) }
+    ensures whole { (conf : ConfView) (file : AssocView) (entries : List Entry) → AreFiles conf file
+        → IsSound (opening conf file) → All (λ (e : Entry). KeepsRanges e.request × RequestByRules e.request) entries
+        → All (λ (e : Entry). is_reconfigure e.request ≡ false) entries
+        → ctl.now.state ≡ after_all (opening conf file) entries
+        → All (λ (job : JobRecord). job.starts ≤ 4000000000) ctl.now.state.jobs
         → IfOk result (λ text. Restores conf file text.items
         (Ok (record ctl.now.state { size = 0; is_shut = false }))) }
+    ensures again { (file : AssocView) (start : State) (entries : List Entry) → IsSound start → IsKeptOver file start
+        → AreByRules start → start.gone ≡ []
+        → All (λ (e : Entry). KeepsRanges e.request × RequestByRules e.request) entries
+        → All (λ (e : Entry). is_reconfigure e.request ≡ false) entries → ctl.now.state ≡ after_all start entries
+        → All (λ (job : JobRecord). job.starts ≤ 4000000000) ctl.now.state.jobs
+        → IfOk result (λ text. Restores (in_force start) file text.items
+        (Ok (record ctl.now.state { size = 0; is_shut = false }))) }
 {
+    what_is_in_force_stays_where_none_is_taken();
     what_is_kept_stays_kept();
     what_is_saved_comes_back();
     what_jobs_ask_for_stays_by_the_rules();

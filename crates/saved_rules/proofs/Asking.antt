@@ -1,13 +1,16 @@
 -- What a block asks is by the rules of sbatch(1): sbatch alone hands anything in.
 use Rattle.std.proofs.Common.{◌≡◌, ℕ, ◌+◌, Bool, true, false, nat_lt, Option, Some, None, Result, Ok, Err, ok_or, List, bytes_eq, codes, drop, length, refl, arith}
 use Rattle.std.proofs.lemmas.Bool.{cond_both}
+use Rattle.conf_reader.specs.Reader.{conf_in}
+use Rattle.conf_values.specs.declared.refusal.ConfRefusal.{ConfRefusal}
 use Rattle.option_words.specs.declared.refusal.WordKind.TheVariants.{MissingWord, UnknownCommand}
+use Rattle.plain_data.specs.Confs.{ConfView}
 use Rattle.plain_data.specs.declared.conf.PartState.{PartState}
 use Rattle.plain_data.specs.declared.job.JobDesc.{JobDesc}
 use Rattle.line_words.specs.Words.{first_bad, words_in}
 use Rattle.request_data.specs.declared.request.NodeOrder.{NodeOrder}
 use Rattle.request_data.specs.declared.request.Request.{Request}
-use Rattle.request_data.specs.declared.request.Request.TheVariants.{Submit, Cancel, Hold, Release, Requeue, UpdateJob, UpdateNode, UpdatePartition, CreateReservation, DeleteReservation, Report, Pass, Shutdown, Show}
+use Rattle.request_data.specs.declared.request.Request.TheVariants.{Submit, Cancel, Hold, Release, Requeue, UpdateJob, UpdateNode, UpdatePartition, CreateReservation, DeleteReservation, Report, Pass, Reconfigure, Shutdown, Show}
 use Rattle.request_data.specs.declared.target.Target.{Target}
 use Rattle.text_values.specs.Steps.{◌>>=◌}
 use Rattle.operands.specs.BadWord.{at_word, bad, given}
@@ -22,8 +25,9 @@ use Rattle.scontrol_words.specs.Scontrol.{acted, action_in, action_named, scontr
 use Rattle.scontrol_words.specs.Updating.{after_last, form_in, job_adding, node_adding, partition_adding, unnamed_adding, job_said, job_update_by, node_said, node_update_by, partition_said, partition_update_by, unnamed_update_by, update_by, update_in}
 use Rattle.command_words.specs.FramedHeader.{asked_at}
 use Rattle.command_words.specs.Header.{asked_by, asked_of, command_in, head_in, headed, meaning_by, meaning_for, meaning_in, unless_bad}
+use Rattle.command_words.specs.Reconfigure.{by_words, is_reconfigure, reconfigure_by, reconfiguring}
 use Rattle.command_words.specs.Sbatch.{sbatch_by, wanted_by_job}
-use Rattle.command_words.specs.Wanted.{alone_by, wanted_by, without}
+use Rattle.command_words.specs.Wanted.{alone_by, scontrol_with, wanted_by, without}
 use Rattle.command_words.specs.declared.command.Command.{Command}
 use Rattle.command_words.specs.declared.command.Command.TheVariants as command
 use Rattle.command_words.specs.declared.fault.WordFault.{WordFault}
@@ -174,7 +178,8 @@ acted-free now words word =
     cond_both (bytes_eq word (codes "update")) _ _ by (λ is. update-free (form_in (drop 2 words)) words) (λ not.
     cond_both (bytes_eq word (codes "create")) _ _ by (λ is. create-free now words) (λ not.
     cond_both (bytes_eq word (codes "delete")) _ _ by (λ is. delete-free words) (λ not.
-    cond_both (bytes_eq word (codes "shutdown")) _ _ by (λ is. closed-free words 2 Shutdown refl) (λ not. refl)))))))))
+    cond_both (bytes_eq word (codes "reconfigure")) _ _ by (λ is. refl) (λ not.
+    cond_both (bytes_eq word (codes "shutdown")) _ _ by (λ is. closed-free words 2 Shutdown refl) (λ not. refl))))))))))
   where
     by : Option (third acted) → Type 0
     by found = IsFree (at_word 2 (ok_or found UnknownCommand) >>= acted now words)
@@ -215,13 +220,33 @@ free-rules (DeleteReservation name) not = tt
 free-rules Shutdown not = tt
 free-rules (Report report) not = tt
 free-rules Pass not = tt
+free-rules (Reconfigure conf bytes) not = tt
 free-rules (Show query) not = tt
+
+by_words-rules : (asked : Result Request BadWord) → IsFree asked → GivesByRules (by_words asked)
+by_words-rules (Ok request) is = free-rules request is
+by_words-rules (Err fault) is = tt
 
 without-rules : (attachment : Option (List ℕ)) (asked : Result Request BadWord) → IsFree asked
     → GivesByRules (without attachment asked)
-without-rules None (Ok request) is = free-rules request is
-without-rules None (Err fault) is = tt
+without-rules None asked is = by_words-rules asked is
 without-rules (Some text) asked is = tt
+
+reconfiguring-rules : (words : List (List ℕ)) (bytes : ℕ) (read : Result ConfView ConfRefusal)
+    → GivesByRules (reconfiguring words bytes read)
+reconfiguring-rules words bytes (Ok conf) =
+    by_words-rules (closed_at words 2 (Reconfigure conf bytes)) (closed-free words 2 (Reconfigure conf bytes) refl)
+reconfiguring-rules words bytes (Err refusal) = tt
+
+reconfigure-rules : (words : List (List ℕ)) (text : List ℕ) → GivesByRules (reconfigure_by words text)
+unfolding reconfigure_by
+reconfigure-rules words text = reconfiguring-rules words (length text) (conf_in text)
+
+scontrol-rules : (now : ℕ) (words : List (List ℕ)) (attachment : Option (List ℕ))
+    → GivesByRules (scontrol_with now words attachment)
+scontrol-rules now words None = by_words-rules (alone_by command.Scontrol now words) (alone-free command.Scontrol now words)
+scontrol-rules now words (Some text) =
+    cond_both (is_reconfigure words) (reconfigure_by words text) _ GivesByRules (λ is. reconfigure-rules words text) (λ not. tt)
 
 -- what sbatch asks is by the rules
 abbrev JobsByRules : Type 0
@@ -242,8 +267,7 @@ wanted-rules jobs command.Squeue now words attachment =
     without-rules attachment (alone_by command.Squeue now words) (alone-free command.Squeue now words)
 wanted-rules jobs command.Scancel now words attachment =
     without-rules attachment (alone_by command.Scancel now words) (alone-free command.Scancel now words)
-wanted-rules jobs command.Scontrol now words attachment =
-    without-rules attachment (alone_by command.Scontrol now words) (alone-free command.Scontrol now words)
+wanted-rules jobs command.Scontrol now words attachment = scontrol-rules now words attachment
 wanted-rules jobs command.Sinfo now words attachment =
     without-rules attachment (alone_by command.Sinfo now words) (alone-free command.Sinfo now words)
 wanted-rules jobs command.Sprio now words attachment =

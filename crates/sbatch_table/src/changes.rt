@@ -1,7 +1,7 @@
-//! What operators and owners change: jobs, nodes, partitions and reservations.
+//! What operators and owners change: jobs, nodes, partitions and reservations, and the configuration.
 
 use crate::show::{Show, push_if_some, push_listed, push_marked, push_variant};
-use plain_data::conf::PartState;
+use plain_data::conf::{Conf, NodeConf, PartConf, PartState};
 use plain_data::items::Items;
 use plain_data::limit::Limit;
 use plain_data::nice::Nice;
@@ -21,6 +21,29 @@ impl Show for PartState {
     fn show(&self, out: &mut Vec<u8>) -> Result<(), Unanswered> {
         push_variant(out, self)
     }
+}
+
+impl Show for NodeConf {
+    fn show(&self, out: &mut Vec<u8>) -> Result<(), Unanswered> {
+        self.name.show(out)
+    }
+}
+
+impl Show for PartConf {
+    fn show(&self, out: &mut Vec<u8>) -> Result<(), Unanswered> {
+        self.name.show(out)
+    }
+}
+
+/// Puts the command that puts a configuration in force behind an answer, with the names that it has, and its length.
+pub(crate) fn push_reconfigure(
+    out: &mut Vec<u8>,
+    conf: &Conf,
+    bytes: u32,
+) -> Result<(), Unanswered> {
+    push_marked(out, b"reconfigure bytes=", &bytes)?;
+    push_listed(out, b" nodes=", conf.nodes.as_slice())?;
+    push_listed(out, b" partitions=", conf.partitions.as_slice())
 }
 
 /// Puts the command that holds jobs back behind an answer, for their owner or not, with these jobs.

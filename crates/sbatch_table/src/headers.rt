@@ -6,6 +6,7 @@ use crate::show::push_marked;
 use command_words::command::Command;
 use command_words::fault::{WordFault, WordKind};
 use command_words::header::{Asked, Meaning, read_header};
+use conf_values::refusal::ConfKind;
 use plain_data::job::JobDesc;
 use request_data::request::Request;
 use std::alloc::Global;
@@ -48,12 +49,20 @@ pub fn push_place(
     push(out, &kind)
 }
 
+// Puts a bad line of a configuration and what is wrong there behind an answer.
+fn push_conf_fault(out: &mut Vec<u8>, line: u32, kind: ConfKind) -> Result<(), Unanswered> {
+    push_marked(out, b": conf line ", &line)?;
+    out.push(b' ')?;
+    push(out, &kind)
+}
+
 fn push_malformed(out: &mut Vec<u8>, command: Command, fault: WordFault) -> Result<(), Unanswered> {
     out.extend_from_slice(b"Malformed ")?;
     out.extend_from_slice(command.name())?;
     match fault {
         WordFault::Word { word, kind } => push_place(out, b": word ", word, kind),
         WordFault::Line { line, kind } => push_place(out, b": line ", line, kind),
+        WordFault::Conf { line, kind } => push_conf_fault(out, line, kind),
     }
 }
 

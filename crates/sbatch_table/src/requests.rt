@@ -1,7 +1,8 @@
 //! What requests ask.
 
 use crate::changes::{
-    push_hold, push_job_update, push_node_update, push_partition_update, push_reservation,
+    push_hold, push_job_update, push_node_update, push_partition_update, push_reconfigure,
+    push_reservation,
 };
 use crate::queries::push_query;
 use crate::reports::push_report;
@@ -28,6 +29,7 @@ pub fn push_request(out: &mut Vec<u8>, request: &Request) -> Result<(), Unanswer
         Request::DeleteReservation { name } => push_marked(out, b"delete ", name),
         Request::Report(report) => push_report(out, report),
         Request::Pass => push(out, &"pass"),
+        Request::Reconfigure { conf, bytes } => push_reconfigure(out, conf, *bytes),
         Request::Shutdown => push(out, &"shutdown"),
         Request::Show(query) => push_query(out, query),
     }

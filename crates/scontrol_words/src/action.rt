@@ -19,6 +19,7 @@ pub(crate) enum Action {
     Update,
     Create,
     Delete,
+    Reconfigure,
     Shutdown,
 }
 
@@ -42,6 +43,8 @@ fn action_named(word: &[u8]) -> Option<Action>
         Some(Action::Create)
     } else if word == b"delete".as_slice() {
         Some(Action::Delete)
+    } else if word == b"reconfigure".as_slice() {
+        Some(Action::Reconfigure)
     } else if word == b"shutdown".as_slice() {
         Some(Action::Shutdown)
     } else {

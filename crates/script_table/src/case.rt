@@ -24,6 +24,8 @@ pub struct Case<'a> {
     pub failing_reads: &'a str,
     /// The numbers of the writes that fail, counted from 1.
     pub failing_writes: &'a str,
+    /// The numbers of the writes of the errors that fail, counted from 1.
+    pub failing_errors: &'a str,
     /// The numbers of the dials that fail, counted from 1.
     pub failing_dials: &'a str,
     /// The numbers of the reads and of the writes of the dialled link that fail, counted from 1.
@@ -54,6 +56,7 @@ impl<'a> Case<'a> {
             failing_files: "",
             failing_reads: "",
             failing_writes: "",
+            failing_errors: "",
             failing_dials: "",
             failing_link_reads: "",
             failing_link_writes: "",
@@ -92,6 +95,7 @@ impl<'a> Case<'a> {
             "files" => self.failing_files = text,
             "reads" => self.failing_reads = text,
             "writes" => self.failing_writes = text,
+            "errors" => self.failing_errors = text,
             "dials" => self.failing_dials = text,
             "link-reads" => self.failing_link_reads = text,
             "link-writes" => self.failing_link_writes = text,
@@ -148,7 +152,7 @@ fn push_text(out: &mut Vec<u8>, key: &str, text: &str) -> Result<(), AllocError>
 // `8192 x` is the text `x` so many times.
 fn push_repeated(out: &mut Vec<u8>, text: &str) -> Result<(), AllocError> {
     let (count, piece) = text.split_once(' ').unwrap_or((text, ""));
-    for _ in 0..count.parse::<u16>().unwrap_or(0) {
+    for _ in 0..count.parse::<u32>().unwrap_or(0) {
         percent_decode(piece.as_bytes()).append_to(out)?;
     }
     Ok(())

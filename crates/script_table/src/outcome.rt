@@ -131,6 +131,12 @@ fn replies_by(alloc: Global, host: &MemHost) -> Result<Vec<Vec<u8>>, AllocError>
     Ok(replies)
 }
 
+// What takes the errors of the case.
+fn errors_of(alloc: Global, case: &Case<'_>) -> Result<MemLink, AllocError> {
+    let failing = numbers_of(alloc, case.failing_errors)?;
+    Ok(MemLink::new(alloc, Vec::new(alloc), 64, Vec::new(alloc), failing))
+}
+
 /// Runs the case with at most so many bytes a call.
 pub fn outcome_of<R: Threads + Wait + Sync>(
     rt: &R,
@@ -148,7 +154,7 @@ pub fn outcome_of<R: Threads + Wait + Sync>(
     let input = MemLink::new(alloc, bytes, most, reads, Vec::new(alloc));
     let output = MemLink::new(alloc, Vec::new(alloc), most, Vec::new(alloc), writes);
     let mut link = Pair::new(input, output);
-    let mut errors = MemLink::new(alloc, Vec::new(alloc), 64, Vec::new(alloc), Vec::new(alloc));
+    let mut errors = errors_of(alloc, case)?;
     let mut host = host_of(alloc, case, most)?;
     let status = run(
         rt,

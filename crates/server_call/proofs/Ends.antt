@@ -1,5 +1,5 @@
 -- What the ends of a call say of counts, replies and lengths.
-use Rattle.std.proofs.Common.{◌≡◌, ◌⊎◌, ℕ, ◌+◌, ◌<◌, ◌≤◌, List, [], ◌++◌, length, Option, None, Some, IfSome, IsSomeAnd, Bool, true, false, nat_lt, inl, inr, refl, sym, ap, ◌∙◌, subst, arith, append-nil, append_assoc}
+use Rattle.std.proofs.Common.{◌≡◌, ◌⊎◌, ℕ, ◌+◌, ◌<◌, ◌≤◌, List, [], ◌++◌, length, Option, None, Some, IfSome, IsSomeAnd, Bool, true, false, nat_lt, inl, inr, refl, sym, ap, ◌∙◌, subst, arith, append-nil, append_assoc, length-append}
 use Rattle.std.specs.Io.KnownBytes.{Consumes, IsAtEnd}
 use Rattle.std.proofs.lemmas.Bool.Decides.{nat_tests}
 use Rattle.slurm_io.specs.Faults.{CountsOne, CountsNone}
@@ -18,7 +18,7 @@ use Rattle.server_call.specs.declared.end.CallEnd.TheVariants.{Replied, ReadFaul
 use Rattle.server_call.specs.declared.refusal.ScriptRefusal.{ScriptRefusal}
 use Rattle.server_call.specs.declared.refusal.ScriptRefusal.TheVariants as refusal
 use Rattle.server_call.specs.Outside.{Outside, Hosting, Beside}
-use Rattle.server_call.specs.Scripts.{Place, Nowhere, File, Input, IsScript, IsRefused, IsToldLong, IsShort, IsLong}
+use Rattle.server_call.specs.Scripts.{Place, Nowhere, File, Input, IsScript, IsRefused, IsToldLong, IsLongWhereTold, IsShort, IsLong}
 use Rattle.server_call.specs.Calls.{IsEnd, IsCarriedOut, IsOver, IsDialled, IsHungUp, IsCaused, IsFaultless, IsOneOf, IsDecided, IsSpent, told_by, end_of, place_of}
 
 -- ---- counts
@@ -116,16 +116,42 @@ no_read_failed Nowhere old new refused files reads = absurd refused
 no_read_failed (File name) old new refused files reads = omega (arith, refused.0.0, files.0, files.1)
 no_read_failed Input old new refused files reads = omega (arith, refused.1.0, reads.0, reads.1)
 
+-- the input of which so much was read is long
+long_input : (left left' : Option (List ℕ)) (read : List ℕ) → Consumes left left' read → length read ≡ 65537
+    → IfSome left IsLong
+long_input None left' read consumed is = tt
+long_input (Some text) None read consumed is = absurd consumed
+long_input (Some text) (Some more) read consumed is =
+    omega (arith, is, ap length consumed, length-append read more)
+
+refused_is_long : (place : Place) (old new : Outside) → IsRefused place old new refusal.TooLong → IsLongWhereTold place old
+refused_is_long Nowhere old new refused = absurd refused
+refused_is_long (File name) old new refused = refused.0
+refused_is_long Input old new refused = long_input old.wire.left new.wire.left refused.0.0 refused.0.1 refused.0.2
+
+-- such a call isn't spent
+not_spent : (call : Call) (old new : Outside) (end : CallEnd) → (end ≡ Spent → ⊥)
+    → (IsToldLong (place_of call) old → CountsNone old.faults new.faults → CountsNone old.wire.reads new.wire.reads
+    → (end ≡ Spent) ⊎ (end ≡ Memory)) → IsSpent call old new end
+not_spent call old new end isnt told = record { told = told; only = λ e. absurd (isnt e) }
+
 pub spent : (call : Call) (old new : Outside) (b b' : Beside) (end : CallEnd) → IsEnd call old new b b' end
     → IsSpent call old new end
-spent call old new b b' (Replied status) out = λ long files reads. absurd (isnt_read _ _ _ _ out.is_script long)
-spent call old new b b' ReadFault (inl refused) = λ long files reads. absurd (no_read_failed _ _ _ refused.0 files reads)
-spent call old new b b' ReadFault (inr out) = λ long files reads. absurd (isnt_read _ _ _ _ out.is_script long)
-spent call old new b b' WriteFault out = λ long files reads. absurd (isnt_read _ _ _ _ out.is_script long)
-spent call old new b b' BadReply out = λ long files reads. absurd (isnt_read _ _ _ _ out.is_script long)
-spent call old new b b' Memory ended = λ long files reads. inr refl
-spent call old new b b' Spent ended = λ long files reads. inl refl
-spent call old new b b' DoorFault ended = λ long files reads. absurd (isnt_read _ _ _ _ ended.0.1 long)
+spent call old new b b' (Replied status) out =
+    not_spent call old new _ (λ e. cc) (λ long files reads. absurd (isnt_read _ _ _ _ out.is_script long))
+spent call old new b b' ReadFault (inl refused) =
+    not_spent call old new _ (λ e. cc) (λ long files reads. absurd (no_read_failed _ _ _ refused.0 files reads))
+spent call old new b b' ReadFault (inr out) =
+    not_spent call old new _ (λ e. cc) (λ long files reads. absurd (isnt_read _ _ _ _ out.is_script long))
+spent call old new b b' WriteFault out =
+    not_spent call old new _ (λ e. cc) (λ long files reads. absurd (isnt_read _ _ _ _ out.is_script long))
+spent call old new b b' BadReply out =
+    not_spent call old new _ (λ e. cc) (λ long files reads. absurd (isnt_read _ _ _ _ out.is_script long))
+spent call old new b b' Memory ended = not_spent call old new _ (λ e. cc) (λ long files reads. inr refl)
+spent call old new b b' Spent ended =
+    record { told = λ long files reads. inl refl; only = λ e. refused_is_long _ _ _ ended.0 }
+spent call old new b b' DoorFault ended =
+    not_spent call old new _ (λ e. cc) (λ long files reads. absurd (isnt_read _ _ _ _ ended.0.1 long))
 
 -- ---- replies
 

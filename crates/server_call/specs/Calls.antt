@@ -16,7 +16,7 @@ use Rattle.server_call.specs.declared.end.CallEnd.{CallEnd}
 use Rattle.server_call.specs.declared.end.CallEnd.TheVariants.{Replied, ReadFault, WriteFault, BadReply, Memory, Spent, DoorFault}
 use Rattle.server_call.specs.declared.refusal.ScriptRefusal.TheVariants as refusal
 use Rattle.server_call.specs.Outside.{Outside, Hosting, Beside}
-use Rattle.server_call.specs.Scripts.{Place, IsScript, IsRefused, IsToldLong, script_place}
+use Rattle.server_call.specs.Scripts.{Place, IsScript, IsRefused, IsToldLong, IsLongWhereTold, script_place}
 
 -- the status that a command ends with
 abbrev pub status_of : CallEnd → ℕ
@@ -140,8 +140,8 @@ pub record IsDecided (old new : Outside) (host host' : Hosting) (end : CallEnd) 
       → (place : ℕ) × (text : List ℕ) × BeginsWithReply left status place text
 
 -- Where the shelf or the input tells that the script is too long, the call ends as spent, unless a count rises or memory
--- is wanting.
-abbrev pub IsSpent : Call → Outside → Outside → CallEnd → Type 0
-IsSpent call old new end =
-    IsToldLong (place_of call) old → CountsNone old.faults new.faults → CountsNone old.wire.reads new.wire.reads
-    → (end ≡ Spent) ⊎ (end ≡ Memory)
+-- is wanting; and it ends so only of a script that is too long.
+pub record IsSpent (call : Call) (old new : Outside) (end : CallEnd) : Type 0 where
+  pub told : IsToldLong (place_of call) old → CountsNone old.faults new.faults
+      → CountsNone old.wire.reads new.wire.reads → (end ≡ Spent) ⊎ (end ≡ Memory)
+  pub only : end ≡ Spent → IsLongWhereTold (place_of call) old

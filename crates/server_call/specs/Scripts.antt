@@ -1,4 +1,4 @@
--- Where a command's script is, and how it is read.
+-- Where what is attached to a command is, and how it is read. It is called a script, also where it is a configuration.
 use Rattle.std.specs.Prelude.{◌≡◌, ℕ, ◌+◌, ◌-◌, ◌<◌, ◌≤◌, Bool, true, false, if◌then◌else◌, List, [], ◌++◌, length, slice_get, Option, Some, None, option_map, unwrap_or, IfSome, IsSomeAnd, Vec, Result, Ok, Err, MatchResult}
 use Rattle.std.specs.List.{list_any}
 use Rattle.std.specs.declared.alloc.Global.{Global}
@@ -7,7 +7,8 @@ use Rattle.slurm_io.specs.Faults.{CountsOne}
 use Rattle.slurm_io.specs.Shelf.{ShelfFile, bytes_named}
 use Rattle.slurm_io.specs.Wire.{Wire}
 use Rattle.command_words.specs.declared.command.Command.{Command}
-use Rattle.command_words.specs.declared.command.Command.TheVariants.{Sbatch}
+use Rattle.command_words.specs.declared.command.Command.TheVariants.{Sbatch, Scontrol}
+use Rattle.command_words.specs.Reconfigure.{is_reconfigure}
 use Rattle.option_words.specs.Arguments.{Part, valued, lacking}
 use Rattle.option_words.specs.Refusal.{told}
 use Rattle.sbatch_reader.specs.declared.table.FlagOption.{FlagOption}
@@ -53,9 +54,11 @@ sbatch_place words None = if has_wrap words then Nowhere else Input
 abbrev pub told_word : List (List ℕ) → Option ℕ
 told_word words = option_map (λ word. told word.0) (script_word words)
 
--- where the script of a command is: sbatch alone has one
+-- where what is attached to a command is: the script of sbatch, and the configuration of `scontrol reconfigure`, which is
+-- in the input; no other has any
 unfoldable pub script_place : Command → List (List ℕ) → Place
 script_place Sbatch words = sbatch_place words (told_word words)
+script_place Scontrol words = if is_reconfigure words then Input else Nowhere
 script_place command words = Nowhere
 
 -- a script is as long as one may be
@@ -110,6 +113,12 @@ abbrev pub IsToldLong : Place → Outside → Type 0
 IsToldLong Nowhere old = ⊥
 IsToldLong (File name) old = IsSomeAnd old.files (λ files. IsSomeAnd (bytes_named files name) IsLong)
 IsToldLong Input old = IsSomeAnd old.wire.left IsLong
+
+-- A script is longer than one may be, so far as the shelf or the input tells it.
+abbrev pub IsLongWhereTold : Place → Outside → Type 0
+IsLongWhereTold Nowhere old = ⊥
+IsLongWhereTold (File name) old = IfSome old.files (λ files. IsSomeAnd (bytes_named files name) IsLong)
+IsLongWhereTold Input old = IfSome old.wire.left IsLong
 
 -- ---- the two ways of reading one
 

@@ -89,9 +89,10 @@ fn read_and_call<Q: Shelf, L: Link, E: Sink, H: Host>(
 }
 
 /// Calls a server for a command. Of sbatch(1) the script is read first: from the shelf where its words name a file, and
-/// else from the link's input, all of it, but with `--wrap`; one of more than 65,536 bytes isn't sent. Then the port is
-/// dialled, the request is sent and the reply read, as `client_run` does: the reply's text goes to the link's output
-/// where its status is 0, and to the errors where it is 1. The dialled link is hung up before the call is over.
+/// else from the link's input, all of it, but with `--wrap`; of `scontrol reconfigure` the configuration is, which is all
+/// of the input. What has more than 65,536 bytes isn't sent. Then the port is dialled, the request is sent and the reply
+/// read, as `client_run` does: the reply's text goes to the link's output where its status is 0, and to the errors where
+/// it is 1. The dialled link is hung up before the call is over.
 pub fn call_server<Q: Shelf, L: Link, E: Sink, H: Host>(
     alloc: Global,
     call: &Call,
@@ -131,7 +132,7 @@ pub fn call_server<Q: Shelf, L: Link, E: Sink, H: Host>(
         (hosting (H.host_faults host.new) (H.link_reads host.new) (H.link_writes host.new)
         (H.next_left host.new) (H.last_taken host.new)) result }
 
-    // A script that is too long is told as that.
+    // A script or a configuration that is too long is told as that, and no other is.
     ensures spent { IsSpent call.now
         (outside (Q.files shelf.old) (Q.shelf_faults shelf.old) (L.wire own.old))
         (outside (Q.files shelf.new) (Q.shelf_faults shelf.new) (L.wire own.new)) result }

@@ -18,7 +18,7 @@ pub enum CallEnd {
     BadReply,
     /// Memory was wanting.
     Memory,
-    /// The script is longer than a server takes.
+    /// The script, or the configuration, is longer than a server takes.
     Spent,
     /// The host couldn't dial the port.
     DoorFault,

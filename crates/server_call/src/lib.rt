@@ -1,4 +1,5 @@
-//! Commands that call a server: their script is read, the server is dialled and called, and the link is hung up.
+//! Commands that call a server: their script or configuration is read, the server is dialled and called, and the link is
+//! hung up.
 #![tactic(auto)]
 
 mod calling;

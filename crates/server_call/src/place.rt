@@ -1,4 +1,4 @@
-//! Where a command's script is.
+//! Where what is attached to a command is.
 
 ghost use Rattle.std.specs.Prelude.{◌≡◌, IsTrue};
 ghost use Rattle.std.specs.List.{list_all};
@@ -8,13 +8,14 @@ ghost use Rattle.server_call.specs.Scripts.{is_wrap, has_wrap, word_numbered, to
 ghost use Rattle.server_call.specs.Places.{told_place};
 
 use command_words::command::Command;
+use command_words::reconfigure::is_reconfigure;
 use line_words::words::Words;
 use option_words::arguments::{Argument, Cursor};
 use sbatch_reader::reader::script_word;
 use sbatch_reader::table::{FlagOption, ValueOption, next_option};
 use std::str;
 
-/// Where a script is.
+/// Where a script or a configuration is.
 #[derive(Clone, Copy)]
 pub(crate) enum Place<'a> {
     /// There is none.
@@ -85,14 +86,15 @@ fn sbatch_place(words: &Words) -> Place<'_>
     }
 }
 
-/// Where the script of a command is. sbatch(1) alone has one: in the file that its words name, and without one all of
-/// the input, but for `--wrap`.
+/// Where what is attached to a command is. Of sbatch(1) that is its script: in the file that its words name, and without
+/// one all of the input, but for `--wrap`. Of `scontrol reconfigure` it is a configuration: all of the input.
 #[tactic(auto, unfolding(crate::specs::Scripts::script_place))]
 pub(crate) fn script_place(command: Command, words: &Words) -> Place<'_>
     ensures { told_place result ≡ script_place command words.now }
 {
     match command {
         Command::Sbatch => sbatch_place(words),
+        Command::Scontrol if is_reconfigure(words) => Place::Input,
         _ => Place::Nowhere,
     }
 }

@@ -1,6 +1,6 @@
-//! Why a command has no script that it could send.
+//! Why a command has no script, or no configuration, that it could send.
 
-/// The most bytes of a script that a server takes (own).
+/// The most bytes of a script, or of a configuration, that a server takes (own).
 pub(crate) const LONGEST_SCRIPT: usize = 65_536;
 
 /// Why there is no script.

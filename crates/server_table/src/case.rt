@@ -4,11 +4,22 @@ use crate::step::{Step, step_in};
 use percent_encoding::percent_decode;
 use std::alloc::{AllocError, Global};
 
+/// A connection that comes to a door.
+#[derive(Drop)]
+pub struct Coming {
+    /// The bytes that it sends.
+    pub sent: Vec<u8>,
+    /// The numbers of its reads that fail, counted from 1.
+    pub failing_reads: Vec<u64>,
+    /// The numbers of its writes that fail, counted from 1.
+    pub failing_writes: Vec<u64>,
+}
+
 /// A door of the server.
 #[derive(Drop)]
 pub struct DoorCase {
-    /// What comes there, in order: connections, each with the bytes that it sends, and None where nobody comes.
-    pub comes: Vec<Option<Vec<u8>>>,
+    /// What comes there, in order: connections, and None where nobody comes.
+    pub comes: Vec<Option<Coming>>,
     /// The numbers of the looks for a connection that fail, counted from 1.
     pub failing: Vec<u64>,
 }
@@ -27,6 +38,8 @@ pub struct Case {
     pub failing_writes: Vec<u64>,
     /// Whether the replies of all doors are shown together, in the order of their bytes.
     pub together: bool,
+    /// Whether a worker works by itself, without a server.
+    pub alone: bool,
 }
 
 impl Case {
@@ -40,11 +53,12 @@ impl Case {
             failing_calls: Vec::new(alloc),
             failing_writes: Vec::new(alloc),
             together: false,
+            alone: false,
         }
     }
 
     // Adds what comes to the last door. False where there is no door.
-    fn push_coming(&mut self, coming: Option<Vec<u8>>) -> Result<bool, AllocError> {
+    fn push_coming(&mut self, coming: Option<Coming>) -> Result<bool, AllocError> {
         match self.doors.last_mut() {
             Some(door) => {
                 door.comes.push(coming)?;
@@ -60,11 +74,39 @@ impl Case {
             return Ok(false);
         };
         match door.comes.last_mut() {
-            Some(Some(sent)) => {
-                sent.extend_from_slice(bytes)?;
+            Some(Some(coming)) => {
+                coming.sent.extend_from_slice(bytes)?;
                 Ok(true)
             }
             _ => Ok(false),
+        }
+    }
+
+    // Sets which reads of the last connection fail. False where there is none.
+    fn set_reads(&mut self, numbers: Vec<u64>) -> bool {
+        let Some(door) = self.doors.last_mut() else {
+            return false;
+        };
+        match door.comes.last_mut() {
+            Some(Some(coming)) => {
+                coming.failing_reads = numbers;
+                true
+            }
+            _ => false,
+        }
+    }
+
+    // Sets which writes of the last connection fail. False where there is none.
+    fn set_writes(&mut self, numbers: Vec<u64>) -> bool {
+        let Some(door) = self.doors.last_mut() else {
+            return false;
+        };
+        match door.comes.last_mut() {
+            Some(Some(coming)) => {
+                coming.failing_writes = numbers;
+                true
+            }
+            _ => false,
         }
     }
 
@@ -108,17 +150,29 @@ impl Case {
             "clock" => return Ok(self.set_clock(text)),
             "door" => return self.push_door(alloc, text),
             "nobody" => return self.push_coming(None),
-            "?" => return self.push_coming(Some(frame_of(alloc, text)?)),
-            "?!" => return self.push_coming(Some(bytes_of(alloc, text)?)),
+            "?" => return self.push_coming(Some(coming_with(alloc, frame_of(alloc, text)?))),
+            "?!" => return self.push_coming(Some(coming_with(alloc, bytes_of(alloc, text)?))),
             "+" => return self.push_bytes(frame_of(alloc, text)?.as_slice()),
             "+!" => return self.push_bytes(bytes_of(alloc, text)?.as_slice()),
+            "link-reads" => return Ok(self.set_reads(numbers_of(alloc, text)?)),
+            "link-writes" => return Ok(self.set_writes(numbers_of(alloc, text)?)),
             "gate" => return self.push_step(text),
             "calls" => self.failing_calls = numbers_of(alloc, text)?,
             "writes" => self.failing_writes = numbers_of(alloc, text)?,
             "together" => self.together = true,
+            "alone" => self.alone = true,
             _ => return Ok(false),
         }
         Ok(true)
+    }
+}
+
+// A connection that sends these bytes, and of which nothing fails.
+fn coming_with(alloc: Global, sent: Vec<u8>) -> Coming {
+    Coming {
+        sent,
+        failing_reads: Vec::new(alloc),
+        failing_writes: Vec::new(alloc),
     }
 }
 

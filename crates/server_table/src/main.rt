@@ -2,6 +2,7 @@
 //! prints what each server comes to.
 #![tactic(auto)]
 
+mod alone;
 mod case;
 mod cluster;
 mod gates;

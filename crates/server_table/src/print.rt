@@ -1,9 +1,10 @@
 // What a server came to, as lines.
 
+use crate::alone::Work;
 use crate::replies::{Reply, all_replies, replies_in};
 use crate::running::Left;
 use ctl_desk::book::Book;
-use ctl_server::ServeEnd;
+use ctl_server::{ServeEnd, WorkerEnd};
 use percent_encoding::{AsciiSet, CONTROLS, percent_encode};
 use request_data::request::Request;
 use slurm_net::{MemDoor, MemHost};
@@ -83,6 +84,21 @@ fn push_end(out: &mut String, end: &ServeEnd) -> Result<(), AllocError> {
         ServeEnd::WriteFault => out.push_str("write fault\n"),
         ServeEnd::Memory => out.push_str("memory\n"),
     }
+}
+
+// Why a worker ended.
+fn push_worker_end(out: &mut String, end: WorkerEnd) -> Result<(), AllocError> {
+    out.push_str(match end {
+        WorkerEnd::Shut => "worker: shut\n",
+        WorkerEnd::DoorFault => "worker: door fault\n",
+        WorkerEnd::Memory => "worker: memory\n",
+    })
+}
+
+/// The connections of a worker's door, the replies of each behind `&`, and why the worker ended.
+pub fn push_work(alloc: Global, out: &mut String, work: &Work) -> Result<(), AllocError> {
+    push_door(alloc, out, &work.door)?;
+    push_worker_end(out, work.end)
 }
 
 /// The output behind `>`; each door and its connections, and behind `&` the status and the lines of each reply; or the

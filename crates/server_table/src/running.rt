@@ -4,7 +4,7 @@ ghost use Rattle.std.specs.Prelude.{◌≡◌, ◌+◌, ◌≤◌, All, IfOk, If
 ghost use Rattle.slurm_net.specs.MemHost.{IsUnusedDoor};
 ghost use Rattle.slurm_net.specs.Unused.{IsUnused};
 
-use crate::case::{Case, DoorCase};
+use crate::case::{Case, Coming, DoorCase};
 use crate::cluster::new_book;
 use crate::gates::{Board, gates_of};
 use ctl_server::{ServeEnd, serve};
@@ -30,26 +30,28 @@ pub struct Left {
     pub gave_up: bool,
 }
 
-// A connection that sends these bytes.
-fn link_of(alloc: Global, sent: &[u8]) -> Result<MemLink, AllocError>
+// A connection as it comes.
+fn link_of(alloc: Global, coming: &Coming) -> Result<MemLink, AllocError>
     ensures { IfOk result IsUnused }
 {
-    let bytes = Vec::from_slice(alloc, sent)?;
-    Ok(MemLink::new(alloc, bytes, MOST, Vec::new(alloc), Vec::new(alloc)))
+    let bytes = Vec::from_slice(alloc, coming.sent.as_slice())?;
+    let reads = Vec::from_slice(alloc, coming.failing_reads.as_slice())?;
+    let writes = Vec::from_slice(alloc, coming.failing_writes.as_slice())?;
+    Ok(MemLink::new(alloc, bytes, MOST, reads, writes))
 }
 
 // What comes to a door at one look.
-fn coming_of(alloc: Global, coming: &Option<Vec<u8>>) -> Result<Option<MemLink>, AllocError>
+fn coming_of(alloc: Global, coming: &Option<Coming>) -> Result<Option<MemLink>, AllocError>
     ensures { IfOk result (λ link. IfSome link IsUnused) }
 {
     match coming {
-        Some(sent) => Ok(Some(link_of(alloc, sent.as_slice())?)),
+        Some(coming) => Ok(Some(link_of(alloc, coming)?)),
         None => Ok(None),
     }
 }
 
 // What comes to a door.
-fn links_of(alloc: Global, comes: &[Option<Vec<u8>>]) -> Result<Vec<Option<MemLink>>, AllocError>
+fn links_of(alloc: Global, comes: &[Option<Coming>]) -> Result<Vec<Option<MemLink>>, AllocError>
     ensures { IfOk result (λ links. All (λ link. IfSome link IsUnused) links.items) }
 {
     let mut links = Vec::new(alloc);
@@ -59,7 +61,8 @@ fn links_of(alloc: Global, comes: &[Option<Vec<u8>>]) -> Result<Vec<Option<MemLi
     Ok(links)
 }
 
-fn door_of(alloc: Global, door: &DoorCase) -> Result<MemDoor, AllocError>
+/// A door of a case, at which nobody was yet.
+pub fn door_of(alloc: Global, door: &DoorCase) -> Result<MemDoor, AllocError>
     ensures { IfOk result IsUnusedDoor }
 {
     let failing = Vec::from_slice(alloc, door.failing.as_slice())?;

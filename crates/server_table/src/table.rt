@@ -1,19 +1,36 @@
 // The cases of a table, one after another.
 
+use crate::alone::work_alone;
 use crate::case::Case;
-use crate::print::push_left;
+use crate::print::{push_left, push_work};
 use crate::running::run_case;
 use std::alloc::{AllocError, Global};
 use std::sync::Wait;
 use std::thread::Threads;
 
-// Runs the case, and says what its server came to.
+// Lets the worker of the case work, and says what it came to.
+fn push_alone<R: Wait>(
+    rt: &R,
+    alloc: Global,
+    out: &mut String,
+    case: &Case,
+) -> Result<(), AllocError> {
+    match work_alone(rt, alloc, case)? {
+        Some(work) => push_work(alloc, out, &work),
+        None => out.push_str("no worker\n"),
+    }
+}
+
+// Runs the case, and says what its server or its worker came to.
 fn push_run<R: Threads + Wait + Sync>(
     rt: &R,
     alloc: Global,
     out: &mut String,
     case: &Case,
 ) -> Result<(), AllocError> {
+    if case.alone {
+        return push_alone(rt, alloc, out, case);
+    }
     match run_case(rt, alloc, case)? {
         Some(left) => push_left(alloc, out, &left, case.together),
         None => out.push_str("no server\n"),

@@ -31,7 +31,8 @@ fn write_header(alloc: Global, user: &Name, words: &Words) -> Result<Vec<u8>, Me
     Ok(header)
 }
 
-/// Whether a request is short enough: its header has at most 8,192 bytes, and its script 65,536 (own).
+/// Whether a request is short enough: its header has at most 8,192 bytes, and its script or
+/// configuration 65,536 (own).
 pub fn fits_request(
     alloc: Global,
     user: &Name,

@@ -1,12 +1,14 @@
 -- What is told of blocks that ask nothing.
 use Rattle.std.specs.Prelude.{ℕ, List, ◌++◌, codes, decimal}
+use Rattle.conf_values.specs.Refusal.{kind_text as conf_kind_text}
+use Rattle.conf_values.specs.declared.refusal.ConfKind.{ConfKind}
 use Rattle.option_words.specs.Refusal.{kind_text}
 use Rattle.option_words.specs.declared.refusal.WordKind.{WordKind}
 use Rattle.option_words.specs.declared.refusal.WordKind.TheVariants.{UnknownCommand}
 use Rattle.command_words.specs.Command.{name_of}
 use Rattle.command_words.specs.declared.command.Command.{Command}
 use Rattle.command_words.specs.declared.fault.WordFault.{WordFault}
-use Rattle.command_words.specs.declared.fault.WordFault.TheVariants.{Word, Line}
+use Rattle.command_words.specs.declared.fault.WordFault.TheVariants.{Word, Line, Conf}
 
 -- who tells what is wrong: no command does where there is no such command
 abbrev pub teller : Command → WordKind → List ℕ
@@ -18,9 +20,15 @@ abbrev pub fault_line : Command → List ℕ → ℕ → WordKind → List ℕ
 fault_line command place number kind =
     teller command kind ++ codes ": error:" ++ place ++ decimal number ++ codes ": " ++ kind_text kind ++ codes "\n"
 
+-- `COMMAND: error: conf line NUMBER: KIND`
+abbrev pub conf_fault_line : Command → ℕ → ConfKind → List ℕ
+conf_fault_line command line kind =
+    name_of command ++ codes ": error: conf line " ++ decimal line ++ codes ": " ++ conf_kind_text kind ++ codes "\n"
+
 abbrev pub malformed_text : Command → WordFault → List ℕ
 malformed_text command (Word word kind) = fault_line command (codes " word ") word kind
 malformed_text command (Line line kind) = fault_line command (codes " line ") line kind
+malformed_text command (Conf line kind) = conf_fault_line command line kind
 
 abbrev pub bad_words_text : ℕ → List ℕ
 bad_words_text place = codes "slurm: error: byte " ++ decimal place ++ codes ": BadWords\n"

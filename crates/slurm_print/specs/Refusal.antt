@@ -1,7 +1,7 @@
 -- The text of a refusal.
 use Rattle.std.specs.Prelude.{ℕ, List, [], ◌++◌, codes, decimal}
 use Rattle.reply_data.specs.declared.refusal.Refusal.{Refusal}
-use Rattle.reply_data.specs.declared.refusal.Refusal.TheVariants.{PartitionClosed, InvalidAccount, InvalidPartition, InvalidQos, NodesNotAvailable, NotAllowedHere, SubmitLimit, JobTableFull, ArrayTooLarge, InvalidJobId, AccessDenied, AlreadyDone, BadDependency, InvalidReservation, ReservationOverlap, UnknownNode, StaleReport, HistoryFull, JobIdsSpent, MomentTooLarge, WrongState, ShuttingDown, NotRequeueable}
+use Rattle.reply_data.specs.declared.refusal.Refusal.TheVariants.{PartitionClosed, InvalidAccount, InvalidPartition, InvalidQos, NodesNotAvailable, NotAllowedHere, SubmitLimit, JobTableFull, ArrayTooLarge, InvalidJobId, AccessDenied, AlreadyDone, BadDependency, InvalidReservation, ReservationOverlap, UnknownNode, StaleReport, HistoryFull, JobIdsSpent, MomentTooLarge, WrongState, ShuttingDown, NotRequeueable, CannotShrink}
 use Rattle.reply_data.specs.declared.refusal.Which.{Which}
 use Rattle.reply_data.specs.declared.refusal.Which.TheVariants.{AssocMaxSubmitJobs, AssocGrpSubmitJobs, QosGrpSubmitJobs, QosMaxSubmitJobsPerUser}
 
@@ -29,6 +29,7 @@ refusal_name MomentTooLarge = codes "MomentTooLarge"
 refusal_name WrongState = codes "WrongState"
 refusal_name ShuttingDown = codes "ShuttingDown"
 refusal_name NotRequeueable = codes "NotRequeueable"
+refusal_name (CannotShrink name) = codes "CannotShrink"
 
 abbrev pub refusal_number : Refusal → ℕ
 refusal_number PartitionClosed = 1
@@ -54,6 +55,7 @@ refusal_number MomentTooLarge = 20
 refusal_number WrongState = 21
 refusal_number ShuttingDown = 22
 refusal_number NotRequeueable = 23
+refusal_number (CannotShrink name) = 24
 
 -- a limit of submitted jobs, as squeue(1) names such limits in "JOB REASON CODES"
 abbrev pub which_name : Which → List ℕ
@@ -62,11 +64,12 @@ which_name AssocGrpSubmitJobs = codes "AssocGrpSubmitJobs"
 which_name QosGrpSubmitJobs = codes "QOSGrpSubmitJobs"
 which_name QosMaxSubmitJobsPerUser = codes "QOSMaxSubmitJobsPerUser"
 
--- what stands behind the number: the limit that would be exceeded, or the last accepted report of the node, where this
--- one isn't after it
+-- what stands behind the number: the limit that would be exceeded, the last accepted report of the node, where this one
+-- isn't after it, or the node or partition that hinders a change
 abbrev pub refusal_details : Refusal → List ℕ
 refusal_details (SubmitLimit which limit) = codes " " ++ which_name which ++ codes " " ++ decimal limit
 refusal_details (StaleReport boot number) = codes " " ++ decimal boot ++ codes " " ++ decimal number
+refusal_details (CannotShrink name) = codes " " ++ name
 refusal_details refusal = []
 
 abbrev pub refusal_line : List ℕ → Refusal → List ℕ

@@ -2,15 +2,16 @@
 
 ghost use Rattle.std.specs.Prelude.{◌≡◌, ◌++◌, IfOk, OnOk};
 ghost use Rattle.option_words.specs.Refusal.{kind_text};
-ghost use Rattle.slurm_print.specs.Malformed.{teller, fault_line, malformed_text, bad_words_text, bad_header_text, unknown_command_text};
+ghost use Rattle.slurm_print.specs.Malformed.{teller, fault_line, conf_fault_line, malformed_text, bad_words_text, bad_header_text, unknown_command_text};
 
 use command_words::command::Command;
 use command_words::fault::{WordFault, WordKind};
+use conf_values::refusal::ConfKind;
 use small_texts::memory_error::Memory;
 use small_texts::pieces::{push_labelled, push_text};
 use std::alloc::Global;
 
-/// The text that answers malformed words, or a malformed script (own).
+/// The text that answers malformed words, or a malformed script or configuration (own).
 pub fn malformed(alloc: Global, command: Command, fault: WordFault) -> Result<Vec<u8>, Memory>
     ensures { IfOk result (λ text. text.items ≡ malformed_text command fault) }
 {
@@ -30,7 +31,24 @@ fn push_malformed(
     match fault {
         WordFault::Word { word, kind } => push_fault(alloc, out, command, b" word ", word, kind),
         WordFault::Line { line, kind } => push_fault(alloc, out, command, b" line ", line, kind),
+        WordFault::Conf { line, kind } => push_conf_fault(out, command, line, kind),
     }
+}
+
+fn push_conf_fault(
+    out: &mut Vec<u8>,
+    command: Command,
+    line: u32,
+    kind: ConfKind,
+) -> Result<(), Memory>
+    ensures { OnOk result (out.new.items ≡ out.old.items ++ conf_fault_line command line kind) }
+{
+    push_text(out, command.name())?;
+    push_labelled(out, b": error: conf line ", u64::from(line))?;
+    push_text(out, b": ")?;
+    push_text(out, kind.name().as_bytes())?;
+    push_text(out, b"\n")?;
+    Ok(())
 }
 
 /// The text that answers a header which is no list of words: it is wrong at this byte, counted from 0 (own).

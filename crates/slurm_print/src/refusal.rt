@@ -52,6 +52,7 @@ fn name(refusal: &Refusal) -> &'static [u8]
         Refusal::WrongState => b"WrongState",
         Refusal::ShuttingDown => b"ShuttingDown",
         Refusal::NotRequeueable => b"NotRequeueable",
+        Refusal::CannotShrink { .. } => b"CannotShrink",
     }
 }
 
@@ -82,6 +83,7 @@ fn number(refusal: &Refusal) -> u64
         Refusal::WrongState => 21,
         Refusal::ShuttingDown => 22,
         Refusal::NotRequeueable => 23,
+        Refusal::CannotShrink { .. } => 24,
     }
 }
 
@@ -97,6 +99,10 @@ fn push_details(out: &mut Vec<u8>, refusal: &Refusal) -> Result<(), Memory>
         Refusal::StaleReport { boot, number } => {
             push_labelled(out, b" ", *boot)?;
             push_labelled(out, b" ", *number)
+        }
+        Refusal::CannotShrink { name } => {
+            push_text(out, b" ")?;
+            push_text(out, name.as_bytes())
         }
         _ => Ok(()),
     }

@@ -23,6 +23,14 @@ fn bytes_in(bytes: &Option<Vec<u8>>) -> Option<&[u8]> {
     }
 }
 
+// Writes a text to a file, where both are there.
+fn write_named(rt: &HostRuntime, name: Option<&str>, text: &Option<Vec<u8>>) -> io::Result<()> {
+    if let (Some(name), Some(text)) = (name, text) {
+        fs::write(rt, name, text.as_slice())?;
+    }
+    Ok(())
+}
+
 fn replay_files(rt: &HostRuntime, wanted: &Wanted<'_>) -> io::Result<u8> {
     let conf = fs::read(rt, wanted.conf)?;
     let assocs = fs::read(rt, wanted.assocs)?;
@@ -41,9 +49,8 @@ fn replay_files(rt: &HostRuntime, wanted: &Wanted<'_>) -> io::Result<u8> {
     match make_report(rt.alloc(), wanted, &texts) {
         Ok(report) => {
             rt.write_all(report.text.as_slice())?;
-            if let (Some(file), Some(picture)) = (wanted.svg, &report.picture) {
-                fs::write(rt, file, picture.as_slice())?;
-            }
+            write_named(rt, wanted.svg, &report.picture)?;
+            write_named(rt, wanted.other_svg, &report.other_picture)?;
             Ok(0)
         }
         Err(refusal) => {

@@ -62,8 +62,8 @@ summed_up : (number : ℕ) (sim : Simulated) (old new : Wire) (end : End) → Is
     → ((status_of end ≡ 0) × Appends old.taken new.taken (summary sim.tally)) ⊎ ((status_of end ≡ 8) × (new ≡ old))
 summed_up number sim old new Usage ended is none = absurd ended
 summed_up number sim old new NoFile ended is none = absurd ended
-summed_up number sim old new (BadConf line kind) ended is none = absurd (cc (ended.0, is))
-summed_up number sim old new (BadAssocs line kind) ended is none = absurd (cc (ended.0, is))
+summed_up number sim old new (BadConf line kind) ended is none = absurd ended
+summed_up number sim old new (BadAssocs line kind) ended is none = absurd ended
 summed_up number sim old new (BadState line) ended is none = absurd ended
 summed_up number sim old new Memory ended is none = inr (refl, ended)
 summed_up number sim old new (Script how) ended is none = absurd ended
@@ -81,8 +81,8 @@ left_behind : (number : ℕ) (old new : Wire) (end : End) → IsEndSimulating nu
     → ((status_of end ≡ 9) ⊎ (status_of end ≡ 8)) × (new ≡ old)
 left_behind number old new Usage ended is = absurd ended
 left_behind number old new NoFile ended is = absurd ended
-left_behind number old new (BadConf line kind) ended is = absurd (cc (ended.0, is))
-left_behind number old new (BadAssocs line kind) ended is = absurd (cc (ended.0, is))
+left_behind number old new (BadConf line kind) ended is = absurd ended
+left_behind number old new (BadAssocs line kind) ended is = absurd ended
 left_behind number old new (BadState line) ended is = absurd ended
 left_behind number old new Memory ended is = (inr refl, ended)
 left_behind number old new (Script how) ended is = absurd ended
@@ -92,6 +92,30 @@ left_behind number old new Spent ended is = (inl refl, ended.1)
 left_behind number old new Served ended is = absurd ended
 left_behind number old new DoorFault ended is = absurd ended
 left_behind number old new (Called call) ended is = absurd ended
+
+-- it ends with its line, or because a job is left, or for want of memory
+simulates_by : (number : ℕ) (old new : Wire) (end : End) → IsEndSimulating number old new end
+    → CountsNone old.writes new.writes → (status_of end ≡ 0) ⊎ ((status_of end ≡ 9) ⊎ (status_of end ≡ 8))
+simulates_by number old new Usage ended none = absurd ended
+simulates_by number old new NoFile ended none = absurd ended
+simulates_by number old new (BadConf line kind) ended none = absurd ended
+simulates_by number old new (BadAssocs line kind) ended none = absurd ended
+simulates_by number old new (BadState line) ended none = absurd ended
+simulates_by number old new Memory ended none = inr (inr refl)
+simulates_by number old new (Script how) ended none = absurd ended
+simulates_by number old new Generated ended none = inl refl
+simulates_by number old new WriteFault ended none = absurd (omega (arith, ended.2.1.0, none.0, none.1))
+simulates_by number old new Spent ended none = inr (inl refl)
+simulates_by number old new Served ended none = absurd ended
+simulates_by number old new DoorFault ended none = absurd ended
+simulates_by number old new (Called call) ended none = absurd ended
+
+pub simulates : (words : List (List ℕ)) (host : Hosted) (old new : Outside) (beside beside' : Beside) (end : End)
+    (number : ℕ) → IsEnd words host old new beside beside' end → asked_in words ≡ Some (asks.Simulate number)
+    → CountsNone old.wire.writes new.wire.writes → (status_of end ≡ 0) ⊎ ((status_of end ≡ 9) ⊎ (status_of end ≡ 8))
+simulates words host old new beside beside' end number ended is none =
+    simulates_by number old.wire new.wire end
+    (asked_so words (asks.Simulate number) host old new beside beside' end ended is).0 none
 
 pub told : (words : List (List ℕ)) (host : Hosted) (old new : Outside) (beside beside' : Beside) (end : End) (number : ℕ)
     (sim : Simulated) → IsEnd words host old new beside beside' end → asked_in words ≡ Some (asks.Simulate number)
@@ -187,8 +211,8 @@ simulated_isnt_off : (number : ℕ) (old new : Wire) (end : End) → IsEndSimula
     → status_of end ≡ 2 → ⊥
 simulated_isnt_off number old new Usage ended e = ended
 simulated_isnt_off number old new NoFile ended e = ended
-simulated_isnt_off number old new (BadConf line kind) ended e = omega arith
-simulated_isnt_off number old new (BadAssocs line kind) ended e = omega arith
+simulated_isnt_off number old new (BadConf line kind) ended e = ended
+simulated_isnt_off number old new (BadAssocs line kind) ended e = ended
 simulated_isnt_off number old new (BadState line) ended e = ended
 simulated_isnt_off number old new Memory ended e = omega arith
 simulated_isnt_off number old new (Script how) ended e = ended
@@ -264,7 +288,7 @@ known_by call old new beside beside' Memory ended = record {
     only_bad = λ left told e. absurd (cc);
     only_replied = λ left status told e. absurd (cc);
   };
-  spent = λ long files reads. inr refl;
+  spent = record { told = λ long files reads. inr refl; only = λ e. absurd (cc) };
 }
 known_by call old new beside beside' Usage ended = absurd ended
 known_by call old new beside beside' NoFile ended = absurd ended

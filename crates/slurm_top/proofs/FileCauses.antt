@@ -1,26 +1,19 @@
 -- Which ends a run on files may have, by what these open.
-use Rattle.std.proofs.Common.{◌≡◌, ◌⊎◌, ℕ, ◌≤◌, ◌<◌, Bool, true, false, List, [], length, Option, None, Some, IfSome, IsSomeAnd, Result, Ok, Err, inl, inr, refl, sym, ap, ◌∙◌, subst, arith}
+use Rattle.std.proofs.Common.{◌≡◌, ◌⊎◌, ℕ, ◌<◌, Bool, true, false, List, [], length, Option, None, Some, IfSome, IsSomeAnd, Result, Ok, Err, inl, inr, refl, sym, ap, ◌∙◌, subst, arith}
 use Rattle.slurm_io.specs.Faults.{CountsNone, CountsOne}
 use Rattle.slurm_io.specs.Shelf.{ShelfFile}
 use Rattle.slurm_io.specs.Wire.{Wire}
-use Rattle.block_frame.specs.declared.form.Form.TheVariants.{Plain}
-use Rattle.block_frame.specs.Grammar.{blocks_of, rest_of}
 use Rattle.saved_data.specs.Sizes.{longest_text}
 use Rattle.ctl_state.specs.State.{State}
-use Rattle.ctl_desk.specs.History.{BookState, present}
-use Rattle.ctl_session.specs.declared.session.How.{How}
-use Rattle.ctl_session.specs.declared.session.How.TheVariants as how
-use Rattle.ctl_session.specs.Session.{most_blocks}
+use Rattle.ctl_desk.specs.History.{BookState}
 use Rattle.program_words.specs.declared.asked.Period.{Period}
 use Rattle.program_words.specs.Asked.{Named, Asked, asked_in}
 use Rattle.program_words.specs.Asked as asks
 use Rattle.server_call.specs.Outside.{Outside, Beside}
 use Rattle.cluster_opening.specs.declared.refusal.ClusterRefusal.{ClusterRefusal}
 use Rattle.cluster_opening.specs.Files.{FilesOpen, IsMissing, IsTextIf, Opens}
-use Rattle.script_run.specs.Behind.{IsScriptRun, saved_if}
-use Rattle.script_run.specs.Script.{script_history}
 use Rattle.slurm_top.specs.Lines.{refused, status_of}
-use Rattle.slurm_top.specs.Run.{Finds, HasEnded, Hosted, IsEnd, IsEndAsked, IsEndOn, IsEndServing, IsUnopened, IsWholeScript, files_asked}
+use Rattle.slurm_top.specs.Run.{Finds, HasEnded, Hosted, IsEnd, IsEndAsked, IsEndOn, IsEndServing, IsUnopened, IsUnsaved, files_asked}
 use Rattle.slurm_top.specs.Serving.{saved_by}
 use Rattle.slurm_top.specs.declared.end.End.{End}
 use Rattle.slurm_top.specs.declared.end.End.TheVariants.{Usage, NoFile, BadConf, BadAssocs, BadState, Memory, Script, Generated, WriteFault, Spent, Served, DoorFault, Called}
@@ -166,7 +159,7 @@ refuses once words host old new beside beside' end refusal ended finds none =
 
 -- ---- good files
 
-unopened_isnt : OpenOne → (named : Named) (old new : Outside) (end : End) (s : State)
+pub unopened_isnt : OpenOne → (named : Named) (old new : Outside) (end : End) (s : State)
     → FilesOpen old.files named (Some (Ok s)) → CountsNone old.faults new.faults → IsUnopened named old new end → ⊥
 unopened_isnt once named old new Usage s open_so none ended = ended
 unopened_isnt once named old new NoFile s open_so none ended = omega (arith, ended.0.0, none.0, none.1)
@@ -185,55 +178,9 @@ unopened_isnt once named old new Served s open_so none ended = ended
 unopened_isnt once named old new DoorFault s open_so none ended = ended
 unopened_isnt once named old new (Called call) s open_so none ended = ended
 
--- scripts of whole blocks are answered to their end, and what is asked for is written behind them
-abbrev pub WholeAnswered : Type 0
-WholeAnswered = (s : State) (sacct : Option Period) (save : Bool) (old new : Wire) (last : How) (bytes : List ℕ)
-    → old.left ≡ Some bytes → rest_of Plain bytes ≡ [] → length (blocks_of Plain bytes) ≤ most_blocks
-    → length (saved_if save (present (script_history s bytes))) ≤ longest_text
-    → CountsNone old.reads new.reads → CountsNone old.writes new.writes
-    → IsScriptRun s sacct save old new last → (last ≡ how.Closed) ⊎ (last ≡ how.Memory)
-
-whole_input : WholeAnswered → (left : Option (List ℕ)) (s : State) (sacct : Option Period) (save : Bool) (old new : Wire)
-    (end : How) → old.left ≡ left → IsWholeScript s save left
-    → CountsNone old.reads new.reads → CountsNone old.writes new.writes → IsScriptRun s sacct save old new end
-    → (status_of (Script end) ≡ 0) ⊎ (status_of (Script end) ≡ 8)
-whole_input answered None s sacct save old new end e whole reads writes script = absurd whole
-whole_input answered (Some bytes) s sacct save old new end e whole reads writes script =
-    elim (answered s sacct save old new end bytes e whole.0 whole.1 whole.2 reads writes script) [
-      | inl closed ↦ inl (ap (λ h. status_of (Script h)) closed)
-      | inr memory ↦ inr (ap (λ h. status_of (Script h)) memory)
-    ]
-
-same_opening : OpenOne → (told : Option (List ShelfFile)) (named : Named) (one other : State)
+pub same_opening : OpenOne → (told : Option (List ShelfFile)) (named : Named) (one other : State)
     → FilesOpen told named (Some (Ok one)) → Opens told named (Ok other) → other ≡ one
 same_opening once told named one other open_so opens = cc (opened_one once told named (Ok one) (Ok other) open_so opens)
-
-complete_on : WholeAnswered → OpenOne → (named : Named) (sacct : Option Period) (save : Bool) (old new : Outside)
-    (end : End) (s : State) → FilesOpen old.files named (Some (Ok s)) → IsWholeScript s save old.wire.left
-    → CountsNone old.faults new.faults → CountsNone old.wire.reads new.wire.reads
-    → CountsNone old.wire.writes new.wire.writes → IsEndOn named sacct save old new end
-    → (status_of end ≡ 0) ⊎ (status_of end ≡ 8)
-complete_on answered once named sacct save old new Usage s open_so whole none reads writes ended = absurd ended
-complete_on answered once named sacct save old new NoFile s open_so whole none reads writes ended =
-    absurd (unopened_isnt once named old new NoFile s open_so none ended)
-complete_on answered once named sacct save old new (BadConf line kind) s open_so whole none reads writes ended =
-    absurd (unopened_isnt once named old new (BadConf line kind) s open_so none ended)
-complete_on answered once named sacct save old new (BadAssocs line kind) s open_so whole none reads writes ended =
-    absurd (unopened_isnt once named old new (BadAssocs line kind) s open_so none ended)
-complete_on answered once named sacct save old new (BadState line) s open_so whole none reads writes ended =
-    absurd (unopened_isnt once named old new (BadState line) s open_so none ended)
-complete_on answered once named sacct save old new Memory s open_so whole none reads writes ended = inr refl
-complete_on answered once named sacct save old new (Script how) s open_so whole none reads writes ended =
-    whole_input answered old.wire.left s sacct save old.wire new.wire how refl whole reads writes
-    (subst (λ t. IsScriptRun t sacct save old.wire new.wire how)
-    (same_opening once old.files named s ended.opening open_so ended.opens) ended.script)
-complete_on answered once named sacct save old new Generated s open_so whole none reads writes ended = absurd ended
-complete_on answered once named sacct save old new WriteFault s open_so whole none reads writes ended = absurd ended
-complete_on answered once named sacct save old new Spent s open_so whole none reads writes ended = absurd ended
-complete_on answered once named sacct save old new Served s open_so whole none reads writes ended = absurd ended
-complete_on answered once named sacct save old new DoorFault s open_so whole none reads writes ended = absurd ended
-complete_on answered once named sacct save old new (Called call) s open_so whole none reads writes ended =
-    absurd ended
 
 -- what is known of an end by what words ask
 pub asked_so : (words : List (List ℕ)) (one : Asked) (host : Hosted) (old new : Outside) (beside beside' : Beside) (end : End)
@@ -241,16 +188,6 @@ pub asked_so : (words : List (List ℕ)) (one : Asked) (host : Hosted) (old new 
     → IsEndAsked one host old new beside beside' end
 asked_so words one host old new beside beside' end ended is =
     subst (λ (asked : Option Asked). IfSome asked (λ any. IsEndAsked any host old new beside beside' end)) is ended.on
-
-pub complete : WholeAnswered → OpenOne → (words : List (List ℕ)) (host : Hosted) (old new : Outside)
-    (beside beside' : Beside) (end : End) (named : Named) (sacct : Option Period) (save : Bool) (s : State)
-    → IsEnd words host old new beside beside' end → asked_in words ≡ Some (asks.Script named sacct save)
-    → FilesOpen old.files named (Some (Ok s)) → IsWholeScript s save old.wire.left → CountsNone old.faults new.faults
-    → CountsNone old.wire.reads new.wire.reads → CountsNone old.wire.writes new.wire.writes
-    → (status_of end ≡ 0) ⊎ (status_of end ≡ 8)
-complete answered once words host old new beside beside' end named sacct save s ended is open_so whole none reads writes =
-    complete_on answered once named sacct save old new end s open_so whole none reads writes
-    (asked_so words (asks.Script named sacct save) host old new beside beside' end ended is).0
 
 -- ---- servers
 
@@ -322,7 +259,7 @@ shut_on named port workers save host old new beside beside' Generated e ended = 
 shut_on named port workers save host old new beside beside' WriteFault e ended = absurd (omega (arith, e))
 shut_on named port workers save host old new beside beside' Spent e ended = absurd (omega (arith, e))
 shut_on named port workers save host old new beside beside' Served e ended =
-    (ended.0, ended.1, (ended.2.0, ended.2.1, ended.2.2))
+    (ended.0, ended.1, (ended.2.0, ended.2.1, ended.2.2, ended.2.3))
 shut_on named port workers save host old new beside beside' DoorFault e ended = absurd (omega (arith, e))
 shut_on named port workers save host old new beside beside' (Called call) e ended = absurd ended.2
 
@@ -332,6 +269,60 @@ pub shut : (words : List (List ℕ)) (host : Hosted) (old new : Outside) (beside
     → HasEnded named port workers save host old new
 shut words host old new beside beside' end named port workers save ended is e =
     shut_on named port workers save host old new beside beside' end e
+    (asked_so words (asks.Serve named port workers save) host old new beside beside' end ended is)
+
+unfailed_on : (named : Named) (port workers : ℕ) (save : Bool) (host : Hosted) (old new : Outside)
+    (beside beside' : Beside) (end : End) → status_of end ≡ 0
+    → IsEndServing named port workers save host old new beside beside' end → beside'.host.faults ≡ beside.host.faults
+unfailed_on named port workers save host old new beside beside' Usage e ended = absurd (omega (arith, e))
+unfailed_on named port workers save host old new beside beside' NoFile e ended = absurd (omega (arith, e))
+unfailed_on named port workers save host old new beside beside' (BadConf line kind) e ended = absurd (omega (arith, e))
+unfailed_on named port workers save host old new beside beside' (BadAssocs line kind) e ended =
+    absurd (omega (arith, e))
+unfailed_on named port workers save host old new beside beside' (BadState line) e ended = absurd (omega (arith, e))
+unfailed_on named port workers save host old new beside beside' Memory e ended = absurd (omega (arith, e))
+unfailed_on named port workers save host old new beside beside' (Script how) e ended = absurd ended.2
+unfailed_on named port workers save host old new beside beside' Generated e ended = absurd ended.2
+unfailed_on named port workers save host old new beside beside' WriteFault e ended = absurd (omega (arith, e))
+unfailed_on named port workers save host old new beside beside' Spent e ended = absurd (omega (arith, e))
+unfailed_on named port workers save host old new beside beside' Served e ended = ended.2.4
+unfailed_on named port workers save host old new beside beside' DoorFault e ended = absurd (omega (arith, e))
+unfailed_on named port workers save host old new beside beside' (Called call) e ended = absurd ended.2
+
+pub unfailed : (words : List (List ℕ)) (host : Hosted) (old new : Outside) (beside beside' : Beside) (end : End)
+    (named : Named) (port workers : ℕ) (save : Bool) → IsEnd words host old new beside beside' end
+    → asked_in words ≡ Some (asks.Serve named port workers save) → status_of end ≡ 0
+    → beside'.host.faults ≡ beside.host.faults
+unfailed words host old new beside beside' end named port workers save ended is e =
+    unfailed_on named port workers save host old new beside beside' end e
+    (asked_so words (asks.Serve named port workers save) host old new beside beside' end ended is)
+
+unsaved_on : (named : Named) (port workers : ℕ) (save : Bool) (host : Hosted) (old new : Outside)
+    (beside beside' : Beside) (end : End) → status_of end ≡ 9
+    → IsEndServing named port workers save host old new beside beside' end
+    → IsUnsaved named port workers save host old new
+unsaved_on named port workers save host old new beside beside' Usage e ended = absurd (omega (arith, e))
+unsaved_on named port workers save host old new beside beside' NoFile e ended = absurd (omega (arith, e))
+unsaved_on named port workers save host old new beside beside' (BadConf line kind) e ended = absurd (omega (arith, e))
+unsaved_on named port workers save host old new beside beside' (BadAssocs line kind) e ended =
+    absurd (omega (arith, e))
+unsaved_on named port workers save host old new beside beside' (BadState line) e ended = absurd (omega (arith, e))
+unsaved_on named port workers save host old new beside beside' Memory e ended = absurd (omega (arith, e))
+unsaved_on named port workers save host old new beside beside' (Script how) e ended = absurd ended.2
+unsaved_on named port workers save host old new beside beside' Generated e ended = absurd ended.2
+unsaved_on named port workers save host old new beside beside' WriteFault e ended = absurd (omega (arith, e))
+unsaved_on named port workers save host old new beside beside' Spent e ended =
+    (ended.0, ended.1, (ended.2.0, ended.2.1, ended.2.2, ended.2.3))
+unsaved_on named port workers save host old new beside beside' Served e ended = absurd (omega (arith, e))
+unsaved_on named port workers save host old new beside beside' DoorFault e ended = absurd (omega (arith, e))
+unsaved_on named port workers save host old new beside beside' (Called call) e ended = absurd ended.2
+
+pub unsaved : (words : List (List ℕ)) (host : Hosted) (old new : Outside) (beside beside' : Beside) (end : End)
+    (named : Named) (port workers : ℕ) (save : Bool) → IsEnd words host old new beside beside' end
+    → asked_in words ≡ Some (asks.Serve named port workers save) → status_of end ≡ 9
+    → IsUnsaved named port workers save host old new
+unsaved words host old new beside beside' end named port workers save ended is e =
+    unsaved_on named port workers save host old new beside beside' end e
     (asked_so words (asks.Serve named port workers save) host old new beside beside' end ended is)
 
 write_fault_on : (named : Named) (port workers : ℕ) (save : Bool) (host : Hosted) (old new : Outside)

@@ -1,4 +1,5 @@
 pub mod FileCauses
+pub mod ScriptEnds
 pub mod Ends
 pub mod Summing
 pub mod Shutting

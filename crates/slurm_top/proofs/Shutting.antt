@@ -44,25 +44,25 @@ module _ (opening : State) (port workers : ℕ) (save : Bool) (course : Option C
     (closed : Option (List (List LinkSession))) (hosts hosts' : ℕ) where
   -- a state was saved behind a server's shutdown
   pub saved_then : (old mid new : Wire) (book : BookState) (end : End) → HasServed opening workers course closed book
-      → HasWritten (serving_line port) old mid → IsSavedBehind (saved_by save book) mid new end
+      → HasWritten (serving_line port) old mid → hosts' ≡ hosts → IsSavedBehind (saved_by save book) mid new end
       → IsServing opening port workers save course closed old new hosts hosts' end
-  saved_then old mid new book Usage served wrote behind = absurd behind
-  saved_then old mid new book NoFile served wrote behind = absurd behind
-  saved_then old mid new book (BadConf line kind) served wrote behind = absurd behind
-  saved_then old mid new book (BadAssocs line kind) served wrote behind = absurd behind
-  saved_then old mid new book (BadState line) served wrote behind = absurd behind
-  saved_then old mid new book Memory served wrote behind =
+  saved_then old mid new book Usage served wrote same behind = absurd behind
+  saved_then old mid new book NoFile served wrote same behind = absurd behind
+  saved_then old mid new book (BadConf line kind) served wrote same behind = absurd behind
+  saved_then old mid new book (BadAssocs line kind) served wrote same behind = absurd behind
+  saved_then old mid new book (BadState line) served wrote same behind = absurd behind
+  saved_then old mid new book Memory served wrote same behind =
       inr (subst (HasWritten (serving_line port) old) (sym behind) wrote)
-  saved_then old mid new book (Script how) served wrote behind = absurd behind
-  saved_then old mid new book Generated served wrote behind = absurd behind
-  saved_then old mid new book WriteFault served wrote behind =
+  saved_then old mid new book (Script how) served wrote same behind = absurd behind
+  saved_then old mid new book Generated served wrote same behind = absurd behind
+  saved_then old mid new book WriteFault served wrote same behind =
       inr (book, served, begun_then (serving_line port) (saved_by save book) old mid new wrote behind)
-  saved_then old mid new book Spent served wrote behind =
+  saved_then old mid new book Spent served wrote same behind =
       (book, served, subst (HasWritten (serving_line port) old) (sym behind.1) wrote, behind.0)
-  saved_then old mid new book Served served wrote behind =
-      (book, served, written_then (serving_line port) (saved_by save book) old mid new wrote behind.0, behind.1)
-  saved_then old mid new book DoorFault served wrote behind = absurd behind
-  saved_then old mid new book (Called call) served wrote behind = absurd behind
+  saved_then old mid new book Served served wrote same behind =
+      (book, served, written_then (serving_line port) (saved_by save book) old mid new wrote behind.0, behind.1, same)
+  saved_then old mid new book DoorFault served wrote same behind = absurd behind
+  saved_then old mid new book (Called call) served wrote same behind = absurd behind
 
   -- a server ended without a book
   pub ended_before : (old new : Wire) (end : End)

@@ -1,21 +1,15 @@
 -- What a simulation on the cluster of simulations comes to.
-use Rattle.std.proofs.Common.{◌≡◌, ℕ, List, [], Option, None, Some, IsSomeAnd, Ok, Err, refl, sym, ap, ◌∙◌, subst}
+use Rattle.std.proofs.Common.{◌≡◌, ℕ, List, [], Option, None, Some, IsSomeAnd, Ok, refl, sym, ap, ◌∙◌, subst}
 use Rattle.slurm_io.specs.Wire.{Wire}
 use Rattle.ctl_desk.specs.Desk.{Seat, state_of}
 use Rattle.ctl_state.specs.State.{State}
+use Rattle.simulated_cluster.specs.Files.{simulated_assocs, simulated_conf}
 use Rattle.simulation.specs.Simulation.{Simulated, simulated, summary}
-use Rattle.cluster_opening.specs.declared.refusal.ClusterRefusal.{ClusterRefusal}
 use Rattle.slurm_top.specs.declared.end.End.{End}
 use Rattle.slurm_top.specs.declared.end.End.TheVariants.{Usage, NoFile, BadConf, BadAssocs, BadState, Memory, Script, Generated, WriteFault, Spent, Served, DoorFault, Called}
 use Rattle.cluster_opening.specs.Cluster.{opening_in}
 use Rattle.slurm_top.specs.Run.{IsEndSimulating, IsEndWriting}
-use Rattle.slurm_top.specs.SimulatedCluster.{simulated_assocs, simulated_conf, simulation_of}
-
--- the files give no cluster
-pub refused_by : (number : ℕ) (refusal : ClusterRefusal) → opening_in simulated_conf simulated_assocs ≡ Err refusal
-    → simulation_of number ≡ Err refusal
-unfolding simulation_of
-refused_by number refusal refused = rw refused refl
+use Rattle.slurm_top.specs.SimulatedCluster.{simulation_of}
 
 -- a desk that was just opened
 abbrev pub IsFresh : State → Seat → Type 0

@@ -1,5 +1,5 @@
 -- What a run leaves, by what the program's words ask.
-use Rattle.std.specs.Prelude.{◌≡◌, ◌⊎◌, ℕ, ◌≤◌, Bool, Option, Some, None, IfSome, IfNone, IsSomeAnd, List, [], ◌++◌, length, Result, Ok, Err}
+use Rattle.std.specs.Prelude.{◌≡◌, ◌⊎◌, ℕ, ◌<◌, ◌≤◌, Bool, Option, Some, None, IfSome, IfNone, IsSomeAnd, List, [], ◌++◌, length, Result, Ok, Err}
 use Rattle.slurm_io.specs.Faults.{CountsOne}
 use Rattle.slurm_io.specs.Shelf.{ShelfFile}
 use Rattle.slurm_io.specs.Wire.{Wire}
@@ -80,11 +80,6 @@ IsEndSimulating number old new WriteFault =
     (sim : Simulated) × (simulation_of number ≡ Ok (Some sim)) × IsEndWriting (summary sim.tally) old new WriteFault
 -- a job was left behind the last round
 IsEndSimulating number old new Spent = (simulation_of number ≡ Ok None) × (new ≡ old)
--- the cluster's own files are bad
-IsEndSimulating number old new (BadConf line kind) =
-    (simulation_of number ≡ Err (cluster.BadConf line kind)) × (new ≡ old)
-IsEndSimulating number old new (BadAssocs line kind) =
-    (simulation_of number ≡ Err (cluster.BadAssocs line kind)) × (new ≡ old)
 -- memory was wanting before the first write
 IsEndSimulating number old new Memory = new ≡ old
 IsEndSimulating number old new end = ⊥
@@ -139,7 +134,15 @@ abbrev pub HasEnded : Named → ℕ → ℕ → Bool → Hosted → Outside → 
 HasEnded named port workers save host old new =
     (opening : State) × Opens old.files named (Ok opening)
     × ((book : BookState) × HasServed opening workers host.course host.closed book
-    × HasWritten (serving_line port ++ saved_by save book) old.wire new.wire)
+    × HasWritten (serving_line port ++ saved_by save book) old.wire new.wire
+    × (length (saved_by save book) ≤ longest_text))
+
+-- what one with status 9 leaves: the state that it was to save has too long a text
+abbrev pub IsUnsaved : Named → ℕ → ℕ → Bool → Hosted → Outside → Outside → Type 0
+IsUnsaved named port workers save host old new =
+    (opening : State) × Opens old.files named (Ok opening)
+    × ((book : BookState) × HasServed opening workers host.course host.closed book
+    × HasWritten (serving_line port) old.wire new.wire × (longest_text < length (saved_by save book)))
 
 -- What a run leaves that has this end, where the words ask this. What is asked by a number needs no file, and but for a
 -- call and a server neither the errors nor the host are touched.
@@ -166,7 +169,7 @@ pub record IsEnd (words : List (List ℕ)) (host : Hosted) (old new : Outside) (
   pub on : IfSome (asked_in words) (λ asked. IsEndAsked asked host old new beside beside' end)
 
 -- What is known of a call by the status of its run: it is that of an end, which a count or the reply brought about, or
--- the length of the script.
+-- the length of the script or of the configuration.
 pub record IsCallKnown (call : Call) (old new : Outside) (host host' : Hosting) (status : ℕ) : Type 0 where
   pub end : CallEnd
   pub is_status : status ≡ calls.status_of end

@@ -33,13 +33,14 @@ abbrev pub WritesAtMost : ℕ → Wire → Wire → Type 0
 WritesAtMost port old new = (new ≡ old) ⊎ HasWritten (serving_line port) old new
 
 -- What comes of serving a cluster at a port, from this opening on, by the program's link and the host's count of faults:
--- it was served until a shutdown, and the line that tells of the port was written, and behind the shutdown the state,
--- where it is to be saved; or the run ended before that, or was cut short.
+-- it was served until a shutdown, no door having failed, and the line that tells of the port was written, and behind the
+-- shutdown the state, where it is to be saved; or the run ended before that, or was cut short.
 abbrev pub IsServing : State → ℕ → ℕ → Bool → Option Course → Option (List (List LinkSession)) → Wire → Wire → ℕ → ℕ
     → End → Type 0
 IsServing opening port workers save course closed old new hosts hosts' Served =
     (book : BookState) × HasServed opening workers course closed book
     × HasWritten (serving_line port ++ saved_by save book) old new × (length (saved_by save book) ≤ longest_text)
+    × (hosts' ≡ hosts)
 -- the line wasn't written whole, or the state wasn't
 IsServing opening port workers save course closed old new hosts hosts' WriteFault =
     HasBegun (serving_line port) old new
@@ -60,7 +61,7 @@ IsServing opening port workers save course closed old new hosts hosts' end = ⊥
 abbrev pub IsServedUntil : State → ℕ → ℕ → Option Course → Option (List (List LinkSession)) → Wire → Wire → ℕ → ℕ
     → Result BookState End → Type 0
 IsServedUntil opening port workers course closed old new hosts hosts' (Ok book) =
-    HasServed opening workers course closed book × HasWritten (serving_line port) old new
+    HasServed opening workers course closed book × HasWritten (serving_line port) old new × (hosts' ≡ hosts)
 IsServedUntil opening port workers course closed old new hosts hosts' (Err WriteFault) = HasBegun (serving_line port) old new
 IsServedUntil opening port workers course closed old new hosts hosts' (Err DoorFault) =
     CountsOne hosts hosts' × WritesAtMost port old new

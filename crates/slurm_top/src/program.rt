@@ -1,6 +1,6 @@
 //! The program, over objects of the outside.
 
-ghost use Rattle.std.specs.Prelude.{◌≡◌, ◌⊎◌, ◌≤◌, ℕ, Bool, true, List, Option, Some, None, Err, Ok, [], length, map, string_bytes};
+ghost use Rattle.std.specs.Prelude.{◌≡◌, ◌⊎◌, ◌≤◌, ℕ, Bool, true, List, Option, Some, None, IfSome, IsSomeAnd, Err, Ok, [], length, map, string_bytes};
 ghost use Rattle.std.specs.Io.KnownBytes.{Appends};
 ghost use Rattle.assoc_reader.specs.declared.refusal.AssocKind.{AssocKind};
 ghost use Rattle.cluster_opening.specs.Files.{FilesOpen};
@@ -13,12 +13,13 @@ ghost use Rattle.program_words.specs.Asked as asks;
 ghost use Rattle.program_words.specs.Words.{Fits, asked_of};
 ghost use Rattle.program_words.specs.declared.asked.Period.{Period};
 ghost use Rattle.program_words.specs.declared.call.Call.{Call};
+ghost use Rattle.script_laws.specs.Inputs.{IsBroken, IsTooLong};
 ghost use Rattle.server_call.specs.Outside.{beside, hosting, outside};
 ghost use Rattle.simulation.specs.Simulation.{Simulated, summary};
 ghost use Rattle.slurm_io.specs.Bytes.{Tells};
 ghost use Rattle.slurm_io.specs.Faults.{CountsNone, CountsOne};
 ghost use Rattle.slurm_top.specs.Lines.{status_of, line_of};
-ghost use Rattle.slurm_top.specs.Run.{end_without_words, IsEnd, IsEndAsked, IsCallKnown, Finds, IsWholeScript, HasEnded, hosted};
+ghost use Rattle.slurm_top.specs.Run.{end_without_words, IsEnd, IsEndAsked, IsCallKnown, Finds, IsUnsaved, IsWholeScript, HasEnded, hosted};
 ghost use Rattle.slurm_top.specs.SimulatedCluster.{simulation_of};
 
 use crate::end::{End, tell};
@@ -28,6 +29,7 @@ use crate::serving::serve_files;
 use crate::simulated::write_summary;
 use cluster_opening::files_open_one_cluster;
 use program_words::{Asked, asked_in};
+use script_laws::{broken_inputs_are_told, longer_inputs_are_spent};
 use script_run::whole_inputs_are_answered;
 use server_call::call_server;
 use slurm_io::{Link, Shelf, Sink};
@@ -195,6 +197,35 @@ where
         → CountsNone (L.wire link.old).writes (L.wire link.new).writes
         → (result ≡ 0) ⊎ (result ≡ 8) }
 
+    // The status 7 is that such an input has, behind fewer blocks than one session answers, something that is none: a part
+    // of a block, or what can't begin one. It comes exactly there, but for a count of faults and want of memory.
+    ensures broken { (named : Named) (sacct : Option Period) (save : Bool) (opening : State)
+        → asked_in (map string_bytes words.now) ≡ Some (Script named sacct save)
+        → FilesOpen (Q.files shelf.old) named (Some (Ok opening))
+        → IsSomeAnd (L.wire link.old).left IsBroken
+        → CountsNone (Q.shelf_faults shelf.old) (Q.shelf_faults shelf.new)
+        → CountsNone (L.wire link.old).reads (L.wire link.new).reads
+        → CountsNone (L.wire link.old).writes (L.wire link.new).writes
+        → (result ≡ 7) ⊎ (result ≡ 8) }
+    ensures only_broken { (named : Named) (sacct : Option Period) (save : Bool)
+        → asked_in (map string_bytes words.now) ≡ Some (Script named sacct save) → (result ≡ 7)
+        → IfSome (L.wire link.old).left IsBroken }
+
+    // 9 is that it has more than one session answers, or is answered to the end and leads to a state that is to be saved and
+    // whose text is longer than one may be: exactly there, likewise.
+    ensures spent { (named : Named) (sacct : Option Period) (save : Bool) (opening : State)
+        → asked_in (map string_bytes words.now) ≡ Some (Script named sacct save)
+        → FilesOpen (Q.files shelf.old) named (Some (Ok opening))
+        → IsSomeAnd (L.wire link.old).left (IsTooLong opening save)
+        → CountsNone (Q.shelf_faults shelf.old) (Q.shelf_faults shelf.new)
+        → CountsNone (L.wire link.old).reads (L.wire link.new).reads
+        → CountsNone (L.wire link.old).writes (L.wire link.new).writes
+        → (result ≡ 9) ⊎ (result ≡ 8) }
+    ensures only_spent { (named : Named) (sacct : Option Period) (save : Bool) (opening : State)
+        → asked_in (map string_bytes words.now) ≡ Some (Script named sacct save)
+        → FilesOpen (Q.files shelf.old) named (Some (Ok opening)) → (result ≡ 9)
+        → IfSome (L.wire link.old).left (IsTooLong opening save) }
+
     // A server of good files ends by a shutdown, unless a count of faults rises or memory is wanting; 9 comes only where
     // the state is to be saved, and is that its text is longer than one may be.
     ensures served { (named : Named) (port workers : ℕ) (save : Bool) (opening : State)
@@ -205,11 +236,20 @@ where
         → CountsNone (H.host_faults host.old) (H.host_faults host.new)
         → (result ≡ 0) ⊎ ((result ≡ 8) ⊎ ((result ≡ 9) × (save ≡ true))) }
 
-    // A server's 0 is that it was served until a shutdown was accepted, and that the line and what is to be saved behind it
-    // were written; 6 comes only where a write of these failed, and 10 only where the host counted a fault.
+    // A server's 0 is that it was served until a shutdown was accepted, that the line and what is to be saved behind it
+    // were written, and that no door failed: the host counted no fault; 9 is that what is to be saved was too long. 6 comes
+    // only where a write of these failed, and 10 only where the host counted a fault.
     ensures shut { (named : Named) (port workers : ℕ) (save : Bool)
         → asked_in (map string_bytes words.now) ≡ Some (Serve named port workers save) → (result ≡ 0)
         → HasEnded named port workers save (hosted (C.course clock.old) (H.closed host.new))
+        (outside (Q.files shelf.old) (Q.shelf_faults shelf.old) (L.wire link.old))
+        (outside (Q.files shelf.new) (Q.shelf_faults shelf.new) (L.wire link.new)) }
+    ensures unfailed { (named : Named) (port workers : ℕ) (save : Bool)
+        → asked_in (map string_bytes words.now) ≡ Some (Serve named port workers save) → (result ≡ 0)
+        → H.host_faults host.new ≡ H.host_faults host.old }
+    ensures unsaved { (named : Named) (port workers : ℕ) (save : Bool)
+        → asked_in (map string_bytes words.now) ≡ Some (Serve named port workers save) → (result ≡ 9)
+        → IsUnsaved named port workers save (hosted (C.course clock.old) (H.closed host.new))
         (outside (Q.files shelf.old) (Q.shelf_faults shelf.old) (L.wire link.old))
         (outside (Q.files shelf.new) (Q.shelf_faults shelf.new) (L.wire link.new)) }
     ensures write_fault { (named : Named) (port workers : ℕ) (save : Bool)
@@ -239,6 +279,12 @@ where
         → simulation_of number ≡ Ok None
         → ((result ≡ 9) ⊎ (result ≡ 8)) × (L.wire link.new ≡ L.wire link.old) }
 
+    // No simulation ends otherwise: its cluster's own files are good.
+    ensures simulates { (number : ℕ)
+        → asked_in (map string_bytes words.now) ≡ Some (Simulate number)
+        → CountsNone (L.wire link.old).writes (L.wire link.new).writes
+        → (result ≡ 0) ⊎ ((result ≡ 9) ⊎ (result ≡ 8)) }
+
     // A call of a server ends by the reply that its link has left, where the host tells this, and by a fault only where a
     // count rose.
     ensures called { (call : Call) → asked_in (map string_bytes words.now) ≡ Some (asks.Call call)
@@ -251,6 +297,8 @@ where
         (H.next_left host.new) (H.last_taken host.new)) result }
 {
     whole_inputs_are_answered();
+    broken_inputs_are_told();
+    longer_inputs_are_spent();
     files_open_one_cluster();
     let end = run_words(rt, alloc, words, shelf, link, errors, clock, host);
     tell(errors, end);

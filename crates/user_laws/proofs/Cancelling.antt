@@ -8,7 +8,7 @@ use Rattle.reply_data.specs.declared.reply.Reply.{Reply}
 use Rattle.request_data.specs.declared.report.Done.{Done}
 use Rattle.request_data.specs.declared.report.Report.{Report as Told}
 use Rattle.request_data.specs.declared.request.Request.{Request}
-use Rattle.request_data.specs.declared.request.Request.TheVariants.{Submit, Cancel, Hold, Release, Requeue, UpdateJob, UpdateNode, UpdatePartition, CreateReservation, DeleteReservation, Report, Pass, Shutdown, Show}
+use Rattle.request_data.specs.declared.request.Request.TheVariants.{Submit, Cancel, Hold, Release, Requeue, UpdateJob, UpdateNode, UpdatePartition, CreateReservation, DeleteReservation, Report, Pass, Shutdown, Reconfigure, Show}
 use Rattle.request_data.specs.declared.state.Final.{Final}
 use Rattle.request_data.specs.declared.state.Final.TheVariants as final
 use Rattle.request_data.specs.declared.state.JobState.{JobState}
@@ -171,6 +171,7 @@ after-was s now user (DeleteReservation name) job is = inl is
 after-was s now user (Report report) job is = inl (heard-kept s now report job (node_of s report) is)
 after-was s now user Pass job is = inl is
 after-was s now user Shutdown job is = inl is
+after-was s now user (Reconfigure conf bytes) job is = inl is
 after-was s now user (Show query) job is = inl is
 
 -- who is cancelled then was, or is by this

@@ -1,7 +1,9 @@
 -- What becomes of a job at any request but a pass: it stays the same, its user's, by the same start, and runs only where
 -- it ran.
-use Rattle.std.proofs.Common.{ℕ, ◌≡◌, ◌∙◌, Bool, true, false, ◌&&◌, List, [], ◌∷◌, Option, Some, None, refl, sym, ap}
+use Rattle.std.proofs.Common.{ℕ, ◌≡◌, ◌∙◌, Bool, true, false, ◌&&◌, List, [], ◌∷◌, length, map, sum_by, Option, Some, None, refl, sym, ap, arith}
 use Rattle.std.proofs.lemmas.Bool.{both_ways, cond_both}
+use Rattle.std.proofs.lemmas.List.Sums.{sum_by-cons}
+use Rattle.plain_data.specs.Confs.{ConfView}
 use Rattle.plain_data.specs.declared.limit.Limit.{Limit}
 use Rattle.plain_data.specs.declared.nice.Nice.{Nice}
 use Rattle.request_data.specs.declared.report.Done.{Done}
@@ -15,17 +17,19 @@ use Rattle.job_table.specs.declared.record.Part.{Part}
 use Rattle.job_table.specs.declared.change.Change.TheVariants.{CancelPending, DropPart, Leave}
 use Rattle.job_table.specs.Changes.{changed, not_again, off_node, parts_off, with_left}
 use Rattle.job_table.specs.JobStates.{is_pending, is_running, left}
+use Rattle.job_table.specs.Usage.{cpus_held}
 use Rattle.ctl_state.specs.State.{State}
 use Rattle.ctl_jobs.specs.declared.action.Action.{Action}
 use Rattle.ctl_jobs.specs.declared.action.Action.TheVariants as act
 use Rattle.ctl_jobs.specs.Actions.{cancelled_in, done_to, with_limit, with_nice}
 use Rattle.ctl_jobs.specs.Changing.{done_if, may_do}
 use Rattle.ctl_nodes.specs.Failing.{after_loss, failed, failing, loses, off_lost, parts_kept}
+use Rattle.ctl_reconfigure.specs.Reconfiguring.{job_after as job_moved, part_after}
 use Rattle.ctl_node_side.specs.Reporting.{after_told, done_of, final_of, is_at, is_batch_host, is_listed, reported, script_over}
 
--- it holds what it held, since the same moment
+-- it holds as many processors as it held, since the same moment
 pub record Holds (job after : JobRecord) : Type 0 where
-  pub parts : after.parts ≡ job.parts
+  pub cpus : cpus_held after ≡ cpus_held job
   pub started : after.started ≡ job.started
 
 pub record GoesOn (job after : JobRecord) : Type 0 where
@@ -58,7 +62,10 @@ runs-on job after id user assoc starts state parts started = record {
   assoc = assoc;
   starts = starts;
   ran = λ runs. sym (ap is_running state) ∙ runs;
-  holds = λ runs. record { parts = parts; started = started };
+  holds = λ runs. record {
+    cpus = ap (λ (parts : List Part). sum_by (λ (part : Part). length part.cpus) parts) parts;
+    started = started;
+  };
 }
 
 pub goes_itself : (job : JobRecord) → GoesOn job job
@@ -74,7 +81,30 @@ goes_on job middle after one two = record {
   holds = λ runs.
       let first = one.holds (two.ran runs) in
       let second = two.holds runs in
-      record { parts = second.parts ∙ first.parts; started = second.started ∙ first.started };
+      record { cpus = second.cpus ∙ first.cpus; started = second.started ∙ first.started };
+}
+
+-- the same processors on nodes at other places
+pub moved_cpus : (s : State) (conf : ConfView) (parts : List Part)
+    → sum_by (λ (part : Part). length part.cpus) (map (part_after s conf) parts)
+    ≡ sum_by (λ (part : Part). length part.cpus) parts
+moved_cpus s conf [] = refl
+moved_cpus s conf (part ∷ parts) =
+    omega (
+      arith,
+      sum_by-cons (λ (part : Part). length part.cpus) part parts,
+      sum_by-cons (λ (part : Part). length part.cpus) (part_after s conf part) (map (part_after s conf) parts),
+      moved_cpus s conf parts,
+    )
+
+pub moved_goes : (s : State) (conf : ConfView) (job : JobRecord) → GoesOn job (job_moved s conf job)
+moved_goes s conf job = record {
+  id = refl;
+  user = refl;
+  assoc = refl;
+  starts = refl;
+  ran = λ runs. runs;
+  holds = λ runs. record { cpus = moved_cpus s conf job.parts; started = refl };
 }
 
 never-runs : (end : Final) → is_running (left end) ≡ false

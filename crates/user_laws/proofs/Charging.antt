@@ -1,9 +1,11 @@
 -- No step changes what an association has used at its moment: whoever leaves Running is charged just that.
 use Rattle.std.proofs.Common.{ℕ, ◌≡◌, ◌≤◌, ◌<◌, ◌+◌, ◌-◌, ◌*◌, ◌∙◌, min, Bool, true, false, ◌&&◌, not, cond, List, [], ◌∷◌, map, length, Option, Some, None, refl, sym, ap, arith, nat_eq, slice_get}
+use Rattle.std.specs.Prelude.{unwrap_or}
 use Rattle.std.specs.List.{list_any}
 use Rattle.std.proofs.Math.Nat.{mul-zero, sub_self}
 use Rattle.std.proofs.lemmas.Bool.{and_parts, cond_both, not-false}
 use Rattle.std.proofs.lemmas.List.Elements.{All-head, All-weaker}
+use Rattle.plain_data.specs.Confs.{ConfView}
 use Rattle.plain_data.specs.declared.conf.PartState.{PartState}
 use Rattle.plain_data.specs.declared.job.JobDesc.{JobDesc}
 use Rattle.backfill_planner.specs.declared.Placed.{Placed}
@@ -11,7 +13,7 @@ use Rattle.reply_data.specs.declared.reply.Reply.{Reply}
 use Rattle.reply_data.specs.declared.reply.Reply.TheVariants.{Done}
 use Rattle.request_data.specs.declared.report.Report.{Report as Told}
 use Rattle.request_data.specs.declared.request.Request.{Request}
-use Rattle.request_data.specs.declared.request.Request.TheVariants.{Submit, Cancel, Hold, Release, Requeue, UpdateJob, UpdateNode, UpdatePartition, CreateReservation, DeleteReservation, Report, Pass, Shutdown, Show}
+use Rattle.request_data.specs.declared.request.Request.TheVariants.{Submit, Cancel, Hold, Release, Requeue, UpdateJob, UpdateNode, UpdatePartition, CreateReservation, DeleteReservation, Report, Pass, Shutdown, Reconfigure, Show}
 use Rattle.request_data.specs.declared.state.Final.TheVariants as final
 use Rattle.node_state.specs.Partitions.{place_meant}
 use Rattle.job_table.specs.declared.record.JobRecord.{JobRecord}
@@ -42,10 +44,12 @@ use Rattle.ctl_node_side.specs.Reporting.{reported}
 use Rattle.ctl_node_side.specs.Restarting.{made_by_report, met}
 use Rattle.ctl_node_side.specs.Silence.{any_silent, silent_at, silenced, without_silent}
 use Rattle.ctl_submit.specs.Submission.{Basis, basis_of, made_under, new_jobs}
+use Rattle.ctl_reconfigure.specs.Reconfiguring.{job_after as job_moved, reconfigured}
+use Rattle.ctl_reconfigure.specs.Same.{is_same}
 use Rattle.ctl_core.specs.Operating.{is_in_state, partition_after, partition_made}
 use Rattle.ctl_core.specs.Step.{made, raised, state_after}
 use Rattle.user_laws.specs.Using.{cpus_run_by}
-use Rattle.user_laws.proofs.Changes.{GoesOn, done_if_goes, goes_itself, leave_goes, loss_goes, report_goes}
+use Rattle.user_laws.proofs.Changes.{GoesOn, done_if_goes, goes_itself, leave_goes, loss_goes, moved_cpus, report_goes}
 use Rattle.user_laws.proofs.Starting.{MayStart, Passes, Waits, may_start_later, may_start_on, pass_may}
 use Rattle.user_laws.proofs.States.{ended_still, waits_still}
 use Rattle.user_laws.proofs.Steps.{MakesBy, made_by, step_is}
@@ -103,6 +107,16 @@ partition-used s now state None = tt
 partition-used s now state (Some place) =
     cond_both (is_in_state state (slice_get s.partitions place)) Stays (Makes Done (partition_after s place state))
     (MakesBy (UsedBy now s)) (λ had. tt) (λ out. used-itself now s)
+
+-- jobs whose nodes are at other places hold what they held
+moved-used : (s : State) (now : ℕ) (conf : ConfView) → IsUsed now s (reconfigured s now conf)
+unfolding used_running used_by
+moved-used s now conf =
+    same-used now s (reconfigured s now conf) refl
+    (λ place. map_same now place (λ (job : JobRecord). Unit {0}) (job_moved s conf) s.jobs (λ k d below. tt)
+    (λ job any. ap (λ (held : ℕ).
+    cond (nat_eq job.assoc place) (cond (is_running job.state) (held * (now - unwrap_or job.started 0)) 0) 0)
+    (moved_cpus s conf job.parts)))
 
 met-used : (s : State) (now node : ℕ) (report : Told) → IsUsed now s (met s now node report)
 met-used s now node report =
@@ -222,6 +236,9 @@ used-by passes s now user Pass sound later in_time =
     cond_both (pass_is_idle s now) Stays _ (MakesBy (UsedBy now s)) (λ idle. tt)
     (λ busy. pass-used passes s now sound later in_time)
 used-by passes s now user Shutdown sound later in_time = used-itself now s
+used-by passes s now user (Reconfigure conf bytes) sound later in_time =
+    cond_both (is_same s conf) Stays (Makes Done (reconfigured s now conf)) (MakesBy (UsedBy now s)) (λ same. tt)
+    (λ other. moved-used s now conf)
 used-by passes s now user (Show query) sound later in_time = tt
 
 -- A step leaves what each association has used at its moment.

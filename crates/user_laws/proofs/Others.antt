@@ -13,7 +13,7 @@ use Rattle.reply_data.specs.declared.refusal.Refusal.TheVariants.{AccessDenied}
 use Rattle.reply_data.specs.declared.reply.Reply.{Reply}
 use Rattle.reply_data.specs.declared.reply.Reply.TheVariants.{Done}
 use Rattle.request_data.specs.declared.request.Request.{Request}
-use Rattle.request_data.specs.declared.request.Request.TheVariants.{Submit, Cancel, Hold, Release, Requeue, UpdateJob, UpdateNode, UpdatePartition, CreateReservation, DeleteReservation, Report, Pass, Shutdown, Show}
+use Rattle.request_data.specs.declared.request.Request.TheVariants.{Submit, Cancel, Hold, Release, Requeue, UpdateJob, UpdateNode, UpdatePartition, CreateReservation, DeleteReservation, Report, Pass, Shutdown, Reconfigure, Show}
 use Rattle.job_table.specs.declared.record.JobRecord.{JobRecord}
 use Rattle.ctl_state.specs.Refusals.{first_refusal, is_privileged, refused_if}
 use Rattle.ctl_state.specs.State.{State}
@@ -194,6 +194,8 @@ leaves-by s now user (DeleteReservation name) plain none =
 leaves-by s now user (Report report) plain none = denied s user (made s now user (Report report)) _ plain none
 leaves-by s now user Pass plain none = denied s user (made s now user Pass) _ plain none
 leaves-by s now user Shutdown plain none = denied s user (made s now user Shutdown) _ plain none
+leaves-by s now user (Reconfigure conf bytes) plain none =
+    denied s user (made s now user (Reconfigure conf bytes)) _ plain none
 leaves-by s now user (Show query) plain none = tt
 
 pub others_left : (s : State) (now : ℕ) (user : List ℕ) (request : Request) → is_privileged s user ≡ false

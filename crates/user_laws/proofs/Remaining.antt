@@ -8,7 +8,7 @@ use Rattle.reply_data.specs.declared.reply.Reply.{Reply}
 use Rattle.reply_data.specs.declared.reply.Reply.TheVariants.{Done}
 use Rattle.request_data.specs.declared.report.Report.{Report as Told}
 use Rattle.request_data.specs.declared.request.Request.{Request}
-use Rattle.request_data.specs.declared.request.Request.TheVariants.{Submit, Cancel, Hold, Release, Requeue, UpdateJob, UpdateNode, UpdatePartition, CreateReservation, DeleteReservation, Report, Pass, Shutdown, Show}
+use Rattle.request_data.specs.declared.request.Request.TheVariants.{Submit, Cancel, Hold, Release, Requeue, UpdateJob, UpdateNode, UpdatePartition, CreateReservation, DeleteReservation, Report, Pass, Shutdown, Reconfigure, Show}
 use Rattle.node_state.specs.Partitions.{place_meant}
 use Rattle.job_table.specs.declared.record.JobRecord.{JobRecord}
 use Rattle.ctl_state.specs.State.{State}
@@ -23,6 +23,8 @@ use Rattle.ctl_node_side.specs.Passes.{pass_is_idle}
 use Rattle.ctl_node_side.specs.Restarting.{made_by_report}
 use Rattle.ctl_node_side.specs.Silence.{any_silent, silenced, without_silent}
 use Rattle.ctl_submit.specs.Submission.{Basis, basis_of, made_under}
+use Rattle.ctl_reconfigure.specs.Reconfiguring.{reconfigured}
+use Rattle.ctl_reconfigure.specs.Same.{is_same}
 use Rattle.ctl_core.specs.Operating.{is_in_state, partition_after, partition_made}
 use Rattle.ctl_core.specs.Step.{made, raised, state_after}
 use Rattle.user_laws.proofs.Steps.{MakesBy, made_by, step_is}
@@ -80,6 +82,9 @@ keeps-by s now user (Report report) = report-keeps s now report (node_of s repor
 keeps-by s now user Pass =
     cond_both (pass_is_idle s now) Stays _ (MakesBy (Keeps s)) (λ idle. tt) (λ busy. silence-keeps s now)
 keeps-by s now user Shutdown = refl
+keeps-by s now user (Reconfigure conf bytes) =
+    cond_both (is_same s conf) Stays (Makes Done (reconfigured s now conf)) (MakesBy (Keeps s)) (λ same. tt)
+    (λ other. refl)
 keeps-by s now user (Show query) = tt
 
 pub assocs_stay : (s : State) (now : ℕ) (user : List ℕ) (request : Request)

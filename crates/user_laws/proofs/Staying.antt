@@ -6,7 +6,7 @@ use Rattle.std.proofs.lemmas.List.Elements.{All-weaker}
 use Rattle.request_data.specs.declared.report.Report.{Report as Told}
 use Rattle.request_data.specs.declared.request.NodeOrder.TheVariants as order
 use Rattle.request_data.specs.declared.request.Request.{Request}
-use Rattle.request_data.specs.declared.request.Request.TheVariants.{Submit, Cancel, Hold, Release, Requeue, UpdateJob, UpdateNode, UpdatePartition, CreateReservation, DeleteReservation, Report, Pass, Shutdown, Show}
+use Rattle.request_data.specs.declared.request.Request.TheVariants.{Submit, Cancel, Hold, Release, Requeue, UpdateJob, UpdateNode, UpdatePartition, CreateReservation, DeleteReservation, Report, Pass, Shutdown, Reconfigure, Show}
 use Rattle.job_table.specs.declared.record.JobRecord.{JobRecord}
 use Rattle.job_table.specs.declared.record.Part.{Part}
 use Rattle.job_table.specs.JobStates.{is_pending, is_running}
@@ -19,7 +19,7 @@ use Rattle.ctl_node_side.specs.Answering.{is_restarted, node_of}
 use Rattle.ctl_node_side.specs.Reporting.{reported}
 use Rattle.ctl_core.specs.Step.{raised, state_after}
 use Rattle.user_laws.specs.Staying.{HasGone, IsSame, RunsThere, may_end}
-use Rattle.user_laws.proofs.Changes.{GoesOn, done_if_goes, goes_itself, goes_on, loss_goes, mild_stays, report_goes}
+use Rattle.user_laws.proofs.Changes.{GoesOn, done_if_goes, goes_itself, goes_on, loss_goes, mild_stays, moved_goes, report_goes}
 use Rattle.user_laws.proofs.Lists.{any_weaker, turns_itself}
 use Rattle.user_laws.proofs.States.{waits_still}
 use Rattle.user_laws.proofs.Turning.{Becomes, HasCome, job_after, met_job, step_turns, told_job}
@@ -53,6 +53,7 @@ after-goes s now user (DeleteReservation name) job = goes_itself job
 after-goes s now user (Report report) job = told-goes s now report job (node_of s report)
 after-goes s now user Pass job = goes_itself job
 after-goes s now user Shutdown job = goes_itself job
+after-goes s now user (Reconfigure conf bytes) job = moved_goes s conf job
 after-goes s now user (Show query) job = goes_itself job
 
 -- what a job becomes at a request that is no pass
@@ -71,6 +72,7 @@ becomes_after s now user (DeleteReservation name) job after other is = is
 becomes_after s now user (Report report) job after other is = is
 becomes_after s now user Pass job after other is = absurd (other refl)
 becomes_after s now user Shutdown job after other is = is
+becomes_after s now user (Reconfigure conf bytes) job after other is = is
 becomes_after s now user (Show query) job after other is = is
 
 pub becomes_goes : (s : State) (now : ℕ) (user : List ℕ) (request : Request) (job after : JobRecord) → request ≢ Pass
@@ -103,6 +105,8 @@ becomes-id s now user (CreateReservation desc) job after is = id-by s now user (
 becomes-id s now user (DeleteReservation name) job after is = id-by s now user (DeleteReservation name) job after is
 becomes-id s now user (Report report) job after is = id-by s now user (Report report) job after is
 becomes-id s now user Shutdown job after is = id-by s now user Shutdown job after is
+becomes-id s now user (Reconfigure conf bytes) job after is =
+    id-by s now user (Reconfigure conf bytes) job after is
 becomes-id s now user (Show query) job after is = id-by s now user (Show query) job after is
 
 pub none_lost : (s : State) (now : ℕ) (user : List ℕ) (request : Request) → All (λ (job : JobRecord).
@@ -142,6 +146,7 @@ new_never s (DeleteReservation name) job never = absurd never
 new_never s (Report report) job never = absurd never
 new_never s Pass job never = absurd never
 new_never s Shutdown job never = absurd never
+new_never s (Reconfigure conf bytes) job never = absurd never
 new_never s (Show query) job never = absurd never
 
 same-back : (job after : JobRecord) → GoesOn job after → IsSame after job
@@ -228,6 +233,7 @@ state_stays s now user (DeleteReservation name) job mild = refl
 state_stays s now user (Report report) job mild = absurd (both_ways true mild refl)
 state_stays s now user Pass job mild = absurd (both_ways true mild refl)
 state_stays s now user Shutdown job mild = refl
+state_stays s now user (Reconfigure conf bytes) job mild = refl
 state_stays s now user (Show query) job mild = refl
 
 never-gone : (s : State) (now : ℕ) (request : Request) (job : JobRecord) → request ≢ Pass → HasGone s now request job → ⊥
@@ -244,6 +250,7 @@ never-gone s now (DeleteReservation name) job other gone = gone
 never-gone s now (Report report) job other gone = gone
 never-gone s now Pass job other gone = other refl
 never-gone s now Shutdown job other gone = gone
+never-gone s now (Reconfigure conf bytes) job other gone = gone
 never-gone s now (Show query) job other gone = gone
 
 no-pass : (request : Request) → may_end request ≡ false → request ≢ Pass

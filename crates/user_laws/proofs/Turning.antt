@@ -11,7 +11,7 @@ use Rattle.reply_data.specs.declared.reply.Reply.{Reply}
 use Rattle.reply_data.specs.declared.reply.Reply.TheVariants.{Done}
 use Rattle.request_data.specs.declared.report.Report.{Report as Told}
 use Rattle.request_data.specs.declared.request.Request.{Request}
-use Rattle.request_data.specs.declared.request.Request.TheVariants.{Submit, Cancel, Hold, Release, Requeue, UpdateJob, UpdateNode, UpdatePartition, CreateReservation, DeleteReservation, Report, Pass, Shutdown, Show}
+use Rattle.request_data.specs.declared.request.Request.TheVariants.{Submit, Cancel, Hold, Release, Requeue, UpdateJob, UpdateNode, UpdatePartition, CreateReservation, DeleteReservation, Report, Pass, Shutdown, Reconfigure, Show}
 use Rattle.request_data.specs.declared.state.Final.TheVariants as final
 use Rattle.node_state.specs.Partitions.{place_meant}
 use Rattle.job_table.specs.declared.record.JobRecord.{JobRecord}
@@ -38,6 +38,8 @@ use Rattle.ctl_node_side.specs.Reporting.{report_after, reported}
 use Rattle.ctl_node_side.specs.Restarting.{made_by_report, met}
 use Rattle.ctl_node_side.specs.Silence.{any_silent, silent_at, silenced, without_silent}
 use Rattle.ctl_submit.specs.Submission.{Basis, basis_of, made_under, new_jobs, task}
+use Rattle.ctl_reconfigure.specs.Reconfiguring.{job_after as job_moved, reconfigured}
+use Rattle.ctl_reconfigure.specs.Same.{is_same}
 use Rattle.ctl_core.specs.Operating.{is_in_state, partition_after, partition_made}
 use Rattle.ctl_core.specs.Step.{made, raised, state_after}
 use Rattle.user_laws.specs.Staying.{HasGone}
@@ -66,6 +68,7 @@ job_after s now user (UpdateJob target limit nice) job =
     done_if s now user (act.Update limit nice) (are_naming (target ∷ [])) job
 job_after s now user (UpdateNode nodes state) job = after_loss now (lost_by s.nodes nodes state) job
 job_after s now user (Report report) job = told_job s now report job (node_of s report)
+job_after s now user (Reconfigure conf bytes) job = job_moved s conf job
 job_after s now user request job = job
 
 -- A pass leaves each job its number; any other request makes this of it.
@@ -284,6 +287,11 @@ turns-by s now user Shutdown =
 turns-by s now user (Report report) = report-turns s now report (node_of s report)
 turns-by s now user Pass =
     cond_both (pass_is_idle s now) Stays _ (MakesBy (TurnsBy s now user Pass)) (λ idle. tt) (λ busy. pass-turns s now)
+turns-by s now user (Reconfigure conf bytes) =
+    cond_both (is_same s conf) Stays (Makes Done (reconfigured s now conf))
+    (MakesBy (TurnsBy s now user (Reconfigure conf bytes))) (λ same. tt)
+    (λ other. turns_map (Becomes s now user (Reconfigure conf bytes)) (λ job. ⊥) (λ job. ⊥) (job_moved s conf) s.jobs
+    (λ job. refl))
 turns-by s now user (Show query) = tt
 
 -- What a step does to jobs: nothing, or what its request makes of each.

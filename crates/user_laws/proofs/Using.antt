@@ -39,7 +39,7 @@ one-conserved : (now place : ℕ) (job after : JobRecord) → GoesOn job after
 unfolding used_running used_when_left used_by
 one-conserved now place job after goes =
     let held : is_running after.state ≡ true → used_by now after ≡ used_by now job =
-    λ runs. let holds = goes.holds runs in rw (holds.parts, holds.started) refl in
+    λ runs. let holds = goes.holds runs in rw (holds.cpus, holds.started) refl in
     split (nat_eq job.assoc place) (is_running job.state) (is_running after.state) (used_by now job) (used_by now after)
     goes.ran held
     ∙ ap (λ who. cond (nat_eq who place) (used_running now after) 0 + leaves now place job after) (sym goes.assoc)

@@ -37,7 +37,8 @@ pub fn no_job_is_lost()
 
 /// Only a pass starts jobs: after any other step each job is an old one, started as often, or a new one that was never
 /// started, and whoever runs ran before by the same start. And only passes, reports, cancels, requeues and nodes that
-/// are set down take a job out of Running: it runs on through any other step.
+/// are set down take a job out of Running: it runs on through any other step, and a new
+/// slurm.conf is one.
 pub fn only_passes_start_jobs()
     ensures starts { (s : State) (now : ℕ) (user : List ℕ) (request : Request) → request ≢ Pass
         → All (λ (after : JobRecord). Any (λ (job : JobRecord). IsSame after job) s.jobs ⊎ (after.starts ≡ 0))

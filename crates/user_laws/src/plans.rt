@@ -30,7 +30,8 @@ pub fn who_ranks_below_takes_no_place()
 }
 
 /// The first in rank never slips: while no node that plans may use is lost, and no more is held of any node from a later
-/// plan's moment on, that plan begins the same first job no later, as long as its start hasn't passed.
+/// plan's moment on, that plan begins the same first job no later, as long as its start hasn't passed. Nodes are told by
+/// their places here: a slurm.conf that takes nodes away or puts them in another order in between is outside of it.
 pub fn the_first_in_rank_never_slips()
     ensures { (base next : BaseView) (job : PlanJob) (ranked others : List PlanJob) (now moment : ℕ) (placed : Placed)
         → RoomsStay base.rooms next.rooms → HoldNoMore base.holds next.holds moment

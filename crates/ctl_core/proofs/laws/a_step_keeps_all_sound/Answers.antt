@@ -14,4 +14,5 @@ returns c = sound-step (record {
   reports = c.a_report_met_keeps_all_sound.ensures;
   passes = c.a_whole_pass_keeps_all_sound.ensures;
   sizes = c.sizes_keep_all_sound.ensures;
+  reconfigurations = c.a_reconfiguration_keeps_all_sound.ensures;
 })

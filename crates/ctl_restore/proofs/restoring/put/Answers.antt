@@ -3,7 +3,7 @@ use Rattle.std.proofs.lemmas.Bool.{both_ways}
 use Rattle.ctl_state.specs.Soundness.{PlansPending}
 use Rattle.ctl_state.specs.State.{state_of}
 use Rattle.ctl_restore.specs.Parts.{AreWellKept}
-use Rattle.ctl_restore.specs.Restored.{restored_job, restored_node, restored_over, restored_placed, standings}
+use Rattle.ctl_restore.specs.Restored.{gone_names, restored_job, restored_node, restored_over, restored_placed, standings}
 use Rattle.ctl_restore.proofs.Assembly.{sound-restored}
 use Rattle.ctl_restore.proofs.Fitting.{are-restored, parts-there, plan-sound, rising-restored, well-kept}
 use Rattle.ctl_restore.proofs.restoring.put.Goals as goal
@@ -55,6 +55,7 @@ returns-clause-state c =
       c.requires.reservations,
       c.requires.parts.arrays,
       c.requires.parts.plan,
+      c.requires.parts.gone,
     )
     refl
 
@@ -65,7 +66,7 @@ returns-clause-sound c =
     let kept : AreWellKept saved.moment (map (restored_node (standings saved)) s.nodes) (map (restored_job s) saved.jobs) =
     rw (c.in_ok-stand_nodes.ensures.records, c.as_slice-2.ensures.value, c.requires.parts.jobs)
     at (c.hold_well.ensures.well.0 c.if-not-hold_well.false) in
-    let plan : PlansPending (map (restored_job s) saved.jobs) (map (restored_placed s.nodes) saved.plan) =
+    let plan : PlansPending (map (restored_job s) saved.jobs) (map (restored_placed s.nodes (gone_names s.nodes saved.plan)) saved.plan) =
     rw (
       c.in_ok-add_jobs.ensures.records,
       c.requires.parts.jobs,

@@ -13,7 +13,8 @@ pub loop-share-preserved : goal.loop-share-preserved
 unfolding saved_shares
 loop-share-preserved c =
     let nodes = c.args.nodes.now in
-    let more = filter_map-more (saved_share nodes) c.args.shares.now c.loop-share.share-index _ [] in
+    let gone = c.args.gone.now in
+    let more = filter_map-more (saved_share nodes gone) c.args.shares.now c.loop-share.share-index _ [] in
     elim c.match-branch-3.branch [
       | in-Some+in_ok-push w ↦
           rw (w.saved-is, w.in_ok-push.ensures.items, c.loop-share.invariant)

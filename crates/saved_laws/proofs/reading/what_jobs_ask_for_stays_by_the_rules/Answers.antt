@@ -20,4 +20,4 @@ returns-clause-history c = history_ruled
 
 pub returns-clause-restored : goal.returns-clause-restored
 returns-clause-restored c = λ conf file s files sound kept ruled.
-    subst AreByRules (sym (c.what_is_saved_comes_back.ensures.state conf file s files sound kept)) ruled
+    subst AreByRules (sym (c.what_is_saved_comes_back.ensures.rest conf file s files sound kept)) ruled

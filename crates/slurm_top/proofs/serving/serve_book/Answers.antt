@@ -22,6 +22,7 @@ returns-in-Shut-clause-served g c =
         served = shut.served;
       },
       wrote (g.L.Link.wire c.args.link.now) (g.L.Link.wire c.serve.new.output) _ _ _ _ _ _ _ _ _ _ side side' shut.beside (serving_line c.args.words.now.port) shut.written,
+      shut.unfailed,
     )
 
 pub returns-in-DoorFault-clause-served : goal.returns-in-DoorFault-clause-served

@@ -1,0 +1,10 @@
+pub mod Names
+pub mod Same
+pub mod Files
+pub mod Blocking
+pub mod Refusing
+pub mod Reconfiguring
+pub mod Moving
+pub mod Moves
+pub mod Making
+pub mod Naming

@@ -1,0 +1,22 @@
+-- The numbers stay.
+use Rattle.std.proofs.Common.{refl, ◌∙◌, ap, map}
+use Rattle.std.specs.Map.{values_of}
+use Rattle.job_table.specs.Moving.{partition_moved}
+use Rattle.job_table.specs.Table.{JobsView}
+use Rattle.job_table.proofs.Entries.{table-entries, values-entries}
+use Rattle.job_table.proofs.Moved.{rising-map}
+use Rattle.job_table.proofs.jobs.Jobs.move_partitions.Goals as goal
+
+pub invariant_of-self : goal.invariant_of-self
+invariant_of-self c =
+    let jobs = values_of c.self.inside.by_id.entries in
+    let f = partition_moved c.args.places.now in
+    table-entries c.move_all_partitions.new.by_id.entries (map f jobs) c.move_all_partitions.ensures
+    (rising-map f (λ job. refl) jobs c.self.invariant.rising)
+
+pub returns-clause-records : goal.returns-clause-records
+returns-clause-records c =
+    let jobs = values_of c.self.inside.by_id.entries in
+    let f = partition_moved c.args.places.now in
+    ap values_of c.move_all_partitions.ensures ∙ values-entries (map f jobs)
+    ∙ ap (λ (view : JobsView). map f view.records) c.self.view_is
