@@ -1,5 +1,5 @@
 -- Names of hosts and their numbers.
-use Rattle.std.proofs.Common.{ℕ, ◌≡◌, ◌+◌, ◌-◌, ◌^◌, ◌<◌, ◌≤◌, ◌||◌, if◌then◌else◌, Bool, true, false, List, [], ◌∷◌, ◌++◌, map, sym, refl, ap, ◌∙◌, arith}
+use Rattle.std.proofs.Common.{ℕ, zero, suc, ◌≡◌, ◌+◌, ◌-◌, ◌^◌, ◌<◌, ◌≤◌, ◌||◌, if◌then◌else◌, Bool, true, false, List, [], ◌∷◌, ◌++◌, map, sym, refl, ap, ◌∙◌, arith}
 use Rattle.std.specs.Str.{bytes_eq}
 use Rattle.std.specs.List.{list_all, range_with_len}
 use Rattle.std.proofs.Math.Nat.{pow-le-pow_right}
@@ -46,6 +46,21 @@ pub numbers_more : {X : Type 0} (f : ℕ → X) (first number : ℕ) → first �
 numbers_more f first number h =
     let n : number + 1 - first ≡ number - first + 1 = omega arith in
     rw n (map-range_with_len_more f first (number - first) number (omega arith))
+
+-- the numbers up to one, and the others
+numbers_on : {X : Type 0} (f : ℕ → X) (n first number len : ℕ) → number ≡ first + n → map f (range_with_len first (n + len)) ≡ map f (range_with_len first n) ++ map f (range_with_len number len)
+numbers_on f zero first number len e =
+    let same : number ≡ first = omega arith in
+    let all : zero + len ≡ len = omega arith in
+    rw (same, all) refl
+numbers_on f (suc n) first number len e =
+    let all : suc n + len ≡ suc (n + len) = omega arith in
+    rw all (ap (λ (xs : List _). f first ∷ xs) (numbers_on f n (first + 1) number len (omega arith)))
+
+pub numbers_up_to : {X : Type 0} (f : ℕ → X) (first number end : ℕ) → first ≤ number → number ≤ end → map f (range_with_len first (end - first)) ≡ map f (range_with_len first (number - first)) ++ map f (range_with_len number (end - number))
+numbers_up_to f first number end h k =
+    let all : end - first ≡ number - first + (end - number) = omega arith in
+    ap (λ (n : ℕ). map f (range_with_len first n)) all ∙ numbers_on f (number - first) first number (end - number) (omega arith)
 
 -- one of the numbers fails a test
 pub numbers_bad : {X : Type 0} (p : X → Bool) (f : ℕ → X) (first last number : ℕ) → first ≤ number → number < last → p (f number) ≡ false → list_all p (map f (range_with_len first (last - first))) ≡ false

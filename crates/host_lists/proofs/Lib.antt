@@ -1,13 +1,16 @@
 pub mod Both
 pub mod BracketLemmas
 pub mod ByteOrder
+pub mod CountLemmas
 pub mod Decimals
 pub mod FoldedItems
 pub mod FoldedNames
 pub mod FoldingLaw
 pub mod FoldingLemmas
+pub mod FoundLemmas
 pub mod Groups
 pub mod HostLemmas
 pub mod ItemLemmas
 pub mod NameSets
 pub mod NumberLemmas
+pub mod RunLemmas

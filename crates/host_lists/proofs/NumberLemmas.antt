@@ -17,7 +17,7 @@ use Rattle.std.proofs.lemmas.List.Folds.{list_all-append}
 use Rattle.small_texts.specs.Digits.{number_within}
 use Rattle.small_texts.specs.Name.{is_name, is_name_byte}
 use Rattle.host_lists.specs.Hosts.{Numbers, padded, range_names, has, with_name}
-use Rattle.host_lists.specs.Counting.{is_key, name_at, names_at}
+use Rattle.host_lists.specs.Counting.{is_key, name_at}
 use Rattle.host_lists.proofs.Decimals.{own}
 use Rattle.host_lists.proofs.HostLemmas.{numbers_bad, numbers_more, bytes_eq-same, bytes_eq-refl}
 use Rattle.host_lists.proofs.BracketLemmas.{length-fold-with_name}
@@ -104,12 +104,13 @@ too_long prefix width n k = rw (length-append prefix (padded width n)) (by_size 
   by_size m t k = grind (arith, nat_tests)
 
 -- a greater number has no fewer digits
-decimal-rising : (n m : ℕ) → n ≤ m → m < 2 ^ 64 → length (decimal n) ≤ length (decimal m)
+pub below_own : (n : ℕ) → n < 2 ^ 64 → n < 10 ^ length (decimal n)
+below_own n h =
+    subst (λ (x : ℕ). x < 10 ^ length (decimal n)) (digits_value-decimal own n h) (digits_value_short own (decimal n) (length (decimal n)) (digits_decimal own n h) (omega arith))
+
+pub decimal-rising : (n m : ℕ) → n ≤ m → m < 2 ^ 64 → length (decimal n) ≤ length (decimal m)
 decimal-rising n m h k =
-    length-decimal-le (length (decimal m)) n (decimal_nonempty m k) (omega (arith, h, below)) (omega (arith, h, k))
-  where
-    below : m < 10 ^ length (decimal m)
-    below = subst (λ (x : ℕ). x < 10 ^ length (decimal m)) (digits_value-decimal own m k) (digits_value_short own (decimal m) (length (decimal m)) (digits_decimal own m k) (omega arith))
+    length-decimal-le (length (decimal m)) n (decimal_nonempty m k) (omega (arith, h, below_own m k)) (omega (arith, h, k))
 
 all_of_range : (p : List ℕ → Bool) (f : ℕ → List ℕ) (first count : ℕ) → ((n : ℕ) → first ≤ n → n < first + count → p (f n) ≡ true) → list_all p (map f (range_with_len first count)) ≡ true
 all_of_range p f first zero h = refl
@@ -170,7 +171,7 @@ same_key prefix a b h k e =
     let low : a % 2 ^ 32 ≡ b % 2 ^ 32 = sym (padded-value (a / 2 ^ 32) (a % 2 ^ 32) (low_part a)) ∙ (ap (digits_value 10) back ∙ padded-value (b / 2 ^ 32) (b % 2 ^ 32) (low_part b)) in
     omega (arith, wide, low)
 
-one_key : (prefix : List ℕ) (a b : ℕ) → is_key a ≡ true → is_key b ≡ true → bytes_eq (name_at prefix b) (name_at prefix a) ≡ (a == b)
+pub one_key : (prefix : List ℕ) (a b : ℕ) → is_key a ≡ true → is_key b ≡ true → bytes_eq (name_at prefix b) (name_at prefix a) ≡ (a == b)
 one_key prefix a b h k = by_test (bytes_eq (name_at prefix b) (name_at prefix a)) refl (a == b) refl where
   by_test : (s : Bool) → bytes_eq (name_at prefix b) (name_at prefix a) ≡ s → (t : Bool) → (a == b) ≡ t → s ≡ t
   by_test true e true g = refl
@@ -180,17 +181,17 @@ one_key prefix a b h k = by_test (bytes_eq (name_at prefix b) (name_at prefix a)
     apart x y p q = grind (arith, nat_tests)
   by_test false e true g = sym (sym (bytes_eq-refl (name_at prefix b)) ∙ (ap (λ (x : ℕ). bytes_eq (name_at prefix b) (name_at prefix x)) (sym (eqb-true a b g)) ∙ e))
 
-has-key : (prefix : List ℕ) (key : ℕ) (keys : List ℕ) → is_key key ≡ true → list_all is_key keys ≡ true → has (name_at prefix key) (names_at prefix keys) ≡ list_any (λ y. y == key) keys
+pub has-key : (prefix : List ℕ) (key : ℕ) (keys : List ℕ) → is_key key ≡ true → list_all is_key keys ≡ true → has (name_at prefix key) (map (name_at prefix) keys) ≡ list_any (λ y. y == key) keys
 has-key prefix key [] h k = refl
 has-key prefix key (x ∷ keys) h k =
     rw (one_key prefix x key (both-left (is_key x) (list_all is_key keys) k) h, has-key prefix key keys h (both-right (is_key x) (list_all is_key keys) k)) refl
 
 -- the key of a number that is written in at least so many digits
-record IsKeyOf (width n key : ℕ) : Type 0 where
+pub record IsKeyOf (width n key : ℕ) : Type 0 where
   pub good : is_key key ≡ true
   pub name : (prefix : List ℕ) → name_at prefix key ≡ prefix ++ padded width n
 
-key_of : (width n digits key : ℕ) → n < 10 ^ 9 → digits ≡ width - length (decimal n) + length (decimal n) → key ≡ digits * 2 ^ 32 + n → IsKeyOf width n key
+pub key_of : (width n digits key : ℕ) → n < 10 ^ 9 → digits ≡ width - length (decimal n) + length (decimal n) → key ≡ digits * 2 ^ 32 + n → IsKeyOf width n key
 key_of width n digits key h d e = record {
   good = rw (high, low) (wide (length (decimal n)) digits (omega arith));
   name = λ prefix. rw (high, low) (ap (λ (k : ℕ). prefix ++ (replicate k 48 ++ decimal n)) (omega (arith, d)));
@@ -207,43 +208,6 @@ key_of width n digits key h d e = record {
 pub padded-max : (a b : ℕ) → max a b ≡ b - a + a
 padded-max a b = grind arith
 
-pub key-old : (prefix : List ℕ) (width n key : ℕ) (keys : List ℕ) → n < 10 ^ 9 → key ≡ max (length (decimal n)) width * 2 ^ 32 + n → list_all is_key keys ≡ true → list_any (λ y. y == key) keys ≡ true → names_at prefix keys ≡ with_name (names_at prefix keys) (prefix ++ padded width n)
-key-old prefix width n key keys h e k t =
-    let is : IsKeyOf width n key = key_of width n (max (length (decimal n)) width) key h (padded-max (length (decimal n)) width) e in
-    let known : has (prefix ++ padded width n) (names_at prefix keys) ≡ true = ap (λ (q : List ℕ). has q (names_at prefix keys)) (sym (is.name prefix)) ∙ (has-key prefix key keys is.good k ∙ t) in
-    rw known refl
-
-pub key-new : (prefix : List ℕ) (width n key : ℕ) (keys : List ℕ) → n < 10 ^ 9 → key ≡ max (length (decimal n)) width * 2 ^ 32 + n → list_all is_key keys ≡ true → list_any (λ y. y == key) keys ≡ false → names_at prefix (keys ++ key ∷ []) ≡ with_name (names_at prefix keys) (prefix ++ padded width n)
-key-new prefix width n key keys h e k t =
-    let is : IsKeyOf width n key = key_of width n (max (length (decimal n)) width) key h (padded-max (length (decimal n)) width) e in
-    let known : has (prefix ++ padded width n) (names_at prefix keys) ≡ false = ap (λ (q : List ℕ). has q (names_at prefix keys)) (sym (is.name prefix)) ∙ (has-key prefix key keys is.good k ∙ t) in
-    rw known (map-append (name_at prefix) keys (key ∷ []) ∙ ap (λ (q : List ℕ). names_at prefix keys ++ q ∷ []) (is.name prefix))
-
-pub key-full : (prefix : List ℕ) (width n key : ℕ) (keys : List ℕ) → n < 10 ^ 9 → key ≡ max (length (decimal n)) width * 2 ^ 32 + n → list_all is_key keys ≡ true → list_any (λ y. y == key) keys ≡ false → length keys ≡ 1024 → 1024 < length (with_name (names_at prefix keys) (prefix ++ padded width n))
-key-full prefix width n key keys h e k t full =
-    subst (λ (x : List (List ℕ)). 1024 < length x) (key-new prefix width n key keys h e k t) (omega (arith, full, length-map (keys ++ key ∷ []) (name_at prefix), length-append keys (key ∷ [])))
-
--- names only grow in number
-fold-front : (k : ℕ) (names found : List (List ℕ)) → length (fold with_name found (take k names)) ≤ length (fold with_name found names)
-fold-front zero names found = length-fold-with_name names found
-fold-front (suc k) [] found = omega arith
-fold-front (suc k) (name ∷ names) found = fold-front k names (with_name found name)
-
-pub range-full : (prefix : List ℕ) (numbers : Numbers) (number : ℕ) (found now : List (List ℕ)) → numbers.first ≤ number → number ≤ numbers.last → now ≡ fold with_name found (map (λ n. prefix ++ padded numbers.width n) (range_with_len numbers.first (number - numbers.first))) → 1024 < length (with_name now (prefix ++ padded numbers.width number)) → 1024 < length (fold with_name found (range_names prefix numbers))
-unfolding range_names
-range-full prefix numbers number found now h k e full =
-    let f : ℕ → List ℕ = λ n. prefix ++ padded numbers.width n in
-    let all : List (List ℕ) = map f (range_with_len numbers.first (numbers.last + 1 - numbers.first)) in
-    let front : take (number + 1 - numbers.first) all ≡ map f (range_with_len numbers.first (number - numbers.first)) ++ f number ∷ [] = take-map-range_with_len f numbers.first (numbers.last + 1 - numbers.first) (number + 1 - numbers.first) (omega arith) ∙ numbers_more f numbers.first number h in
-    let counted : fold with_name found (take (number + 1 - numbers.first) all) ≡ with_name now (f number) = ap (fold with_name found) front ∙ (fold-append with_name found (map f (range_with_len numbers.first (number - numbers.first))) (f number ∷ []) ∙ ap (λ (x : List (List ℕ)). with_name x (f number)) (sym e)) in
-    omega (arith, full, ap length counted, fold-front (number + 1 - numbers.first) all found)
-
-pub range-more : (prefix : List ℕ) (first width number : ℕ) (found now new : List (List ℕ)) → first ≤ number → now ≡ fold with_name found (map (λ n. prefix ++ padded width n) (range_with_len first (number - first))) → new ≡ with_name now (prefix ++ padded width number) → new ≡ fold with_name found (map (λ n. prefix ++ padded width n) (range_with_len first (number + 1 - first)))
-range-more prefix first width number found now new h e k =
-    let f : ℕ → List ℕ = λ n. prefix ++ padded width n in
-    let before : List (List ℕ) = map f (range_with_len first (number - first)) in
-    k ∙ (ap (λ (x : List (List ℕ)). with_name x (f number)) e ∙ (sym (fold-append with_name found before (f number ∷ [])) ∙ ap (fold with_name found) (sym (numbers_more f first number h))))
-
 -- what a test tells
 pub on_true : {P : Type 0} (t : Bool) → (t ≡ true → P) → OnTrue t P
 on_true true f = f refl
@@ -254,9 +218,6 @@ from_true true e p = p
 from_true false e p = absurd (not_true e) where
   not_true : false ≡ true → ⊥
   not_true e = cc
-
-pub length-names_at : (prefix keys : List ℕ) → length (names_at prefix keys) ≡ length keys
-length-names_at prefix keys = length-map keys (name_at prefix)
 
 -- each of the numbers
 pub one_named : (prefix : List ℕ) (numbers : Numbers) (number : ℕ) → numbers.first ≤ number → number ≤ numbers.last → list_all is_name (range_names prefix numbers) ≡ true → is_name (prefix ++ padded numbers.width number) ≡ true

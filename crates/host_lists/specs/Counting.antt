@@ -1,9 +1,12 @@
 -- What private functions say as they count the names of an item before any is made. Of the proof alone.
-use Rattle.std.specs.Prelude.{ℕ, ◌/◌, ◌%◌, ◌^◌, Bool, ◌&&◌, nat_le, if◌then◌else◌, Option, Some, None, List, ◌++◌, length, map, fold, decimal}
-use Rattle.std.specs.List.{list_all}
+use Rattle.std.specs.Prelude.{ℕ, ◌≡◌, ◌<◌, ◌≤◌, ◌-◌, ◌/◌, ◌%◌, ◌^◌, Bool, true, ◌&&◌, nat_le, if◌then◌else◌, Option, Some, None, List, ◌++◌, length, map, fold, decimal}
+use Rattle.std.specs.List.{list_all, range_with_len}
 use Rattle.small_texts.specs.Name.{is_name}
 use Rattle.small_texts.specs.Options.{◌>>=◌}
-use Rattle.host_lists.specs.Hosts.{numbers_in, range_names, padded, with_name}
+use Rattle.host_lists.specs.Hosts.{numbers_in, range_names, padded, has, with_name}
+use Rattle.host_lists.specs.Runs.{in_runs}
+use Rattle.host_lists.specs.declared.counted.Counted.{Counted}
+use Rattle.host_lists.specs.declared.runs.Run.{Run}
 
 -- names behind others, where they are names and all together at most 1,024
 unfoldable pub few_with : List (List ℕ) → List (List ℕ) → Option (List (List ℕ))
@@ -23,6 +26,21 @@ is_key key = nat_le (length (decimal (key % 2 ^ 32))) (key / 2 ^ 32)
 abbrev pub name_at : List ℕ → ℕ → List ℕ
 name_at prefix key = prefix ++ padded (key / 2 ^ 32) (key % 2 ^ 32)
 
--- the names that keys stand for
-abbrev pub names_at : List ℕ → List ℕ → List (List ℕ)
-names_at prefix keys = map (name_at prefix) keys
+-- each number of a run is a key
+abbrev pub AreKeys : Run → Type 0
+AreKeys run = (key : ℕ) → run.first ≤ key → key < run.end → is_key key ≡ true
+
+-- the names of its keys
+abbrev pub run_names : List ℕ → Run → List (List ℕ)
+run_names prefix run = map (name_at prefix) (range_with_len run.first (run.end - run.first))
+
+-- names behind a prefix are those that were counted
+pub record Counts (prefix : List ℕ) (counted : Counted) (names : List (List ℕ)) : Type 0 where
+  pub count : counted.count ≡ length names
+  pub members : (key : ℕ) → is_key key ≡ true → in_runs counted.runs.items key ≡ has (name_at prefix key) names
+
+-- a part that is good, and with whose names they are those that were counted
+pub record AddsPart (prefix part : List ℕ) (names : List (List ℕ)) (counted : Counted) : Type 0 where
+  pub more : List (List ℕ)
+  pub made : with_part prefix names part ≡ Some more
+  pub counts : Counts prefix counted more

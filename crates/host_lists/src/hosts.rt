@@ -2,14 +2,15 @@
 
 ghost use Rattle.std.specs.Prelude.{◌≡◌, ℕ, ◌↔◌, ◌<◌, ◌≤◌, ◌^◌, [], length, unwrap_or, IfOk, OnOk, IsErrOf, IsSome, Some, None, fold};
 ghost use Rattle.host_lists.specs.Hosts.{item_names, with_name, first_bad_item, hosts_in};
+ghost use Rattle.host_lists.specs.Found.{AreFound};
 
 use crate::brackets::make_bracket;
+use crate::found::Found;
 use crate::items::{first_bad_item, first_item};
-use indexmap::IndexSet;
 use small_texts::fields::{UpToThree, up_to_three};
 use small_texts::memory_error;
 use small_texts::memory_error::Memory;
-use small_texts::name::{Name, NameRefusal};
+use small_texts::name::Name;
 use std::alloc::{AllocError, AllocFailed, Global};
 use std::error::Error;
 use std::fmt;
@@ -76,19 +77,15 @@ impl<T: Drop> From<AllocFailed<T>> for HostRefusal {
 
 // Puts the names of a good item behind those that were found.
 #[tactic(auto, unfolding(crate::specs::Hosts::made_by, crate::specs::Hosts::made_behind))]
-fn make_item(found: &mut IndexSet<Name>, alloc: Global, item: &[u8]) -> Result<(), Memory>
-    requires { IsSome (item_names item.now) }
-    ensures { OnOk result (found.new.keys ≡ fold with_name found.old.keys (unwrap_or (item_names item.now) [])) }
+fn make_item<'a>(found: &mut Found<'a>, alloc: Global, item: &'a [u8]) -> Result<(), Memory>
+    requires found { AreFound found.old }
+    requires good { IsSome (item_names item.now) }
+    ensures found { OnOk result (AreFound found.new) }
+    ensures names { OnOk result (found.new.names.keys ≡ fold with_name found.old.names.keys
+        (unwrap_or (item_names item.now) [])) }
 {
     match up_to_three(item, b'[') {
-        UpToThree::One(text) => match Name::read(alloc, text) {
-            Ok(name) => {
-                found.insert(name)?;
-                Ok(())
-            }
-            Err(NameRefusal::BadName) => unreachable!(),
-            Err(NameRefusal::Memory) => Err(Memory),
-        },
+        UpToThree::One(text) => found.add(alloc, text),
         UpToThree::Two(prefix, rest) => match up_to_three(rest, b']') {
             UpToThree::Two(inside, []) => make_bracket(found, alloc, prefix, inside),
             _ => unreachable!(),
@@ -105,17 +102,17 @@ fn make_hosts(alloc: Global, text: &[u8], most: usize) -> Result<Vec<Name>, Host
     ensures many { IsErrOf result HostRefusal.TooMany → most < length (hosts_in text.now) }
     ensures good { (p : ℕ) → ¬ (IsErrOf result (HostRefusal.BadHosts p)) }
 {
-    let mut found = IndexSet::new(alloc);
+    let mut found = Found::new(alloc);
     let mut rest = Some(text);
     while let Some(items) = rest {
         let (item, others) = first_item(items);
         make_item(&mut found, alloc, item)?;
-        if found.len() > most {
+        if found.names.len() > most {
             return Err(HostRefusal::TooMany);
         }
         rest = others;
     }
-    let names = found.into_iter().collect(alloc)?;
+    let names = found.names.into_iter().collect(alloc)?;
     Ok(names)
 }
 

@@ -1,15 +1,12 @@
 //! Items of host expressions: what stands between commas outside brackets.
 
-ghost use Rattle.std.specs.Prelude.{◌≡◌, ◌<◌, ◌≤◌, ◌^◌, ◌+◌, ◌∷◌, length, is_some, IfSome, IsSome, OnOk, fold};
+ghost use Rattle.std.specs.Prelude.{◌≡◌, ◌<◌, ◌≤◌, ◌^◌, ◌+◌, ◌∷◌, length, is_some, IfSome};
 ghost use Rattle.std.specs.Option.{option_copied};
-ghost use Rattle.host_lists.specs.Hosts.{ends_item, open_behind, host_items, items_of_rest, item_names, first_bad_item, with_name};
+ghost use Rattle.host_lists.specs.Hosts.{ends_item, open_behind, host_items, items_of_rest, item_names, first_bad_item};
 
-use crate::brackets::{is_good_bracket, make_bracket};
-use indexmap::IndexSet;
+use crate::brackets::is_good_bracket;
 use small_texts::fields::{UpToThree, up_to_three};
-use small_texts::memory_error::Memory;
-use small_texts::name::{Name, NameRefusal, is_name};
-use std::alloc::Global;
+use small_texts::name::is_name;
 
 fn ends_item(inside: bool, b: u8) -> bool
     ensures { result ≡ ends_item inside b }

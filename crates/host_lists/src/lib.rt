@@ -2,6 +2,9 @@
 #![tactic(auto)]
 
 mod brackets;
+mod counted;
 pub mod folding;
 pub mod hosts;
+mod found;
 mod items;
+mod runs;

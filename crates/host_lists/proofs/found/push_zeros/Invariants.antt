@@ -1,5 +1,5 @@
 use Rattle.std.proofs.Common.{◌≡◌, ◌++◌, replicate}
-use Rattle.host_lists.proofs.brackets.push_zeros.Given as goal
+use Rattle.host_lists.proofs.found.push_zeros.Given as goal
 
 abbrev pub invariant-loop : goal.invariant-loop
 invariant-loop l = l.text.items ≡ l.initial.text.items ++ replicate l.counter 48
