@@ -1,16 +1,20 @@
 -- Names that were found, and runs of numbers whose names are among them.
-use Rattle.std.proofs.Common.{ℕ, zero, suc, ◌≡◌, ◌+◌, ◌-◌, ◌<◌, ◌≤◌, ◌||◌, ◌&&◌, ◌==◌, nat_le, nat_lt, if◌then◌else◌, Bool, true, false, List, [], ◌∷◌, ◌++◌, map, fold, sym, refl, ap, ◌∙◌, subst, arith, eqb-true}
+use Rattle.std.proofs.Common.{ℕ, zero, suc, ◌≡◌, ◌+◌, ◌-◌, ◌<◌, ◌≤◌, ◌||◌, ◌&&◌, ◌==◌, Bool, true, false, cond, Option, Some, None, unwrap_or, List, [], ◌∷◌, ◌++◌, map, fold, length, take, sym, refl, ap, ◌∙◌, subst, arith, eqb-true}
 use Rattle.std.specs.Str.{bytes_eq}
+use Rattle.std.specs.HashMap.{get}
 use Rattle.std.specs.List.{range_with_len}
+use Rattle.std.proofs.Math.Seq.{take-append_seam}
 use Rattle.std.proofs.lemmas.List.Sums.{fold-append}
 use Rattle.std.proofs.lemmas.Bool.Decides.{nat_tests}
 use Rattle.host_lists.specs.Hosts.{padded, has, with_name}
 use Rattle.host_lists.specs.Runs.{in_run}
-use Rattle.host_lists.specs.Found.{name_in, names_of, IsFound}
+use Rattle.host_lists.specs.Found.{name_in, names_of, IsFound, AreFound, is_same_row}
 use Rattle.host_lists.specs.declared.runs.Run.{Run}
 use Rattle.host_lists.specs.declared.found.Row.{Row}
+use Rattle.host_lists.specs.declared.found.Found.{Found}
 use Rattle.host_lists.proofs.NameSets.{has-fold-with_name}
-use Rattle.host_lists.proofs.HostLemmas.{numbers_more, bytes_eq-refl, bytes_eq-same}
+use Rattle.host_lists.proofs.Both.{both-left, both-right}
+use Rattle.host_lists.proofs.HostLemmas.{numbers_more, numbers_up_to, bytes_eq-refl, bytes_eq-same}
 
 or-left : (a b : Bool) → a ≡ true → (a || b) ≡ true
 or-left a b h = rw h refl
@@ -68,14 +72,14 @@ in_end run number h = grind (arith, nat_tests)
 pub found-new : (row : Row) (run : Run) (names : List (List ℕ)) → IsFound row run (fold with_name names (names_of row run))
 found-new row run names = record {
   among = λ number k.
-    has-fold-with_name (name_in row number) (names_of row run) names
-    ∙ or-right (has (name_in row number) names) (has (name_in row number) (names_of row run)) (has-range (name_in row) (run.end - run.first) run.first number (in_first run number k) (omega (arith, in_first run number k, in_end run number k)));
+      has-fold-with_name (name_in row number) (names_of row run) names
+      ∙ or-right (has (name_in row number) names) (has (name_in row number) (names_of row run)) (has-range (name_in row) (run.end - run.first) run.first number (in_first run number k) (omega (arith, in_first run number k, in_end run number k)));
 }
 
 -- both, as one run
 pub found-joined : (row : Row) (known run joined : Run) (names : List (List ℕ)) → IsFound row known names → IsFound row run names → ((number : ℕ) → in_run joined number ≡ true → (in_run known number || in_run run number) ≡ true) → IsFound row joined names
 found-joined row known run joined names h k both = record {
-  among = λ number i. by_known (in_run known number) refl number (both number i);
+  among = λ number i. by_known (in_run known number) number refl (both number i);
 } where
   by_known : (t : Bool) (number : ℕ) → in_run known number ≡ t → (in_run known number || in_run run number) ≡ true → has (name_in row number) names ≡ true
   by_known true number e g = h.among number e
@@ -85,8 +89,8 @@ found-joined row known run joined names h k both = record {
 pub found-same : (row other : Row) (run : Run) (names : List (List ℕ)) → row.prefix.now ≡ other.prefix.now → row.width ≡ other.width → IsFound row run names → IsFound other run names
 found-same row other run names e g h = record {
   among = λ number k.
-    ap (λ (prefix : List ℕ). has (prefix ++ padded other.width number) names) (sym e)
-    ∙ (ap (λ (width : ℕ). has (row.prefix.now ++ padded width number) names) (sym g) ∙ h.among number k);
+      ap (λ (prefix : List ℕ). has (prefix ++ padded other.width number) names) (sym e)
+      ∙ (ap (λ (width : ℕ). has (row.prefix.now ++ padded width number) names) (sym g) ∙ h.among number k);
 }
 
 -- a number more of a range
@@ -103,3 +107,46 @@ range-more f names now new first number h e k =
 
 pub found-none : (row : Row) (names : List (List ℕ)) → IsFound row (record { first = 0; end = 0 }) names
 found-none row names = record { among = λ number k. absurd (omega (arith, in_end (record { first = 0; end = 0 }) number k)) }
+
+-- what a row is known to have
+pub found-known : (found : Found) (row : Row) (known : Run) → AreFound found → known ≡ unwrap_or (get is_same_row found.known row) (record { first = 0; end = 0 }) → IsFound row known found.names.keys
+found-known found row known h e =
+    subst (λ (run : Run). IsFound row run found.names.keys) (sym e) (by_known (get is_same_row found.known row) refl)
+  where
+    by_known : (o : Option Run) → get is_same_row found.known row ≡ o → IsFound row (unwrap_or o (record { first = 0; end = 0 })) found.names.keys
+    by_known None e = found-none row found.names.keys
+    by_known (Some run) e = h.rows row run e
+
+-- a row of which more is known, and names behind the others
+pub found-inserted : (old new : Found) (row : Row) (run : Run) (more : List (List ℕ)) → AreFound old → new.names.keys ≡ fold with_name old.names.keys more → ((other : Row) → get is_same_row new.known other ≡ cond (is_same_row row other) (Some run) (get is_same_row old.known other)) → IsFound row run new.names.keys → AreFound new
+found-inserted old new row run more h e updates now = record {
+  rows = λ other kept is. by_row other kept (is_same_row row other) refl (sym (updates other) ∙ is);
+} where
+  by_row : (other : Row) (kept : Run) (t : Bool) → is_same_row row other ≡ t → cond t (Some run) (get is_same_row old.known other) ≡ Some kept → IsFound other kept new.names.keys
+  by_row other kept true s is =
+      let run_is : run ≡ kept = cc in
+      let prefix : row.prefix.now ≡ other.prefix.now = bytes_eq-same row.prefix.now other.prefix.now (both-left (bytes_eq row.prefix.now other.prefix.now) (row.width == other.width && row.place == other.place) s) in
+      let width : row.width ≡ other.width = eqb-true row.width other.width (both-left (row.width == other.width) (row.place == other.place) (both-right (bytes_eq row.prefix.now other.prefix.now) (row.width == other.width && row.place == other.place) s)) in
+      subst (λ (r : Run). IsFound other r new.names.keys) run_is (found-same row other run new.names.keys prefix width now)
+  by_row other kept false s is =
+      subst (λ (names : List (List ℕ)). IsFound other kept names) (sym e) (found-more other kept old.names.keys more (h.rows other kept is))
+
+-- a name behind the others
+pub found-added : (old new : Found) (name : List ℕ) → AreFound old → new.known ≡ old.known → new.names.keys ≡ with_name old.names.keys name → AreFound new
+found-added old new name h k e = record {
+  rows = λ row run is. subst (IsFound row run) (sym e) (found-more row run old.names.keys (name ∷ []) (h.rows row run (ap (λ (known : _). get is_same_row known row) (sym k) ∙ is)));
+}
+
+-- a text that went on with a number
+pub put-behind : (prefix old new more : List ℕ) → take (length prefix) old ≡ prefix → new ≡ take (length prefix) old ++ more → new ≡ prefix ++ more
+put-behind prefix old new more h e = e ∙ ap (λ (x : List ℕ). x ++ more) h
+
+pub prefix-put : (prefix new more : List ℕ) → new ≡ prefix ++ more → take (length prefix) new ≡ prefix
+prefix-put prefix new more e = ap (take (length prefix)) e ∙ take-append_seam prefix more
+
+-- a piece more of a range
+pub range-piece : (f : ℕ → List ℕ) (names now new : List (List ℕ)) (first number end : ℕ) → first ≤ number → number ≤ end → now ≡ fold with_name names (map f (range_with_len first (number - first))) → new ≡ fold with_name now (map f (range_with_len number (end - number))) → new ≡ fold with_name names (map f (range_with_len first (end - first)))
+range-piece f names now new first number end h k e g =
+    let before : List (List ℕ) = map f (range_with_len first (number - first)) in
+    let piece : List (List ℕ) = map f (range_with_len number (end - number)) in
+    g ∙ (ap (λ (x : List (List ℕ)). fold with_name x piece) e ∙ (sym (fold-append with_name names before piece) ∙ ap (fold with_name names) (sym (numbers_up_to f first number end h k))))

@@ -82,3 +82,10 @@ not_few-one name h = rw h refl
 
 pub not_both : (t : Bool) → t ≡ true → t ≡ false → ⊥
 not_both t h k = cc
+
+-- what stands alone in a good item is a name
+pub one_is_named : (item name : List ℕ) → fields 91 item ≡ name ∷ [] → is_some (item_names item) ≡ true → is_name name ≡ true
+one_is_named item name e h = by_test (is_name name) refl where
+  by_test : (t : Bool) → is_name name ≡ t → t ≡ true
+  by_test true k = refl
+  by_test false k = absurd (not_both (is_some (item_names item)) h (ap is_some (one_item item name e ∙ not_few-one name k)))

@@ -1,5 +1,5 @@
 -- Numbers in brackets: the texts that write them, the names they make, and the keys by which they are counted.
-use Rattle.std.proofs.Common.{ℕ, zero, suc, ◌≡◌, ◌+◌, ◌-◌, ◌*◌, ◌/◌, ◌%◌, ◌^◌, ◌<◌, ◌≤◌, ◌&&◌, ◌==◌, if◌then◌else◌, nat_le, nat_lt, Bool, true, false, Option, Some, None, unwrap_or, List, [], ◌∷◌, ◌++◌, length, take, drop, max, map, fold, replicate, decimal, IfSome, Bor, sym, refl, ap, ◌∙◌, subst, arith, eqb-true}
+use Rattle.std.proofs.Common.{ℕ, zero, suc, ◌≡◌, ◌+◌, ◌-◌, ◌*◌, ◌/◌, ◌%◌, ◌^◌, ◌<◌, ◌≤◌, ◌&&◌, ◌==◌, if◌then◌else◌, nat_le, nat_lt, Bool, true, false, Option, Some, None, unwrap_or, List, [], ◌∷◌, ◌++◌, length, drop, max, map, replicate, decimal, IfSome, Bor, sym, refl, ap, ◌∙◌, subst, arith, eqb-true}
 use Rattle.std.specs.Bool.{OnTrue}
 use Rattle.std.specs.Option.{option_map_or}
 use Rattle.std.specs.Str.{bytes_eq, all_ascii_digits}
@@ -10,17 +10,14 @@ use Rattle.std.specs.List.{list_all, list_any, range_with_len}
 use Rattle.std.proofs.lemmas.Bool.Decides.{nat_tests}
 use Rattle.std.proofs.lemmas.Fmt.{digits_decimal, digits_value-decimal, decimal_nonempty, length-decimal-le}
 use Rattle.std.proofs.lemmas.Str.Parse.{digits_value_short}
-use Rattle.std.proofs.lemmas.List.{length-append, length-replicate, length-map, map-append}
-use Rattle.std.proofs.lemmas.List.Sums.{fold-append}
-use Rattle.std.proofs.lemmas.List.FromFn.{take-map-range_with_len}
+use Rattle.std.proofs.lemmas.List.{length-append, length-replicate}
 use Rattle.std.proofs.lemmas.List.Folds.{list_all-append}
 use Rattle.small_texts.specs.Digits.{number_within}
 use Rattle.small_texts.specs.Name.{is_name, is_name_byte}
-use Rattle.host_lists.specs.Hosts.{Numbers, padded, range_names, has, with_name}
+use Rattle.host_lists.specs.Hosts.{Numbers, padded, range_names, has}
 use Rattle.host_lists.specs.Counting.{is_key, name_at}
 use Rattle.host_lists.proofs.Decimals.{own}
-use Rattle.host_lists.proofs.HostLemmas.{numbers_bad, numbers_more, bytes_eq-same, bytes_eq-refl}
-use Rattle.host_lists.proofs.BracketLemmas.{length-fold-with_name}
+use Rattle.host_lists.proofs.HostLemmas.{numbers_bad, bytes_eq-same, bytes_eq-refl}
 use Rattle.host_lists.proofs.Both.{both-left, both-right}
 
 -- ---- texts of numbers

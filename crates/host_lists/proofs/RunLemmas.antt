@@ -1,5 +1,5 @@
 -- Runs of numbers: how many numbers are new to them, and what a wider run adds.
-use Rattle.std.proofs.Common.{ℕ, zero, suc, ◌≡◌, ◌+◌, ◌-◌, ◌<◌, ◌≤◌, ◌||◌, ◌&&◌, max, if◌then◌else◌, not, nat_le, nat_lt, Bool, true, false, List, [], ◌∷◌, length, get_or, set, take, drop, ◌++◌, sym, refl, ap, ◌∙◌, arith}
+use Rattle.std.proofs.Common.{ℕ, zero, suc, ◌≡◌, ◌+◌, ◌-◌, ◌<◌, ◌≤◌, ◌||◌, ◌&&◌, max, if◌then◌else◌, not, nat_le, nat_lt, Bool, true, false, List, [], ◌∷◌, length, get_or, set, take, drop, ◌++◌, refl, ap, ◌∙◌, arith}
 use Rattle.std.specs.List.{list_any, range_with_len}
 use Rattle.std.proofs.lemmas.List.{append-nil, at_drop_all, take_all}
 use Rattle.std.proofs.lemmas.List.Folds.{list_any-append}

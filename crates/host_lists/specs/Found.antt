@@ -1,5 +1,6 @@
 -- What private functions say of the names that were found. Of the proof alone.
-use Rattle.std.specs.Prelude.{ℕ, ◌≡◌, ◌≤◌, ◌<◌, ◌-◌, true, List, ◌++◌, map}
+use Rattle.std.specs.Prelude.{ℕ, ◌≡◌, ◌≤◌, ◌<◌, ◌-◌, Bool, true, ◌&&◌, ◌==◌, Some, List, ◌++◌, map, bytes_eq}
+use Rattle.std.specs.HashMap.{get}
 use Rattle.std.specs.List.{range_with_len}
 use Rattle.small_texts.specs.Name.{is_name}
 use Rattle.host_lists.specs.Hosts.{padded, has}
@@ -24,5 +25,10 @@ AreNamed row run = (number : ℕ) → run.first ≤ number → number < run.end 
 pub record IsFound (row : Row) (run : Run) (names : List (List ℕ)) : Type 0 where
   pub among : (number : ℕ) → in_run run number ≡ true → has (name_in row number) names ≡ true
 
+-- two rows are the same one
+abbrev pub is_same_row : Row → Row → Bool
+is_same_row one other = bytes_eq one.prefix.now other.prefix.now && (one.width == other.width && one.place == other.place)
+
+-- the names of each run that is known of a row are among those that were found
 pub record AreFound (found : Found) : Type 0 where
-  pub rows : (row : Row) → ℕ
+  pub rows : (row : Row) (run : Run) → get is_same_row found.known row ≡ Some run → IsFound row run found.names.keys

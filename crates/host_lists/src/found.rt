@@ -53,11 +53,7 @@ fn push_padded(text: &mut Vec<u8>, width: usize, number: u64) -> Result<(), Allo
 }
 
 // Puts a name behind the others, unless it is among them.
-fn add_name(
-    names: &mut IndexSet<Name>,
-    alloc: Global,
-    text: &[u8],
-) -> Result<(), Memory>
+fn add_name(names: &mut IndexSet<Name>, alloc: Global, text: &[u8]) -> Result<(), Memory>
     requires { IsTrue (is_name text.now) }
     ensures { OnOk result (names.new.keys ≡ with_name names.old.keys text.now) }
 {
@@ -134,7 +130,11 @@ impl<'a> Found<'a> {
         ensures found { OnOk result (AreFound self.new) }
         ensures names { OnOk result (self.new.names.keys ≡ fold with_name self.old.names.keys (names_of row.now run)) }
     {
-        let known = self.known.get(row).copied().unwrap_or(Run { first: 0, end: 0 });
+        let known = self
+            .known
+            .get(row)
+            .copied()
+            .unwrap_or(Run { first: 0, end: 0 });
         if known.covers(run) {
             return Ok(());
         }

@@ -4,7 +4,7 @@
 mod brackets;
 mod counted;
 pub mod folding;
-pub mod hosts;
 mod found;
+pub mod hosts;
 mod items;
 mod runs;

@@ -1,8 +1,8 @@
-use Rattle.std.proofs.Common.{ℕ, List, ◌≡◌, ◌^◌, ◌<◌, ◌≤◌, ◌+◌, ◌-◌, ◌++◌, map, fold, length, ap, subst, arith}
+use Rattle.std.proofs.Common.{ℕ, List, ◌^◌, ◌<◌, ◌≤◌, ◌+◌, ◌-◌, ◌++◌, map, fold, length, ap, subst, arith}
 use Rattle.std.specs.List.{range_with_len}
 use Rattle.host_lists.specs.Hosts.{Numbers, padded, with_name, range_names}
 use Rattle.host_lists.specs.Counting.{Counts}
-use Rattle.host_lists.proofs.CountLemmas.{small_power, below_power, are_keys, fold-piece, fold-piece-le, fold-all}
+use Rattle.host_lists.proofs.CountLemmas.{below_power, are_keys, fold-piece, fold-piece-le, fold-all}
 use Rattle.host_lists.proofs.brackets.count_numbers.Goals as goal
 
 pub add-requires-clause-some : goal.add-requires-clause-some
@@ -47,9 +47,9 @@ loop-number-preserved c =
       least = omega (arith, next, c.loop-number.invariant.least);
       most = omega (arith, c.min-end.ensures);
       counts = λ prefix names counts.
-        let now : List (List ℕ) = fold with_name names (map (λ k. prefix ++ padded c.numbers.inside.width k) (range_with_len c.numbers.inside.first (c.loop-number.number - c.numbers.inside.first))) in
-        let same = fold-piece prefix c.numbers.inside.width c.numbers.inside.first c.loop-number.number c.min-end.result c.digits_of-digits.result names c.loop-number.invariant.least next c.digits_of-digits.ensures.value power (omega (arith, c.numbers.invariant.1, c.min-end.ensures)) in
-        subst (Counts prefix c.add.new.self) same (c.if-not-add.ensures.added prefix now (c.loop-number.invariant.counts prefix names counts));
+          let now : List (List ℕ) = fold with_name names (map (λ k. prefix ++ padded c.numbers.inside.width k) (range_with_len c.numbers.inside.first (c.loop-number.number - c.numbers.inside.first))) in
+          let same = fold-piece prefix c.numbers.inside.width c.numbers.inside.first c.loop-number.number c.min-end.result c.digits_of-digits.result names c.loop-number.invariant.least next c.digits_of-digits.ensures.value power (omega (arith, c.numbers.invariant.1, c.min-end.ensures)) in
+          subst (Counts prefix c.add.new.self) same (c.if-not-add.ensures.added prefix now (c.loop-number.invariant.counts prefix names counts));
     }
 
 pub returns-clause-added : goal.returns-clause-added

@@ -9,7 +9,7 @@ invariant-loop-number l = record {
   least : l.first ≤ l.number;
   most : l.number ≤ l.last + 1;
   found : AreFound l.found;
-  names : l.found.names.keys ≡ fold with_name l.initial.found.names.keys (map (λ n. l.prefix.now ++ padded l.width n) (range_with_len l.first (l.number - l.first)));
+  names : l.found.names.keys ≡ fold with_name l.initial.found.names.keys (map (λ n. l.prefix ++ padded l.width n) (range_with_len l.first (l.number - l.first)));
 }
 
 abbrev pub decreases-loop-number : goal.decreases-loop-number

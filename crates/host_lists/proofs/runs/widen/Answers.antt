@@ -1,4 +1,4 @@
-use Rattle.std.proofs.Common.{◌≡◌, ◌<◌, ◌||◌, List, length, refl, ap, ◌∙◌, arith}
+use Rattle.std.proofs.Common.{◌<◌, ◌||◌, List, length, refl, ap, ◌∙◌, arith}
 use Rattle.host_lists.specs.declared.runs.Run.{Run}
 use Rattle.host_lists.specs.Runs.{in_run, in_runs}
 use Rattle.host_lists.proofs.RunLemmas.{widened}

@@ -1,4 +1,4 @@
-use Rattle.std.proofs.Common.{ℕ, ◌≡◌, ◌<◌, ◌≤◌, ◌||◌, ◌++◌, ◌∷◌, [], List, take, drop, length, sym, ap, ◌∙◌, arith}
+use Rattle.std.proofs.Common.{◌≡◌, ◌||◌, ◌++◌, ◌∷◌, [], List, length, sym, ap, ◌∙◌, arith}
 use Rattle.host_lists.specs.Runs.{in_run, in_runs, new_in}
 use Rattle.host_lists.specs.declared.runs.Run.{Run}
 use Rattle.host_lists.proofs.RunLemmas.{some_new, written, in_runs-push}
