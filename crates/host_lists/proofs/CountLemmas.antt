@@ -85,9 +85,6 @@ members-counted prefix runs names run keys h key k e =
 pub few_digits : (n : ℕ) → n < 10 ^ 9 → length (decimal n) ≤ 9
 few_digits n h = length-decimal-le 9 n (omega arith) h (omega (arith, h))
 
-pub small_power : (digits : ℕ) → digits ≤ 9 → 10 ^ digits ≤ 10 ^ 9
-small_power digits h = pow-le-pow_right {n = 10} (omega arith) {i = digits} {j = 9} h
-
 pub below_power : (n width digits : ℕ) → n < 10 ^ 9 → digits ≡ max (length (decimal n)) width → n < 10 ^ digits
 below_power n width digits h e =
     let own : n < 10 ^ length (decimal n) = below_own n (omega (arith, h)) in
