@@ -5,6 +5,7 @@
 pub mod awaited;
 pub mod change;
 pub mod dependency_laws;
+pub mod behind;
 pub mod jobs;
 pub mod laws;
 mod moving;

@@ -33,7 +33,7 @@ returns-clause-after c =
     (is_named target job) job in
     let within = c.places_of-places.ensures.within in
     let last : c.places_of-places.result.end ≡ c.loop-place.place = omega arith in
-    let behind = rw (last, c.records.ensures.value) at c.places_of-places.ensures.behind in
+    let behind = rw last at c.places_of-places.ensures.behind in
     c.loop-place.invariant.walk
     ∙ ap (λ jobs. record s { jobs = jobs; usage = c.loop-place.cluster.jobs.usage })
     (c.a_walk_changes_all.ensures.ends change c.loop-place.place jobs
