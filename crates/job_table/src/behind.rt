@@ -51,7 +51,11 @@ impl Behind {
 // Whether the job waits for those of its user and name.
 fn waits_alone(job: &JobRecord) -> bool {
     match &job.terms().dependency {
-        Some(needs) if job.state == JobState::Pending => needs.items.as_slice().iter().any(|item| is_singleton(item)),
+        Some(needs) if job.state == JobState::Pending => needs
+            .items
+            .as_slice()
+            .iter()
+            .any(|item| is_singleton(item)),
         _ => false,
     }
 }
@@ -61,10 +65,7 @@ fn is_singleton(item: &DepItem) -> bool {
 }
 
 // Adds the user and the name of a job that hasn't ended.
-fn add_name<'a>(
-    named: &mut HashSet<(&'a [u8], &'a [u8])>,
-    job: &'a JobRecord,
-) -> Result<(), Memory>
+fn add_name<'a>(named: &mut HashSet<(&'a [u8], &'a [u8])>, job: &'a JobRecord) -> Result<(), Memory>
     ensures { OnOk result ((key : UserAndName) → contains same_texts named.new key
         ≡ (contains same_texts named.old key || is_alike key.0.now key.1.now job.now)) }
 {

@@ -3,9 +3,9 @@
 #![tactic(auto)]
 
 pub mod awaited;
+pub mod behind;
 pub mod change;
 pub mod dependency_laws;
-pub mod behind;
 pub mod jobs;
 pub mod laws;
 mod moving;

@@ -1,6 +1,6 @@
 //! Which jobs a target names.
 
-ghost use Rattle.std.specs.Prelude.{◌≡◌, ◌+◌, ◌-◌, ◌<◌, ◌≤◌, All, None, Some, true, false, filter, length, take, drop};
+ghost use Rattle.std.specs.Prelude.{◌≡◌, ◌+◌, ◌-◌, ◌<◌, ◌≤◌, All, None, Some, true, false, length, take, drop};
 ghost use Rattle.std.specs.List.{HoldsAt};
 ghost use Rattle.job_table.specs.declared.record.JobRecord.{JobRecord};
 ghost use Rattle.job_table.specs.Table.{HaveRisingIds};
@@ -49,7 +49,7 @@ fn count_of(jobs: &[JobRecord], id: u32) -> usize
 
 /// Where the jobs lie that have the target's number, or are tasks of the array that has it: the target names none
 /// before and behind. Logarithmic in all jobs, and linear in these.
-pub fn places_of(jobs: &[JobRecord], target: &Target) -> Places
+pub(crate) fn places_of(jobs: &[JobRecord], target: &Target) -> Places
     requires rising { HaveRisingIds jobs.now }
     requires together { AreTogether jobs.now }
     ensures within { (result.first ≤ result.end) × (result.end ≤ length jobs.now) }
@@ -64,16 +64,6 @@ pub fn places_of(jobs: &[JobRecord], target: &Target) -> Places
         first,
         end: first + count,
     }
-}
-
-/// The jobs among which all are that the target names. Logarithmic in all jobs, and linear in these.
-pub fn span_of<'a>(jobs: &'a [JobRecord], target: &Target) -> &'a [JobRecord]
-    requires rising { HaveRisingIds jobs.now }
-    requires together { AreTogether jobs.now }
-    ensures { filter (spec.is_named target.now) result.now ≡ filter (spec.is_named target.now) jobs.now }
-{
-    let places = places_of(jobs, target);
-    &jobs[places.first..places.end]
 }
 
 // A task's index; whoever has none counts as the first.

@@ -1,5 +1,5 @@
 -- Whoever is before a job has a lower number.
-use Rattle.std.proofs.Common.{◌≡◌, ◌&&◌, ◌||◌, ◌∙◌, Bool, ap, arith, nat_eq, refl, sym, take}
+use Rattle.std.proofs.Common.{◌≡◌, ◌&&◌, ◌||◌, ◌∙◌, Bool, ap, arith, get_or, nat_eq, refl, sym, take}
 use Rattle.std.specs.List.{list_any}
 use Rattle.std.proofs.lemmas.List.{take_all}
 use Rattle.job_table.specs.declared.record.JobRecord.{JobRecord}
@@ -36,8 +36,7 @@ loop-job-preserved c =
 pub returns : goal.returns
 returns c = λ k d inside.
     let jobs = c.args.jobs.now in
+    let id = (get_or jobs k d).id in
     let test : JobRecord → Bool = λ own. list_any (is_before own) jobs in
     let whole : take c.loop-job.job-index jobs ≡ jobs = take_all c.loop-job.job-index jobs (omega arith) in
-    c.loop-job.invariant.numbers _
-    ∙ ap (λ all. finds_number test all _) whole
-    ∙ number-found test jobs c.requires k d inside
+    c.loop-job.invariant.numbers id ∙ ap (λ all. finds_number test all id) whole ∙ number-found test jobs c.requires k d inside
