@@ -148,13 +148,7 @@ fn count_first(
 }
 
 // The same, by those jobs alone among which all are that the target names.
-fn count_target(
-    held: &mut Vec<u64>,
-    way: Way,
-    jobs: &Jobs,
-    before: &[Target],
-    target: &Target,
-)
+fn count_target(held: &mut Vec<u64>, way: Way, jobs: &Jobs, before: &[Target], target: &Target)
     requires { AreTogether jobs.now.records }
     ensures len { vec_len held.new ≡ vec_len held.old }
     ensures each { (at : ℕ) → at < vec_len held.old → slice_index held.new.items at
