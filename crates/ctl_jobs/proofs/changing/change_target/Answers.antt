@@ -17,7 +17,7 @@ loop-place-preserved c =
           (state_of c.loop-place.cluster) (state_of c.change_where.new.cluster) c.args.moment c.args.user.now
           c.args.action.now (is_named c.args.target.now) c.loop-place.place
           c.is_named-named.result c.index-records-place.result _ _ held.walk (omega arith)
-          (rw c.records-in-loop-place.ensures.value at c.index-records-place.is)
+          (rw c.records.ensures.value at c.index-records-place.is)
           c.is_named-named.ensures c.change_where.ensures.after;
       charges = c.who_leaves_is_charged.ensures.on c.args.moment _ _ _ held.charges c.change_where.ensures.charges;
       held = c.change_where.ensures.held ∙ held.held;
