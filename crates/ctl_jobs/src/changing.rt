@@ -22,7 +22,7 @@ use ctl_state::jobs::drop_placements;
 use ctl_state::laws::parts_stay;
 use job_table::laws::{a_change_is_of_its_place, a_walk_changes_all, who_leaves_is_charged};
 use job_table::record::JobRecord;
-use job_table::targets::{is_named, places_of};
+use job_table::targets::is_named;
 use request_data::target::Target;
 use small_texts::name::Name;
 
@@ -70,7 +70,7 @@ pub fn changes_owned(cluster: &Cluster, user: &Name, action: &Action, owner: &Na
 }
 
 /// Does this to what the targets name, where the user may. It takes no memory. Each target is logarithmic in the jobs
-/// and linear in the tasks of its array; then it is once linear in the plan.
+/// and linear in those that it names; then it is once linear in the plan.
 pub fn change(cluster: &mut Cluster, moment: u64, user: &Name, action: &Action, targets: &[Target])
     requires { IsSound (state_of cluster.old) }
     ensures after { state_of cluster.new
@@ -135,7 +135,7 @@ fn change_target(cluster: &mut Cluster, moment: u64, user: &Name, action: &Actio
     a_walk_changes_all::<JobRecord>();
     a_change_is_of_its_place::<JobRecord>();
     who_leaves_is_charged();
-    let places = places_of(cluster.jobs.records(), target);
+    let places = cluster.jobs.places_of(target);
     for place in places.first..places.end {
         let named = is_named(target, &cluster.jobs.records()[place]);
         change_where(cluster, place, moment, user, action, named);

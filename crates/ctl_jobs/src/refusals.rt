@@ -14,7 +14,7 @@ use crate::action::Action;
 use ctl_state::cluster::Cluster;
 use ctl_state::limits::exceeds;
 use job_table::record::JobRecord;
-use job_table::targets::{is_named, places_of};
+use job_table::targets::is_named;
 use plain_data::limit::Limit;
 use plain_data::nice::Nice;
 use reply_data::refusal::Refusal;
@@ -23,7 +23,7 @@ use request_data::target::Target;
 use small_texts::name::Name;
 
 /// Why the user may not do this to what the targets name, if it is refused: the first target's that is. Logarithmic in
-/// the jobs for each target, and linear in the tasks of arrays.
+/// the jobs for each target, and linear in the tasks of arrays that it names as a whole.
 pub fn refusal_of(
     cluster: &Cluster,
     user: &Name,
@@ -100,9 +100,7 @@ pub(crate) fn span_of<'a>(cluster: &'a Cluster, target: &Target) -> &'a [JobReco
     requires together { AreTogether cluster.now.jobs.records }
     ensures { filter (is_named target.now) result.now ≡ filter (is_named target.now) cluster.now.jobs.records }
 {
-    let jobs = cluster.jobs.records();
-    let places = places_of(jobs, target);
-    &jobs[places.first..places.end]
+    cluster.jobs.span_of(target)
 }
 
 /// Whether the user may do this to the job.

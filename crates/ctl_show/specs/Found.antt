@@ -1,7 +1,8 @@
 -- What a query finds once for all rows that it shows. Of the proof alone: no public call speaks of it.
-use Rattle.std.specs.Prelude.{◌≡◌, ℕ, ◌^◌, ◌-◌, ◌<◌, min, nat_eq, List, length, sum_by, slice_index, slice_get}
+use Rattle.std.specs.Prelude.{◌≡◌, ℕ, ◌^◌, ◌-◌, ◌<◌, min, nat_eq, All, List, length, sum_by, slice_index, slice_get}
 use Rattle.std.specs.HashMap.{get}
 use Rattle.reply_data.specs.declared.view.NodeGroup.{NodeGroup}
+use Rattle.job_table.specs.Behind.{ShowsBehind}
 use Rattle.job_table.specs.declared.record.Part.{Part}
 use Rattle.run_limits.specs.Tallies.{Shows}
 use Rattle.ctl_state.specs.Counted.{holding}
@@ -23,10 +24,11 @@ pub record CountsParts (held : ℕ → Part → ℕ) (parts : List Part) (counts
 pub record GroupsNodes (s : State) (groups : List NodeGroup) : Type 0 where
   pub each : (place : ℕ) → slice_get groups place ≡ group_at s place
 
--- What the jobs count that hold processors, what their priorities rest on at a moment, the job that is highest in rank
--- then, and the second that the plan gives each job.
+-- What the jobs count that hold processors, which have others of their user and name before them, what their priorities
+-- rest on at a moment, the job that is highest in rank then, and the second that the plan gives each job.
 pub record IsOutlook (s : State) (now : ℕ) (outlook : Outlook) : Type 0 where
   pub tally : Shows s.assocs outlook.tally (holding s.jobs)
+  pub behind : All (ShowsBehind outlook.behind s.jobs) s.jobs
   pub measured : IsMeasured s outlook.factors
   pub moment : outlook.factors.moment ≡ now
   pub highest : outlook.highest ≡ highest s now

@@ -2,7 +2,6 @@
 
 ghost use Rattle.std.specs.Prelude.{◌≡◌, ◌<◌, length, not};
 ghost use Rattle.std.specs.List.{list_any};
-ghost use Rattle.job_table.specs.Table.{HaveRisingIds};
 ghost use Rattle.job_table.specs.Targets as spec;
 ghost use Rattle.job_table.specs.Targets.{AreTogether};
 ghost use Rattle.ctl_state.specs.State.{state_of};
@@ -10,8 +9,9 @@ ghost use Rattle.ctl_show.specs.Showing;
 
 use ctl_state::cluster::Cluster;
 use ctl_state::jobs::is_pending;
+use job_table::jobs::Jobs;
 use job_table::record::JobRecord;
-use job_table::targets::{is_named, places_of};
+use job_table::targets::is_named;
 use plain_data::items::Items;
 use request_data::query::{JobQuery, StateCode, Who};
 use request_data::state::{Final, JobState};
@@ -131,19 +131,17 @@ fn names_any(target: &Target, jobs: &[JobRecord]) -> bool
 }
 
 // Whether the target names a job. It looks only where such jobs lie.
-fn is_found(jobs: &[JobRecord], target: &Target) -> bool
-    requires rising { HaveRisingIds jobs.now }
-    requires together { AreTogether jobs.now }
-    ensures { result ≡ list_any (spec.is_named target.now) jobs.now }
+fn is_found(jobs: &Jobs, target: &Target) -> bool
+    requires { AreTogether jobs.now.records }
+    ensures { result ≡ list_any (spec.is_named target.now) jobs.now.records }
 {
-    let places = places_of(jobs, target);
-    names_any(target, &jobs[places.first..places.end])
+    let places = jobs.places_of(target);
+    names_any(target, &jobs.records()[places.first..places.end])
 }
 
-fn any_names_nothing(jobs: &[JobRecord], targets: &[Target]) -> bool
-    requires rising { HaveRisingIds jobs.now }
-    requires together { AreTogether jobs.now }
-    ensures { result ≡ list_any (λ target. not (list_any (spec.is_named target) jobs.now)) targets.now }
+fn any_names_nothing(jobs: &Jobs, targets: &[Target]) -> bool
+    requires { AreTogether jobs.now.records }
+    ensures { result ≡ list_any (λ target. not (list_any (spec.is_named target) jobs.now.records)) targets.now }
 {
     for target in targets {
         if !is_found(jobs, target) {
@@ -154,11 +152,10 @@ fn any_names_nothing(jobs: &[JobRecord], targets: &[Target]) -> bool
 }
 
 /// Whether a target names no job. Logarithmic in the jobs for each target, and linear in the tasks of an array that it
-/// names.
-pub(crate) fn names_nothing(jobs: &[JobRecord], targets: &Option<Items<Target>>) -> bool
-    requires rising { HaveRisingIds jobs.now }
-    requires together { AreTogether jobs.now }
-    ensures { result ≡ Showing.names_nothing jobs.now targets.now }
+/// names as a whole.
+pub(crate) fn names_nothing(jobs: &Jobs, targets: &Option<Items<Target>>) -> bool
+    requires { AreTogether jobs.now.records }
+    ensures { result ≡ Showing.names_nothing jobs.now.records targets.now }
 {
     match targets {
         Some(targets) => any_names_nothing(jobs, targets.as_slice()),
@@ -167,11 +164,10 @@ pub(crate) fn names_nothing(jobs: &[JobRecord], targets: &Option<Items<Target>>)
 }
 
 /// Whether the target names no job, if there is one. Logarithmic in the jobs, and linear in the tasks of an array that
-/// it names.
-pub(crate) fn means_nothing(jobs: &[JobRecord], target: &Option<Target>) -> bool
-    requires rising { HaveRisingIds jobs.now }
-    requires together { AreTogether jobs.now }
-    ensures { result ≡ Showing.means_nothing jobs.now target.now }
+/// it names as a whole.
+pub(crate) fn means_nothing(jobs: &Jobs, target: &Option<Target>) -> bool
+    requires { AreTogether jobs.now.records }
+    ensures { result ≡ Showing.means_nothing jobs.now.records target.now }
 {
     match target {
         Some(target) => !is_found(jobs, target),

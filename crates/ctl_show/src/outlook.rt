@@ -11,7 +11,8 @@ ghost use Rattle.ctl_show.specs.Showing;
 use backfill_planner::Placed;
 use ctl_state::cluster::Cluster;
 use ctl_state::counting::count_holding;
-use ctl_waiting::{Factors, highest, measure};
+use ctl_waiting::{Factors, highest_beside, measure};
+use job_table::behind::Behind;
 use plain_data::ranged::Ranged;
 use plain_data::seconds::Second;
 use run_limits::tally::Tally;
@@ -28,6 +29,8 @@ pub(crate) struct Outlook {
     pub(crate) starts: HashMap<u32, Second>,
     /// What the jobs count that hold processors.
     pub(crate) tally: Tally,
+    /// Which jobs have others of their user and name before them.
+    pub(crate) behind: Behind,
     /// What the priorities rest on.
     pub(crate) factors: Factors,
 }
@@ -53,11 +56,13 @@ pub(crate) fn outlook_of(alloc: Global, cluster: &Cluster, moment: u64) -> Resul
     ensures { IfOk result (IsOutlook (state_of cluster.now) moment) }
 {
     let tally = count_holding(alloc, &cluster.assocs, cluster.jobs.records())?;
+    let behind = Behind::of(alloc, &cluster.jobs)?;
     let factors = measure(alloc, cluster, moment)?;
     Ok(Outlook {
-        highest: highest(cluster, &tally, &factors),
+        highest: highest_beside(cluster, &tally, &behind, &factors),
         starts: starts_of(alloc, &cluster.plan)?,
         tally,
+        behind,
         factors,
     })
 }

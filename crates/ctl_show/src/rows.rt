@@ -3,6 +3,7 @@
 ghost use Rattle.std.specs.Prelude.{◌≡◌, ◌≤◌, ◌<◌, ℕ, IfOk, length, unwrap_or};
 ghost use Rattle.ctl_state.specs.State.{State, state_of, last_moment};
 ghost use Rattle.ctl_state.specs.Soundness.{IsSound};
+ghost use Rattle.job_table.specs.Behind.{ShowsBehind};
 ghost use Rattle.job_table.specs.Targets.{AreTogether};
 ghost use Rattle.ctl_show.specs.Found.{IsOutlook};
 ghost use Rattle.ctl_show.specs.Showing;
@@ -13,7 +14,7 @@ use crate::parts::named_parts;
 use ctl_state::cluster::Cluster;
 use ctl_state::jobs::is_pending;
 use ctl_state::planning::names_of;
-use ctl_waiting::{hindrance, priority_of};
+use ctl_waiting::{hindrance_beside, priority_of};
 use job_table::record::JobRecord;
 use job_table::usage::cpus_in;
 use plain_data::Plain;
@@ -114,12 +115,14 @@ fn reason_by_rank(highest: Option<u32>, job: &JobRecord) -> Reason
 fn reason_shown(cluster: &Cluster, outlook: &Outlook, job: &JobRecord) -> Option<Reason>
     requires together { AreTogether cluster.now.jobs.records }
     requires outlook { IsOutlook (state_of cluster.now) outlook.now.factors.moment outlook.now }
+    requires behind { ShowsBehind outlook.now.behind cluster.now.jobs.records job.now }
     ensures { result ≡ Showing.reason_shown (state_of cluster.now) outlook.now.factors.moment job.now }
 {
     if !is_pending(job) {
         return None;
     }
-    match hindrance(cluster, &outlook.tally, outlook.factors.moment, job) {
+    let moment = outlook.factors.moment;
+    match hindrance_beside(cluster, &outlook.tally, &outlook.behind, moment, job) {
         Some(reason) => Some(reason),
         None => Some(reason_by_rank(outlook.highest, job)),
     }
@@ -185,6 +188,7 @@ pub(crate) fn row_of(
     requires in_time { moment ≤ last_moment }
     requires together { AreTogether cluster.now.jobs.records }
     requires outlook { IsOutlook (state_of cluster.now) moment outlook.now }
+    requires behind { ShowsBehind outlook.now.behind cluster.now.jobs.records job.now }
     requires partition { job.now.partition < length cluster.now.partitions }
     requires started { unwrap_or job.now.started 0 ≤ last_moment }
     requires ended { unwrap_or job.now.ended 0 ≤ last_moment }

@@ -40,7 +40,7 @@ fn job_refusal(cluster: &Cluster, query: &JobQuery) -> Option<Refusal>
     requires { IsSound (state_of cluster.now) }
     ensures { result ≡ first_refusal (Showing.show_refusals (state_of cluster.now) (Query.Squeue query.now)) }
 {
-    if names_nothing(cluster.jobs.records(), &query.jobs) {
+    if names_nothing(&cluster.jobs, &query.jobs) {
         return Some(Refusal::InvalidJobId);
     }
     partition_refusal(cluster, &query.partition)
@@ -51,7 +51,7 @@ fn priority_refusal(cluster: &Cluster, jobs: &Option<Items<Target>>) -> Option<R
     requires { IsSound (state_of cluster.now) }
     ensures { result ≡ refused_if (Showing.names_nothing cluster.now.jobs.records jobs.now) Refusal.InvalidJobId }
 {
-    if names_nothing(cluster.jobs.records(), jobs) {
+    if names_nothing(&cluster.jobs, jobs) {
         Some(Refusal::InvalidJobId)
     } else {
         None
@@ -63,7 +63,7 @@ fn target_refusal(cluster: &Cluster, target: &Option<Target>) -> Option<Refusal>
     requires { IsSound (state_of cluster.now) }
     ensures { result ≡ refused_if (Showing.means_nothing cluster.now.jobs.records target.now) Refusal.InvalidJobId }
 {
-    if means_nothing(cluster.jobs.records(), target) {
+    if means_nothing(&cluster.jobs, target) {
         Some(Refusal::InvalidJobId)
     } else {
         None

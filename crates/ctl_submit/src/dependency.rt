@@ -12,7 +12,7 @@ use ctl_state::cluster::Cluster;
 use ctl_state::record::ArrayRecord;
 use job_table::jobs::Jobs;
 use job_table::record::JobRecord;
-use job_table::targets::{is_named, span_of};
+use job_table::targets::is_named;
 use plain_data::array::{ArraySpec, Indices};
 use plain_data::dependency::{DepId, DepItem, DepKind, DepSpec};
 use request_data::target::Target;
@@ -24,7 +24,7 @@ fn any_named(jobs: &[JobRecord], target: &Target) -> bool
     jobs.iter().any(|job| is_named(target, job))
 }
 
-// Whether the number names a job. Logarithmic in the jobs, and linear in those that have it.
+// Whether the number names a job. Logarithmic in the jobs, and linear in those that it names.
 fn names_any(jobs: &Jobs, id: &DepId) -> bool
     requires { AreTogether jobs.now.records }
     ensures { result ≡ list_any (is_named_by id.now.id id.now.index) jobs.now.records }
@@ -33,7 +33,7 @@ fn names_any(jobs: &Jobs, id: &DepId) -> bool
         id: id.id,
         index: id.index,
     };
-    any_named(span_of(jobs.records(), &target), &target)
+    any_named(jobs.span_of(&target), &target)
 }
 
 // Whether the array with this number was handed in with these indices. Linear in the arrays, and in the indices.
@@ -86,7 +86,7 @@ fn has_bad_item(cluster: &Cluster, array: &Option<ArraySpec>, items: &[DepItem])
 }
 
 /// Whether the dependency names a job that there isn't, or, where tasks wait for those of their indices, an array with
-/// others. `--dependency` in sbatch(1). For each number logarithmic in the jobs and linear in those that have it, and
+/// others. `--dependency` in sbatch(1). For each number logarithmic in the jobs and linear in those that it names, and
 /// for tasks by their indices linear in the arrays besides.
 pub(crate) fn is_bad_dependency(
     cluster: &Cluster,

@@ -13,12 +13,13 @@ ghost use Rattle.node_state.specs.Partitions.{IsOnNodes};
 ghost use Rattle.ctl_waiting.specs.Measured.{IsMeasured};
 ghost use Rattle.ctl_waiting.specs.Rank;
 ghost use Rattle.ctl_waiting.specs.declared.rank_keys.RankKey.{RankKey};
+ghost use Rattle.job_table.specs.Behind.{ShowsBehind};
 ghost use Rattle.job_table.specs.Targets.{AreTogether};
 ghost use Rattle.node_state.specs.Reservations.{lasting};
 ghost use Rattle.ctl_waiting.specs.Candidates;
 ghost use Rattle.ctl_waiting.specs.Needs;
 
-use crate::reasons::hindrance;
+use crate::reasons::hindrance_beside;
 use crate::{Factors, RankKey, is_above, key_of};
 use backfill_planner::{BarredList, NodeList, PlanJob};
 use ctl_state::cluster::Cluster;
@@ -26,6 +27,7 @@ use ctl_state::jobs::is_pending;
 use ctl_state::laws::{a_stable_sort_makes_the_order, jobs_get_nodes_that_are_there};
 use ctl_state::planning::{bounds_in, node_order, plan_job};
 use ctl_state::reserved::{barred_for, lasting_named, places_in};
+use job_table::behind::Behind;
 use job_table::record::JobRecord;
 use node_state::partition_record::PartRecord;
 use node_state::record::NodeRecord;
@@ -43,12 +45,19 @@ struct Candidate<'a> {
 }
 
 // Whether the job waits, and nothing hinders it at this moment.
-fn is_candidate(cluster: &Cluster, tally: &Tally, moment: u64, job: &JobRecord) -> bool
+fn is_candidate(
+    cluster: &Cluster,
+    tally: &Tally,
+    behind: &Behind,
+    moment: u64,
+    job: &JobRecord,
+) -> bool
     requires together { AreTogether cluster.now.jobs.records }
     requires counted { Shows cluster.now.assocs.records tally.now (holding cluster.now.jobs.records) }
+    requires behind { ShowsBehind behind.now cluster.now.jobs.records job.now }
     ensures { result ≡ Candidates.is_candidate (state_of cluster.now) moment job.now }
 {
-    is_pending(job) && hindrance(cluster, tally, moment, job).is_none()
+    is_pending(job) && hindrance_beside(cluster, tally, behind, moment, job).is_none()
 }
 
 // The candidates at the factors' moment in the order of their numbers, each with what it is ranked by.
@@ -65,9 +74,10 @@ fn candidates_of<'a>(
         ≡ map (λ (job : JobRecord). (job, Rank.key_of (state_of cluster.now) factors.now.moment job))
         (filter (Candidates.is_candidate (state_of cluster.now) factors.now.moment) cluster.now.jobs.records)) }
 {
+    let behind = Behind::of(alloc, &cluster.jobs)?;
     let mut some = Vec::new(alloc);
     for job in cluster.jobs.records() {
-        if is_candidate(cluster, tally, factors.moment, job) {
+        if is_candidate(cluster, tally, &behind, factors.moment, job) {
             let key = key_of(factors, cluster, job);
             some.push(Candidate { job, key })?;
         }
@@ -291,13 +301,31 @@ pub fn highest(cluster: &Cluster, tally: &Tally, factors: &Factors) -> Option<u3
     ensures { result ≡ option_map (λ (job : JobRecord). job.id)
         (slice_get (Candidates.candidates (state_of cluster.now) factors.now.moment) 0) }
 {
+    highest_beside(cluster, tally, &Behind::unknown(), factors)
+}
+
+/// The same, where it may be known which jobs have another of their user and name before them: then that costs nothing
+/// more.
+pub fn highest_beside(
+    cluster: &Cluster,
+    tally: &Tally,
+    behind: &Behind,
+    factors: &Factors,
+) -> Option<u32>
+    requires together { AreTogether cluster.now.jobs.records }
+    requires counted { Shows cluster.now.assocs.records tally.now (holding cluster.now.jobs.records) }
+    requires behind { All (ShowsBehind behind.now cluster.now.jobs.records) cluster.now.jobs.records }
+    requires measured { IsMeasured (state_of cluster.now) factors.now }
+    ensures { result ≡ option_map (λ (job : JobRecord). job.id)
+        (slice_get (Candidates.candidates (state_of cluster.now) factors.now.moment) 0) }
+{
     let mut highest: Option<&JobRecord> = None;
     for job in cluster.jobs.records() {
         let comes_first = match highest {
             Some(first) => is_pending(job) && is_higher(cluster, factors, job, first),
             None => true,
         };
-        if comes_first && is_candidate(cluster, tally, factors.moment, job) {
+        if comes_first && is_candidate(cluster, tally, behind, factors.moment, job) {
             highest = Some(job);
         }
     }

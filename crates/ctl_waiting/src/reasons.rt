@@ -2,6 +2,7 @@
 
 ghost use Rattle.std.specs.Prelude.{◌≡◌, List};
 ghost use Rattle.job_table.specs.declared.record.JobRecord.{JobRecord};
+ghost use Rattle.job_table.specs.Behind.{ShowsBehind};
 ghost use Rattle.job_table.specs.Targets.{AreTogether};
 ghost use Rattle.job_table.specs.Standing.{standing};
 ghost use Rattle.run_limits.specs.Limits.{first_reason, reason_if};
@@ -15,8 +16,9 @@ use ctl_state::counting::counted_of;
 use ctl_state::limits::exceeds;
 use ctl_state::planning::bounds_in;
 use ctl_state::reserved::lasting_named;
+use job_table::behind::Behind;
 use job_table::record::JobRecord;
-use job_table::standing::{Standing, standing_among};
+use job_table::standing::{Standing, standing_beside};
 use node_state::nodes::Nodes;
 use node_state::partition_record::PartRecord;
 use node_state::reservation_record::Reservation;
@@ -40,11 +42,12 @@ fn held_reason(held_by: HeldBy) -> Option<Reason>
 }
 
 // What hinders a job by what it waits for. `--dependency` in sbatch(1).
-fn dependency_hindrance(cluster: &Cluster, job: &JobRecord) -> Option<Reason>
-    requires { AreTogether cluster.now.jobs.records }
+fn dependency_hindrance(cluster: &Cluster, behind: &Behind, job: &JobRecord) -> Option<Reason>
+    requires together { AreTogether cluster.now.jobs.records }
+    requires behind { ShowsBehind behind.now cluster.now.jobs.records job.now }
     ensures { result ≡ Reasons.awaiting_reason (standing cluster.now.jobs.records job.now) }
 {
-    match standing_among(&cluster.jobs, job) {
+    match standing_beside(&cluster.jobs, behind, job) {
         Standing::Satisfied => None,
         Standing::Waiting => Some(Reason::Dependency),
         Standing::Never => Some(Reason::DependencyNeverSatisfied),
@@ -215,8 +218,24 @@ pub fn hindrance(cluster: &Cluster, tally: &Tally, moment: u64, job: &JobRecord)
     requires counted { Shows cluster.now.assocs.records tally.now (holding cluster.now.jobs.records) }
     ensures { result ≡ Reasons.hindrance (state_of cluster.now) moment job.now }
 {
+    hindrance_beside(cluster, tally, &Behind::unknown(), moment, job)
+}
+
+/// The same, where it may be known whether another of its user and name is before it: then that costs nothing more.
+pub fn hindrance_beside(
+    cluster: &Cluster,
+    tally: &Tally,
+    behind: &Behind,
+    moment: u64,
+    job: &JobRecord,
+) -> Option<Reason>
+    requires together { AreTogether cluster.now.jobs.records }
+    requires counted { Shows cluster.now.assocs.records tally.now (holding cluster.now.jobs.records) }
+    requires behind { ShowsBehind behind.now cluster.now.jobs.records job.now }
+    ensures { result ≡ Reasons.hindrance (state_of cluster.now) moment job.now }
+{
     held_reason(job.held_by)
-        .or_else(|| dependency_hindrance(cluster, job))
+        .or_else(|| dependency_hindrance(cluster, behind, job))
         .or_else(|| begin_hindrance(moment, job))
         .or_else(|| partition_hindrance(cluster, job))
         .or_else(|| wall_hindrance(cluster, job))

@@ -19,7 +19,7 @@ use Rattle.job_table.specs.Awaiting.{AddsAwaited, ShowsAwaited, awaits, has_awai
 use Rattle.job_table.specs.Changes.{changed, not_again, off_node, parts_off, with_left}
 use Rattle.job_table.specs.JobStates.{is_pending, is_running}
 use Rattle.job_table.specs.Table.{HaveRisingIds}
-use Rattle.job_table.specs.Targets.{is_named_by}
+use Rattle.job_table.specs.Targets.{found_by, is_named_by}
 
 any-same : {X : Type 0} (f g : X → Bool) (xs : List X) → ((x : X) → f x ≡ g x) → list_any f xs ≡ list_any g xs
 any-same f g [] same = refl
@@ -63,10 +63,7 @@ awaited-by_number jobs one other same array index =
     any-same (λ waiting. awaits waiting one) (λ waiting. awaits waiting other) jobs
     (λ waiting. awaits-same waiting one other same array index)
 
--- what a job is found by
-abbrev found_by : JobRecord → ℕ × Option ℕ × Option ℕ
-found_by job = (job.id, job.array, job.index)
-
+-- what a change leaves of what a job is found by
 off_node-found : (now node : ℕ) (job : JobRecord) (state : JobState)
     → found_by (off_node now node job state) ≡ found_by job
 off_node-found now node job Pending = refl
@@ -90,7 +87,7 @@ cond-found : (b : Bool) (one other : JobRecord) → found_by one ≡ found_by ot
 cond-found true one other same = same
 cond-found false one other same = refl
 
-changed-found : (change : Change) (job : JobRecord) → found_by (changed change job) ≡ found_by job
+pub changed-found : (change : Change) (job : JobRecord) → found_by (changed change job) ≡ found_by job
 changed-found (Start now parts nodes) job = refl
 changed-found (Leave final now exit) job = cond-found (is_running job.state) _ job refl
 changed-found (CancelPending now) job = cond-found (is_pending job.state) _ job refl

@@ -8,3 +8,4 @@ pub mod Folds
 pub mod Earlier
 pub mod Passes
 pub mod Moved
+pub mod Indices

@@ -7,5 +7,6 @@ pub mod Refusals
 pub mod Usage
 pub mod Awaiting
 pub mod Standing
+pub mod Behind
 pub mod Laws
 pub mod Moving

@@ -1,10 +1,11 @@
 -- The table: the records in the order of their numbers.
-use Rattle.std.specs.Prelude.{◌≡◌, ℕ, ◌+◌, ◌<◌, Bool, ◌&&◌, not, nat_eq, nat_le, if◌then◌else◌, unwrap_or, List, map, find, AllPairs, Option}
+use Rattle.std.specs.Prelude.{◌≡◌, ℕ, ◌+◌, ◌<◌, Bool, true, ◌&&◌, not, nat_eq, nat_le, if◌then◌else◌, unwrap_or, List, map, find, AllPairs, Option}
 use Rattle.std.specs.Map.{values_of}
 use Rattle.job_table.specs.declared.record.JobRecord.{JobRecord}
 use Rattle.job_table.specs.declared.change.Change.{Change}
 use Rattle.job_table.specs.Changes.{changed}
 use Rattle.job_table.specs.JobStates.{is_ended}
+use Rattle.job_table.specs.Targets.{HaveRisingIndices}
 
 -- what contracts see of the table
 pub record JobsView : Type 0 where
@@ -24,6 +25,11 @@ entry_of job = (job.id, job)
 pub record IsTable (entries : List (ℕ × JobRecord)) : Type 0 where
   pub under_ids : entries ≡ map entry_of (values_of entries)
   pub rising : HaveRisingIds (values_of entries)
+
+-- entries that are a table, and whether it is known that indices rise in it
+pub record IsJobTable (entries : List (ℕ × JobRecord)) (by_index : Bool) : Type 0 where
+  pub table : IsTable entries
+  pub indices : by_index ≡ true → HaveRisingIndices (values_of entries)
 
 abbrev pub has_id : ℕ → JobRecord → Bool
 has_id id job = nat_eq job.id id

@@ -1,5 +1,5 @@
 -- Which jobs a target names.
-use Rattle.std.specs.Prelude.{◌≡◌, ℕ, ◌≤◌, Bool, false, ◌&&◌, ◌||◌, nat_eq, List, All, AllPairs, IfSome, Option, Some, None}
+use Rattle.std.specs.Prelude.{◌≡◌, ℕ, ◌<◌, ◌≤◌, Bool, true, false, ◌&&◌, ◌||◌, nat_eq, nat_lt, unwrap_or, List, All, AllPairs, IfSome, Option, Some, None}
 use Rattle.request_data.specs.declared.target.Target.{Target}
 use Rattle.job_table.specs.declared.record.JobRecord.{JobRecord}
 
@@ -24,3 +24,30 @@ pub record AreTogether (jobs : List JobRecord) : Type 0 where
   pub after : All (λ (job : JobRecord). IfSome job.array (λ array. array ≤ job.id)) jobs
   pub together : AllPairs
       (λ (one other : JobRecord). IfSome other.array (λ array. array ≤ one.id → one.array ≡ Some array)) jobs
+
+-- a task's index; whoever has none counts as the first
+abbrev pub index_of : JobRecord → ℕ
+index_of job = unwrap_or job.index 0
+
+-- what a job is found by
+abbrev pub found_by : JobRecord → ℕ × Option ℕ × Option ℕ
+found_by job = (job.id, job.array, job.index)
+
+-- The indices of an array's tasks rise with their numbers: each is above those of all jobs before it from the array's
+-- number on.
+abbrev pub HaveRisingIndices : List JobRecord → Type 0
+HaveRisingIndices jobs = AllPairs
+    (λ (one other : JobRecord). IfSome other.array (λ array. array ≤ one.id → index_of one < index_of other)) jobs
+
+-- a task behind this job, of an array that begins behind it or the next of the same array
+abbrev pub follows_in : Option ℕ → JobRecord → JobRecord → Bool
+follows_in None last job = true
+follows_in (Some array) last job =
+    nat_lt last.id array || (is_task_of array last && nat_lt (index_of last) (index_of job))
+
+abbrev pub follows : JobRecord → JobRecord → Bool
+follows last job = follows_in job.array last job
+
+-- the job lies before where the task with this index of the array with this number does
+abbrev pub lies_before : ℕ → ℕ → JobRecord → Bool
+lies_before array index job = nat_lt job.id array || (is_task_of array job && nat_lt (index_of job) index)

@@ -10,7 +10,7 @@ ghost use Rattle.job_table.specs.Targets.{AreTogether, is_named};
 
 use crate::jobs::Jobs;
 use crate::record::JobRecord;
-use crate::targets::{is_named, span_of};
+use crate::targets::is_named;
 use plain_data::dependency::{DepId, DepItem, DepKind};
 use request_data::state::JobState;
 use request_data::target::Target;
@@ -29,8 +29,7 @@ pub struct Awaited {
 
 impl Awaited {
     /// The jobs for which pending ones wait. One walk over the jobs, and for each number that a pending one names at
-    /// most logarithmic in them, beside the tasks of the array of which it names one. It takes memory for these numbers
-    /// alone.
+    /// most logarithmic in them. It takes memory for these numbers alone.
     #[tactic(auto, unfolding(crate::specs::Awaiting::has_awaited, crate::specs::Awaiting::is_awaited))]
     pub fn of(alloc: Global, jobs: &Jobs) -> Result<Awaited, Memory>
         requires { AreTogether jobs.now.records }
@@ -42,7 +41,7 @@ impl Awaited {
             jobs: HashSet::new(alloc),
         };
         for waiting in records {
-            add_waiting(&mut awaited, records, waiting)?;
+            add_waiting(&mut awaited, jobs, waiting)?;
         }
         Ok(awaited)
     }
@@ -59,10 +58,10 @@ impl Awaited {
 }
 
 // Adds the jobs for which this one waits, if it waits for a start.
-fn add_waiting(awaited: &mut Awaited, jobs: &[JobRecord], waiting: &JobRecord) -> Result<(), Memory>
-    requires rising { HaveRisingIds jobs.now }
-    requires together { AreTogether jobs.now }
-    ensures { OnOk result (AddsAwaited (awaits waiting.now) jobs.now awaited.old awaited.new) }
+fn add_waiting(awaited: &mut Awaited, jobs: &Jobs, waiting: &JobRecord) -> Result<(), Memory>
+    requires rising { HaveRisingIds jobs.now.records }
+    requires together { AreTogether jobs.now.records }
+    ensures { OnOk result (AddsAwaited (awaits waiting.now) jobs.now.records awaited.old awaited.new) }
 {
     match &waiting.terms().dependency {
         Some(spec) if is_pending(waiting) => add_items(awaited, jobs, spec.items.as_slice()),
@@ -77,10 +76,10 @@ fn is_pending(job: &JobRecord) -> bool
 }
 
 // Adds the jobs that items of a dependency name.
-fn add_items(awaited: &mut Awaited, jobs: &[JobRecord], items: &[DepItem]) -> Result<(), Memory>
-    requires rising { HaveRisingIds jobs.now }
-    requires together { AreTogether jobs.now }
-    ensures { OnOk result (AddsAwaited (λ job. list_any (names_in job) items.now) jobs.now awaited.old awaited.new) }
+fn add_items(awaited: &mut Awaited, jobs: &Jobs, items: &[DepItem]) -> Result<(), Memory>
+    requires rising { HaveRisingIds jobs.now.records }
+    requires together { AreTogether jobs.now.records }
+    ensures { OnOk result (AddsAwaited (λ job. list_any (names_in job) items.now) jobs.now.records awaited.old awaited.new) }
 {
     for item in items {
         add_ids(awaited, jobs, item.kind, item.ids.as_slice())?;
@@ -89,15 +88,10 @@ fn add_items(awaited: &mut Awaited, jobs: &[JobRecord], items: &[DepItem]) -> Re
 }
 
 // Adds the jobs that numbers of an item of this kind name.
-fn add_ids(
-    awaited: &mut Awaited,
-    jobs: &[JobRecord],
-    kind: DepKind,
-    ids: &[DepId],
-) -> Result<(), Memory>
-    requires rising { HaveRisingIds jobs.now }
-    requires together { AreTogether jobs.now }
-    ensures { OnOk result (AddsAwaited (λ job. list_any (names_by kind job) ids.now) jobs.now awaited.old awaited.new) }
+fn add_ids(awaited: &mut Awaited, jobs: &Jobs, kind: DepKind, ids: &[DepId]) -> Result<(), Memory>
+    requires rising { HaveRisingIds jobs.now.records }
+    requires together { AreTogether jobs.now.records }
+    ensures { OnOk result (AddsAwaited (λ job. list_any (names_by kind job) ids.now) jobs.now.records awaited.old awaited.new) }
 {
     for id in ids {
         add_target(awaited, jobs, &target_of(kind, *id))?;
@@ -119,10 +113,10 @@ fn target_of(kind: DepKind, id: DepId) -> Target
 
 // Adds the jobs that a target names.
 #[tactic(auto, unfolding(crate::specs::Awaiting::has_awaited))]
-fn add_target(awaited: &mut Awaited, jobs: &[JobRecord], target: &Target) -> Result<(), Memory>
-    requires rising { HaveRisingIds jobs.now }
-    requires together { AreTogether jobs.now }
-    ensures { OnOk result (AddsAwaited (is_named target.now) jobs.now awaited.old awaited.new) }
+fn add_target(awaited: &mut Awaited, jobs: &Jobs, target: &Target) -> Result<(), Memory>
+    requires rising { HaveRisingIds jobs.now.records }
+    requires together { AreTogether jobs.now.records }
+    ensures { OnOk result (AddsAwaited (is_named target.now) jobs.now.records awaited.old awaited.new) }
 {
     if target.index.is_none() {
         awaited.numbers.insert(target.id)?;
@@ -133,13 +127,13 @@ fn add_target(awaited: &mut Awaited, jobs: &[JobRecord], target: &Target) -> Res
 }
 
 // Adds the numbers of the jobs that the target names.
-fn add_tasks(numbers: &mut HashSet<u32>, jobs: &[JobRecord], target: &Target) -> Result<(), Memory>
-    requires rising { HaveRisingIds jobs.now }
-    requires together { AreTogether jobs.now }
+fn add_tasks(numbers: &mut HashSet<u32>, jobs: &Jobs, target: &Target) -> Result<(), Memory>
+    requires rising { HaveRisingIds jobs.now.records }
+    requires together { AreTogether jobs.now.records }
     ensures { OnOk result (All (λ job. contains nat_eq numbers.new job.id
-        ≡ (contains nat_eq numbers.old job.id || is_named target.now job)) jobs.now) }
+        ≡ (contains nat_eq numbers.old job.id || is_named target.now job)) jobs.now.records) }
 {
-    let span = span_of(jobs, target);
+    let span = jobs.span_of(target);
     for job in span {
         if is_named(target, job) {
             numbers.insert(job.id)?;

@@ -1,11 +1,12 @@
 //! The table of jobs, in the order of their numbers, with an index of these; and what their associations have used.
 
-ghost use Rattle.std.specs.Prelude.{◌≡◌, ◌+◌, ◌^◌, ◌<◌, ◌≤◌, ◌↔◌, ◌++◌, [], ◌∷◌, ℕ, IfOk, true, IsErrOf, IsTrue, OnOk, OnErr, All, length, map, filter, not, replicate, slice_get, option_copied};
+ghost use Rattle.std.specs.Prelude.{◌≡◌, ◌+◌, ◌^◌, ◌<◌, ◌≤◌, ◌↔◌, ◌++◌, [], ◌∷◌, ℕ, IfOk, true, false, IsErrOf, IsTrue, OnOk, OnErr, All, length, map, filter, not, replicate, slice_get, option_copied, take, drop};
 ghost use Rattle.indexmap.specs.IndexMap.{spare, values};
 ghost use Rattle.job_table.specs.declared.record.JobRecord.{JobRecord};
 ghost use Rattle.job_table.specs.Changes.{changed};
 ghost use Rattle.job_table.specs.Table.{HaveRisingIds, IsTable, changed_if, entry_of, is_old, job_with, put_back_if};
 ghost use Rattle.job_table.specs.Awaiting.{has_gone};
+ghost use Rattle.job_table.specs.Targets.{AreTogether, found_by, is_named};
 ghost use Rattle.job_table.specs.Usage.{Charges, IsNoStart, charged_by, is_start};
 ghost use Rattle.job_table.specs.Moving.{partition_moved, parts_moved};
 ghost use Rattle.job_table.specs.Walks.{map_at};
@@ -14,9 +15,11 @@ use crate::awaited::Awaited;
 use crate::change::{Change, apply};
 use crate::moving::{move_partition, move_parts};
 use crate::record::JobRecord;
+use crate::targets::{Places, place_of_task, places_of, rise_from};
 use crate::usage::charge;
 use indexmap::IndexMap;
 use request_data::state::JobState;
+use request_data::target::Target;
 use std::alloc::{AllocError, AllocFailed, Global};
 use std::error::Error;
 use std::fmt;
@@ -75,17 +78,20 @@ pub struct Jobs {
     by_id: IndexMap<u32, JobRecord>,
     // In seconds of one processor.
     usage: Vec<u64>,
+    // Whether it is known that the indices of each array's tasks rise with their numbers, as they do of all that are
+    // handed in: then a search finds one.
+    by_index: bool,
 }
 
 impl Model for Jobs {
     ghost use Rattle.indexmap.specs.IndexMap.{values};
-    ghost use Rattle.job_table.specs.Table.{IsTable, JobsView};
+    ghost use Rattle.job_table.specs.Table.{IsJobTable, JobsView};
 
     ghost Value = { JobsView };
 
     ghost view = { λ jobs. record { records = values jobs.by_id; usage = jobs.usage.items } };
 
-    ghost invariant = { λ jobs. IsTable jobs.by_id.entries };
+    ghost invariant = { λ jobs. IsJobTable jobs.by_id.entries jobs.by_index };
 }
 
 impl Jobs {
@@ -97,6 +103,7 @@ impl Jobs {
         Ok(Jobs {
             by_id: IndexMap::new(alloc),
             usage: vec![in alloc; 0; assocs]?,
+            by_index: true,
         })
     }
 
@@ -138,6 +145,30 @@ impl Jobs {
         self.by_id.get(&id)
     }
 
+    /// Where the jobs lie that the target names: it names none before and behind. Logarithmic in all jobs; where it names
+    /// a number alone, linear in those that have it.
+    pub fn places_of(&self, target: &Target) -> Places
+        requires { AreTogether self.now.records }
+        ensures within { (result.first ≤ result.end) × (result.end ≤ length self.now.records) }
+        ensures before { All (λ job. is_named target.now job ≡ false) (take result.first self.now.records) }
+        ensures behind { All (λ job. is_named target.now job ≡ false) (drop result.end self.now.records) }
+    {
+        match target.index {
+            Some(index) if self.by_index => place_of_task(self.records(), target.id, index),
+            _ => places_of(self.records(), target),
+        }
+    }
+
+    /// The jobs among which all are that the target names. Logarithmic in all jobs; where it names a number alone, linear
+    /// in those that have it.
+    pub fn span_of(&self, target: &Target) -> &[JobRecord]
+        requires { AreTogether self.now.records }
+        ensures { filter (is_named target.now) result.now ≡ filter (is_named target.now) self.now.records }
+    {
+        let places = self.places_of(target);
+        &self.records()[places.first..places.end]
+    }
+
     /// Adds these jobs, whose numbers rise and are above all others, where with them there are at most so many. Linear
     /// in them, but for a table that outgrows its memory; want of memory leaves the table as it was.
     pub fn add(&mut self, more: Vec<JobRecord>, most: u64) -> Result<(), AddRefusal>
@@ -150,11 +181,14 @@ impl Jobs {
         ensures few { OnOk result (length self.old.records + length more.items ≤ most) }
         ensures full { IsErrOf result AddRefusal.Full ↔ (most < length self.old.records + length more.items) }
     {
-        if self.len() as u64 + more.len() as u64 > most {
+        let before = self.len();
+        if before as u64 + more.len() as u64 > most {
             return Err(AddRefusal::Full);
         }
         self.by_id.reserve(more.len())?;
         insert_all(&mut self.by_id, more);
+        let known = rise_from(self.by_index, self.by_id.values().as_slice(), before);
+        self.by_index = known;
         Ok(())
     }
 
@@ -208,7 +242,8 @@ impl Jobs {
         ensures records { self.new.records ≡ map (put_back_if job) self.old.records }
         ensures usage { self.new.usage ≡ self.old.usage }
     {
-        put(&mut self.by_id, job);
+        let same = put(&mut self.by_id, job);
+        self.by_index = self.by_index && same;
     }
 
     /// Puts back what the associations had used (own). It takes no memory.
@@ -251,14 +286,25 @@ fn move_all_partitions(by_id: &mut IndexMap<u32, JobRecord>, places: &[u32])
     }
 }
 
-// Puts a record in the place of the one with its number, if there is one.
-fn put(by_id: &mut IndexMap<u32, JobRecord>, job: JobRecord)
-    requires { IsTable by_id.old.entries }
-    ensures { by_id.new.entries ≡ map entry_of (map (put_back_if job) (values by_id.old)) }
+// Whether the jobs are found by the same array and the same index.
+fn are_found_alike(one: &JobRecord, other: &JobRecord) -> bool
+    ensures { result ≡ true → (one.now.array ≡ other.now.array) × (one.now.index ≡ other.now.index) }
 {
-    if let Some(place) = by_id.get_index_of(&job.id) {
-        by_id[place] = job;
-    }
+    one.array == other.array && one.index == other.index
+}
+
+// Puts a record in the place of the one with its number, if there is one; and whether all are found by the same then.
+fn put(by_id: &mut IndexMap<u32, JobRecord>, job: JobRecord) -> bool
+    requires { IsTable by_id.old.entries }
+    ensures entries { by_id.new.entries ≡ map entry_of (map (put_back_if job) (values by_id.old)) }
+    ensures found { result ≡ true → map found_by (values by_id.new) ≡ map found_by (values by_id.old) }
+{
+    let Some(place) = by_id.get_index_of(&job.id) else {
+        return true;
+    };
+    let same = are_found_alike(&by_id[place], &job);
+    by_id[place] = job;
+    same
 }
 
 // Puts jobs whose numbers rise and are above all others behind these, where there is room for them.

@@ -3,6 +3,7 @@
 #![tactic(auto)]
 
 pub mod awaited;
+pub mod behind;
 pub mod change;
 pub mod dependency_laws;
 pub mod jobs;

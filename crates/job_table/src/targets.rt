@@ -1,11 +1,11 @@
 //! Which jobs a target names.
 
-ghost use Rattle.std.specs.Prelude.{◌≡◌, ◌-◌, ◌<◌, ◌≤◌, All, None, true, false, filter, length, take, drop};
+ghost use Rattle.std.specs.Prelude.{◌≡◌, ◌+◌, ◌-◌, ◌<◌, ◌≤◌, All, None, Some, true, false, length, take, drop};
 ghost use Rattle.std.specs.List.{HoldsAt};
 ghost use Rattle.job_table.specs.declared.record.JobRecord.{JobRecord};
 ghost use Rattle.job_table.specs.Table.{HaveRisingIds};
 ghost use Rattle.job_table.specs.Targets as spec;
-ghost use Rattle.job_table.specs.Targets.{AreTogether};
+ghost use Rattle.job_table.specs.Targets.{AreTogether, HaveRisingIndices};
 
 use crate::record::JobRecord;
 use request_data::target::Target;
@@ -49,7 +49,7 @@ fn count_of(jobs: &[JobRecord], id: u32) -> usize
 
 /// Where the jobs lie that have the target's number, or are tasks of the array that has it: the target names none
 /// before and behind. Logarithmic in all jobs, and linear in these.
-pub fn places_of(jobs: &[JobRecord], target: &Target) -> Places
+pub(crate) fn places_of(jobs: &[JobRecord], target: &Target) -> Places
     requires rising { HaveRisingIds jobs.now }
     requires together { AreTogether jobs.now }
     ensures within { (result.first ≤ result.end) × (result.end ≤ length jobs.now) }
@@ -66,12 +66,75 @@ pub fn places_of(jobs: &[JobRecord], target: &Target) -> Places
     }
 }
 
-/// The jobs among which all are that the target names. Logarithmic in all jobs, and linear in these.
-pub fn span_of<'a>(jobs: &'a [JobRecord], target: &Target) -> &'a [JobRecord]
+// A task's index; whoever has none counts as the first.
+fn index_of(job: &JobRecord) -> u32
+    ensures { result ≡ spec.index_of job.now }
+{
+    job.index.unwrap_or(0)
+}
+
+// Whether the job is a task of an array that begins behind the last one, or the next of the last one's array.
+fn follows(last: &JobRecord, job: &JobRecord) -> bool
+    ensures { result ≡ spec.follows last.now job.now }
+{
+    match job.array {
+        Some(array) => {
+            last.id < array || (is_task_of(array, last) && index_of(last) < index_of(job))
+        }
+        None => true,
+    }
+}
+
+// Whether it is known that indices rise also with the job at a place, where they do before it.
+fn rise_at(jobs: &[JobRecord], place: usize) -> bool
+    requires rising { HaveRisingIds jobs.now }
+    requires inside { place < length jobs.now }
+    ensures { result ≡ true → HaveRisingIndices (take place jobs.now)
+        → HaveRisingIndices (take (place + 1) jobs.now) }
+{
+    if place == 0 {
+        return true;
+    }
+    follows(&jobs[place - 1], &jobs[place])
+}
+
+/// Whether it is known that indices rise, where that may be known of the jobs before a place. Linear in those from there
+/// on.
+pub(crate) fn rise_from(known: bool, jobs: &[JobRecord], start: usize) -> bool
+    requires { HaveRisingIds jobs.now }
+    ensures { result ≡ true → (known ≡ true → HaveRisingIndices (take start jobs.now)) → HaveRisingIndices jobs.now }
+{
+    if !known {
+        return false;
+    }
+    for place in start..jobs.len() {
+        if !rise_at(jobs, place) {
+            return false;
+        }
+    }
+    true
+}
+
+// Whether the job lies before where the task with this index of the array with this number does.
+fn lies_before(array: u32, index: u32, job: &JobRecord) -> bool
+    ensures { result ≡ spec.lies_before array index job.now }
+{
+    job.id < array || (is_task_of(array, job) && index_of(job) < index)
+}
+
+/// Where the task lies with this index of the array with this number, if there is one: this names none before and
+/// behind. Logarithmic in the jobs.
+pub(crate) fn place_of_task(jobs: &[JobRecord], array: u32, index: u32) -> Places
     requires rising { HaveRisingIds jobs.now }
     requires together { AreTogether jobs.now }
-    ensures { filter (spec.is_named target.now) result.now ≡ filter (spec.is_named target.now) jobs.now }
+    requires indices { HaveRisingIndices jobs.now }
+    ensures within { (result.first ≤ result.end) × (result.end ≤ length jobs.now) }
+    ensures before { All (λ job. spec.is_named_by array (Some index) job ≡ false) (take result.first jobs.now) }
+    ensures behind { All (λ job. spec.is_named_by array (Some index) job ≡ false) (drop result.end jobs.now) }
 {
-    let places = places_of(jobs, target);
-    &jobs[places.first..places.end]
+    let first = jobs.partition_point(|job| lies_before(array, index, job));
+    Places {
+        first,
+        end: jobs.len().min(first + 1),
+    }
 }

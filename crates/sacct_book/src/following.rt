@@ -70,7 +70,7 @@ fn count_at(held: &mut Vec<u64>, way: Way, ctl: &Ctl, named: &[Target])
     ensures each { (at : ℕ) → at < vec_len held.old → slice_index held.new.items at
         ≡ counted way (slice_index held.old.items at) (run_by_named named.now ctl.now.state.jobs at) }
 {
-    count_named(held, way, ctl.cluster().jobs.records(), named);
+    count_named(held, way, &ctl.cluster().jobs, named);
 }
 
 // Has the controller decide an entry once more, and counts what those running jobs hold then that are named: no others

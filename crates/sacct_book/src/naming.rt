@@ -1,7 +1,6 @@
 //! Which jobs an entry may make hold more or fewer processors, and what they hold.
 
 ghost use Rattle.std.specs.Prelude.{◌≡◌, ◌^◌, ◌-◌, ◌<◌, ℕ, IfOk, Some, min, map, filter, if◌then◌else◌, nat_eq, slice_index, vec_len};
-ghost use Rattle.job_table.specs.Table.{HaveRisingIds};
 ghost use Rattle.job_table.specs.Targets.{AreTogether};
 ghost use Rattle.ctl_state.specs.State.{state_of};
 ghost use Rattle.ctl_jobs.specs.Changing.{are_naming};
@@ -11,8 +10,9 @@ ghost use Rattle.sacct_book.specs.Running as running;
 use crate::running::{Way, count, cpus_running};
 use ctl_node_side::report::is_restarted;
 use ctl_state::cluster::Cluster;
+use job_table::jobs::Jobs;
 use job_table::record::JobRecord;
-use job_table::targets::{is_named, span_of};
+use job_table::targets::is_named;
 use request_data::report::{Done, Report};
 use request_data::request::{NodeOrder, Request};
 use request_data::target::{Target, Targets};
@@ -148,31 +148,23 @@ fn count_first(
 }
 
 // The same, by those jobs alone among which all are that the target names.
-fn count_target(
-    held: &mut Vec<u64>,
-    way: Way,
-    jobs: &[JobRecord],
-    before: &[Target],
-    target: &Target,
-)
-    requires rising { HaveRisingIds jobs.now }
-    requires together { AreTogether jobs.now }
+fn count_target(held: &mut Vec<u64>, way: Way, jobs: &Jobs, before: &[Target], target: &Target)
+    requires { AreTogether jobs.now.records }
     ensures len { vec_len held.new ≡ vec_len held.old }
     ensures each { (at : ℕ) → at < vec_len held.old → slice_index held.new.items at
         ≡ running.counted way (slice_index held.old.items at)
-        (running.cpus_run_by (filter (spec.is_named_first before.now target.now) jobs.now) at) }
+        (running.cpus_run_by (filter (spec.is_named_first before.now target.now) jobs.now.records) at) }
 {
-    count_first(held, way, span_of(jobs, target), before, target);
+    count_first(held, way, jobs.span_of(target), before, target);
 }
 
 /// Counts for each association what its running jobs hold that the targets name. For each target logarithmic in the
-/// jobs and linear in the tasks of its array, for each of these in the targets before; it takes no memory.
-pub(crate) fn count_named(held: &mut Vec<u64>, way: Way, jobs: &[JobRecord], targets: &[Target])
-    requires rising { HaveRisingIds jobs.now }
-    requires together { AreTogether jobs.now }
+/// jobs and linear in those that it names, for each of these in the targets before; it takes no memory.
+pub(crate) fn count_named(held: &mut Vec<u64>, way: Way, jobs: &Jobs, targets: &[Target])
+    requires { AreTogether jobs.now.records }
     ensures len { vec_len held.new ≡ vec_len held.old }
     ensures each { (at : ℕ) → at < vec_len held.old → slice_index held.new.items at
-        ≡ running.counted way (slice_index held.old.items at) (spec.run_by_named targets.now jobs.now at) }
+        ≡ running.counted way (slice_index held.old.items at) (spec.run_by_named targets.now jobs.now.records at) }
 {
     for place in 0..targets.len() {
         count_target(held, way, jobs, &targets[..place], &targets[place]);

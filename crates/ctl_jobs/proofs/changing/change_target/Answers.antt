@@ -17,7 +17,7 @@ loop-place-preserved c =
           (state_of c.loop-place.cluster) (state_of c.change_where.new.cluster) c.args.moment c.args.user.now
           c.args.action.now (is_named c.args.target.now) c.loop-place.place
           c.is_named-named.result c.index-records-place.result _ _ held.walk (omega arith)
-          (rw c.records-in-loop-place.ensures.value at c.index-records-place.is)
+          (rw c.records.ensures.value at c.index-records-place.is)
           c.is_named-named.ensures c.change_where.ensures.after;
       charges = c.who_leaves_is_charged.ensures.on c.args.moment _ _ _ held.charges c.change_where.ensures.charges;
       held = c.change_where.ensures.held ∙ held.held;
@@ -33,7 +33,7 @@ returns-clause-after c =
     (is_named target job) job in
     let within = c.places_of-places.ensures.within in
     let last : c.places_of-places.result.end ≡ c.loop-place.place = omega arith in
-    let behind = rw (last, c.records.ensures.value) at c.places_of-places.ensures.behind in
+    let behind = rw last at c.places_of-places.ensures.behind in
     c.loop-place.invariant.walk
     ∙ ap (λ jobs. record s { jobs = jobs; usage = c.loop-place.cluster.jobs.usage })
     (c.a_walk_changes_all.ensures.ends change c.loop-place.place jobs

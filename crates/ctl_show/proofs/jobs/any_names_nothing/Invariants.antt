@@ -6,4 +6,4 @@ use Rattle.ctl_show.proofs.jobs.any_names_nothing.Given as goal
 
 abbrev pub invariant-loop-target : goal.invariant-loop-target
 invariant-loop-target l =
-    list_any (λ target. not (list_any (is_named target) l.jobs)) (take l.target-index l.targets) ≡ false
+    list_any (λ target. not (list_any (is_named target) l.jobs.records)) (take l.target-index l.targets) ≡ false

@@ -6,6 +6,7 @@ use Rattle.ctl_show.proofs.jobs.is_found.Goals as goal
 pub returns : goal.returns
 returns c =
     let places = c.places_of-places in
-    c.names_any.ensures
-    ∙ list_any-cut (is_named c.args.target.now) c.args.jobs.now places.result.first places.result.end
-    places.ensures.within.0 places.ensures.before places.ensures.behind
+    let named = is_named c.args.target.now in
+    let found = list_any-cut named c.args.jobs.now.records places.result.first places.result.end
+    places.ensures.within.0 places.ensures.before places.ensures.behind in
+    c.names_any.ensures ∙ rw c.records.ensures.value found

@@ -35,3 +35,9 @@ returns c =
     let whole : take c.loop-job.job-index jobs ≡ jobs =
     take_all c.loop-job.job-index jobs (rw c.records-job-items.ensures.value at c.loop-job-test.false) in
     rw whole at c.loop-job.invariant
+
+pub row_of-requires-clause-behind : goal.row_of-requires-clause-behind
+row_of-requires-clause-behind c =
+    let same = c.records-job-items.ensures.value in
+    rw (rw same at c.job-item.is)
+    (c.in_ok-outlook.ensures.behind c.loop-job.job-index c.job-item.result (rw same at c.loop-job-test.true))

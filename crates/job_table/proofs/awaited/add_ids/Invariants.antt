@@ -5,4 +5,4 @@ use Rattle.job_table.proofs.awaited.add_ids.Given as goal
 
 abbrev pub invariant-loop-id : goal.invariant-loop-id
 invariant-loop-id l =
-    AddsAwaited (λ job. list_any (names_by l.kind job) (take l.id-index l.ids)) l.jobs l.fn.awaited l.awaited
+    AddsAwaited (λ job. list_any (names_by l.kind job) (take l.id-index l.ids)) l.jobs.records l.fn.awaited l.awaited

@@ -5,4 +5,4 @@ use Rattle.job_table.proofs.awaited.add_items.Given as goal
 
 abbrev pub invariant-loop-item : goal.invariant-loop-item
 invariant-loop-item l =
-    AddsAwaited (λ job. list_any (names_in job) (take l.item-index l.items)) l.jobs l.fn.awaited l.awaited
+    AddsAwaited (λ job. list_any (names_in job) (take l.item-index l.items)) l.jobs.records l.fn.awaited l.awaited

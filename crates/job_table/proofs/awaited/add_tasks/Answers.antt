@@ -11,11 +11,11 @@ use Rattle.job_table.proofs.awaited.add_tasks.Goals as goal
 pub returns : goal.returns
 returns c = λ k d inside.
     let named = is_named c.args.target.now in
-    let job = get_or c.args.jobs.now k d in
+    let job = get_or c.args.jobs.now.records k d in
     let span = c.span_of-span.result.now in
     let whole : take c.loop-job.job-index span ≡ span = take_all c.loop-job.job-index span (omega arith) in
     c.loop-job.invariant job.id
     ∙ ap (λ found. contains nat_eq c.args.numbers.now job.id || found)
     (ap (λ jobs. finds_number named jobs job.id) whole
     ∙ ap (list_any (λ (other : JobRecord). nat_eq job.id other.id)) c.span_of-span.ensures
-    ∙ number-found named c.args.jobs.now c.requires.rising k d inside)
+    ∙ number-found named c.args.jobs.now.records c.requires.rising k d inside)

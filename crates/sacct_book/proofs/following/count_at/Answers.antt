@@ -7,14 +7,14 @@ use Rattle.sacct_book.specs.Running.{counted}
 use Rattle.std.proofs.Common.{List, get_or}
 use Rattle.sacct_book.proofs.following.count_at.Goals as goal
 
-pub count_named-requires-clause-together : goal.count_named-requires-clause-together
-count_named-requires-clause-together c =
-    let jobs = c.records.ensures.value ∙ ap (λ (one : State). one.jobs) c.cluster.ensures.value in
+pub count_named-requires : goal.count_named-requires
+count_named-requires c =
+    let jobs = ap (λ (one : State). one.jobs) c.cluster.ensures.value in
     subst AreTogether (sym jobs) c.cluster.ensures.sound.together
 
 pub returns-clause-each : goal.returns-clause-each
 returns-clause-each c =
-    let jobs = c.records.ensures.value ∙ ap (λ (one : State). one.jobs) c.cluster.ensures.value in
+    let jobs = ap (λ (one : State). one.jobs) c.cluster.ensures.value in
     λ at inside.
     c.count_named.ensures.each at inside
     ∙ ap (λ (some : List JobRecord). counted c.args.way (get_or c.args.held.now.items at 0)

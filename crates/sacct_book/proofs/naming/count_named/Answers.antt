@@ -12,7 +12,7 @@ loop-place-init c = record {
   each = λ at inside.
       counted-none c.args.way (get_or c.args.held.now.items at 0)
       (omega (arith, c.type_inv.held at 0 (omega (arith, inside, c.args.held.now.ok.0))))
-      ∙ ap (counted c.args.way (get_or c.args.held.now.items at 0)) (sym (named-none c.args.jobs.now at));
+      ∙ ap (counted c.args.way (get_or c.args.held.now.items at 0)) (sym (named-none c.args.jobs.now.records at));
 }
 
 pub loop-place-preserved : goal.loop-place-preserved
@@ -23,7 +23,7 @@ loop-place-preserved c = record {
       let d : Target = record { id = 0; index = None } in
       let place = c.loop-place.place in
       let targets = c.args.targets.now in
-      let jobs = c.args.jobs.now in
+      let jobs = c.args.jobs.now.records in
       let was = get_or c.args.held.now.items at 0 in
       let next = cpus_run_by (filter (is_named_first (take place targets) (get_or targets place d)) jobs) at in
       c.count_target.ensures.each at (omega (arith, inside, c.loop-place.invariant.len))

@@ -9,5 +9,5 @@ invariant-loop-place l = record {
   len : vec_len l.held ≡ vec_len l.fn.held;
   small : (at : ℕ) → at < vec_len l.fn.held → get_or l.fn.held.items at 0 ≤ 2 ^ 64 - 1;
   each : (at : ℕ) → at < vec_len l.fn.held → get_or l.held.items at 0
-      ≡ counted l.way (get_or l.fn.held.items at 0) (run_by_named (take l.place l.targets) l.jobs at);
+      ≡ counted l.way (get_or l.fn.held.items at 0) (run_by_named (take l.place l.targets) l.jobs.records at);
 }

@@ -7,4 +7,4 @@ pub returns-clause-each : goal.returns-clause-each
 returns-clause-each c = λ at inside.
     c.count_first.ensures.each at inside
     ∙ ap (counted c.args.way (get_or c.args.held.now.items at 0))
-    (run-span c.args.target.now c.args.before.now at c.span_of.result.now c.args.jobs.now c.span_of.ensures)
+    (run-span c.args.target.now c.args.before.now at c.span_of.result.now c.args.jobs.now.records c.span_of.ensures)

@@ -1,4 +1,4 @@
--- The changed job keeps its number.
+-- The changed job keeps its number, its array and its index.
 use Rattle.std.proofs.Common.{◌≡◌, Some, slice_get, ap, sym, ◌∙◌, map}
 use Rattle.std.specs.Map.{values_of}
 use Rattle.indexmap.specs.IndexMap.{set_value_at}
@@ -6,8 +6,10 @@ use Rattle.job_table.specs.Changes.{changed}
 use Rattle.job_table.specs.Table.{JobsView, entry_of}
 use Rattle.job_table.specs.Usage.{charged, charged_by}
 use Rattle.job_table.specs.Walks.{map_at}
+use Rattle.job_table.proofs.Awaiting.{changed-found}
 use Rattle.job_table.proofs.Charging.{Charges-at, start-charges}
 use Rattle.job_table.proofs.Entries.{change-table, table-entries, values-entries}
+use Rattle.job_table.proofs.Indices.{found-map_at, table-found}
 use Rattle.job_table.proofs.Table.{rising-map_at}
 use Rattle.job_table.proofs.jobs.Jobs.change_at.Goals as goal
 
@@ -18,9 +20,12 @@ invariant_of-self c =
     let jobs = map_at place (changed c.args.change) (values_of entries) in
     let old = c.index_mut.result.now in
     let are : set_value_at entries place c.apply.new.job ≡ map entry_of jobs =
-    rw c.apply.ensures (change-table c.args.change place entries old c.self.invariant c.index_mut.ensures.value) in
-    table-entries (set_value_at entries place c.apply.new.job) jobs are
-    (rising-map_at c.args.change place (values_of entries) c.self.invariant.rising)
+    rw c.apply.ensures (change-table c.args.change place entries old c.self.invariant.table c.index_mut.ensures.value) in
+    let after = set_value_at entries place c.apply.new.job in
+    let table = table-entries after jobs are
+    (rising-map_at c.args.change place (values_of entries) c.self.invariant.table.rising) in
+    table-found after jobs (values_of entries) c.self.inside.by_index table are
+    (found-map_at (changed c.args.change) (changed-found c.args.change) place (values_of entries)) c.self.invariant.indices
 
 pub returns-clause-records : goal.returns-clause-records
 returns-clause-records c =
@@ -29,7 +34,7 @@ returns-clause-records c =
     let jobs = map_at place (changed c.args.change) (values_of entries) in
     let old = c.index_mut.result.now in
     let are : set_value_at entries place c.apply.new.job ≡ map entry_of jobs =
-    rw c.apply.ensures (change-table c.args.change place entries old c.self.invariant c.index_mut.ensures.value) in
+    rw c.apply.ensures (change-table c.args.change place entries old c.self.invariant.table c.index_mut.ensures.value) in
     ap values_of are ∙ values-entries jobs
     ∙ ap (λ (view : JobsView). map_at place (changed c.args.change) view.records) c.self.view_is
 

@@ -1,9 +1,10 @@
--- The numbers stay.
+-- The numbers stay, and the indices.
 use Rattle.std.proofs.Common.{refl, ◌∙◌, ap, map}
 use Rattle.std.specs.Map.{values_of}
 use Rattle.job_table.specs.Moving.{parts_moved}
 use Rattle.job_table.specs.Table.{JobsView}
 use Rattle.job_table.proofs.Entries.{table-entries, values-entries}
+use Rattle.job_table.proofs.Indices.{found-map, table-found}
 use Rattle.job_table.proofs.Moved.{rising-map}
 use Rattle.job_table.proofs.jobs.Jobs.move_parts.Goals as goal
 
@@ -11,8 +12,11 @@ pub invariant_of-self : goal.invariant_of-self
 invariant_of-self c =
     let jobs = values_of c.self.inside.by_id.entries in
     let f = parts_moved c.args.places.now in
-    table-entries c.move_all_parts.new.by_id.entries (map f jobs) c.move_all_parts.ensures
-    (rising-map f (λ job. refl) jobs c.self.invariant.rising)
+    let entries = c.move_all_parts.new.by_id.entries in
+    let table = table-entries entries (map f jobs) c.move_all_parts.ensures
+    (rising-map f (λ job. refl) jobs c.self.invariant.table.rising) in
+    table-found entries (map f jobs) jobs c.self.inside.by_index table c.move_all_parts.ensures
+    (found-map f (λ job. refl) jobs) c.self.invariant.indices
 
 pub returns-clause-records : goal.returns-clause-records
 returns-clause-records c =

@@ -5,7 +5,7 @@ use Rattle.std.proofs.lemmas.Bool.Decides.{nat_tests}
 use Rattle.job_table.specs.declared.record.JobRecord.{JobRecord}
 use Rattle.ctl_state.specs.State.{state_of}
 use Rattle.ctl_waiting.proofs.Orders.{highest-none, highest-more, highest-is}
-use Rattle.ctl_waiting.proofs.ranking.highest.Goals as goal
+use Rattle.ctl_waiting.proofs.ranking.highest_beside.Goals as goal
 
 pub loop-job-init : goal.loop-job-init
 loop-job-init c = sym (highest-none (state_of c.args.cluster.now) c.args.factors.now.moment)
@@ -32,3 +32,9 @@ returns c =
     at c.loop-job.invariant in
     ap (option_map (λ (job : JobRecord). job.id))
     (rw c.in_ok-highest.was at (all ∙ highest-is s c.args.factors.now.moment))
+
+pub is_candidate-requires-clause-behind : goal.is_candidate-requires-clause-behind
+is_candidate-requires-clause-behind c =
+    let same = c.records-job-items.ensures.value in
+    rw (rw same at c.job-item.is)
+    (c.requires.behind c.loop-job.job-index c.job-item.result (rw same at c.loop-job-test.true))

@@ -6,7 +6,7 @@ use Rattle.ctl_waiting.specs.Reasons.{exceeds_wall, held_reason, hindrance, hind
 use Rattle.run_limits.specs.Limits.{first_reason, reason_if}
 use Rattle.ctl_waiting.proofs.FirstReason.{or-else, reasons-joined}
 use Rattle.request_data.specs.declared.state.Reason.TheVariants.{BeginTime, QosMaxWallDurationPerJobLimit, ReqNodeNotAvail, Reservation}
-use Rattle.ctl_waiting.proofs.reasons.hindrance.Goals as goal
+use Rattle.ctl_waiting.proofs.reasons.hindrance_beside.Goals as goal
 
 pub returns : goal.returns
 unfolding hindrance

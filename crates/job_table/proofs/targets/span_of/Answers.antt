@@ -1,9 +1,0 @@
-use Rattle.job_table.specs.Targets.{is_named}
-use Rattle.job_table.proofs.Awaiting.{filter-between}
-use Rattle.job_table.proofs.targets.span_of.Goals as goal
-
-pub returns : goal.returns
-returns c =
-    let places = c.places_of-places in
-    filter-between (is_named c.args.target.now) c.args.jobs.now places.result.first places.result.end
-    places.ensures.within.0 places.ensures.before places.ensures.behind
