@@ -110,7 +110,12 @@ fn turn<L>(
 }
 
 // What is marked where the lists part.
-fn rest_marks(alloc: Global, unchanged: Unchanged, nodes: usize, rest: usize) -> Result<Marks, Memory>
+fn rest_marks(
+    alloc: Global,
+    unchanged: Unchanged,
+    nodes: usize,
+    rest: usize,
+) -> Result<Marks, Memory>
     ensures unchanged { IfOk result (λ marks. marks.unchanged.nodes.items ≡ unchanged.nodes.items) }
     ensures counts { IfOk result (λ marks. marks.counts.items ≡ replicate nodes 0) }
     ensures met { IfOk result (λ marks. marks.met.items ≡ replicate rest false) }

@@ -70,5 +70,6 @@ returns-clause-apart g c =
 pub returns-clause-steps : goal.returns-clause-steps
 returns-clause-steps g c = λ start before.
     let planning = c.args.begun.planning in
-    let jobs : c.loop-index.index ≡ length planning.ranked = grind (arith, common_steps) in
+    let all : length c.ranked-jobs.result.now ≡ length planning.ranked = ap (λ some. length some) c.ranked-jobs.ensures.value in
+    let jobs : c.loop-index.index ≡ length planning.ranked = omega (arith, all, c.loop-index-test.false, c.loop-index.auto.index, c.loop-index.auto.index-end, c.requires.first, c.requires.begun.alike.few_new) in
     rw (← jobs) (c.loop-index.invariant.steps start before)
