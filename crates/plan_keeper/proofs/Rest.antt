@@ -1,16 +1,15 @@
 -- The rest of both lists, from where they part.
-use Rattle.std.proofs.Common.{◌≡◌, ◌≢◌, ℕ, ◌+◌, ◌-◌, ◌≤◌, ◌<◌, zero, suc, Bool, true, false, ◌||◌, ltb, List, [], ◌∷◌, ◌++◌, length, take, drop, set, replicate, All, arith, refl, ap, subst, sym, ◌∙◌, inl, inr, get_or, sum_by, Option, Some, None}
+use Rattle.std.proofs.Common.{◌≡◌, ◌≢◌, ℕ, ◌+◌, ◌-◌, ◌≤◌, ◌<◌, zero, suc, Bool, true, false, ◌||◌, ltb, List, [], ◌∷◌, length, take, drop, set, replicate, All, arith, refl, ap, subst, sym, ◌∙◌, inl, inr, get_or, sum_by, Option, Some, None}
 use Rattle.std.specs.Prelude.{IfSome, IfNone}
 use Rattle.std.proofs.Math.Seq.{take-add}
 use Rattle.std.proofs.lemmas.Bool.{cases_lt, lt-ltb, le-ltb, ltb-true, ltb-false, or_left, or_right, or_from, or_cases, or_parts}
-use Rattle.std.proofs.lemmas.List.{get_or-drop, length-drop, length-replicate, get_or-replicate, length-set, get_or-set_same, get_or-set_other, get_or_default}
+use Rattle.std.proofs.lemmas.List.{get_or-drop, length-drop, length-replicate, get_or-replicate, length-set, get_or-set_same, get_or-set_other}
 use Rattle.std.proofs.lemmas.List.Sums.{sum_by-cons, sum_by-append}
 use Rattle.std.proofs.lemmas.List.Elements.{All-head, All-tail}
 use Rattle.backfill_planner.specs.declared.job.PlanJob.{PlanJob}
-use Rattle.backfill_planner.specs.Bases.{BaseView}
 use Rattle.backfill_planner.specs.Plans.{PlannedView, PlanningView}
 use Rattle.plan_keeper.specs.Steady.{IsNamedOnce, IsSameFrom}
-use Rattle.plan_keeper.specs.Marks.{on, times, times_before, met_from, AreAlike, AreCounts, AreMarks, Counts, Fits, Meets, Without}
+use Rattle.plan_keeper.specs.Marks.{on, times, times_before, met_from, AreCounts, AreMarks, Counts, Fits, Meets, Without}
 use Rattle.plan_keeper.specs.Planner.{PlannerLaws}
 use Rattle.plan_keeper.specs.Turns.{IsFound, HasBegun}
 use Rattle.plan_keeper.proofs.Times.{times-next, sums-same}

@@ -1,10 +1,10 @@
 -- Steps add up.
-use Rattle.std.proofs.Common.{◌≡◌, ℕ, ◌+◌, ◌-◌, ◌≤◌, zero, suc, Bool, cond, List, arith, refl, ap, subst, ◌∙◌}
+use Rattle.std.proofs.Common.{◌≡◌, ℕ, ◌+◌, ◌-◌, ◌≤◌, zero, suc, cond, List, arith, refl, ap, subst, ◌∙◌}
 use Rattle.resource_profile.specs.Counts.{ticked, IsTickedUpTo}
 use Rattle.backfill_planner.specs.declared.job.PlanJob.{PlanJob}
 use Rattle.backfill_planner.specs.Bases.{BaseView}
 use Rattle.backfill_planner.specs.Plans.{PlannedView, PlanningView}
-use Rattle.plan_keeper.specs.Steady.{AreSteady, others}
+use Rattle.plan_keeper.specs.Steady.{others}
 use Rattle.plan_keeper.specs.Turns.{IsStepped, HasStepped}
 use Rattle.plan_keeper.proofs.Settled.{others-next, others-rise}
 

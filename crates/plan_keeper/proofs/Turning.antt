@@ -1,5 +1,5 @@
 -- What the next job's placement is, and how the marks go on.
-use Rattle.std.proofs.Common.{◌≡◌, ℕ, ◌+◌, ◌≤◌, ◌<◌, Bool, true, false, List, length, All, arith, ap, subst, sym, ◌∙◌, inl, inr, get_or, Option, Some, None}
+use Rattle.std.proofs.Common.{◌≡◌, ℕ, ◌+◌, ◌≤◌, ◌<◌, Bool, false, List, length, All, arith, ap, subst, sym, ◌∙◌, inl, inr, get_or, Option, Some, None}
 use Rattle.std.specs.Prelude.{IfSome, IfNone}
 use Rattle.std.proofs.lemmas.Bool.{cases_Bool}
 use Rattle.resource_profile.specs.Counts.{ticked, IsTickedUpTo}

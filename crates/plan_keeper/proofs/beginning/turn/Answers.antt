@@ -1,8 +1,7 @@
-use Rattle.std.proofs.Common.{◌≡◌, ◌<◌, [], length, All, subst, sym, ◌∙◌, get_or}
+use Rattle.std.proofs.Common.{◌≡◌, ◌<◌, length, All, subst, sym, ◌∙◌, get_or}
 use Rattle.std.proofs.lemmas.List.{get_or_default}
 use Rattle.backfill_planner.specs.declared.job.PlanJob.{PlanJob}
 use Rattle.backfill_planner.specs.Placements.{IsOnRooms}
-use Rattle.plan_keeper.specs.Turns.{HasBegun}
 use Rattle.plan_keeper.proofs.Alike.{begun-more}
 use Rattle.plan_keeper.proofs.beginning.turn.Goals as goal
 

@@ -1,4 +1,4 @@
-use Rattle.std.proofs.Common.{◌≡◌, ◌≤◌, ℕ, length}
+use Rattle.std.proofs.Common.{◌≡◌, ℕ, length}
 use Rattle.plan_keeper.specs.Marks.{met_from, AreCounts, AreMarks}
 use Rattle.plan_keeper.specs.Turns.{HasStepped}
 use Rattle.plan_keeper.proofs.replanning.plan_rest.Given as goal
