@@ -8,6 +8,8 @@ pub mod Settled
 pub mod Listing
 pub mod Turning
 pub mod Freeing
-pub mod Beginning
+pub mod Starting
 pub mod Stepping
 pub mod SameTimes
+pub mod Alike
+pub mod Rest

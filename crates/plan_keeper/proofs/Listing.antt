@@ -2,6 +2,7 @@
 use Rattle.std.proofs.Common.{◌≡◌, ◌↔◌, ℕ, ◌+◌, ◌<◌, zero, suc, cond, eqb, true, false, Bool, List, [], ◌∷◌, ◌++◌, length, take, All, arith, refl, ap, sym, ◌∙◌, inl, inr, get_or, sum_by, Option, Some, None}
 use Rattle.std.specs.List.{list_all}
 use Rattle.std.proofs.lemmas.List.Elements.{All-head, All-tail}
+use Rattle.std.proofs.lemmas.List.Sums.{AllPass-from_list_all}
 use Rattle.std.proofs.lemmas.Bool.{cases_lt, eqb-true, eq-eqb}
 use Rattle.std.proofs.lemmas.List.{get_or_default}
 use Rattle.backfill_planner.specs.declared.job.PlanJob.{PlanJob}
@@ -61,6 +62,11 @@ all-unchanged same [] all = refl
 all-unchanged same (node ∷ nodes) all =
     rw (All-head (λ node. get_or same node false ≡ true) node nodes all)
     (all-unchanged same nodes (All-tail (λ node. get_or same node false ≡ true) node nodes all))
+
+-- where all are, these nodes are
+pub all-marked : (same : List Bool) (nodes : List ℕ) → list_all (λ one. one) same ≡ true → All (λ node. node < length same) nodes → list_all (λ node. get_or same node false) nodes ≡ true
+all-marked same nodes all inside =
+    all-unchanged same nodes (λ k d below. AllPass-from_list_all (λ one. one) same all (get_or nodes k d) false (inside k d below))
 
 -- a flag more says what it says
 pub flags-more : (P : ℕ → Type 0) (same : List Bool) (count : ℕ) (flag : Bool) → length same ≡ count → ((node : ℕ) (d : Bool) → node < count → (get_or same node d ≡ true) ↔ P node) → (flag ≡ true) ↔ P count → (node : ℕ) (d : Bool) → node < count + 1 → (get_or (same ++ flag ∷ []) node d ≡ true) ↔ P node

@@ -1,30 +1,24 @@
 -- How the marks go on from job to job.
-use Rattle.std.proofs.Common.{◌≡◌, ℕ, ◌+◌, ◌-◌, ◌≤◌, ◌<◌, Bool, true, false, not, List, length, take, set, All, arith, refl, ap, subst, sym, ◌∙◌, inl, inr, get_or}
+use Rattle.std.proofs.Common.{◌≡◌, ℕ, ◌+◌, ◌-◌, ◌≤◌, ◌<◌, Bool, true, false, not, List, length, take, All, arith, refl, ap, subst, sym, ◌∙◌, inl, inr, get_or}
 use Rattle.std.proofs.lemmas.Bool.{cases_Bool, cases_eq, cases_lt, and_parts}
-use Rattle.std.proofs.lemmas.List.{append-nil, get_or_default, length-set, get_or-set_same, get_or-set_other}
+use Rattle.std.proofs.lemmas.List.{append-nil, get_or_default}
 use Rattle.backfill_planner.specs.declared.job.PlanJob.{PlanJob}
 use Rattle.backfill_planner.specs.Bases.{BaseView}
 use Rattle.backfill_planner.specs.Plans.{PlannedView, holds_of, holds_before, placement_of, plan_holds_of, plan_holds_beside}
 use Rattle.backfill_planner.specs.Staying.{StaysFrom}
 use Rattle.plan_keeper.specs.Steady.{may_have_node, IsSameFrom, AreSteady}
 use Rattle.plan_keeper.specs.Planner.{PlannerLaws}
-use Rattle.plan_keeper.specs.Marks.{on, times, IsMatched, IsMet, IsUnsettled, AreMarks, Fits, Counts, Without, AreFirst}
-use Rattle.plan_keeper.proofs.Times.{times-next, times-past, times-up_to, not-on, has-on, sums-tell, sums-same, owned, own-nodes}
+use Rattle.plan_keeper.specs.Marks.{on, times, times_before, IsMatched, IsMet, IsUnsettled, AreMarks, Fits, Meets, Without, AreFirst}
+use Rattle.plan_keeper.proofs.Times.{times-next, times-past, times-up_to, not-on, has-on, sums-tell, owned, own-nodes}
 use Rattle.plan_keeper.proofs.SameFrom.{same-id, same-on, same-holds}
 use Rattle.plan_keeper.proofs.Frees.{stays-beside, stays-new, stays-on, place-off}
 
--- what is marked as met stays so
-pub met-more : (met : List Bool) (before other : ℕ) → before < length met → get_or met other false ≡ true → get_or (set met before true) other false ≡ true
-met-more met before other inside marked = elim (cases_eq other before) [
-  | inl same ↦ rw same (get_or-set_same met before true false inside)
-  | inr apart ↦ get_or-set_other met before other true false apart ∙ marked
+-- what was met stays so
+pub meets-more : (met new : ℕ → Bool) (before other : ℕ) → Meets met before new → met other ≡ true → new other ≡ true
+meets-more met new before other more marked = elim (cases_eq other before) [
+  | inl same ↦ rw same more.here
+  | inr apart ↦ more.others other apart ∙ marked
 ]
-
-counted-more : (base : BaseView) (ranked : List PlanJob) (place : ℕ) (counts new : List ℕ) (job : PlanJob) → length counts ≡ length base.rooms → ((node d : ℕ) → node < length base.rooms → get_or counts node d ≡ times node (take place ranked)) → place < length ranked → ((d : PlanJob) → get_or ranked place d ≡ job) → Counts counts job new
-    → (node d : ℕ) → node < length base.rooms → get_or new node d ≡ times node (take (place + 1) ranked)
-counted-more base ranked place counts new job long counted below is more node d inside =
-    more.each node d (omega (arith, inside, long)) ∙ ap (λ n. n + on node job) (counted node d inside)
-    ∙ ap (λ one. times node (take place ranked) + on node one) (sym (is job)) ∙ sym (times-next node ranked place job below)
 
 met-before : (old ranked : List PlanJob) (place before : ℕ) → IsMet old ranked place before → IsMet old ranked (place + 1) before
 met-before old ranked place before met = record { at = met.at; above = omega (arith, met.above); same = met.same }
@@ -33,7 +27,7 @@ unsettled-before : (ranked : List PlanJob) (steady : ℕ → Bool) (place node :
 unsettled-before ranked steady place node one = record { at = one.at; above = omega (arith, one.above); has = one.has; other = one.other }
 
 -- a node that the job may not have stays matched
-matched-off : PlannerLaws → (old : PlannedView) (base : BaseView) (ranked : List PlanJob) (now place : ℕ) (met new_met : List Bool) (node : ℕ) (job : PlanJob) → place < length ranked → ((d : PlanJob) → get_or ranked place d ≡ job) → may_have_node node job ≡ false → ((other : ℕ) → get_or met other false ≡ true → get_or new_met other false ≡ true) → IsMatched old base ranked now place met node → IsMatched old base ranked now (place + 1) new_met node
+matched-off : PlannerLaws → (old : PlannedView) (base : BaseView) (ranked : List PlanJob) (now place : ℕ) (met new_met : ℕ → Bool) (node : ℕ) (job : PlanJob) → place < length ranked → ((d : PlanJob) → get_or ranked place d ≡ job) → may_have_node node job ≡ false → ((other : ℕ) → met other ≡ true → new_met other ≡ true) → IsMatched old base ranked now place met node → IsMatched old base ranked now (place + 1) new_met node
 matched-off laws old base ranked now place met new_met node job below is without more was = record {
   passed = λ before d inside has fewer. more before (was.passed before d inside has (omega (arith, fewer, same)));
   stays = λ before few level.
@@ -45,12 +39,12 @@ matched-off laws old base ranked now place met new_met node job below is without
     same = times-next node ranked place job below ∙ omega (arith, ap (λ one. on node one) (is job), not-on node job without)
 
 -- a node of the job stays matched, where it is placed as it was
-matched-on : PlannerLaws → (old : PlannedView) (base : BaseView) (ranked : List PlanJob) (now place : ℕ) (met : List Bool) (node : ℕ) (job : PlanJob) (before : ℕ) → length met ≡ length old.ranked → place < length ranked → ((d : PlanJob) → get_or ranked place d ≡ job) → before < length old.ranked → IsSameFrom now (get_or old.ranked before job) job → may_have_node node job ≡ true → times node (take place ranked) ≡ times node (take before old.ranked) → placement_of base ranked now place job ≡ placement_of old.base old.ranked old.moment before (get_or old.ranked before job) → IsMatched old base ranked now place met node → IsMatched old base ranked now (place + 1) (set met before true) node
-matched-on laws old base ranked now place met node job before long below is there again has level same was = record {
+matched-on : PlannerLaws → (old : PlannedView) (base : BaseView) (ranked : List PlanJob) (now place : ℕ) (met new_met : ℕ → Bool) (node : ℕ) (job : PlanJob) (before : ℕ) → place < length ranked → ((d : PlanJob) → get_or ranked place d ≡ job) → before < length old.ranked → Meets met before new_met → IsSameFrom now (get_or old.ranked before job) job → may_have_node node job ≡ true → times node (take place ranked) ≡ times node (take before old.ranked) → placement_of base ranked now place job ≡ placement_of old.base old.ranked old.moment before (get_or old.ranked before job) → IsMatched old base ranked now place met node → IsMatched old base ranked now (place + 1) new_met node
+matched-on laws old base ranked now place met new_met node job before below is there more again has level same was = record {
   passed = λ other d inside some fewer. elim (cases_lt other before) [
-    | inl earlier ↦ met-more met before other in_met (was.passed other d inside some (omega (arith, level, some, times-past node old.ranked other before d earlier (omega (arith, there)))))
+    | inl earlier ↦ meets-more met new_met before other more (was.passed other d inside some (omega (arith, level, some, times-past node old.ranked other before d earlier (omega (arith, there)))))
     | inr at ↦ elim (cases_eq other before) [
-      | inl here ↦ rw here (get_or-set_same met before true false in_met)
+      | inl here ↦ rw here more.here
       | inr apart ↦ absurd (omega (arith, fewer, next, level, old_next, times-up_to node old.ranked (before + 1) other (omega (arith, at, apart)) (omega (arith, inside))))
     ]
   ];
@@ -64,9 +58,6 @@ matched-on laws old base ranked now place met node job before long below is ther
   ];
 }
   where
-    in_met : before < length met
-    in_met = omega (arith, long, there)
-
     some_on : 1 ≤ on node job
     some_on = has-on node job has
 
@@ -84,39 +75,33 @@ matched-on laws old base ranked now place met node job before long below is ther
         (stays-beside old.base.rooms (holds_before old.base old.ranked old.moment before) base.rooms (holds_before base ranked now place) (holds_of job placed) now node (was.stays before (omega (arith, there)) (sym level)))
 
 -- the job is placed as it was
-pub kept-marks : PlannerLaws → (old : PlannedView) (base : BaseView) (ranked : List PlanJob) (now place : ℕ) (same : List Bool) (counts : List ℕ) (met : List Bool) (new_counts : List ℕ) (job : PlanJob) (before : ℕ) → AreMarks old base ranked now place same counts met → place < length ranked → ((d : PlanJob) → get_or ranked place d ≡ job) → Fits old.ranked same counts met now job before → All (λ node. times node (take place ranked) ≡ times node (take before old.ranked)) job.nodes → placement_of base ranked now place job ≡ placement_of old.base old.ranked old.moment before (get_or old.ranked before job) → Counts counts job new_counts → AreMarks old base ranked now (place + 1) same new_counts (set met before true)
-kept-marks laws old base ranked now place same counts met new_counts job before marks below is fits level placed more = record {
-  same_long = marks.same_long;
-  counts_long = more.long ∙ marks.counts_long;
-  met_long = length-set met before true ∙ marks.met_long;
-  counted = counted-more base ranked place counts new_counts job marks.counts_long marks.counted below is more;
+pub kept-marks : PlannerLaws → (old : PlannedView) (base : BaseView) (ranked : List PlanJob) (now place : ℕ) (same : List Bool) (met new_met : ℕ → Bool) (job : PlanJob) (before : ℕ) → AreMarks old base ranked now place same met → place < length ranked → ((d : PlanJob) → get_or ranked place d ≡ job) → Fits old.ranked same (times_before ranked place) met now job before → All (λ node. times node (take place ranked) ≡ times node (take before old.ranked)) job.nodes → placement_of base ranked now place job ≡ placement_of old.base old.ranked old.moment before (get_or old.ranked before job) → Meets met before new_met → AreMarks old base ranked now (place + 1) same new_met
+kept-marks laws old base ranked now place same met new_met job before marks below is fits level placed more = record {
+  long = marks.long;
   known = λ other inside marked. elim (cases_eq other before) [
     | inl here ↦ record { at = place; above = omega arith; same = λ d. rw here (ap (λ (one : PlanJob). one.id) (is d) ∙ sym (same-id now (get_or old.ranked before d) job (fits.is d))) }
-    | inr apart ↦ met-before old.ranked ranked place other (marks.known other inside (sym (get_or-set_other met before other true false apart) ∙ marked))
+    | inr apart ↦ met-before old.ranked ranked place other (marks.known other inside (sym (more.others other apart) ∙ marked))
   ];
   matched = λ node inside marked. elim (cases_Bool (may_have_node node job)) [
-    | inl has ↦ matched-on laws old base ranked now place met node job before marks.met_long below is fits.there (fits.is job) has (owned (λ node. times node (take place ranked) ≡ times node (take before old.ranked)) job node level has) placed (marks.matched node inside marked)
-    | inr without ↦ matched-off laws old base ranked now place met (set met before true) node job below is without (λ other marked. met-more met before other (omega (arith, fits.there, marks.met_long)) marked) (marks.matched node inside marked)
+    | inl has ↦ matched-on laws old base ranked now place met new_met node job before below is fits.there more (fits.is job) has (owned (λ node. times node (take place ranked) ≡ times node (take before old.ranked)) job node level has) placed (marks.matched node inside marked)
+    | inr without ↦ matched-off laws old base ranked now place met new_met node job below is without (λ other marked. meets-more met new_met before other more marked) (marks.matched node inside marked)
   ];
   changed = λ steady are node inside unmarked old_inside stays. unsettled-before ranked steady place node (marks.changed steady are node inside unmarked old_inside stays);
 }
 
 -- the job is placed anew
-pub other-marks : PlannerLaws → (old : PlannedView) (base : BaseView) (ranked : List PlanJob) (now place : ℕ) (same : List Bool) (counts : List ℕ) (met new_same : List Bool) (new_counts : List ℕ) (job : PlanJob) → AreMarks old base ranked now place same counts met → place < length ranked → ((d : PlanJob) → get_or ranked place d ≡ job) → ((steady : ℕ → Bool) → AreSteady old base ranked now steady → steady place ≡ false) → Without same job new_same → Counts counts job new_counts → AreMarks old base ranked now (place + 1) new_same new_counts met
-other-marks laws old base ranked now place same counts met new_same new_counts job marks below is other without more = record {
-  same_long = without.long ∙ marks.same_long;
-  counts_long = more.long ∙ marks.counts_long;
-  met_long = marks.met_long;
-  counted = counted-more base ranked place counts new_counts job marks.counts_long marks.counted below is more;
+pub other-marks : PlannerLaws → (old : PlannedView) (base : BaseView) (ranked : List PlanJob) (now place : ℕ) (same : List Bool) (met : ℕ → Bool) (new_same : List Bool) (job : PlanJob) → AreMarks old base ranked now place same met → place < length ranked → ((d : PlanJob) → get_or ranked place d ≡ job) → ((steady : ℕ → Bool) → AreSteady old base ranked now steady → steady place ≡ false) → Without same job new_same → AreMarks old base ranked now (place + 1) new_same met
+other-marks laws old base ranked now place same met new_same job marks below is other without = record {
+  long = without.long ∙ marks.long;
   known = λ before inside marked. met-before old.ranked ranked place before (marks.known before inside marked);
   matched = λ node inside marked.
-      let both = and_parts (get_or same node false) (not (may_have_node node job)) (sym (without.each node (omega (arith, inside, marks.same_long))) ∙ marked) in
+      let both = and_parts (get_or same node false) (not (may_have_node node job)) (sym (without.each node (omega (arith, inside, marks.long))) ∙ marked) in
       matched-off laws old base ranked now place met met node job below is (not-true (may_have_node node job) both.1) (λ before marked. marked) (marks.matched node inside both.0);
   changed = λ steady are node inside unmarked old_inside stays. elim (cases_Bool (get_or same node false)) [
     | inr changed ↦ unsettled-before ranked steady place node (marks.changed steady are node inside changed old_inside stays)
     | inl was ↦ elim (cases_Bool (may_have_node node job)) [
       | inl has ↦ record { at = place; above = omega arith; has = λ d. rw (is d) has; other = other steady are }
-      | inr has_not ↦ absurd (let wrong = rw (without.each node (omega (arith, inside, marks.same_long)), was, has_not) at unmarked in cc)
+      | inr has_not ↦ absurd (let wrong = rw (without.each node (omega (arith, inside, marks.long)), was, has_not) at unmarked in cc)
     ]
   ];
 }
@@ -125,18 +110,29 @@ other-marks laws old base ranked now place same counts met new_same new_counts j
     not-true false marked = refl
     not-true true marked = cc
 
+-- more jobs of the old list are met
+pub marks-met : (old : PlannedView) (base : BaseView) (ranked : List PlanJob) (now place : ℕ) (same : List Bool) (met new_met : ℕ → Bool) → AreMarks old base ranked now place same met → ((before : ℕ) → met before ≡ true → new_met before ≡ true) → ((before : ℕ) → before < length old.ranked → new_met before ≡ true → IsMet old.ranked ranked place before) → AreMarks old base ranked now place same new_met
+marks-met old base ranked now place same met new_met marks more known = record {
+  long = marks.long;
+  known = known;
+  matched = λ node inside marked.
+      let was = marks.matched node inside marked in
+      record {
+        passed = λ before d there has fewer. more before (was.passed before d there has fewer);
+        stays = was.stays;
+      };
+  changed = marks.changed;
+}
+
 -- before the first job
 pub holds-first : (base : BaseView) (ranked : List PlanJob) (now : ℕ) → holds_before base ranked now 0 ≡ base.holds
 unfolding plan_holds_of plan_holds_beside
 holds-first base ranked now = append-nil base.holds
 
-pub first-marks : PlannerLaws → (old : PlannedView) (base : BaseView) (ranked : List PlanJob) (now : ℕ) (same : List Bool) (counts : List ℕ) (met : List Bool) → AreFirst old base now same → length counts ≡ length base.rooms → ((node d : ℕ) → node < length counts → get_or counts node d ≡ 0) → length met ≡ length old.ranked → ((before : ℕ) → before < length met → get_or met before false ≡ false) → AreMarks old base ranked now 0 same counts met
-first-marks laws old base ranked now same counts met first counts_long zeros met_long none = record {
-  same_long = first.long;
-  counts_long = counts_long;
-  met_long = met_long;
-  counted = λ node d inside. zeros node d (omega (arith, inside, counts_long));
-  known = λ before inside marked. absurd (let wrong = sym (none before (omega (arith, inside, met_long))) ∙ marked in cc);
+pub first-marks : PlannerLaws → (old : PlannedView) (base : BaseView) (ranked : List PlanJob) (now : ℕ) (same : List Bool) (met : ℕ → Bool) → AreFirst old base now same → ((before : ℕ) → met before ≡ false) → AreMarks old base ranked now 0 same met
+first-marks laws old base ranked now same met first none = record {
+  long = first.long;
+  known = λ before inside marked. absurd (let wrong = sym (none before) ∙ marked in cc);
   matched = λ node inside marked. record {
     passed = λ before d there has fewer. absurd (omega (arith, fewer));
     stays = λ before few level.
@@ -149,11 +145,11 @@ first-marks laws old base ranked now same counts met first counts_long zeros met
 }
 
 -- a job that fits has as many above it on each of its nodes as it had
-pub levels : (old : PlannedView) (base : BaseView) (ranked : List PlanJob) (now place : ℕ) (same : List Bool) (counts : List ℕ) (met : List Bool) (job : PlanJob) (before : ℕ) → AreMarks old base ranked now place same counts met → All (λ node. node < length base.rooms) job.nodes → Fits old.ranked same counts met now job before → All (λ node. times node (take place ranked) ≡ times node (take before old.ranked)) job.nodes
-levels old base ranked now place same counts met job before marks nodes fits =
+pub levels : (old : PlannedView) (base : BaseView) (ranked : List PlanJob) (now place : ℕ) (same : List Bool) (met : ℕ → Bool) (job : PlanJob) (before : ℕ) → AreMarks old base ranked now place same met → All (λ node. node < length base.rooms) job.nodes → Fits old.ranked same (times_before ranked place) met now job before → All (λ node. times node (take place ranked) ≡ times node (take before old.ranked)) job.nodes
+levels old base ranked now place same met job before marks nodes fits =
     sums-tell (λ node. times node (take place ranked)) (λ node. times node (take before old.ranked)) job.nodes
     (λ k d below. no_more (get_or job.nodes k d) (nodes k d below) (fits.unchanged k d below) (own-nodes job k d below))
-    (sym (sums-same (λ node. get_or counts node 0) (λ node. times node (take place ranked)) job.nodes (λ k d below. marks.counted (get_or job.nodes k d) 0 (nodes k d below))) ∙ fits.level)
+    fits.level
   where
     no_more : (node : ℕ) → node < length base.rooms → get_or same node false ≡ true → may_have_node node job ≡ true → times node (take place ranked) ≤ times node (take before old.ranked)
     no_more node inside marked has = elim (cases_lt (times node (take before old.ranked)) (times node (take place ranked))) [
@@ -165,7 +161,7 @@ levels old base ranked now place same counts met job before marks nodes fits =
     ]
 
 -- and nothing has changed on them
-pub nodes-stay : (old : PlannedView) (base : BaseView) (ranked : List PlanJob) (now place : ℕ) (same : List Bool) (counts : List ℕ) (met : List Bool) (job : PlanJob) (before : ℕ) → AreMarks old base ranked now place same counts met → All (λ node. node < length base.rooms) job.nodes → Fits old.ranked same counts met now job before → All (StaysFrom old.base.rooms (holds_before old.base old.ranked old.moment before) base.rooms (holds_before base ranked now place) now) job.nodes
-nodes-stay old base ranked now place same counts met job before marks nodes fits k d below =
+pub nodes-stay : (old : PlannedView) (base : BaseView) (ranked : List PlanJob) (now place : ℕ) (same : List Bool) (met : ℕ → Bool) (job : PlanJob) (before : ℕ) → AreMarks old base ranked now place same met → All (λ node. node < length base.rooms) job.nodes → Fits old.ranked same (times_before ranked place) met now job before → All (StaysFrom old.base.rooms (holds_before old.base old.ranked old.moment before) base.rooms (holds_before base ranked now place) now) job.nodes
+nodes-stay old base ranked now place same met job before marks nodes fits k d below =
     let node = get_or job.nodes k d in
-    (marks.matched node (nodes k d below) (fits.unchanged k d below)).stays before (omega (arith, fits.there)) (sym (levels old base ranked now place same counts met job before marks nodes fits k d below))
+    (marks.matched node (nodes k d below) (fits.unchanged k d below)).stays before (omega (arith, fits.there)) (sym (levels old base ranked now place same met job before marks nodes fits k d below))

@@ -5,16 +5,16 @@ use Rattle.backfill_planner.specs.declared.job.PlanJob.{PlanJob}
 use Rattle.backfill_planner.specs.Bases.{BaseView}
 use Rattle.backfill_planner.specs.Plans.{PlannedView}
 use Rattle.plan_keeper.specs.Steady.{may_have_node, IsNamedOnce, IsAsBefore, AreSteady, others}
-use Rattle.plan_keeper.specs.Marks.{times, AreMarks, Fits}
+use Rattle.plan_keeper.specs.Marks.{times_before, AreMarks, Fits}
 use Rattle.plan_keeper.proofs.SameFrom.{same-id}
 use Rattle.plan_keeper.proofs.Times.{times-same, sums-same, own-nodes}
 
 -- the job at a steady place fits at its place in the old list
-pub steady-fits : (old : PlannedView) (base : BaseView) (ranked : List PlanJob) (now place : ℕ) (same : List Bool) (counts : List ℕ) (met : List Bool) (steady : ℕ → Bool) → AreMarks old base ranked now place same counts met → AreSteady old base ranked now steady → place < length ranked → (own : IsAsBefore old base ranked now place) → steady place ≡ true → All (λ node. node < length base.rooms) own.job.nodes → All (λ node. node < length old.base.rooms) own.job.nodes → Fits old.ranked same counts met now own.job own.before
-steady-fits old base ranked now place same counts met steady marks are below own is nodes old_nodes = record {
+pub steady-fits : (old : PlannedView) (base : BaseView) (ranked : List PlanJob) (now place : ℕ) (same : List Bool) (met : ℕ → Bool) (steady : ℕ → Bool) → AreMarks old base ranked now place same met → AreSteady old base ranked now steady → place < length ranked → (own : IsAsBefore old base ranked now place) → steady place ≡ true → All (λ node. node < length base.rooms) own.job.nodes → All (λ node. node < length old.base.rooms) own.job.nodes → Fits old.ranked same (times_before ranked place) met now own.job own.before
+steady-fits old base ranked now place same met steady marks are below own is nodes old_nodes = record {
   there = own.there;
   is = own.was;
-  fresh = elim (cases_Bool (get_or met own.before false)) [
+  fresh = elim (cases_Bool (met own.before)) [
     | inl marked ↦
         let known = marks.known own.before own.there marked in
         let ids = known.same own.job ∙ same-id now (get_or old.ranked own.before own.job) own.job (own.was own.job) ∙ sym (ap (λ (job : PlanJob). job.id) (own.is own.job)) in
@@ -23,8 +23,8 @@ steady-fits old base ranked now place same counts met steady marks are below own
     | inr unmarked ↦ unmarked
   ];
   unchanged = λ k d inside. still (get_or own.job.nodes k d) (nodes k d inside) (old_nodes k d inside) (own-nodes own.job k d inside);
-  level = sums-same (λ node. get_or counts node 0) (λ node. times node (take own.before old.ranked)) own.job.nodes
-      (λ k d inside. marks.counted (get_or own.job.nodes k d) 0 (nodes k d inside) ∙ times-same (get_or own.job.nodes k d) (take place ranked) (take own.before old.ranked) (own.above (get_or own.job.nodes k d) (own-nodes own.job k d inside)));
+  level = sums-same (times_before ranked place) (times_before old.ranked own.before) own.job.nodes
+      (λ k d inside. times-same (get_or own.job.nodes k d) (take place ranked) (take own.before old.ranked) (own.above (get_or own.job.nodes k d) (own-nodes own.job k d inside)));
 }
   where
     still : (node : ℕ) → node < length base.rooms → node < length old.base.rooms → may_have_node node own.job ≡ true → get_or same node false ≡ true

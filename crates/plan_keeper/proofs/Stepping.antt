@@ -1,11 +1,11 @@
 -- Steps add up.
-use Rattle.std.proofs.Common.{◌≡◌, ℕ, ◌+◌, ◌-◌, ◌≤◌, zero, suc, Bool, cond, List, arith, refl, ap, subst, ◌∙◌}
+use Rattle.std.proofs.Common.{◌≡◌, ℕ, ◌+◌, ◌-◌, ◌≤◌, zero, suc, cond, List, arith, refl, ap, subst, ◌∙◌}
 use Rattle.resource_profile.specs.Counts.{ticked, IsTickedUpTo}
 use Rattle.backfill_planner.specs.declared.job.PlanJob.{PlanJob}
 use Rattle.backfill_planner.specs.Bases.{BaseView}
 use Rattle.backfill_planner.specs.Plans.{PlannedView, PlanningView}
-use Rattle.plan_keeper.specs.Steady.{AreSteady, others}
-use Rattle.plan_keeper.specs.Turns.{IsStepped}
+use Rattle.plan_keeper.specs.Steady.{others}
+use Rattle.plan_keeper.specs.Turns.{IsStepped, HasStepped}
 use Rattle.plan_keeper.proofs.Settled.{others-next, others-rise}
 
 ticked-both : (count some more : ℕ) → ticked (ticked count some) more ≡ ticked count (some + more)
@@ -22,17 +22,18 @@ stepped-both some more one other last first then = record {
 pub stepped-up_to : (few many one other : ℕ) → few ≤ many → IsTickedUpTo few one other → IsTickedUpTo many one other
 stepped-up_to few many one other order stepped = record { times = stepped.times; few = omega (arith, order, stepped.few); is = stepped.is }
 
--- so many jobs cost a step at most each, and none where they are steady
-pub record HasStepped (old : PlannedView) (base : BaseView) (ranked : List PlanJob) (now index one other : ℕ) : Type 0 where
-  pub most : IsTickedUpTo index one other
-  pub steady : (steady : ℕ → Bool) → AreSteady old base ranked now steady → IsTickedUpTo (others steady index) one other
+pub stepped-none : (old : PlannedView) (base : BaseView) (ranked : List PlanJob) (now one : ℕ) → HasStepped old base ranked now 0 one one
+stepped-none old base ranked now one = record {
+  most = record { times = 0; few = omega arith; is = refl };
+  steady = λ some are. record { times = 0; few = omega arith; is = refl };
+}
 
-pub stepped-more : (old : PlannedView) (base : BaseView) (ranked : List PlanJob) (now index : ℕ) (planning : PlanningView) (one other last : ℕ) → planning ≡ record { base = base; ranked = ranked; moment = now; done = index } → IsTickedUpTo index one other → ((steady : ℕ → Bool) → AreSteady old base ranked now steady → IsTickedUpTo (others steady index) one other) → IsStepped old planning other last → HasStepped old base ranked now (index + 1) one last
-stepped-more old base ranked now index planning one other last is most steady stepped =
+pub stepped-more : (old : PlannedView) (base : BaseView) (ranked : List PlanJob) (now index : ℕ) (planning : PlanningView) (one other last : ℕ) → planning ≡ record { base = base; ranked = ranked; moment = now; done = index } → HasStepped old base ranked now index one other → IsStepped old planning other last → HasStepped old base ranked now (index + 1) one last
+stepped-more old base ranked now index planning one other last is before stepped =
     let here : IsStepped old (record { base = base; ranked = ranked; moment = now; done = index }) other last = subst (λ (v : PlanningView). IsStepped old v other last) is stepped in
     record {
-      most = stepped-both index 1 one other last most here.most;
-      steady = λ some are. rw (others-next some index) (stepped-both (others some index) (cond (some index) 0 1) one other last (steady some are) (here.steady some are));
+      most = stepped-both index 1 one other last before.most here.most;
+      steady = λ some are. rw (others-next some index) (stepped-both (others some index) (cond (some index) 0 1) one other last (before.steady some are) (here.steady some are));
     }
 
 pub stepped-all : (old : PlannedView) (base : BaseView) (ranked : List PlanJob) (now index jobs one other : ℕ) → index ≤ jobs → HasStepped old base ranked now index one other → HasStepped old base ranked now jobs one other

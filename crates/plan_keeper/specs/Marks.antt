@@ -1,5 +1,5 @@
 -- What replanning keeps in mind of the nodes and of the old list. Of the proof alone: no public call speaks of it.
-use Rattle.std.specs.Prelude.{◌≡◌, ℕ, ◌+◌, ◌≤◌, ◌<◌, Bool, true, false, ◌&&◌, not, nat_eq, List, length, take, count_by, sum_by, slice_index_or, All, Option, Some, None}
+use Rattle.std.specs.Prelude.{◌≡◌, ◌≢◌, ℕ, ◌+◌, ◌-◌, ◌≤◌, ◌<◌, Bool, true, false, ◌&&◌, ◌||◌, not, nat_eq, nat_lt, List, length, take, count_by, sum_by, slice_index_or, All, Option, Some, None}
 use Rattle.backfill_planner.specs.declared.job.PlanJob.{PlanJob}
 use Rattle.backfill_planner.specs.Bases.{BaseView}
 use Rattle.backfill_planner.specs.Plans.{PlannedView, holds_before}
@@ -13,9 +13,13 @@ on node job = count_by (nat_eq node) job.nodes
 abbrev pub times : ℕ → List PlanJob → ℕ
 times node jobs = sum_by (on node) jobs
 
+-- how often each node is among those of the jobs before a place of the list
+abbrev pub times_before : List PlanJob → ℕ → (ℕ → ℕ)
+times_before jobs place = λ node. times node (take place jobs)
+
 -- how often a job's nodes are among those of the jobs before a place of the list
 abbrev pub depth : List PlanJob → ℕ → PlanJob → ℕ
-depth jobs place job = sum_by (λ node. times node (take place jobs)) job.nodes
+depth jobs place job = sum_by (times_before jobs place) job.nodes
 
 -- the number is the place of one of the first jobs that has this id; or none of them has it
 abbrev pub FindsId : List PlanJob → ℕ → ℕ → Option ℕ → Type 0
@@ -31,12 +35,12 @@ pub record IsListed (jobs : List PlanJob) (places : ℕ → Option ℕ) (depths 
 
 -- Of a node: the jobs so far that may have it are the first in the old list that may, and so as much of it is free now
 -- as was then.
-pub record IsMatched (old : PlannedView) (base : BaseView) (ranked : List PlanJob) (now place : ℕ) (met : List Bool)
+pub record IsMatched (old : PlannedView) (base : BaseView) (ranked : List PlanJob) (now place : ℕ) (met : ℕ → Bool)
     (node : ℕ) : Type 0 where
   pub passed : (before : ℕ) (d : PlanJob) → before < length old.ranked
       → 1 ≤ on node (slice_index_or old.ranked before d)
       → times node (take before old.ranked) < times node (take place ranked)
-      → slice_index_or met before false ≡ true
+      → met before ≡ true
   pub stays : (before : ℕ) → before ≤ length old.ranked
       → times node (take before old.ranked) ≡ times node (take place ranked)
       → StaysFrom old.base.rooms (holds_before old.base old.ranked old.moment before)
@@ -55,16 +59,11 @@ pub record IsUnsettled (ranked : List PlanJob) (steady : ℕ → Bool) (place no
   pub has : (d : PlanJob) → may_have_node node (slice_index_or ranked at d) ≡ true
   pub other : steady at ≡ false
 
--- what is marked of nodes and of the old list once the jobs before a place of the new one are planned
+-- what is marked of nodes, and which jobs of the old list are met, once the jobs before a place of the new one are planned
 pub record AreMarks (old : PlannedView) (base : BaseView) (ranked : List PlanJob) (now place : ℕ) (same : List Bool)
-    (counts : List ℕ) (met : List Bool) : Type 0 where
-  pub same_long : length same ≡ length base.rooms
-  pub counts_long : length counts ≡ length base.rooms
-  pub met_long : length met ≡ length old.ranked
-  pub counted : (node d : ℕ) → node < length base.rooms
-      → slice_index_or counts node d ≡ times node (take place ranked)
-  pub known : (before : ℕ) → before < length old.ranked → slice_index_or met before false ≡ true
-      → IsMet old.ranked ranked place before
+    (met : ℕ → Bool) : Type 0 where
+  pub long : length same ≡ length base.rooms
+  pub known : (before : ℕ) → before < length old.ranked → met before ≡ true → IsMet old.ranked ranked place before
   pub matched : (node : ℕ) → node < length base.rooms → slice_index_or same node false ≡ true
       → IsMatched old base ranked now place met node
   pub changed : (steady : ℕ → Bool) → AreSteady old base ranked now steady → (node : ℕ) → node < length base.rooms
@@ -74,13 +73,39 @@ pub record AreMarks (old : PlannedView) (base : BaseView) (ranked : List PlanJob
 
 -- From now on the job is the one at a place of the old list, which wasn't met before, and on none of its nodes has
 -- anything changed by now; as many jobs that may have them stand above it as did.
-pub record Fits (old : List PlanJob) (same : List Bool) (counts : List ℕ) (met : List Bool) (now : ℕ) (job : PlanJob)
+pub record Fits (old : List PlanJob) (same : List Bool) (counts : ℕ → ℕ) (met : ℕ → Bool) (now : ℕ) (job : PlanJob)
     (before : ℕ) : Type 0 where
   pub there : before < length old
   pub is : (d : PlanJob) → IsSameFrom now (slice_index_or old before d) job
-  pub fresh : slice_index_or met before false ≡ false
+  pub fresh : met before ≡ false
   pub unchanged : All (λ node. slice_index_or same node false ≡ true) job.nodes
-  pub level : sum_by (λ node. slice_index_or counts node 0) job.nodes ≡ depth old before job
+  pub level : sum_by counts job.nodes ≡ depth old before job
+
+-- one job more of the old list is met
+pub record Meets (met : ℕ → Bool) (before : ℕ) (new : ℕ → Bool) : Type 0 where
+  pub here : new before ≡ true
+  pub others : (other : ℕ) → other ≢ before → new other ≡ met other
+
+-- the first jobs of both lists are, one by one, the same from now on
+pub record AreAlike (now : ℕ) (old ranked : List PlanJob) (first : ℕ) : Type 0 where
+  pub few : first ≤ length old
+  pub few_new : first ≤ length ranked
+  pub each : (place : ℕ) (d : PlanJob) → place < first
+      → IsSameFrom now (slice_index_or old place d) (slice_index_or ranked place d)
+
+-- the first jobs of the old list are met, and of those behind them the marked ones
+abbrev pub met_from : ℕ → List Bool → (ℕ → Bool)
+met_from first met = λ before. nat_lt before first || slice_index_or met (before - first) false
+
+-- what is counted behind the first jobs, which are alike in both lists, once the jobs before a place of the new one are
+-- planned
+pub record AreCounts (old ranked : List PlanJob) (now first place nodes : ℕ) (counts : List ℕ) (met : List Bool)
+    : Type 0 where
+  pub alike : AreAlike now old ranked first
+  pub long : length counts ≡ nodes
+  pub met_long : first + length met ≡ length old
+  pub counted : (node d : ℕ) → node < nodes
+      → slice_index_or counts node d + times node (take first ranked) ≡ times node (take place ranked)
 
 -- the counts with a job's nodes added
 pub record Counts (counts : List ℕ) (job : PlanJob) (new : List ℕ) : Type 0 where

@@ -1,12 +1,13 @@
 -- What is found of the next job, and how many steps it costs. Of the proof alone.
-use Rattle.std.specs.Prelude.{◌≡◌, ℕ, ◌<◌, Bool, false, if◌then◌else◌, List, length, slice_index_or, All, Option, Some, None}
+use Rattle.std.specs.Prelude.{◌≡◌, ℕ, ◌<◌, Bool, false, if◌then◌else◌, List, [], length, slice_index_or, All, Option, Some, None}
 use Rattle.resource_profile.specs.Counts.{IsTickedUpTo}
 use Rattle.backfill_planner.specs.declared.Placed.{Placed}
 use Rattle.backfill_planner.specs.declared.job.PlanJob.{PlanJob}
+use Rattle.backfill_planner.specs.Bases.{BaseView}
 use Rattle.backfill_planner.specs.Plans.{PlannedView, PlanningView, holds_before, placement_of}
 use Rattle.backfill_planner.specs.Staying.{EndsInTime, StaysFrom}
-use Rattle.plan_keeper.specs.Steady.{CanStand, IsSameFrom, AreSteady}
-use Rattle.plan_keeper.specs.Marks.{Fits}
+use Rattle.plan_keeper.specs.Steady.{CanStand, IsSameFrom, AreSteady, others}
+use Rattle.plan_keeper.specs.Marks.{times_before, met_from, AreAlike, AreMarks, Fits}
 
 -- the placement is the next job's
 abbrev pub IsNext : PlanningView → Option Placed → Type 0
@@ -45,22 +46,33 @@ pub record IsSteppedAgain (old : PlannedView) (planning : PlanningView) (before 
       → IsTickedUpTo 0 steps new
 
 -- a job that fits at a place of the old list has its placement of then
-pub record IsAgain (old : PlannedView) (planning : PlanningView) (same : List Bool) (counts : List ℕ) (met : List Bool)
-    (before : ℕ) (job : PlanJob) : Type 0 where
-  pub fits : Fits old.ranked same counts met planning.moment job before
+pub record IsAgain (old : PlannedView) (planning : PlanningView) (same : List Bool) (met : ℕ → Bool) (before : ℕ)
+    (job : PlanJob) : Type 0 where
+  pub fits : Fits old.ranked same (times_before planning.ranked planning.done) met planning.moment job before
   pub placed : (d : PlanJob) → placement_of planning.base planning.ranked planning.moment planning.done job
       ≡ placement_of old.base old.ranked old.moment before (slice_index_or old.ranked before d)
 
 -- the next job is placed as the one at a place of the old list, which it is; or anew, and then it isn't steady
-abbrev pub IsFound : PlannedView → PlanningView → List Bool → List ℕ → List Bool → Option ℕ → Type 0
-IsFound old planning same counts met None =
+abbrev pub IsFound : PlannedView → PlanningView → List Bool → (ℕ → Bool) → Option ℕ → Type 0
+IsFound old planning same met None =
     (steady : ℕ → Bool) → AreSteady old planning.base planning.ranked planning.moment steady
     → steady planning.done ≡ false
-IsFound old planning same counts met (Some before) =
-    (d : PlanJob) → IsAgain old planning same counts met before (slice_index_or planning.ranked planning.done d)
+IsFound old planning same met (Some before) =
+    (d : PlanJob) → IsAgain old planning same met before (slice_index_or planning.ranked planning.done d)
 
 -- it costs a step at most, and none where it is steady
 pub record IsStepped (old : PlannedView) (planning : PlanningView) (steps new : ℕ) : Type 0 where
   pub most : IsTickedUpTo 1 steps new
   pub steady : (steady : ℕ → Bool) → AreSteady old planning.base planning.ranked planning.moment steady
       → IsTickedUpTo (if steady planning.done then 0 else 1) steps new
+
+-- so many jobs cost a step at most each, and none where they are steady
+pub record HasStepped (old : PlannedView) (base : BaseView) (ranked : List PlanJob) (now index steps new : ℕ)
+    : Type 0 where
+  pub most : IsTickedUpTo index steps new
+  pub steady : (steady : ℕ → Bool) → AreSteady old base ranked now steady → IsTickedUpTo (others steady index) steps new
+
+-- so far all jobs are alike in both lists, and met
+pub record HasBegun (old : PlannedView) (planning : PlanningView) (same : List Bool) : Type 0 where
+  pub alike : AreAlike planning.moment old.ranked planning.ranked planning.done
+  pub marks : AreMarks old planning.base planning.ranked planning.moment planning.done same (met_from planning.done [])

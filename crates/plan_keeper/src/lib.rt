@@ -1,6 +1,8 @@
 //! Plans that are kept up: a plan is made over an older one, and equals planning from scratch.
 #![tactic(auto)]
 
+mod beginning;
+mod finding;
 pub mod laws;
 mod marks;
 mod old_list;
@@ -9,5 +11,6 @@ mod same_job;
 mod same_nodes;
 mod same_plan;
 mod same_times;
+mod unchanged;
 
 pub use replanning::replan;

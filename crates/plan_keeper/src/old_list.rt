@@ -1,21 +1,23 @@
 //! The old plan's jobs by their ids, and how many stand above each that may have its nodes.
 
-ghost use Rattle.std.specs.Prelude.{◌≡◌, ◌<◌, ◌+◌, ◌^◌, ℕ, nat_eq, length, take, sum_by, count_by, slice_index_or, IfOk, OnOk, IfSome, All, List};
+ghost use Rattle.std.specs.Prelude.{◌≡◌, ◌<◌, ◌+◌, ◌≤◌, ◌^◌, ℕ, nat_eq, length, take, drop, sum_by, count_by, slice_index_or, IfOk, OnOk, IfSome, All, List};
 ghost use Rattle.std.specs.HashMap.{get};
 ghost use Rattle.backfill_planner.specs.declared.job.PlanJob.{PlanJob as AJob};
 ghost use Rattle.plan_keeper.specs.Marks.{FindsId, IsListed, depth, times};
 
-use backfill_planner::PlanJob;
+use backfill_planner::{PlanJob, Planned};
 use small_texts::memory_error::Memory;
 use std::alloc::Global;
 use std::collections::HashMap;
 
-/// The jobs of an old plan.
+/// The jobs of an old plan that stand behind some first ones.
 #[derive(Drop)]
 pub struct OldList {
-    /// The place of a job, by its id.
+    /// How many the first ones are.
+    pub first: usize,
+    /// The place of a job behind them, by its id.
     pub places: HashMap<u32, usize>,
-    /// Of each, how often its nodes are among those of the jobs above it.
+    /// Of each, how often its nodes are among those of the jobs from there to it.
     pub depths: Vec<u64>,
 }
 
@@ -80,12 +82,17 @@ fn depths_of(alloc: Global, ranked: &[PlanJob], nodes: usize) -> Result<Vec<u64>
 }
 
 impl OldList {
-    /// Of these jobs, on so many nodes. Linear in the nodes of all of them.
-    pub fn of(alloc: Global, ranked: &[PlanJob], nodes: usize) -> Result<OldList, Memory>
-        requires { All (λ (job : AJob). All (λ node. node < nodes) job.nodes) ranked.now }
-        ensures { IfOk result (λ list. IsListed ranked.now (get nat_eq list.places) list.depths.items) }
+    /// Of the jobs of a plan behind the first ones. Linear in the nodes of all of them.
+    pub fn of(alloc: Global, old: &Planned, first: usize) -> Result<OldList, Memory>
+        requires { first ≤ length old.now.ranked }
+        ensures first { IfOk result (λ list. list.first ≡ first) }
+        ensures listed { IfOk result (λ list. IsListed (drop first old.now.ranked)
+            (get nat_eq list.places) list.depths.items) }
     {
+        let ranked = old.ranked().split_at(first).1;
+        let nodes = old.base().rooms.as_slice().len();
         Ok(OldList {
+            first,
             places: places_of(alloc, ranked)?,
             depths: depths_of(alloc, ranked, nodes)?,
         })

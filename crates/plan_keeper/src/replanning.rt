@@ -1,100 +1,29 @@
 //! Planning over an older plan.
 
-ghost use Rattle.std.specs.Prelude.{◌≡◌, ◌≤◌, ◌<◌, ◌+◌, ◌++◌, ℕ, Bool, nat_eq, length, None, IfOk, OnOk, All};
+ghost use Rattle.std.specs.Prelude.{◌≡◌, ◌≤◌, ◌<◌, ◌+◌, ◌++◌, ℕ, Bool, nat_eq, length, drop, replicate, false, IfOk, OnOk, IfSome, IfNone, Some, None, All};
 ghost use Rattle.std.specs.HashMap.{get};
-ghost use Rattle.resource_profile.specs.Counts.{ticked, IsTickedUpTo};
+ghost use Rattle.resource_profile.specs.Counts.{IsTickedUpTo};
 ghost use Rattle.resource_profile.specs.Profiles.{AreWithin};
 ghost use Rattle.backfill_planner.specs.declared.Placed.{Placed};
 ghost use Rattle.backfill_planner.specs.declared.job.PlanJob.{PlanJob as AJob};
 ghost use Rattle.backfill_planner.specs.Placements.{IsPlannable, AreParts, StartsFit};
 ghost use Rattle.backfill_planner.specs.Plans.{plan_of, plan_holds_of};
 ghost use Rattle.plan_keeper.specs.Steady.{AreSteady, others};
-ghost use Rattle.plan_keeper.specs.Marks.{AreMarks, IsListed};
-ghost use Rattle.plan_keeper.specs.Planner.{PlannerLaws};
-ghost use Rattle.plan_keeper.specs.Turns.{IsNext, IsFound, IsFoundAgain, IsStepped, IsSteppedAgain, StandsAgain};
+ghost use Rattle.plan_keeper.specs.Marks.{met_from, AreCounts, AreMarks, IsListed};
+ghost use Rattle.plan_keeper.specs.Turns.{IsNext, IsFound, IsStepped, HasStepped, HasBegun};
 
+use crate::beginning::{Beginning, begin};
+use crate::finding::{Found, find_again, find_anew};
 use crate::laws::planner_laws;
-use crate::marks::{Marks, forget};
-use crate::old_list::{OldList, add_nodes};
+use crate::marks::Marks;
+use crate::old_list::OldList;
 use crate::same_job::tell_ends_in_time;
-use crate::same_nodes::same_nodes;
 use crate::same_plan::{is_made_of, plan_again};
-use backfill_planner::{Base, Placed, PlanJob, Planned, Planning, plan};
-use resource_profile::{Profile, Steps};
+use crate::unchanged::Unchanged;
+use backfill_planner::{Base, PlanJob, Planned, Planning, plan};
+use resource_profile::Steps;
 use small_texts::memory_error::Memory;
 use std::alloc::Global;
-
-// A job's placement, and its place in the old list where it is the same as then.
-#[derive(Drop)]
-struct Found {
-    placed: Option<Placed>,
-    before: Option<usize>,
-}
-
-// The next job is placed by a search.
-fn find_anew<L>(
-    alloc: Global,
-    planning: &Planning,
-    now: u64,
-    steps: &mut Steps<L>,
-) -> Result<Found, Memory>
-    requires more { planning.now.done < length planning.now.ranked }
-    requires now { now ≡ planning.now.moment }
-    ensures placed { IfOk result (λ found. IsNext planning.now found.placed) }
-    ensures before { IfOk result (λ found. found.before ≡ None) }
-    ensures steps { steps.new ≡ ticked steps.old 1 }
-{
-    let placed = planning.search_next(alloc, now, steps)?;
-    Ok(Found {
-        placed,
-        before: None,
-    })
-}
-
-// The next job stands as it stood at a place of the old list.
-fn find_again<L>(
-    alloc: Global,
-    old: &Planned,
-    before: usize,
-    planning: &Planning,
-    now: u64,
-    steps: &mut Steps<L>,
-) -> Result<Found, Memory>
-    requires laws { PlannerLaws }
-    requires more { planning.now.done < length planning.now.ranked }
-    requires now { now ≡ planning.now.moment }
-    requires later { old.now.moment ≤ now }
-    requires stands { StandsAgain old.now planning.now before }
-    ensures placed { IfOk result (λ found. IsNext planning.now found.placed) }
-    ensures before { IfOk result (λ found. IsFoundAgain old.now planning.now before found.before) }
-    ensures steps { IsSteppedAgain old.now planning.now before steps.old steps.new }
-{
-    let horizon = planning.base().horizon;
-    let last = old.base().horizon;
-    match old.placement_of(before) {
-        Some(placed) => {
-            if now <= placed.start && placed.start <= horizon {
-                let placed = placed.copy(alloc)?;
-                return Ok(Found {
-                    placed: Some(placed),
-                    before: Some(before),
-                });
-            }
-            find_anew(alloc, planning, now, steps)
-        }
-        None => {
-            if horizon <= last {
-                return Ok(Found {
-                    placed: None,
-                    before: Some(before),
-                });
-            }
-            let placed = planning.search_next(alloc, last + 1, steps)?;
-            let before = if placed.is_none() { Some(before) } else { None };
-            Ok(Found { placed, before })
-        }
-    }
-}
 
 // The placement of the next job.
 fn find<L>(
@@ -107,27 +36,42 @@ fn find<L>(
     now: u64,
     steps: &mut Steps<L>,
 ) -> Result<Found, Memory>
-    requires listed { IsListed old.now.ranked (get nat_eq list.now.places) list.now.depths.items }
+    requires listed { IsListed (drop list.now.first old.now.ranked) (get nat_eq list.now.places) list.now.depths.items }
     requires index { index ≡ planning.now.done }
     requires more { planning.now.done < length planning.now.ranked }
     requires now { now ≡ planning.now.moment }
     requires later { old.now.moment ≤ now }
     requires marks { AreMarks old.now planning.now.base planning.now.ranked planning.now.moment planning.now.done
-        marks.now.same.items marks.now.counts.items marks.now.met.items }
+        marks.now.unchanged.nodes.items (met_from list.now.first marks.now.met.items) }
+    requires counts { AreCounts old.now.ranked planning.now.ranked planning.now.moment list.now.first
+        planning.now.done (length planning.now.base.rooms) marks.now.counts.items marks.now.met.items }
     ensures placed { IfOk result (λ found. IsNext planning.now found.placed) }
     ensures before { IfOk result (λ found. IsFound old.now planning.now
-        marks.now.same.items marks.now.counts.items marks.now.met.items found.before) }
+        marks.now.unchanged.nodes.items (met_from list.now.first marks.now.met.items) found.before) }
     ensures steps { IsStepped old.now planning.now steps.old steps.new }
 {
     planner_laws();
     let job = &planning.ranked()[index];
     tell_ends_in_time(job);
-    match marks.place_of(old.ranked(), list, job, now)? {
-        Some(before) => find_again(alloc, old, before, planning, now, steps),
+    let rest = old.ranked().split_at(list.first).1;
+    match marks.place_of(rest, list, job, now)? {
+        Some(place) => find_again(alloc, old, list.first + place, planning, now, steps),
         None => {
             let found = find_anew(alloc, planning, now, steps)?;
             Ok(found)
         }
+    }
+}
+
+// A place behind the first jobs, counted from there.
+fn behind(before: Option<usize>, first: usize) -> Option<usize>
+    requires { IfSome before (λ before. first ≤ before) }
+    ensures some { IfSome result (λ place. before ≡ Some (first + place)) }
+    ensures none { IfNone result (before ≡ None) }
+{
+    match before {
+        Some(before) => Some(before - first),
+        None => None,
     }
 }
 
@@ -142,46 +86,90 @@ fn turn<L>(
     now: u64,
     steps: &mut Steps<L>,
 ) -> Result<Planning, Memory>
-    requires listed { IsListed old.now.ranked (get nat_eq list.now.places) list.now.depths.items }
+    requires listed { IsListed (drop list.now.first old.now.ranked) (get nat_eq list.now.places) list.now.depths.items }
     requires index { index ≡ planning.done }
     requires more { planning.done < length planning.ranked }
     requires now { now ≡ planning.moment }
     requires later { old.now.moment ≤ now }
     requires marks { AreMarks old.now planning.base planning.ranked planning.moment planning.done
-        marks.old.same.items marks.old.counts.items marks.old.met.items }
+        marks.old.unchanged.nodes.items (met_from list.now.first marks.old.met.items) }
+    requires counts { AreCounts old.now.ranked planning.ranked planning.moment list.now.first
+        planning.done (length planning.base.rooms) marks.old.counts.items marks.old.met.items }
     ensures next { IfOk result (λ next. next ≡ record planning { done = planning.done + 1 }) }
     ensures marks { OnOk result (AreMarks old.now planning.base planning.ranked planning.moment (planning.done + 1)
-        marks.new.same.items marks.new.counts.items marks.new.met.items) }
+        marks.new.unchanged.nodes.items (met_from list.now.first marks.new.met.items)) }
+    ensures counts { OnOk result (AreCounts old.now.ranked planning.ranked planning.moment list.now.first
+        (planning.done + 1) (length planning.base.rooms) marks.new.counts.items marks.new.met.items) }
     ensures steps { IsStepped old.now planning steps.old steps.new }
 {
     planner_laws();
     let found = find(alloc, old, list, marks, &planning, index, now, steps)?;
-    marks.go_on(&planning.ranked()[index], found.before)?;
+    let place = behind(found.before, list.first);
+    marks.go_on(&planning.ranked()[index], place)?;
     planning.settle_next(found.placed)
 }
 
-// What is marked before the first job.
-fn first_marks(alloc: Global, old: &Planned, planning: &Planning, now: u64) -> Result<Marks, Memory>
-    requires none { planning.now.done ≡ 0 }
-    requires now { now ≡ planning.now.moment }
-    ensures { IfOk result (λ marks. AreMarks old.now planning.now.base planning.now.ranked planning.now.moment 0
-        marks.same.items marks.counts.items marks.met.items) }
+// What is marked where the lists part.
+fn rest_marks(
+    alloc: Global,
+    unchanged: Unchanged,
+    nodes: usize,
+    rest: usize,
+) -> Result<Marks, Memory>
+    ensures unchanged { IfOk result (λ marks. marks.unchanged.nodes.items ≡ unchanged.nodes.items) }
+    ensures counts { IfOk result (λ marks. marks.counts.items ≡ replicate nodes 0) }
+    ensures met { IfOk result (λ marks. marks.met.items ≡ replicate rest false) }
 {
-    planner_laws();
-    let base = old.base();
-    let before = Profile::with_holds(alloc, base.rooms.as_slice(), base.holds.as_slice())?;
-    let rooms = planning.base().rooms.as_slice();
-    let same = same_nodes(
-        alloc,
-        &before,
-        base.rooms.as_slice(),
-        planning.profile(),
-        rooms,
-        now,
-    )?;
-    let counts = vec![in alloc; 0; rooms.len()]?;
-    let met = vec![in alloc; false; old.ranked().len()]?;
-    Ok(Marks { same, counts, met })
+    let counts = vec![in alloc; 0; nodes]?;
+    let met = vec![in alloc; false; rest]?;
+    Ok(Marks {
+        unchanged,
+        counts,
+        met,
+    })
+}
+
+// The plan whose first jobs are planned, up to where the lists part.
+fn plan_rest<L>(
+    alloc: Global,
+    old: &Planned,
+    begun: Beginning,
+    now: u64,
+    steps: &mut Steps<L>,
+) -> Result<Planned, Memory>
+    requires first { begun.first ≡ begun.planning.done }
+    requires now { now ≡ begun.planning.moment }
+    requires later { old.now.moment ≤ now }
+    requires begun { HasBegun old.now begun.planning begun.unchanged.nodes.items }
+    ensures parts { IfOk result (λ planned. planned
+        ≡ record { base = begun.planning.base; ranked = begun.planning.ranked; moment = begun.planning.moment }) }
+    ensures jobs { OnOk result (All IsPlannable begun.planning.ranked) }
+    ensures within { OnOk result (AreWithin begun.planning.base.rooms (begun.planning.base.holds
+        ++ plan_holds_of begun.planning.base begun.planning.ranked begun.planning.moment)) }
+    ensures starts_fit { OnOk result (StartsFit begun.planning.base
+        (plan_of begun.planning.base begun.planning.ranked begun.planning.moment) begun.planning.moment) }
+    ensures apart { OnOk result (All (λ (placed : Placed). AreParts begun.planning.base.rooms placed.parts)
+        (plan_of begun.planning.base begun.planning.ranked begun.planning.moment)) }
+    ensures steps { (start : ℕ) → HasStepped old.now begun.planning.base begun.planning.ranked begun.planning.moment
+        begun.first start steps.old → HasStepped old.now begun.planning.base begun.planning.ranked
+        begun.planning.moment (length begun.planning.ranked) start steps.new }
+{
+    let Beginning {
+        mut planning,
+        first,
+        unchanged,
+    } = begun;
+    let jobs = planning.ranked().len();
+    if first == jobs {
+        return Ok(planning.finish());
+    }
+    let list = OldList::of(alloc, old, first)?;
+    let nodes = planning.base().rooms.as_slice().len();
+    let mut marks = rest_marks(alloc, unchanged, nodes, old.ranked().len() - first)?;
+    for index in first..jobs {
+        planning = turn(alloc, old, &list, &mut marks, planning, index, now, steps)?;
+    }
+    Ok(planning.finish())
 }
 
 // The plan of the ranked jobs at this moment over an older plan of no later one.
@@ -201,18 +189,11 @@ fn plan_over<L>(
     ensures starts_fit { OnOk result (StartsFit base (plan_of base ranked.items now) now) }
     ensures apart { OnOk result
         (All (λ (placed : Placed). AreParts base.rooms placed.parts) (plan_of base ranked.items now)) }
-    ensures most_steps { IsTickedUpTo (length ranked.items) steps.old steps.new }
-    ensures steps { (steady : ℕ → Bool) → AreSteady old.now base ranked.items now steady
-        → IsTickedUpTo (others steady (length ranked.items)) steps.old steps.new }
+    ensures steps { HasStepped old.now base ranked.items now (length ranked.items) steps.old steps.new }
 {
-    let list = OldList::of(alloc, old.ranked(), old.base().rooms.as_slice().len())?;
-    let jobs = ranked.len();
-    let mut planning = Planning::new(alloc, base, ranked, now)?;
-    let mut marks = first_marks(alloc, old, &planning, now)?;
-    for index in 0..jobs {
-        planning = turn(alloc, old, &list, &mut marks, planning, index, now, steps)?;
-    }
-    Ok(planning.finish())
+    let planning = Planning::new(alloc, base, ranked, now)?;
+    let begun = begin(alloc, old, planning, now, steps)?;
+    plan_rest(alloc, old, begun, now, steps)
 }
 
 /// The plan of the ranked jobs at this moment, exactly as `backfill_planner::plan` makes it from nothing, over an older

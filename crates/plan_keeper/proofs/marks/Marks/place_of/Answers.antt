@@ -8,7 +8,7 @@ use Rattle.plan_keeper.proofs.Listing.{all-unchanged}
 use Rattle.plan_keeper.proofs.SameFrom.{same-id}
 use Rattle.plan_keeper.proofs.Settled.{only-place}
 use Rattle.plan_keeper.proofs.marks.Marks.place_of.Goals as goal
-use Rattle.plan_keeper.proofs.marks.Marks.place_of.Goals.{then-index-via-then-index, then-index-via-else-index+then-not-are_same, then-index-via-else-index+else-not-are_same+then-not-is_same_from}
+use Rattle.plan_keeper.proofs.marks.Marks.place_of.Goals.{then-index-via-then-index, then-index-via-else-index+then-not-has_all, then-index-via-else-index+else-not-has_all+then-not-is_same_from}
 
 pub returns-then-index-clause-none : goal.returns-then-index-clause-none
 returns-then-index-clause-none c before once fits =
@@ -24,11 +24,11 @@ returns-then-index-clause-none c before once fits =
           let fresh : get_or c.args.self.now.met.items place c.index.result.now ≡ false = get_or_default c.args.self.now.met.items place c.index.result.now false (rw c.requires.met found.0) ∙ ap (λ p. get_or c.args.self.now.met.items p false) here ∙ fits.fresh in
           let wrong = sym met ∙ fresh in
           absurd cc
-      | then-index-via-else-index+then-not-are_same w ↦
-          let unchanged : list_all (λ node. get_or c.args.self.now.same.items node false) job.nodes ≡ true = all-unchanged c.args.self.now.same.items job.nodes fits.unchanged in
-          let same : w.are_same.result ≡ true = search (rules, unchanged) in
+      | then-index-via-else-index+then-not-has_all w ↦
+          let unchanged : list_all (λ node. get_or c.args.self.now.unchanged.nodes.items node false) job.nodes ≡ true = all-unchanged c.args.self.now.unchanged.nodes.items job.nodes fits.unchanged in
+          let same : w.has_all.result ≡ true = search (rules, unchanged) in
           absurd (search (rules, same))
-      | then-index-via-else-index+else-not-are_same+then-not-is_same_from w ↦
+      | then-index-via-else-index+else-not-has_all+then-not-is_same_from w ↦
           let there : IsSameFrom now w.index-old-place.result job = subst (λ (one : PlanJob). IsSameFrom now one job) (sym (w.index-old-place.is ∙ ap (λ p. get_or old p w.index-old-place.result) here)) (fits.is w.index-old-place.result) in
           let same : w.is_same_from.result ≡ true = search (rules, there) in
           absurd (search (rules, same))

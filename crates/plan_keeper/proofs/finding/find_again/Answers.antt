@@ -2,8 +2,8 @@ use Rattle.std.proofs.Common.{◌≡◌, ◌≤◌, arith, ap, refl, sym, ◌∙
 use Rattle.backfill_planner.specs.Bases.{BaseView}
 use Rattle.backfill_planner.specs.Plans.{placement_of}
 use Rattle.plan_keeper.proofs.Turning.{stands-some, stands-none, stands-nowhere}
-use Rattle.plan_keeper.proofs.replanning.find_again.Goals as goal
-use Rattle.plan_keeper.proofs.replanning.find_again.Goals.{else-now-placed-via-then-now-placed+else-placed-horizon, else-now-placed-via-else-now-placed}
+use Rattle.plan_keeper.proofs.finding.find_again.Goals as goal
+use Rattle.plan_keeper.proofs.finding.find_again.Goals.{else-now-placed-via-then-now-placed+else-placed-horizon, else-now-placed-via-else-now-placed}
 use Rattle.plain_data.specs.declared.seconds.TheConstants.{LAST_START}
 
 pub placement_of-requires : goal.placement_of-requires

@@ -1,6 +1,6 @@
 use Rattle.std.proofs.Common.{◌≡◌, ◌<◌, ◌&&◌, not, false, ℕ, eqb, get_or, length, take}
 use Rattle.std.specs.List.{list_any}
-use Rattle.plan_keeper.proofs.marks.forget.Given as goal
+use Rattle.plan_keeper.proofs.unchanged.take_out.Given as goal
 
 -- the first nodes are taken out
 abbrev pub invariant-loop-node : goal.invariant-loop-node

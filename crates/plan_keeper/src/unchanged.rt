@@ -1,0 +1,75 @@
+//! On which nodes nothing has changed by now.
+
+ghost use Rattle.std.specs.Prelude.{◌≡◌, ◌<◌, ◌&&◌, not, nat_eq, ℕ, Bool, true, false, length, slice_index_or, IfSome, IfNone, All, List};
+ghost use Rattle.std.specs.List.{list_any, list_all};
+ghost use Rattle.plan_keeper.specs.Marks.{Without};
+
+use backfill_planner::PlanJob;
+
+/// On which nodes nothing has changed by now: they were there, and the jobs so far that may have them are placed as those
+/// of the old list were.
+#[derive(Drop)]
+pub struct Unchanged {
+    /// Of each node, whether it is one of these.
+    pub nodes: Vec<bool>,
+    // Where this is so all of them are, which spares a look at each.
+    all: bool,
+    ghost each: { all ≡ true → list_all (λ same. same) nodes.items ≡ true },
+}
+
+// Whether all these nodes are marked as the same.
+fn are_same(same: &[bool], nodes: &[u32]) -> bool
+    requires { All (λ node. node < length same.now) nodes.now }
+    ensures { result ≡ list_all (λ node. slice_index_or same.now node false) nodes.now }
+{
+    nodes.iter().all(|node| same[*node as usize])
+}
+
+// Takes these nodes out of those that are the same.
+fn take_out(same: &mut Vec<bool>, nodes: &[u32])
+    requires { All (λ node. node < length same.old.items) nodes.now }
+    ensures long { length same.new.items ≡ length same.old.items }
+    ensures each { (node : ℕ) → node < length same.old.items → slice_index_or same.new.items node false
+        ≡ (slice_index_or same.old.items node false && not (list_any (nat_eq node) nodes.now)) }
+{
+    for node in nodes {
+        same[*node as usize] = false;
+    }
+}
+
+// Whether all are marked.
+fn are_all(same: &[bool]) -> bool
+    ensures { result ≡ list_all (λ same. same) same.now }
+{
+    same.iter().all(|same| *same)
+}
+
+impl Unchanged {
+    /// Those that are marked in a list of all nodes. Linear in these.
+    pub fn of(nodes: Vec<bool>) -> Unchanged
+        ensures { result.nodes.items ≡ nodes.items }
+    {
+        let all = are_all(nodes.as_slice());
+        Unchanged { nodes, all }
+    }
+
+    /// Whether these nodes are among them: constant time where all are, else up to the first that isn't.
+    pub fn has_all(&self, nodes: &[u32]) -> bool
+        requires { All (λ node. node < length self.now.nodes.items) nodes.now }
+        ensures { result ≡ list_all (λ node. slice_index_or self.now.nodes.items node false) nodes.now }
+    {
+        self.all || are_same(self.nodes.as_slice(), nodes)
+    }
+
+    /// One job more is planned: as the one at a place of the old list was, or anew, which changes its nodes.
+    pub fn go_on(&mut self, job: &PlanJob, before: Option<usize>)
+        requires { All (λ node. node < length self.old.nodes.items) job.now.nodes }
+        ensures some { IfSome before (λ _. self.new.nodes.items ≡ self.old.nodes.items) }
+        ensures none { IfNone before (Without self.old.nodes.items job.now self.new.nodes.items) }
+    {
+        if before.is_none() {
+            self.all = false;
+            take_out(&mut self.nodes, job.nodes.as_slice());
+        }
+    }
+}
