@@ -1,4 +1,6 @@
+pub mod Desks
+pub mod Following
 pub mod Rounds
-pub mod Telling
+pub mod Running
 pub mod Turning
 pub mod Working

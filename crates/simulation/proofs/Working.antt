@@ -11,8 +11,16 @@ use Rattle.block_frame.specs.declared.form.Form.TheVariants.{Plain}
 use Rattle.block_frame.specs.Attachments.{attachment_lines}
 use Rattle.block_frame.specs.Grammar.{IsBlock, IsPartial, IsBad, blocks_of, rest_of, header_line, spelled, spelled_all}
 use Rattle.block_frame.specs.State.{BlocksState, IsNext}
-use Rattle.ctl_session.specs.Meaning.{meaning_of}
-use Rattle.simulation.specs.Simulation.{Standing, behind_block, behind_blocks, behind_script}
+use Rattle.command_words.specs.declared.header.Asked.{Asked}
+use Rattle.command_words.specs.declared.header.Meaning.{Meaning}
+use Rattle.command_words.specs.declared.header.Meaning.TheVariants.{Asks}
+use Rattle.reply_data.specs.declared.reply.Reply.{Reply}
+use Rattle.ctl_state.specs.State.{State}
+use Rattle.ctl_core.specs.Step.{reply_of, state_after}
+use Rattle.ctl_session.specs.Meaning.{meaning_of, state_behind}
+use Rattle.simulation.specs.declared.tally.Tally.{Tally}
+use Rattle.simulation.specs.Run.{last_moment, moment_behind}
+use Rattle.simulation.specs.Simulation.{Standing, behind_block, behind_blocks, behind_script, tallied, tally_behind}
 
 -- what is known of texts and their blocks
 pub record Laws : Type 0 where
@@ -91,8 +99,74 @@ pub worked_one : (at next whole : Standing) (text more : List ℕ) (block : Bloc
 worked_one at next whole text more block works first leads =
     ap (λ (a : Standing). behind_text a more) works ∙ sym (behind_first at text more block first) ∙ leads
 
+-- what a block asked was worked
+abbrev pub IsWork : Asked → Tally → Tally → State → State → Type 0
+IsWork asked tally tally' s s' =
+    (s' ≡ state_behind s (Asks asked)) × (tally' ≡ tally_behind s (Asks asked) tally)
+
+pub works : (asked : Asked) (reply : Reply) (tally tally' : Tally) → tally' ≡ tallied asked.moment reply tally
+    → (s s' : State)
+    → (reply ≡ reply_of s asked.moment asked.user asked.request)
+    × (s' ≡ state_after s asked.moment asked.user asked.request)
+    → IsWork asked tally tally' s s'
+works asked reply tally tally' counts s s' follows =
+    (follows.1, counts ∙ ap (λ (r : Reply). tallied asked.moment r tally) follows.0)
+
+-- a block was answered
+abbrev pub IsAnsweredBlock : Block → Tally → Tally → State → State → Type 0
+IsAnsweredBlock block tally tally' s s' =
+    record { state = s'; tally = tally' } ≡ behind_block (record { state = s; tally = tally }) (meaning_of block)
+
+pub block_worked : (block : Block) (asked : Asked) (tally tally' : Tally) → meaning_of block ≡ Asks asked
+    → (s s' : State) → IsWork asked tally tally' s s' → IsAnsweredBlock block tally tally' s s'
+unfolding behind_block
+block_worked block asked tally tally' means s s' work =
+    let at : State → Tally → Standing = λ state counts. record { state = state; tally = counts } in
+    ap (λ state. at state tally') work.0
+    ∙ ap (λ counts. at (state_behind s (Asks asked)) counts) work.1
+    ∙ ap (behind_block (at s tally)) (sym means)
+
+-- a block that asks nothing leaves all as it is
+pub idle_moment : (meaning : Meaning) → ((asked : Asked) → meaning ≡ Asks asked → ⊥) → (tally : Tally)
+    → tally.moment ≡ moment_behind tally.moment meaning
+idle_moment (Asks asked) none tally = absurd (none asked refl)
+idle_moment meaning none tally = refl
+
+pub idle_block : (meaning : Meaning) → ((asked : Asked) → meaning ≡ Asks asked → ⊥) → (tally : Tally) → (s : State)
+    → record { state = s; tally = tally } ≡ behind_block (record { state = s; tally = tally }) meaning
+unfolding behind_block
+idle_block (Asks asked) none tally s = absurd (none asked refl)
+idle_block meaning none tally s = refl
+
+-- the text that is left leads on from a state and this tally to where the whole script does from another
+abbrev pub LeadsOn : Tally → List ℕ → Tally → List ℕ → State → State → Type 0
+LeadsOn from script tally text s t =
+    behind_text (record { state = t; tally = tally }) text ≡ behind_text (record { state = s; tally = from }) script
+
+pub script_begins : (tally : Tally) (script text : List ℕ) → text ≡ script → (s : State)
+    → LeadsOn tally script tally text s s
+script_begins tally script text all s = ap (behind_text (record { state = s; tally = tally })) all
+
+-- the script was worked
+abbrev pub IsScriptWorked : Tally → List ℕ → Tally → State → State → Type 0
+IsScriptWorked from script tally s t =
+    record { state = t; tally = tally } ≡ behind_script (record { state = s; tally = from }) script
+
 -- none is left
 pub worked_all : (at start : Standing) (text script : List ℕ) → blocks_of Plain text ≡ []
     → behind_text at text ≡ behind_text start script → at ≡ behind_script start script
 worked_all at start text script none leads =
     sym (behind_none at text none) ∙ leads ∙ sym (script_is start script)
+
+-- the moment of a block that was worked, and of those that are left
+pub moment_on : (from moment moment' : ℕ) (text more script : List ℕ) (block : Block)
+    → moment' ≡ moment_behind moment (meaning_of block) → blocks_of Plain text ≡ block ∷ blocks_of Plain more
+    → last_moment moment text ≡ last_moment from script → last_moment moment' more ≡ last_moment from script
+moment_on from moment moment' text more script block is first leads =
+    ap (λ at. last_moment at more) is
+    ∙ ap (λ blocks. fold moment_behind moment (map meaning_of blocks)) (sym first) ∙ leads
+
+pub moment_last : (from moment : ℕ) (text script : List ℕ) → blocks_of Plain text ≡ []
+    → last_moment moment text ≡ last_moment from script → moment ≡ last_moment from script
+moment_last from moment text script none leads =
+    ap (λ blocks. fold moment_behind moment (map meaning_of blocks)) (sym none) ∙ leads

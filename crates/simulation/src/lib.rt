@@ -2,11 +2,13 @@
 #![tactic(auto)]
 
 mod asking;
+mod laws;
 mod nodes;
+mod rota;
 mod round;
 mod script;
 mod simulating;
 mod summary;
 mod tally;
 
-pub use simulating::{SimulationRefusal, simulate};
+pub use simulating::{SimulationRefusal, generate_run};

@@ -1,16 +1,17 @@
 //! The daemons of a simulation.
 
-ghost use Rattle.std.specs.Prelude.{◌≡◌, IfOk, OnOk, filter_map};
-ghost use Rattle.ctl_desk.specs.Desk.{state_of};
+ghost use Rattle.std.specs.Prelude.{◌≡◌, ◌<◌, length, map, IfOk, filter_map};
+ghost use Rattle.simulation.specs.Run.{AllGoOn, HaveReported, IfOneAlone};
 ghost use Rattle.simulation.specs.Simulation.{behind, daemon_of, daemons_of, nodes_asked, rows_of, told};
 
-use crate::asking::ask;
-use ctl_desk::own_desk::OwnDesk;
+use crate::asking::show;
+use crate::rota::Rota;
+use ctl_desk::desk::Desk;
 use node_daemon::daemon::DaemonState;
+use node_daemon::root;
 use reply_data::reply::Reply;
 use reply_data::view::Row;
 use request_data::query::Query;
-use request_data::request::Request;
 use small_texts::memory_error::Memory;
 use std::alloc::Global;
 
@@ -48,14 +49,19 @@ fn started(alloc: Global, rows: &[Row]) -> Result<Vec<DaemonState>, Memory>
 }
 
 /// Starts the daemon of each node, in the order in which the controller shows them.
-pub(crate) fn start_daemons(
+pub(crate) fn start_daemons<D: Desk>(
     alloc: Global,
-    desk: &mut OwnDesk,
+    desks: &mut [D],
+    rota: &mut Rota,
     now: u64,
 ) -> Result<Vec<DaemonState>, Memory>
-    ensures daemons { IfOk result (λ daemons. daemons.items ≡ daemons_of (told now nodes_asked (state_of desk.old))) }
-    ensures state { OnOk result (state_of desk.new ≡ behind now nodes_asked (state_of desk.old)) }
+    requires { 0 < length desks.old }
+    ensures go_on { AllGoOn (map D.sight desks.old) (map D.sight desks.new) }
+    ensures new { IfOk result (λ daemons. HaveReported 0 daemons.items) }
+    ensures alone { IfOk result (λ daemons. IfOneAlone (map D.sight desks.old) (map D.sight desks.new)
+        (λ s s'. (daemons.items ≡ daemons_of (told now nodes_asked s)) × (s' ≡ behind now nodes_asked s))) }
 {
-    let reply = ask(alloc, desk, now, Request::Show(Query::ShowNode(None)))?;
+    let root = root(alloc)?;
+    let reply = show(desks, rota, now, &root, Query::ShowNode(None))?;
     started(alloc, rows_of(&reply))
 }

@@ -1,33 +1,40 @@
 //! The script of a simulation.
 
-ghost use Rattle.std.specs.Prelude.{◌≡◌, OnOk};
+ghost use Rattle.std.specs.Prelude.{◌≡◌, ◌<◌, length, map, OnOk};
 ghost use Rattle.command_words.specs.declared.header.Meaning.TheVariants.{Asks};
 ghost use Rattle.ctl_session.specs.Meaning.{meaning_of, state_behind};
-ghost use Rattle.ctl_desk.specs.Desk.{state_of};
+ghost use Rattle.simulation.specs.Run.{AllGoOn, IfOneAlone, last_moment, moment_behind};
 ghost use Rattle.simulation.specs.Simulation.{behind_block, behind_script, tally_behind};
 
 use crate::asking::keeps_history;
+use crate::laws::answers_follow_alone;
+use crate::rota::Rota;
 use crate::tally::Tally;
 use block_frame::{Block, Blocks, Form, Next, blocks_are_cut_once, blocks_go_first};
 use command_words::header::{Asked, Meaning};
-use ctl_desk::laws::answers_follow_at_a_desk_of_its_own;
-use ctl_desk::own_desk::OwnDesk;
+use ctl_desk::desk::Desk;
 use ctl_session::{decide, read_meaning};
 use resource_profile::{Plain, Steps};
 use small_texts::memory_error::Memory;
 use std::alloc::Global;
 
-// Works what a block asks.
-fn work(
-    desk: &mut OwnDesk,
+// Works what a block asks, at the desk whose turn it is.
+fn work<D: Desk>(
+    desks: &mut [D],
+    rota: &mut Rota,
     steps: &mut Steps<Plain>,
     tally: &mut Tally,
     asked: &Asked,
 ) -> Result<(), Memory>
-    ensures state { OnOk result (state_of desk.new ≡ state_behind (state_of desk.old) (Asks asked.now)) }
-    ensures tally { OnOk result (tally.new ≡ tally_behind (state_of desk.old) (Asks asked.now) tally.old) }
+    requires { 0 < length desks.old }
+    ensures go_on { AllGoOn (map D.sight desks.old) (map D.sight desks.new) }
+    ensures moment { OnOk result (tally.new.moment ≡ asked.now.moment) }
+    ensures alone { OnOk result (IfOneAlone (map D.sight desks.old) (map D.sight desks.new)
+        (λ s s'. (s' ≡ state_behind s (Asks asked.now)) × (tally.new ≡ tally_behind s (Asks asked.now) tally.old))) }
 {
-    answers_follow_at_a_desk_of_its_own();
+    answers_follow_alone();
+    let place = rota.take(desks.len());
+    let desk = &mut desks[place];
     keeps_history(desk);
     let answer = decide(desk, steps, asked)?;
     tally.take(asked.moment, &answer.reply);
@@ -36,33 +43,43 @@ fn work(
 
 // Works a block.
 #[tactic(auto, unfolding(crate::specs::Simulation::behind_block))]
-fn answer(
+fn answer<D: Desk>(
     alloc: Global,
-    desk: &mut OwnDesk,
+    desks: &mut [D],
+    rota: &mut Rota,
     steps: &mut Steps<Plain>,
     tally: &mut Tally,
     block: &Block,
 ) -> Result<(), Memory>
-    ensures { OnOk result (record { state = state_of desk.new; tally = tally.new }
-        ≡ behind_block (record { state = state_of desk.old; tally = tally.old }) (meaning_of block.now)) }
+    requires { 0 < length desks.old }
+    ensures go_on { AllGoOn (map D.sight desks.old) (map D.sight desks.new) }
+    ensures moment { OnOk result (tally.new.moment ≡ moment_behind tally.old.moment (meaning_of block.now)) }
+    ensures alone { OnOk result (IfOneAlone (map D.sight desks.old) (map D.sight desks.new)
+        (λ s s'. record { state = s'; tally = tally.new }
+        ≡ behind_block (record { state = s; tally = tally.old }) (meaning_of block.now))) }
 {
     match read_meaning(alloc, block)? {
-        Meaning::Asks(asked) => work(desk, steps, tally, &asked),
+        Meaning::Asks(asked) => work(desks, rota, steps, tally, &asked),
         _ => Ok(()),
     }
 }
 
 /// Works the blocks of a script, one after the other, up to its end or to what is no block.
 #[tactic(auto, unfolding(crate::specs::Simulation::behind_script))]
-pub(crate) fn work_script(
+pub(crate) fn work_script<D: Desk>(
     alloc: Global,
-    desk: &mut OwnDesk,
+    desks: &mut [D],
+    rota: &mut Rota,
     steps: &mut Steps<Plain>,
     tally: &mut Tally,
     script: &[u8],
 ) -> Result<(), Memory>
-    ensures { OnOk result (record { state = state_of desk.new; tally = tally.new }
-        ≡ behind_script (record { state = state_of desk.old; tally = tally.old }) script.now) }
+    requires { 0 < length desks.old }
+    ensures go_on { AllGoOn (map D.sight desks.old) (map D.sight desks.new) }
+    ensures moment { OnOk result (tally.new.moment ≡ last_moment tally.old.moment script.now) }
+    ensures alone { OnOk result (IfOneAlone (map D.sight desks.old) (map D.sight desks.new)
+        (λ s s'. record { state = s'; tally = tally.new }
+        ≡ behind_script (record { state = s; tally = tally.old }) script.now)) }
 {
     blocks_go_first();
     blocks_are_cut_once();
@@ -75,7 +92,7 @@ pub(crate) fn work_script(
             Ok(Next::Bad { .. }) => return Ok(()),
             Err(_) => return Err(Memory),
         };
-        if let Err(Memory) = answer(alloc, desk, steps, tally, &block) {
+        if let Err(Memory) = answer(alloc, desks, rota, steps, tally, &block) {
             return Err(Memory);
         }
     }

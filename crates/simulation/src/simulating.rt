@@ -1,16 +1,18 @@
 //! A simulation, from the script to the last round.
 
-ghost use Rattle.std.specs.Prelude.{◌≡◌, ◌<◌, Some, None, option_map, All, IfOk, OnOk, IsErrOf, IsSomeAnd, if◌then◌else◌};
-ghost use Rattle.node_daemon.specs.Daemon.{Daemon};
-ghost use Rattle.ctl_desk.specs.Desk.{state_of};
+ghost use Rattle.std.specs.Prelude.{◌≡◌, ℕ, ◌<◌, length, map, true, false, Some, None, option_map, IfOk, OnOk, IsErrOf, IsSomeAnd, if◌then◌else◌};
+ghost use Rattle.generator.specs.Generated.{generated};
+ghost use Rattle.simulation.specs.Run.{AllGoOn, EndAtLast, HaveReported, IfOneAlone, last_moment};
 ghost use Rattle.simulation.specs.Simulation.{Simulated, most_rounds, rounds, simulated, summary};
+ghost use Rattle.simulation.specs.declared.tally.Tally.{Tally};
 
 use crate::nodes::start_daemons;
+use crate::rota::Rota;
 use crate::round::make_round;
 use crate::script::work_script;
 use crate::summary::summary;
 use crate::tally::Tally;
-use ctl_desk::own_desk::OwnDesk;
+use ctl_desk::desk::Desk;
 use generator::script_of;
 use node_daemon::daemon::DaemonState;
 use resource_profile::{Plain, Steps};
@@ -41,20 +43,25 @@ impl From<memory_error::Memory> for SimulationRefusal {
 }
 
 // Makes rounds until no job is left; tells whether none was.
-fn make_rounds(
+fn make_rounds<D: Desk>(
     alloc: Global,
-    desk: &mut OwnDesk,
+    desks: &mut [D],
+    rota: &mut Rota,
     steps: &mut Steps<Plain>,
     daemons: &mut [DaemonState],
     tally: &mut Tally,
 ) -> Result<bool, Memory>
-    requires { All (λ (daemon : Daemon). daemon.number ≡ 0) daemons.old }
-    ensures { IfOk result (λ over.
-        rounds most_rounds (record { state = state_of desk.old; daemons = daemons.old; tally = tally.old })
-        ≡ (if over then Some (record { state = state_of desk.new; daemons = daemons.new; tally = tally.new }) else None)) }
+    requires desks { 0 < length desks.old }
+    requires numbers { HaveReported 0 daemons.old }
+    ensures go_on { AllGoOn (map D.sight desks.old) (map D.sight desks.new) }
+    ensures end { IfOk result (λ over.
+        EndAtLast over tally.old.moment tally.new.moment (map D.sight desks.new)) }
+    ensures alone { IfOk result (λ over. IfOneAlone (map D.sight desks.old) (map D.sight desks.new) (λ s s'.
+        rounds most_rounds (record { state = s; daemons = daemons.old; tally = tally.old })
+        ≡ (if over then Some (record { state = s'; daemons = daemons.new; tally = tally.new }) else None))) }
 {
     for _ in 0..MOST_ROUNDS {
-        make_round(alloc, desk, steps, daemons, tally)?;
+        make_round(alloc, desks, rota, steps, daemons, tally)?;
         if tally.left == 0 {
             return Ok(true);
         }
@@ -62,28 +69,50 @@ fn make_rounds(
     Ok(false)
 }
 
-/// Works the script that a number stands for at a desk that nobody else asks, then lets the daemons of the cluster's
-/// nodes report every half minute, each time with a pass behind, until all jobs are over, and tells how many started,
-/// were completed or reached their limits, in one line. It makes 300,000 rounds at the most. The desk is left with the
-/// state of the last round, and keeps what was entered, also after a refusal (own).
+/// Works the script that a number stands for, then lets the daemons of the cluster's nodes report every half minute, each
+/// time with a pass behind, until all jobs are over, and tells how many started, were completed or reached their limits,
+/// in one line. It makes 300,000 rounds at the most. The desks are asked in turn: each block, each report, each pass and
+/// each look at the jobs goes to the next one. They keep what was entered, also after a refusal. Where there is one desk,
+/// and nobody else's entries come to it, all is as the definition has it (own).
 #[tactic(auto, unfolding(crate::specs::Simulation::simulated))]
-pub fn simulate(
+pub fn generate_run<D: Desk>(
     alloc: Global,
     number: u32,
-    desk: &mut OwnDesk,
+    desks: &mut [D],
     steps: &mut Steps<Plain>,
 ) -> Result<Vec<u8>, SimulationRefusal>
-    ensures line { IfOk result (λ line. IsSomeAnd (simulated (state_of desk.old) number)
-        (λ sim. line.items ≡ summary sim.tally)) }
-    ensures state { OnOk result (option_map (λ (sim : Simulated). sim.state) (simulated (state_of desk.old) number)
-        ≡ Some (state_of desk.new)) }
-    ensures spent { IsErrOf result SimulationRefusal.Spent → simulated (state_of desk.old) number ≡ None }
+    requires { 0 < length desks.old }
+    ensures go_on { AllGoOn (map D.sight desks.old) (map D.sight desks.new) }
+    ensures over { IfOk result (λ line. (tally : Tally) × (line.items ≡ summary tally)
+        × EndAtLast true (last_moment 0 (generated number)) tally.moment (map D.sight desks.new)) }
+    ensures line { IfOk result (λ line. IfOneAlone (map D.sight desks.old) (map D.sight desks.new)
+        (λ s s'. IsSomeAnd (simulated s number) (λ sim. line.items ≡ summary sim.tally))) }
+    ensures state { OnOk result (IfOneAlone (map D.sight desks.old) (map D.sight desks.new)
+        (λ s s'. option_map (λ (sim : Simulated). sim.state) (simulated s number) ≡ Some s')) }
+    ensures spent { IsErrOf result SimulationRefusal.Spent →
+        ((last : ℕ) × EndAtLast false (last_moment 0 (generated number)) last (map D.sight desks.new))
+        × IfOneAlone (map D.sight desks.old) (map D.sight desks.new) (λ s s'. simulated s number ≡ None) }
 {
     let script = script_of(alloc, number)?;
+    let mut rota = Rota::new();
     let mut tally = Tally::new();
-    work_script(alloc, desk, steps, &mut tally, script.as_slice())?;
-    let mut daemons = start_daemons(alloc, desk, tally.moment)?;
-    if !make_rounds(alloc, desk, steps, daemons.as_mut_slice(), &mut tally)? {
+    work_script(
+        alloc,
+        desks,
+        &mut rota,
+        steps,
+        &mut tally,
+        script.as_slice(),
+    )?;
+    let mut daemons = start_daemons(alloc, desks, &mut rota, tally.moment)?;
+    if !make_rounds(
+        alloc,
+        desks,
+        &mut rota,
+        steps,
+        daemons.as_mut_slice(),
+        &mut tally,
+    )? {
         return Err(SimulationRefusal::Spent);
     }
     let line = summary(alloc, &tally)?;

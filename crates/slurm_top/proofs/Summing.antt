@@ -1,9 +1,10 @@
 -- What a simulation on the cluster of simulations comes to.
-use Rattle.std.proofs.Common.{◌≡◌, ℕ, List, [], Option, None, Some, IsSomeAnd, Ok, refl, sym, ap, ◌∙◌, subst}
+use Rattle.std.proofs.Common.{◌≡◌, ℕ, List, [], ◌∷◌, map, Option, None, Some, IsSomeAnd, Ok, refl, sym, ap, ◌∙◌, subst}
 use Rattle.slurm_io.specs.Wire.{Wire}
-use Rattle.ctl_desk.specs.Desk.{Seat, state_of}
+use Rattle.ctl_desk.specs.Desk.{Seat, sight_of, state_of}
 use Rattle.ctl_state.specs.State.{State}
 use Rattle.simulated_cluster.specs.Files.{simulated_assocs, simulated_conf}
+use Rattle.simulation.specs.Run.{AllGoOn, IfOneAlone}
 use Rattle.simulation.specs.Simulation.{Simulated, simulated, summary}
 use Rattle.slurm_top.specs.declared.end.End.{End}
 use Rattle.slurm_top.specs.declared.end.End.TheVariants.{Usage, NoFile, BadConf, BadAssocs, BadState, Memory, Script, Generated, WriteFault, Spent, Served, DoorFault, Called}
@@ -14,6 +15,15 @@ use Rattle.slurm_top.specs.SimulatedCluster.{simulation_of}
 -- a desk that was just opened
 abbrev pub IsFresh : State → Seat → Type 0
 IsFresh s desk = desk ≡ record { opening = s; before = []; since = [] }
+
+-- what holds where there is one desk, and nobody else's entries come there, holds at a desk of its own
+pub at_one : (desk : Seat) (desks' : List Seat) (P : State → Type 0)
+    → AllGoOn (map sight_of (desk ∷ [])) (map sight_of desks')
+    → IfOneAlone (map sight_of (desk ∷ [])) (map sight_of desks') (λ s s'. P s)
+    → P (state_of desk)
+at_one desk [] P goes holds = absurd goes
+at_one desk (one ∷ []) P goes holds = holds refl refl
+at_one desk (one ∷ two ∷ more) P goes holds = absurd goes.1
 
 pub comes_to : (number : ℕ) (s : State) (desk : Seat) (sim : Option Simulated)
     → opening_in simulated_conf simulated_assocs ≡ Ok s → IsFresh s desk → simulated (state_of desk) number ≡ sim

@@ -9,7 +9,7 @@ use crate::end::End;
 use crate::generate::write_whole;
 use resource_profile::start;
 use simulated_cluster::simulated_desk;
-use simulation::{SimulationRefusal, simulate};
+use simulation::{SimulationRefusal, generate_run};
 use slurm_io::Link;
 use small_texts::memory_error::Memory;
 use std::alloc::Global;
@@ -19,11 +19,11 @@ use std::alloc::Global;
 pub(crate) fn write_summary<L: Link>(alloc: Global, number: u32, link: &mut L) -> End
     ensures { IsEndSimulating number (L.wire link.old) (L.wire link.new) result }
 {
-    let mut desk = match simulated_desk(alloc) {
+    let desk = match simulated_desk(alloc) {
         Ok(desk) => desk,
         Err(Memory) => return End::Memory,
     };
-    match simulate(alloc, number, &mut desk, &mut start()) {
+    match generate_run(alloc, number, &mut [desk], &mut start()) {
         Ok(line) => write_whole(link, line.as_slice()),
         Err(SimulationRefusal::Spent) => End::Spent,
         Err(SimulationRefusal::Memory) => End::Memory,

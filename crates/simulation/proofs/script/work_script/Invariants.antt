@@ -1,16 +1,18 @@
-use Rattle.std.proofs.Common.{◌≡◌, length}
+use Rattle.std.proofs.Common.{◌≡◌, length, map}
 use Rattle.block_frame.specs.declared.form.Form.TheVariants.{Plain}
-use Rattle.ctl_desk.specs.Desk.{state_of}
-use Rattle.simulation.proofs.Working.{behind_text}
+use Rattle.simulation.specs.Run.{AllGoOn, IfOneAlone, last_moment}
+use Rattle.simulation.proofs.Working.{LeadsOn}
 use Rattle.simulation.proofs.script.work_script.Given as goal
 
 -- what is pending leads to where the whole script does
 abbrev pub invariant-loop-block : goal.invariant-loop-block
-invariant-loop-block l = record {
+invariant-loop-block g l = record {
   form : l.blocks.form ≡ Plain;
-  leads : behind_text (record { state = state_of l.desk; tally = l.tally }) l.blocks.pending
-      ≡ behind_text (record { state = state_of l.fn.desk; tally = l.fn.tally }) l.script;
+  go_on : AllGoOn (map g.D.Desk.sight l.fn.desks) (map g.D.Desk.sight l.desks);
+  moment : last_moment l.tally.moment l.blocks.pending ≡ last_moment l.fn.tally.moment l.script;
+  alone : IfOneAlone (map g.D.Desk.sight l.fn.desks) (map g.D.Desk.sight l.desks)
+      (LeadsOn l.fn.tally l.script l.tally l.blocks.pending);
 }
 
 abbrev pub decreases-loop-block : goal.decreases-loop-block
-decreases-loop-block l = length l.blocks.pending
+decreases-loop-block g l = length l.blocks.pending
