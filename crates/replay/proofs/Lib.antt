@@ -1,4 +1,5 @@
 pub mod Answered
+pub mod Calling
 pub mod Due
 pub mod Events
 pub mod Reported

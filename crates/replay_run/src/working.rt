@@ -10,7 +10,7 @@ use conf_reader::read_conf;
 use ctl_desk::desk::Desk;
 use ctl_desk::own_desk::OwnDesk;
 use plain_data::conf::{Conf, NodeConf};
-use replay::{ReplayRefusal, Replayed, Replaying, Rest, begin, finish, go_on};
+use replay::{Pace, ReplayRefusal, Replayed, Replaying, Rest, begin, finish, go_on};
 use replay_plan::{ReplayPlan, Submission};
 use replay_report::{JobOutcome, outcomes_of};
 use resource_profile::{Plain, Steps, start};
@@ -55,8 +55,7 @@ struct Site<'a> {
     assocs: &'a [u8],
     /// How many processors it has.
     processors: u64,
-    /// The most seconds between two passes.
-    interval: u64,
+    pace: Pace,
     /// How many seconds lie between two looks at the jobs that have ended; None where their records are kept for good.
     looks: Option<u64>,
 }
@@ -88,7 +87,7 @@ fn processors_in(nodes: &[NodeConf]) -> u64 {
         .fold(0, |count, node| count.saturating_add(node.cpus.get()))
 }
 
-// How many seconds may lie between two looks. A record is kept for MinJobAge seconds, and events are no more than the interval
+// How many seconds may lie between two looks. A record is kept for MinJobAge seconds, and passes are no more than the interval
 // apart: so each record is there at one look at least.
 fn looks_of(conf: &Conf, interval: u64) -> Option<u64> {
     match conf.settings.min_job_age.get() {
@@ -97,13 +96,21 @@ fn looks_of(conf: &Conf, interval: u64) -> Option<u64> {
     }
 }
 
-// The most seconds between two passes, where the words don't say: bf_interval, but no more than half of SlurmdTimeout, since all
-// nodes report as often.
-fn usual_interval(conf: &Conf) -> u64 {
-    let interval = conf.settings.bf_interval.get();
+// How many seconds lie between two reports of all nodes at the most: half of SlurmdTimeout, so that none falls silent. Where that
+// says 0 none ever does, and they report only what ends and what they launch.
+fn reports_of(conf: &Conf) -> u64 {
     match conf.settings.slurmd_timeout.get() {
-        0 => interval,
-        timeout => interval.min(timeout / 2),
+        0 => u64::MAX,
+        timeout => (timeout / 2).max(1),
+    }
+}
+
+// The pace of a replay. Passes are as far apart as the words say, else as bf_interval says.
+fn pace_of(conf: &Conf, interval: Option<u64>) -> Pace {
+    let usual = conf.settings.bf_interval.get();
+    Pace {
+        passes: interval.unwrap_or(usual).max(1),
+        reports: reports_of(conf),
     }
 }
 
@@ -114,13 +121,13 @@ fn site_of<'a>(
     assocs: &'a [u8],
 ) -> Result<Site<'a>, ClusterRefusal> {
     let said = read_conf(alloc, conf)?;
-    let interval = interval.unwrap_or(usual_interval(&said)).max(1);
+    let pace = pace_of(&said, interval);
     Ok(Site {
         conf,
         assocs,
         processors: processors_in(said.nodes.as_slice()),
-        interval,
-        looks: looks_of(&said, interval),
+        pace,
+        looks: looks_of(&said, pace.passes),
     })
 }
 
@@ -163,7 +170,7 @@ fn make_event(
     let rest = Some(AT_ONCE);
     match go_on(
         alloc,
-        site.interval,
+        site.pace,
         submissions,
         rest,
         desk,
