@@ -101,7 +101,6 @@ abbrev pub turns_of : Round → ℕ → List Start → Played → ℕ
 turns_of (Each n) now ended one = n
 turns_of Ending now ended one = if list_any (has_ended now) one.runs then 1 else 0
 turns_of Others now ended one = if list_any (λ (run : Run). is_among ended run.start) one.runs then 2 else 0
-
 turns_of Called now ended one = if one.called then 1 else 0
 
 -- none has more than two
@@ -175,14 +174,15 @@ abbrev pub next_submission : ℕ → List Submission → ℕ
 next_submission most [] = most
 next_submission most (submission ∷ others) = min most submission.moment
 
--- when an event comes at the latest: all daemons report again, or the next pass is due
-abbrev pub at_latest : Pace → Standing → ℕ
-at_latest pace at = min at.round_at (later at.moment pace.passes)
+-- when an event comes at the latest behind one at a moment: all daemons report again, or the next pass is due
+abbrev pub at_latest : Pace → ℕ → ℕ → ℕ
+at_latest pace moment round_at = min round_at (later moment pace.passes)
 
 -- The next moment: of the first end, of the next submission, or when an event comes at the latest; and never before the last one.
 unfoldable pub next_moment : Pace → List Submission → Standing → ℕ
 next_moment pace submissions at =
-    max at.moment (next_submission (least_end (at_latest pace at) at.played) (waiting submissions at))
+    max at.moment
+    (next_submission (least_end (at_latest pace at.moment at.round_at) at.played) (waiting submissions at))
 
 -- the daemons have a round
 abbrev pub turned : Round → ℕ → List Start → Standing → Standing

@@ -1,6 +1,6 @@
 //! Who is called behind a pass that started something.
 
-ghost use Rattle.std.specs.Prelude.{◌≡◌, ◌+◌, ◌<◌, ◌^◌, ℕ, All, OnOk, option_copied};
+ghost use Rattle.std.specs.Prelude.{◌≡◌, ◌+◌, ◌<◌, ◌^◌, ℕ, All, OnOk, option_copied, slice_get};
 ghost use Rattle.ctl_desk.specs.Desk.{state_of};
 ghost use Rattle.replay.specs.declared.played.Played.{Played};
 ghost use Rattle.replay.specs.Replay.{HaveReported, called_from, holds_others, played_behind_call, processors_of, state_behind_call};
@@ -19,13 +19,15 @@ use std::alloc::Global;
 fn processors_of(runs: &[Run]) -> u64
     ensures { result ≡ processors_of runs.now }
 {
-    runs.iter()
-        .fold(0, |count: u64, run| count.saturating_add(u64::from(run.processors)))
+    runs.iter().fold(
+        0,
+        |count: u64, run| count.saturating_add(u64::from(run.processors)),
+    )
 }
 
 // Whether the controller holds other processors of a node than its daemon runs on.
 fn holds_others(row: Option<&Row>, runs: &[Run]) -> bool
-    ensures { result ≡ holds_others (option_copied row) runs.now }
+    ensures { result ≡ holds_others (option_copied row.entry) runs.now }
 {
     match row {
         Some(Row::Node(node)) => node.held != processors_of(runs),
@@ -33,12 +35,19 @@ fn holds_others(row: Option<&Row>, runs: &[Run]) -> bool
     }
 }
 
+// The record at a place, if there is one.
+fn row_at(rows: &[Row], place: usize) -> Option<&Row>
+    ensures { option_copied result ≡ slice_get rows.now place }
+{
+    rows.get(place)
+}
+
 // Calls the daemons on whose nodes that is so; rows and daemons are in the order of the nodes.
 fn call_all(rows: &[Row], played: &mut [Played])
     ensures { played.new ≡ called_from rows.now 0 played.old }
 {
     for (place, one) in played.iter_mut().enumerate() {
-        one.called = holds_others(rows.get(place), one.runs.as_slice());
+        one.called = holds_others(row_at(rows, place), one.runs.as_slice());
     }
 }
 

@@ -135,7 +135,7 @@ fn waiting<'a>(submissions: &'a [Submission], course: &Course) -> &'a [Submissio
 
 // When an event comes at the latest.
 fn at_latest(pace: Pace, course: &Course) -> u64
-    ensures { (s : State) (played : List Played) → result ≡ at_latest pace (standing s played course.now) }
+    ensures { result ≡ at_latest pace course.now.moment course.now.round_at }
 {
     course
         .round_at

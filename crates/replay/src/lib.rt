@@ -13,6 +13,7 @@ mod played;
 mod replaying;
 mod turns;
 
+pub use asking::look;
 pub use pace::Pace;
 pub use played::{Played, Run};
 pub use replaying::{ReplayRefusal, Replayed, Replaying, Rest, begin, finish, go_on, replay};

@@ -1,5 +1,12 @@
 //! The text of a run.
 
+ghost use Rattle.std.specs.Prelude.{◌≡◌, IfOk, IsErrOf, Err};
+ghost use Rattle.replay_report.specs.Changes.{AreMostChanged, changes_in};
+ghost use Rattle.replay_run.specs.Replays.{CameTo};
+ghost use Rattle.replay_run.specs.Reports.{AreCompared, IsReport, IsReportOn, IsSummed, IsTold, assocs_used, is_compared, text_or};
+ghost use Rattle.trace_text.specs.Traces.{trace_in};
+ghost use Rattle.trace_text.specs.declared.fault.BadLine.{BadLine};
+
 use crate::refusal::RunRefusal;
 use crate::watching::Watch;
 use crate::words::Wanted;
@@ -10,7 +17,7 @@ use replay_texts::{self, push_comparison, push_csv, push_summary};
 use replay_users::with_users;
 use small_texts::memory_error::Memory;
 use std::alloc::Global;
-use trace_text::{TraceJob, read_trace};
+use trace_text::{TraceJob, TraceRefusal, read_trace};
 
 /// What comes of a run.
 #[derive(Drop)]
@@ -38,7 +45,9 @@ fn assocs_for(
     wanted: &Wanted<'_>,
     assocs: &[u8],
     jobs: &[TraceJob],
-) -> Result<Vec<u8>, Memory> {
+) -> Result<Vec<u8>, Memory>
+    ensures { IfOk result (λ whole. whole.items ≡ assocs_used wanted.now.add_users assocs.now jobs.now) }
+{
     if wanted.add_users {
         with_users(alloc, assocs, jobs)
     } else {
@@ -55,7 +64,10 @@ fn work_at<W: Watch>(
     assocs: &[u8],
     trace: Trace<'_>,
     watch: &mut W,
-) -> Result<Worked, RunRefusal> {
+) -> Result<Worked, RunRefusal>
+    ensures { IfOk result (λ worked. CameTo wanted.now.interval conf.now (assocs_used wanted.now.add_users assocs.now trace.entry.jobs.now)
+        trace.entry.jobs.now trace.entry.plan.now worked.processors worked.outcomes.items) }
+{
     let assocs = assocs_for(alloc, wanted, assocs, trace.jobs)?;
     work(
         alloc,
@@ -68,7 +80,9 @@ fn work_at<W: Watch>(
     )
 }
 
-fn summed(alloc: Global, worked: &Worked) -> Result<replay_texts::Worked, Memory> {
+fn summed(alloc: Global, worked: &Worked) -> Result<replay_texts::Worked, Memory>
+    ensures { IfOk result (IsSummed worked.now.processors worked.now.outcomes.items) }
+{
     Ok(replay_texts::Worked {
         processors: worked.processors,
         passes: worked.passes,
@@ -82,7 +96,10 @@ fn most_in(
     direction: Direction,
     before: &Worked,
     after: &Worked,
-) -> Result<Vec<Change>, Memory> {
+) -> Result<Vec<Change>, Memory>
+    ensures { IfOk result (λ first. AreMostChanged direction wanted.now.most
+        (changes_in after.now.outcomes.items 0 before.now.outcomes.items) first.items) }
+{
     let changes = changes(alloc, before.outcomes.as_slice(), after.outcomes.as_slice())?;
     most_changed(alloc, direction, wanted.most, changes.as_slice())
 }
@@ -93,7 +110,10 @@ fn compared(
     wanted: &Wanted<'_>,
     before: &Worked,
     after: &Worked,
-) -> Result<Vec<u8>, Memory> {
+) -> Result<Vec<u8>, Memory>
+    ensures { IfOk result (λ text. AreCompared wanted.now.most before.now.processors after.now.processors
+        before.now.outcomes.items after.now.outcomes.items text.items) }
+{
     let less = most_in(alloc, wanted, Direction::Less, before, after)?;
     let more = most_in(alloc, wanted, Direction::More, before, after)?;
     let one = summed(alloc, before)?;
@@ -111,7 +131,9 @@ fn compared(
 }
 
 // The text of one replay.
-fn told(alloc: Global, wanted: &Wanted<'_>, worked: &Worked) -> Result<Vec<u8>, Memory> {
+fn told(alloc: Global, wanted: &Wanted<'_>, worked: &Worked) -> Result<Vec<u8>, Memory>
+    ensures { IfOk result (λ text. IsTold wanted.now.csv worked.now.processors worked.now.outcomes.items text.items) }
+{
     let mut out = Vec::new(alloc);
     if wanted.csv {
         push_csv(&mut out, worked.outcomes.as_slice())?;
@@ -122,12 +144,26 @@ fn told(alloc: Global, wanted: &Wanted<'_>, worked: &Worked) -> Result<Vec<u8>, 
     Ok(out)
 }
 
-fn is_compared(texts: &Texts<'_>) -> bool {
+fn is_compared(texts: &Texts<'_>) -> bool
+    ensures { result ≡ is_compared texts.now }
+{
     texts.other_conf.is_some() || texts.other_assocs.is_some()
 }
 
+// A text where there is one, else another.
+fn text_or<'a>(text: Option<&'a [u8]>, other: &'a [u8]) -> &'a [u8]
+    ensures { result.now ≡ text_or text.entry other.now }
+{
+    match text {
+        Some(text) => text,
+        None => other,
+    }
+}
+
 // The report on one replay.
-fn report_alone(alloc: Global, wanted: &Wanted<'_>, worked: Worked) -> Result<Report, RunRefusal> {
+fn report_alone(alloc: Global, wanted: &Wanted<'_>, worked: Worked) -> Result<Report, RunRefusal>
+    ensures { IfOk result (λ report. IsTold wanted.now.csv worked.processors worked.outcomes.items report.text.items) }
+{
     let text = told(alloc, wanted, &worked)?;
     Ok(Report {
         text,
@@ -142,7 +178,10 @@ fn report_both(
     wanted: &Wanted<'_>,
     before: Worked,
     after: Worked,
-) -> Result<Report, RunRefusal> {
+) -> Result<Report, RunRefusal>
+    ensures { IfOk result (λ report. AreCompared wanted.now.most before.processors after.processors
+        before.outcomes.items after.outcomes.items report.text.items) }
+{
     let text = compared(alloc, wanted, &before, &after)?;
     Ok(Report {
         text,
@@ -158,7 +197,9 @@ fn report_of<W: Watch>(
     texts: &Texts<'_>,
     jobs: &[TraceJob],
     watch: &mut W,
-) -> Result<Report, RunRefusal> {
+) -> Result<Report, RunRefusal>
+    ensures { IfOk result (λ report. IsReport wanted.now texts.now jobs.now report.text.items) }
+{
     let plan = plan_replay(alloc, wanted.taken, jobs)?;
     let trace = Trace { jobs, plan: &plan };
     let is_drawn = wanted.svg.is_some();
@@ -167,8 +208,8 @@ fn report_of<W: Watch>(
     if !is_compared(texts) {
         return report_alone(alloc, wanted, before);
     }
-    let conf = texts.other_conf.unwrap_or(texts.conf);
-    let assocs = texts.other_assocs.unwrap_or(texts.assocs);
+    let conf = text_or(texts.other_conf, texts.conf);
+    let assocs = text_or(texts.other_assocs, texts.assocs);
     let is_drawn = wanted.other_svg.is_some();
     let after = work_at(alloc, wanted, is_drawn, conf, assocs, trace, watch)?;
     report_both(alloc, wanted, before, after)
@@ -181,7 +222,11 @@ pub fn make_report<W: Watch>(
     wanted: &Wanted<'_>,
     texts: &Texts<'_>,
     watch: &mut W,
-) -> Result<Report, RunRefusal> {
+) -> Result<Report, RunRefusal>
+    ensures report { IfOk result (λ report. IsReportOn wanted.now texts.now report.text.items) }
+    ensures bad_trace { (bad : BadLine) → IsErrOf result (RunRefusal.BadTrace (TraceRefusal.Bad bad))
+        → trace_in wanted.now.kind texts.now.trace.now ≡ Err bad }
+{
     match read_trace(alloc, wanted.kind, texts.trace) {
         Ok(jobs) => report_of(alloc, wanted, texts, jobs.as_slice(), watch),
         Err(refusal) => Err(RunRefusal::BadTrace(refusal)),
