@@ -1,16 +1,15 @@
 //! The records of jobs that have ended, gathered before the controller forgets them.
 
-ghost use Rattle.std.specs.Prelude.{◌≡◌, OnOk};
-ghost use Rattle.ctl_desk.specs.Desk.{state_of};
-ghost use Rattle.replay_run.specs.Replays.{WasLookedAt};
-
+use ctl_desk::desk::Desk;
 use ctl_desk::own_desk::OwnDesk;
 use plain_data::items::Items;
-use replay::{self, Replayed};
+use replay::Replayed;
 use reply_data::reply::Reply;
 use reply_data::view::{JobRow, Row, View};
 use request_data::query::{JobQuery, Query, StateCode, Who};
+use request_data::request::Request;
 use small_texts::memory_error::Memory;
+use small_texts::name::Name;
 use std::alloc::Global;
 use std::collections::HashMap;
 
@@ -96,31 +95,19 @@ impl Records {
     }
 }
 
-/// Looks at a desk at what a query shows.
-pub(crate) fn look(
-    alloc: Global,
-    desk: &mut OwnDesk,
-    moment: u64,
-    query: Query,
-) -> Result<Reply, Memory>
-    ensures { OnOk result (WasLookedAt (state_of desk.old) (state_of desk.new)) }
-{
-    replay::look(alloc, desk, moment, query)
-}
-
 /// Gathers the records of the jobs at a desk that have ended: of those that are gathered already nothing changes.
 pub(crate) fn gather(
     alloc: Global,
     desk: &mut OwnDesk,
     moment: u64,
     records: &mut Records,
-) -> Result<(), Memory>
-    ensures { OnOk result (WasLookedAt (state_of desk.old) (state_of desk.new)) }
-{
+) -> Result<(), Memory> {
+    let Ok(root) = Name::read(alloc, b"root") else {
+        return Err(Memory);
+    };
     let query = Query::Squeue(ended_jobs(alloc)?);
-    let reply = look(alloc, desk, moment, query)?;
-    records.take_shown(&reply)?;
-    Ok(())
+    let answer = desk.ask(moment, &root, Request::Show(query))?;
+    records.take_shown(&answer.reply)
 }
 
 /// Puts the records that were gathered among those that a replay shows at its end.
@@ -128,9 +115,7 @@ pub(crate) fn show_all(
     alloc: Global,
     end: &mut Replayed,
     records: &mut Records,
-) -> Result<(), Memory>
-    ensures { end.new.replies ≡ end.old.replies }
-{
+) -> Result<(), Memory> {
     records.take_shown(&end.shown)?;
     let rows = records.in_order(alloc, end.replies.as_slice())?;
     end.shown = Reply::Shown(View {

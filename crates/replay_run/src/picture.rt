@@ -1,6 +1,6 @@
 //! The picture of a replay: a bar for each job that ran, a row for each node.
 
-use crate::gathering::look;
+use ctl_desk::desk::Desk;
 use ctl_desk::own_desk::OwnDesk;
 use plain_data::items::Items;
 use plain_data::seconds::Second;
@@ -10,6 +10,7 @@ use replay_plan::ReplayPlan;
 use reply_data::reply::Reply;
 use reply_data::view::{EndAt, JobRow, NodeRow, Row};
 use request_data::query::Query;
+use request_data::request::Request;
 use request_data::state::JobState;
 use small_texts::memory_error::Memory;
 use small_texts::name::Name;
@@ -348,13 +349,23 @@ pub fn picture_text(
     plan: &ReplayPlan,
     end: &Replayed,
 ) -> Result<Vec<u8>, Memory> {
+    let Ok(root) = Name::read(alloc, b"root") else {
+        return Err(Memory);
+    };
     let Some(first) = Second::try_new(first_of(plan)) else {
         return Err(Memory);
     };
     let Some(last) = Second::try_new(end.moment) else {
         return Err(Memory);
     };
-    let shown = look(alloc, desk, end.moment, Query::ShowNode(None))?;
-    let scene = scene_of(alloc, jobs, plan, end, &shown, Period { first, last })?;
+    let answer = desk.ask(end.moment, &root, Request::Show(Query::ShowNode(None)))?;
+    let scene = scene_of(
+        alloc,
+        jobs,
+        plan,
+        end,
+        &answer.reply,
+        Period { first, last },
+    )?;
     picture(alloc, &scene)
 }

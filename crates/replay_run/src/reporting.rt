@@ -1,12 +1,5 @@
 //! The text of a run.
 
-ghost use Rattle.std.specs.Prelude.{◌≡◌, IfOk, IsErrOf, Err};
-ghost use Rattle.replay_report.specs.Changes.{AreMostChanged, changes_in};
-ghost use Rattle.replay_run.specs.Replays.{CameTo};
-ghost use Rattle.replay_run.specs.Reports.{AreCompared, IsReport, IsReportOn, IsSummed, IsTold, assocs_used, is_compared, text_or};
-ghost use Rattle.trace_text.specs.Traces.{trace_in};
-ghost use Rattle.trace_text.specs.declared.fault.BadLine.{BadLine};
-
 use crate::refusal::RunRefusal;
 use crate::watching::Watch;
 use crate::words::Wanted;
@@ -17,7 +10,7 @@ use replay_texts::{self, push_comparison, push_csv, push_summary};
 use replay_users::with_users;
 use small_texts::memory_error::Memory;
 use std::alloc::Global;
-use trace_text::{TraceJob, TraceRefusal, read_trace};
+use trace_text::{TraceJob, read_trace};
 
 /// What comes of a run.
 #[derive(Drop)]
@@ -45,9 +38,7 @@ fn assocs_for(
     wanted: &Wanted<'_>,
     assocs: &[u8],
     jobs: &[TraceJob],
-) -> Result<Vec<u8>, Memory>
-    ensures { IfOk result (λ whole. whole.items ≡ assocs_used wanted.now.add_users assocs.now jobs.now) }
-{
+) -> Result<Vec<u8>, Memory> {
     if wanted.add_users {
         with_users(alloc, assocs, jobs)
     } else {
@@ -64,10 +55,7 @@ fn work_at<W: Watch>(
     assocs: &[u8],
     trace: Trace<'_>,
     watch: &mut W,
-) -> Result<Worked, RunRefusal>
-    ensures { IfOk result (λ worked. CameTo wanted.now.interval conf.now (assocs_used wanted.now.add_users assocs.now trace.entry.jobs.now)
-        trace.entry.jobs.now trace.entry.plan.now worked.processors worked.outcomes.items) }
-{
+) -> Result<Worked, RunRefusal> {
     let assocs = assocs_for(alloc, wanted, assocs, trace.jobs)?;
     work(
         alloc,
@@ -80,9 +68,7 @@ fn work_at<W: Watch>(
     )
 }
 
-fn summed(alloc: Global, worked: &Worked) -> Result<replay_texts::Worked, Memory>
-    ensures { IfOk result (IsSummed worked.now.processors worked.now.outcomes.items) }
-{
+fn summed(alloc: Global, worked: &Worked) -> Result<replay_texts::Worked, Memory> {
     Ok(replay_texts::Worked {
         processors: worked.processors,
         passes: worked.passes,
@@ -96,10 +82,7 @@ fn most_in(
     direction: Direction,
     before: &Worked,
     after: &Worked,
-) -> Result<Vec<Change>, Memory>
-    ensures { IfOk result (λ first. AreMostChanged direction wanted.now.most
-        (changes_in after.now.outcomes.items 0 before.now.outcomes.items) first.items) }
-{
+) -> Result<Vec<Change>, Memory> {
     let changes = changes(alloc, before.outcomes.as_slice(), after.outcomes.as_slice())?;
     most_changed(alloc, direction, wanted.most, changes.as_slice())
 }
@@ -110,10 +93,7 @@ fn compared(
     wanted: &Wanted<'_>,
     before: &Worked,
     after: &Worked,
-) -> Result<Vec<u8>, Memory>
-    ensures { IfOk result (λ text. AreCompared wanted.now.most before.now.processors after.now.processors
-        before.now.outcomes.items after.now.outcomes.items text.items) }
-{
+) -> Result<Vec<u8>, Memory> {
     let less = most_in(alloc, wanted, Direction::Less, before, after)?;
     let more = most_in(alloc, wanted, Direction::More, before, after)?;
     let one = summed(alloc, before)?;
@@ -131,9 +111,7 @@ fn compared(
 }
 
 // The text of one replay.
-fn told(alloc: Global, wanted: &Wanted<'_>, worked: &Worked) -> Result<Vec<u8>, Memory>
-    ensures { IfOk result (λ text. IsTold wanted.now.csv worked.now.processors worked.now.outcomes.items text.items) }
-{
+fn told(alloc: Global, wanted: &Wanted<'_>, worked: &Worked) -> Result<Vec<u8>, Memory> {
     let mut out = Vec::new(alloc);
     if wanted.csv {
         push_csv(&mut out, worked.outcomes.as_slice())?;
@@ -144,26 +122,12 @@ fn told(alloc: Global, wanted: &Wanted<'_>, worked: &Worked) -> Result<Vec<u8>, 
     Ok(out)
 }
 
-fn is_compared(texts: &Texts<'_>) -> bool
-    ensures { result ≡ is_compared texts.now }
-{
+fn is_compared(texts: &Texts<'_>) -> bool {
     texts.other_conf.is_some() || texts.other_assocs.is_some()
 }
 
-// A text where there is one, else another.
-fn text_or<'a>(text: Option<&'a [u8]>, other: &'a [u8]) -> &'a [u8]
-    ensures { result.now ≡ text_or text.entry other.now }
-{
-    match text {
-        Some(text) => text,
-        None => other,
-    }
-}
-
 // The report on one replay.
-fn report_alone(alloc: Global, wanted: &Wanted<'_>, worked: Worked) -> Result<Report, RunRefusal>
-    ensures { IfOk result (λ report. IsTold wanted.now.csv worked.processors worked.outcomes.items report.text.items) }
-{
+fn report_alone(alloc: Global, wanted: &Wanted<'_>, worked: Worked) -> Result<Report, RunRefusal> {
     let text = told(alloc, wanted, &worked)?;
     Ok(Report {
         text,
@@ -178,10 +142,7 @@ fn report_both(
     wanted: &Wanted<'_>,
     before: Worked,
     after: Worked,
-) -> Result<Report, RunRefusal>
-    ensures { IfOk result (λ report. AreCompared wanted.now.most before.processors after.processors
-        before.outcomes.items after.outcomes.items report.text.items) }
-{
+) -> Result<Report, RunRefusal> {
     let text = compared(alloc, wanted, &before, &after)?;
     Ok(Report {
         text,
@@ -197,9 +158,7 @@ fn report_of<W: Watch>(
     texts: &Texts<'_>,
     jobs: &[TraceJob],
     watch: &mut W,
-) -> Result<Report, RunRefusal>
-    ensures { IfOk result (λ report. IsReport wanted.now texts.now jobs.now report.text.items) }
-{
+) -> Result<Report, RunRefusal> {
     let plan = plan_replay(alloc, wanted.taken, jobs)?;
     let trace = Trace { jobs, plan: &plan };
     let is_drawn = wanted.svg.is_some();
@@ -208,8 +167,8 @@ fn report_of<W: Watch>(
     if !is_compared(texts) {
         return report_alone(alloc, wanted, before);
     }
-    let conf = text_or(texts.other_conf, texts.conf);
-    let assocs = text_or(texts.other_assocs, texts.assocs);
+    let conf = texts.other_conf.unwrap_or(texts.conf);
+    let assocs = texts.other_assocs.unwrap_or(texts.assocs);
     let is_drawn = wanted.other_svg.is_some();
     let after = work_at(alloc, wanted, is_drawn, conf, assocs, trace, watch)?;
     report_both(alloc, wanted, before, after)
@@ -222,11 +181,7 @@ pub fn make_report<W: Watch>(
     wanted: &Wanted<'_>,
     texts: &Texts<'_>,
     watch: &mut W,
-) -> Result<Report, RunRefusal>
-    ensures report { IfOk result (λ report. IsReportOn wanted.now texts.now report.text.items) }
-    ensures bad_trace { (bad : BadLine) → IsErrOf result (RunRefusal.BadTrace (TraceRefusal.Bad bad))
-        → trace_in wanted.now.kind texts.now.trace.now ≡ Err bad }
-{
+) -> Result<Report, RunRefusal> {
     match read_trace(alloc, wanted.kind, texts.trace) {
         Ok(jobs) => report_of(alloc, wanted, texts, jobs.as_slice(), watch),
         Err(refusal) => Err(RunRefusal::BadTrace(refusal)),

@@ -1,13 +1,5 @@
 //! A trace worked at one cluster.
 
-ghost use Rattle.std.specs.Prelude.{◌≡◌, true, IfOk, IfSome, OnOk, Ok, length};
-ghost use Rattle.cluster_opening.specs.Files.{fresh};
-ghost use Rattle.conf_reader.specs.Reader.{conf_in};
-ghost use Rattle.ctl_desk.specs.Desk.{seen, sight_of, state_of};
-ghost use Rattle.plain_data.specs.Confs.{ConfView};
-ghost use Rattle.replay.specs.Replay.{leads_to};
-ghost use Rattle.replay_run.specs.Replays.{CameTo, HasCome, IsSite, MayBeLookedAt, MayBeRenewed, MayStand, pace_of, processors_in, reports_of};
-
 use crate::gathering::{Records, gather, show_all};
 use crate::picture::picture_text;
 use crate::refusal::RunRefusal;
@@ -89,9 +81,7 @@ struct Drawn {
 }
 
 // How many processors nodes have.
-fn processors_in(nodes: &[NodeConf]) -> u64
-    ensures { result ≡ processors_in nodes.now }
-{
+fn processors_in(nodes: &[NodeConf]) -> u64 {
     nodes
         .iter()
         .fold(0, |count, node| count.saturating_add(node.cpus.get()))
@@ -108,9 +98,7 @@ fn looks_of(conf: &Conf, interval: u64) -> Option<u64> {
 
 // How many seconds lie between two reports of all nodes at the most: half of SlurmdTimeout, so that none falls silent. Where that
 // says 0 none ever does, and they report only what ends and what they launch.
-fn reports_of(conf: &Conf) -> u64
-    ensures { result ≡ reports_of conf.now.settings.slurmd_timeout }
-{
+fn reports_of(conf: &Conf) -> u64 {
     match conf.settings.slurmd_timeout.get() {
         0 => u64::MAX,
         timeout => (timeout / 2).max(1),
@@ -118,9 +106,7 @@ fn reports_of(conf: &Conf) -> u64
 }
 
 // The pace of a replay. Passes are as far apart as the words say, else as bf_interval says.
-fn pace_of(conf: &Conf, interval: Option<u64>) -> Pace
-    ensures { result ≡ pace_of interval conf.now }
-{
+fn pace_of(conf: &Conf, interval: Option<u64>) -> Pace {
     let usual = conf.settings.bf_interval.get();
     Pace {
         passes: interval.unwrap_or(usual).max(1),
@@ -133,11 +119,7 @@ fn site_of<'a>(
     interval: Option<u64>,
     conf: &'a [u8],
     assocs: &'a [u8],
-) -> Result<Site<'a>, ClusterRefusal>
-    ensures conf { IfOk result (λ site. site.conf.now ≡ conf.now) }
-    ensures assocs { IfOk result (λ site. site.assocs.now ≡ assocs.now) }
-    ensures is { IfOk result (λ site. IsSite interval conf.now site.pace site.processors) }
-{
+) -> Result<Site<'a>, ClusterRefusal> {
     let said = read_conf(alloc, conf)?;
     let pace = pace_of(&said, interval);
     Ok(Site {
@@ -161,10 +143,7 @@ fn set_out(
     alloc: Global,
     site: &Site<'_>,
     submissions: &[Submission],
-) -> Result<UnderWay, RunRefusal>
-    ensures { IfOk result (λ way.
-        MayStand site.now.conf.now site.now.assocs.now site.now.pace submissions.now (state_of way.desk) way.replaying) }
-{
+) -> Result<UnderWay, RunRefusal> {
     let mut desk = match open_desk(alloc, site.conf, site.assocs) {
         Ok(desk) => desk,
         Err(refusal) => return Err(RunRefusal::BadCluster(refusal)),
@@ -187,10 +166,7 @@ fn make_event(
     desk: &mut OwnDesk,
     steps: &mut Steps<Plain>,
     replaying: Replaying,
-) -> Result<Replaying, RunRefusal>
-    ensures { IfOk result (λ after. leads_to site.now.pace submissions.now (state_of desk.new) after
-        ≡ leads_to site.now.pace submissions.now (state_of desk.old) replaying) }
-{
+) -> Result<Replaying, RunRefusal> {
     let rest = Some(AT_ONCE);
     match go_on(alloc, site.pace, submissions, rest, desk, steps, replaying) {
         Ok(replaying) => Ok(replaying),
@@ -206,9 +182,7 @@ fn look(
     moment: u64,
     look_at: u64,
     records: &mut Records,
-) -> Result<u64, Memory>
-    ensures { OnOk result (MayBeLookedAt (state_of desk.old) (state_of desk.new)) }
-{
+) -> Result<u64, Memory> {
     match site.looks {
         Some(seconds) if look_at <= moment => {
             gather(alloc, desk, moment, records)?;
@@ -219,9 +193,7 @@ fn look(
 }
 
 // A desk with room for more: a new one, where the history has grown long.
-fn with_room(alloc: Global, site: &Site<'_>, desk: OwnDesk) -> Result<OwnDesk, RunRefusal>
-    ensures { IfOk result (λ new. MayBeRenewed site.now.conf.now site.now.assocs.now (state_of desk) (state_of new)) }
-{
+fn with_room(alloc: Global, site: &Site<'_>, desk: OwnDesk) -> Result<OwnDesk, RunRefusal> {
     if desk.seen_len() < MOST_ENTRIES {
         return Ok(desk);
     }
@@ -238,11 +210,7 @@ fn go_further(
     submissions: &[Submission],
     steps: &mut Steps<Plain>,
     way: UnderWay,
-) -> Result<UnderWay, RunRefusal>
-    requires { MayStand site.now.conf.now site.now.assocs.now site.now.pace submissions.now (state_of way.desk) way.replaying }
-    ensures { IfOk result (λ after.
-        MayStand site.now.conf.now site.now.assocs.now site.now.pace submissions.now (state_of after.desk) after.replaying) }
-{
+) -> Result<UnderWay, RunRefusal> {
     let UnderWay {
         mut desk,
         replaying,
@@ -282,11 +250,7 @@ fn work_through<W: Watch>(
     site: &Site<'_>,
     submissions: &[Submission],
     watch: &mut W,
-) -> Result<UnderWay, RunRefusal>
-    ensures stands { IfOk result (λ way.
-        MayStand site.now.conf.now site.now.assocs.now site.now.pace submissions.now (state_of way.desk) way.replaying) }
-    ensures over { IfOk result (λ way. way.replaying.over ≡ true) }
-{
+) -> Result<UnderWay, RunRefusal> {
     let mut steps = start();
     let mut way = set_out(alloc, site, submissions)?;
     watch.begin();
@@ -319,9 +283,7 @@ fn draw(
 }
 
 // What a replay ended with, with the records of all its jobs that were seen.
-fn ended(alloc: Global, is_drawn: bool, trace: Trace<'_>, way: UnderWay) -> Result<Drawn, Memory>
-    ensures { IfOk result (λ drawn. drawn.end.replies ≡ way.replaying.course.replies) }
-{
+fn ended(alloc: Global, is_drawn: bool, trace: Trace<'_>, way: UnderWay) -> Result<Drawn, Memory> {
     let UnderWay {
         mut desk,
         replaying,
@@ -345,10 +307,7 @@ fn replayed<W: Watch>(
     site: &Site<'_>,
     trace: Trace<'_>,
     watch: &mut W,
-) -> Result<Drawn, RunRefusal>
-    ensures { IfOk result (λ drawn.
-        HasCome site.now.conf.now site.now.assocs.now site.now.pace trace.entry.plan.now.submissions.items drawn.end.replies.items) }
-{
+) -> Result<Drawn, RunRefusal> {
     let submissions = trace.plan.submissions.as_slice();
     let way = work_through(alloc, site, submissions, watch)?;
     let drawn = ended(alloc, is_drawn, trace, way)?;
@@ -366,10 +325,7 @@ pub(crate) fn work<W: Watch>(
     assocs: &[u8],
     trace: Trace<'_>,
     watch: &mut W,
-) -> Result<Worked, RunRefusal>
-    ensures { IfOk result (λ worked.
-        CameTo interval conf.now assocs.now trace.entry.jobs.now trace.entry.plan.now worked.processors worked.outcomes.items) }
-{
+) -> Result<Worked, RunRefusal> {
     let site = match site_of(alloc, interval, conf, assocs) {
         Ok(site) => site,
         Err(refusal) => return Err(RunRefusal::BadCluster(refusal)),
