@@ -1,5 +1,4 @@
 pub mod Answered
-pub mod Called
 pub mod Due
 pub mod Events
 pub mod Reported

@@ -1,10 +1,9 @@
 //! The text of a run.
 
 use crate::refusal::RunRefusal;
-use crate::watching::Watch;
 use crate::words::Wanted;
-use crate::working::{Trace, Worked, work};
-use replay_plan::plan_replay;
+use crate::working::{Worked, work};
+use replay_plan::{ReplayPlan, plan_replay};
 use replay_report::{Change, Direction, changes, most_changed, summary_of};
 use replay_texts::{self, push_comparison, push_csv, push_summary};
 use replay_users::with_users;
@@ -46,32 +45,31 @@ fn assocs_for(
     }
 }
 
-// Works a trace at the cluster of two files.
-fn work_at<W: Watch>(
+// Works the plan at the cluster of two files.
+fn work_at(
     alloc: Global,
     wanted: &Wanted<'_>,
     is_drawn: bool,
     conf: &[u8],
     assocs: &[u8],
-    trace: Trace<'_>,
-    watch: &mut W,
+    jobs: &[TraceJob],
+    plan: &ReplayPlan,
 ) -> Result<Worked, RunRefusal> {
-    let assocs = assocs_for(alloc, wanted, assocs, trace.jobs)?;
+    let assocs = assocs_for(alloc, wanted, assocs, jobs)?;
     work(
         alloc,
         wanted.interval,
         is_drawn,
         conf,
         assocs.as_slice(),
-        trace,
-        watch,
+        jobs,
+        plan,
     )
 }
 
 fn summed(alloc: Global, worked: &Worked) -> Result<replay_texts::Worked, Memory> {
     Ok(replay_texts::Worked {
         processors: worked.processors,
-        passes: worked.passes,
         summary: summary_of(alloc, worked.outcomes.as_slice())?,
     })
 }
@@ -117,7 +115,7 @@ fn told(alloc: Global, wanted: &Wanted<'_>, worked: &Worked) -> Result<Vec<u8>, 
         push_csv(&mut out, worked.outcomes.as_slice())?;
     } else {
         let one = summed(alloc, worked)?;
-        push_summary(alloc, &mut out, &one)?;
+        push_summary(alloc, &mut out, one.processors, &one.summary)?;
     }
     Ok(out)
 }
@@ -126,23 +124,42 @@ fn is_compared(texts: &Texts<'_>) -> bool {
     texts.other_conf.is_some() || texts.other_assocs.is_some()
 }
 
-// The report on one replay.
-fn report_alone(alloc: Global, wanted: &Wanted<'_>, worked: Worked) -> Result<Report, RunRefusal> {
-    let text = told(alloc, wanted, &worked)?;
-    Ok(Report {
-        text,
-        picture: worked.picture,
-        other_picture: None,
-    })
-}
-
-// The report on two replays.
-fn report_both(
+// The text of the jobs of a trace.
+fn report_of(
     alloc: Global,
     wanted: &Wanted<'_>,
-    before: Worked,
-    after: Worked,
+    texts: &Texts<'_>,
+    jobs: &[TraceJob],
 ) -> Result<Report, RunRefusal> {
+    let plan = plan_replay(alloc, wanted.taken, jobs)?;
+    let before = work_at(
+        alloc,
+        wanted,
+        wanted.svg.is_some(),
+        texts.conf,
+        texts.assocs,
+        jobs,
+        &plan,
+    )?;
+    if !is_compared(texts) {
+        let text = told(alloc, wanted, &before)?;
+        return Ok(Report {
+            text,
+            picture: before.picture,
+            other_picture: None,
+        });
+    }
+    let conf = texts.other_conf.unwrap_or(texts.conf);
+    let assocs = texts.other_assocs.unwrap_or(texts.assocs);
+    let after = work_at(
+        alloc,
+        wanted,
+        wanted.other_svg.is_some(),
+        conf,
+        assocs,
+        jobs,
+        &plan,
+    )?;
     let text = compared(alloc, wanted, &before, &after)?;
     Ok(Report {
         text,
@@ -151,39 +168,15 @@ fn report_both(
     })
 }
 
-// The report on the jobs of a trace.
-fn report_of<W: Watch>(
-    alloc: Global,
-    wanted: &Wanted<'_>,
-    texts: &Texts<'_>,
-    jobs: &[TraceJob],
-    watch: &mut W,
-) -> Result<Report, RunRefusal> {
-    let plan = plan_replay(alloc, wanted.taken, jobs)?;
-    let trace = Trace { jobs, plan: &plan };
-    let is_drawn = wanted.svg.is_some();
-    let (conf, assocs) = (texts.conf, texts.assocs);
-    let before = work_at(alloc, wanted, is_drawn, conf, assocs, trace, watch)?;
-    if !is_compared(texts) {
-        return report_alone(alloc, wanted, before);
-    }
-    let conf = texts.other_conf.unwrap_or(texts.conf);
-    let assocs = texts.other_assocs.unwrap_or(texts.assocs);
-    let is_drawn = wanted.other_svg.is_some();
-    let after = work_at(alloc, wanted, is_drawn, conf, assocs, trace, watch)?;
-    report_both(alloc, wanted, before, after)
-}
-
 /// The text of a run: a summary of the replay of the trace at the cluster of the two files, a line for each job, or two
 /// replays side by side.
-pub fn make_report<W: Watch>(
+pub fn make_report(
     alloc: Global,
     wanted: &Wanted<'_>,
     texts: &Texts<'_>,
-    watch: &mut W,
 ) -> Result<Report, RunRefusal> {
     match read_trace(alloc, wanted.kind, texts.trace) {
-        Ok(jobs) => report_of(alloc, wanted, texts, jobs.as_slice(), watch),
+        Ok(jobs) => report_of(alloc, wanted, texts, jobs.as_slice()),
         Err(refusal) => Err(RunRefusal::BadTrace(refusal)),
     }
 }
