@@ -103,7 +103,7 @@ unfolding least_after
 least_after-less free more from zero less = less from
 least_after-less free more from (suc count) less = omega (arith, less from, least_after-less free more (from + 1) count less)
 
-least_after-within : (free : ℕ → ℕ) (room from count : ℕ) → ((moment : ℕ) → free moment ≤ room) → least_after free from count ≤ room
+pub least_after-within : (free : ℕ → ℕ) (room from count : ℕ) → ((moment : ℕ) → free moment ≤ room) → least_after free from count ≤ room
 unfolding least_after
 least_after-within free room from zero within = within from
 least_after-within free room from (suc count) within = omega (arith, within from)
@@ -171,19 +171,19 @@ fits-cut caps wider need set less fits = record {
 }
 
 -- no set fits where none fits one that is given more
-none-from : LowerLaws → (rooms : List NodeRoom) (holds others : List Hold) (job other : PlanJob) (second : ℕ) → ((set : List ℕ) → Fits (capacities rooms holds job second) job.need set → (found : List ℕ) × Fits (capacities rooms others other second) other.need found) → placement_at rooms others other second ≡ None → placement_at rooms holds job second ≡ None
+pub none-from : LowerLaws → (rooms : List NodeRoom) (holds : List Hold) (other_rooms : List NodeRoom) (others : List Hold) (job other : PlanJob) (second : ℕ) → ((set : List ℕ) → Fits (capacities rooms holds job second) job.need set → (found : List ℕ) × Fits (capacities other_rooms others other second) other.need found) → placement_at other_rooms others other second ≡ None → placement_at rooms holds job second ≡ None
 unfolding placement_at
-none-from laws rooms holds others job other second then nothing =
-    let nowhere : chosen (capacities rooms others other second) other.need ≡ None =
-    none-chosen (chosen (capacities rooms others other second) other.need) (λ set. record { id = other.id; start = second; parts = shares_of rooms others other second set }) nothing in
+none-from laws rooms holds other_rooms others job other second then nothing =
+    let nowhere : chosen (capacities other_rooms others other second) other.need ≡ None =
+    none-chosen (chosen (capacities other_rooms others other second) other.need) (λ set. record { id = other.id; start = second; parts = shares_of other_rooms others other second set }) nothing in
     let still : chosen (capacities rooms holds job second) job.need ≡ None =
     chosen-none_fits laws (capacities rooms holds job second) job.need
-    (λ set fits. let found = then set fits in laws.none (capacities rooms others other second) other.need found.0 nowhere found.1) in
+    (λ set fits. let found = then set fits in laws.none (capacities other_rooms others other second) other.need found.0 nowhere found.1) in
     rw still refl
 
 pub lesser-none : LowerLaws → (rooms : List NodeRoom) (holds : List Hold) (lesser job : PlanJob) (now bound : ℕ) → IsLesser lesser job → NoneBefore rooms holds lesser now bound → NoneBefore rooms holds job now bound
 lesser-none laws rooms holds lesser job now bound is none second low high last =
-    none-from laws rooms holds holds job lesser second
+    none-from laws rooms holds rooms holds job lesser second
     (λ set fits. (
       take lesser.need.tasks set,
       fits-cut (capacities rooms holds job second) (capacities rooms holds lesser second) lesser.need (take lesser.need.tasks set) (λ place. capacity-lesser rooms holds lesser job second place is last)
@@ -217,7 +217,7 @@ capacity-held rooms holds more all job second place moved =
 
 pub held-none : LowerLaws → (rooms : List NodeRoom) (holds more all : List Hold) (job : PlanJob) (now bound : ℕ) → IsPermutation (holds ++ more) all → NoneBefore rooms holds job now bound → NoneBefore rooms all job now bound
 held-none laws rooms holds more all job now bound moved none second low high last =
-    none-from laws rooms all holds job job second
+    none-from laws rooms all rooms holds job job second
     (λ set fits. (set, fits-more (capacities rooms all job second) (capacities rooms holds job second) job.need set (λ place. capacity-held rooms holds more all job second place moved) fits))
     (none second low high last)
 

@@ -16,4 +16,5 @@ pub mod Starts
 pub mod Sweeping
 pub mod Lessening
 pub mod Staying
+pub mod NoFreer
 pub mod Settling

@@ -16,6 +16,24 @@ pub record StaysFrom (rooms : List NodeRoom) (holds : List Hold) (new_rooms : Li
   pub mem : (second : ℕ) → now ≤ second → second < FOREVER
       → free_mem new_rooms new_holds node second ≡ free_mem rooms holds node second
 
+-- The same up to an earlier second: as much of the node is free at each second from `now` on and before `until`.
+pub record StaysBefore (rooms : List NodeRoom) (holds : List Hold) (new_rooms : List NodeRoom) (new_holds : List Hold)
+    (now until node : ℕ) : Type 0 where
+  pub room : room_at new_rooms node ≡ room_at rooms node
+  pub cpus : (second : ℕ) → now ≤ second → second < until
+      → free_cpus new_rooms new_holds node second ≡ free_cpus rooms holds node second
+  pub mem : (second : ℕ) → now ≤ second → second < until
+      → free_mem new_rooms new_holds node second ≡ free_mem rooms holds node second
+
+-- The node's room is the same, and no more of it is free at each second from `now` on and before `until`.
+pub record IsNoFreer (rooms : List NodeRoom) (holds : List Hold) (new_rooms : List NodeRoom) (new_holds : List Hold)
+    (now until node : ℕ) : Type 0 where
+  pub room : room_at new_rooms node ≡ room_at rooms node
+  pub cpus : (second : ℕ) → now ≤ second → second < until
+      → free_cpus new_rooms new_holds node second ≤ free_cpus rooms holds node second
+  pub mem : (second : ℕ) → now ≤ second → second < until
+      → free_mem new_rooms new_holds node second ≤ free_mem rooms holds node second
+
 -- its windows end there
 abbrev pub EndsInTime : PlanJob → Type 0
 EndsInTime job = (start : ℕ) → start ≤ LAST_START → window_end job start ≤ FOREVER

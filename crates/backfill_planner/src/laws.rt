@@ -11,11 +11,11 @@ ghost use Rattle.backfill_planner.specs.declared.job.PlanJob.{PlanJob};
 ghost use Rattle.backfill_planner.specs.Bases.{BaseView};
 ghost use Rattle.backfill_planner.specs.Plans.{holds_before, holds_of, placed_of, placement_of, plan_of, plan_holds_of};
 ghost use Rattle.backfill_planner.specs.Lesser.{NoneBefore};
-ghost use Rattle.backfill_planner.specs.Staying.{EndsInTime, StaysFrom};
+ghost use Rattle.backfill_planner.specs.Staying.{EndsInTime, IsNoFreer, StaysBefore, StaysFrom};
 ghost use Rattle.backfill_planner.specs.LowerLaws.{LowerLaws};
 
 use node_pick::laws::{chosen_is_first, lesser_needs_fit};
-use plain_data::seconds::LAST_START;
+use plain_data::seconds::{FOREVER, LAST_START};
 use resource_profile::laws::free_amounts_fit;
 
 // What the crates below promise.
@@ -130,6 +130,31 @@ pub fn placements_stay()
     ensures nowhere { (rooms : List NodeRoom) (holds : List Hold) (job : PlanJob) (now last hi : ℕ)
         → hi ≤ last → hi ≤ LAST_START → NoneBefore rooms holds job now (last + 1)
         → placed_of rooms holds job now hi ≡ None }
+{
+    lower_laws();
+}
+
+/// Where as much is free of the nodes that a job may have at each second from a moment on and before one by which its
+/// window ends, its placement stands that begins no earlier than the moment. Where no more is free of them up to there,
+/// no set fits before it; and where no more is free of them ever, and it had none, none fits before the seconds that
+/// weren't tried.
+pub fn placements_stay_before()
+    ensures some { (rooms : List NodeRoom) (holds : List Hold) (new_rooms : List NodeRoom) (new_holds : List Hold)
+        (job : PlanJob) (before now last hi until : ℕ) (placed : Placed)
+        → before ≤ now → hi ≤ LAST_START → All (StaysBefore rooms holds new_rooms new_holds now until) job.nodes
+        → placed_of rooms holds job before last ≡ Some placed → now ≤ placed.start → placed.start ≤ hi
+        → placed.start < until → window_end job placed.start ≤ until
+        → placed_of new_rooms new_holds job now hi ≡ Some placed }
+    ensures no_earlier { (rooms : List NodeRoom) (holds : List Hold) (new_rooms : List NodeRoom) (new_holds : List Hold)
+        (job : PlanJob) (before now last until : ℕ) (placed : Placed)
+        → before ≤ now → All (IsNoFreer rooms holds new_rooms new_holds now until) job.nodes
+        → placed_of rooms holds job before last ≡ Some placed
+        → placed.start ≤ until → window_end job placed.start ≤ until
+        → NoneBefore new_rooms new_holds job now placed.start }
+    ensures none { (rooms : List NodeRoom) (holds : List Hold) (new_rooms : List NodeRoom) (new_holds : List Hold)
+        (job : PlanJob) (before now last : ℕ)
+        → EndsInTime job → before ≤ now → All (IsNoFreer rooms holds new_rooms new_holds now FOREVER) job.nodes
+        → placed_of rooms holds job before last ≡ None → NoneBefore new_rooms new_holds job now (last + 1) }
 {
     lower_laws();
 }

@@ -14,7 +14,7 @@ fn asks_no_more(lesser: &Need, need: &Need) -> bool
 {
     lesser.tasks <= need.tasks
         && lesser.least <= need.least
-        && need.most <= lesser.most
+        && need.most.min(lesser.tasks) <= lesser.most
         && lesser.required <= need.required
         && lesser.least <= lesser.tasks
         && lesser.required <= lesser.tasks

@@ -147,7 +147,7 @@ fn placement_at(
 }
 
 // The least second after `start` at which a hold ends, or one of the job's barred times; `last` where none does.
-fn next_second(profile: &Profile, job: &PlanJob, start: u64, last: u64) -> u64
+pub(crate) fn next_second(profile: &Profile, job: &PlanJob, start: u64, last: u64) -> u64
     requires { start < last }
     ensures later { start < result }
     ensures quiet { NoneEnds profile.now.holds job.now.barred start result }

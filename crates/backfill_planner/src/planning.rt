@@ -1,8 +1,9 @@
-ghost use Rattle.std.specs.Prelude.{◌≡◌, ◌≢◌, ℕ, ◌≤◌, ◌<◌, ◌+◌, ◌-◌, ◌^◌, ◌++◌, length, Some, slice_index_or, IfOk, OnOk, All, AllPairs};
+ghost use Rattle.std.specs.Prelude.{◌≡◌, ◌≢◌, ℕ, ◌≤◌, ◌<◌, ◌+◌, ◌-◌, ◌^◌, ◌++◌, length, Some, slice_index_or, IfOk, OnOk, All, AllPairs, List};
 ghost use Rattle.std.specs.List.Sorted.{IsPermutation};
 ghost use Rattle.resource_profile.specs.Counts.{ticked};
 ghost use Rattle.resource_profile.specs.Profiles.{AreWithin, HasFree};
 ghost use Rattle.resource_profile.specs.declared.Hold.{Hold};
+ghost use Rattle.resource_profile.specs.declared.NodeRoom.{NodeRoom as Room};
 ghost use Rattle.backfill_planner.specs.declared.Placed.{Placed};
 ghost use Rattle.backfill_planner.specs.declared.job.PlanJob.{PlanJob as AJob};
 ghost use Rattle.backfill_planner.specs.Lesser.{NoneBefore};
@@ -14,7 +15,7 @@ use crate::Placed;
 use crate::base::Base;
 use crate::job::PlanJob;
 use crate::laws::lower_laws;
-use crate::placing::{place, window_end};
+use crate::placing::{next_second, place, window_end};
 use crate::planned::Planned;
 use crate::seen::{Searches, Seen};
 use plain_data::seconds::LAST_START;
@@ -88,23 +89,42 @@ fn bound_of(placed: &Option<Placed>, horizon: u64) -> u64
     }
 }
 
-// The placement of the job, where it is known that none of its sets fits before `lo`.
+// The second at which a search has to begin where none of the job's sets fits from `now` on and before `lo`: while no
+// hold ends, nor one of the job's barred times, none comes to fit.
+fn search_from(profile: &Profile, job: &PlanJob, now: u64, lo: u64, horizon: u64) -> u64
+    requires last { horizon ≤ LAST_START }
+    ensures later { lo ≤ result }
+    ensures none { (rooms : List Room) → NoneBefore rooms profile.now.holds job.now now lo
+        → NoneBefore rooms profile.now.holds job.now now result }
+{
+    lower_laws();
+    if lo <= now || horizon < lo {
+        return lo;
+    }
+    let _ = window_end(job, lo - 1);
+    next_second(profile, job, lo - 1, horizon + 1)
+}
+
+// The placement of the job, where it is known that none of its sets fits from `now` on and before `lo`.
 fn search<L>(
     alloc: Global,
     profile: &Profile,
     base: &Base,
     job: &PlanJob,
+    now: u64,
     lo: u64,
     steps: &mut Steps<L>,
 ) -> Result<Option<Placed>, Memory>
     requires rooms { profile.now.rooms ≡ base.now.rooms }
     requires nodes { All (λ node. node < length base.now.rooms) job.now.nodes }
-    ensures placed { IfOk result (λ placed. (now : ℕ) → now ≤ lo
-        → NoneBefore base.now.rooms profile.now.holds job.now now lo
+    requires order { now ≤ lo }
+    ensures placed { IfOk result (λ placed. NoneBefore base.now.rooms profile.now.holds job.now now lo
         → placed ≡ placed_of base.now.rooms profile.now.holds job.now now base.now.horizon) }
     ensures steps { steps.new ≡ ticked steps.old 1 }
 {
-    let placed = place(alloc, profile, base, job, lo, base.horizon, steps)?;
+    let horizon = base.horizon;
+    let from = search_from(profile, job, now, lo, horizon);
+    let placed = place(alloc, profile, base, job, from, horizon, steps)?;
     Ok(placed)
 }
 
@@ -201,7 +221,8 @@ impl Planning {
     }
 
     /// The placement of the next job, by a search. It is known that none of its sets fits before `from`, and the search
-    /// begins where this, or one for a job before that asks no more, has shown that none fits before. It counts a step.
+    /// begins where this, or one for a job before that asks no more, has shown that none fits before, and there at the
+    /// next second at which a hold ends or a barred time. It counts a step.
     pub fn search_next<L>(
         &self,
         alloc: Global,
@@ -226,6 +247,7 @@ impl Planning {
             &self.profile,
             &self.base,
             job,
+            self.moment,
             shown.max(from),
             steps,
         )?;

@@ -13,3 +13,4 @@ pub mod Following
 pub mod Timings
 pub mod Turning
 pub mod Counting
+pub mod DaemonTurns

@@ -1,11 +1,11 @@
 //! The turns of the nodes' daemons, round after round.
 
-ghost use Rattle.std.specs.Prelude.{◌≡◌, ◌++◌, IfOk, OnOk, true, false};
+ghost use Rattle.std.specs.Prelude.{◌≡◌, ◌+◌, ◌<◌, ◌^◌, ◌++◌, IfOk, OnOk, true, false};
 ghost use Rattle.std.specs.Bool.{OnFalse, OnTrue};
 ghost use Rattle.std.specs.Option.{option_to_list};
 ghost use Rattle.ctl_desk.specs.Desk.{GoesOn, history_of};
 ghost use Rattle.ctl_desk.specs.History.{present};
-ghost use Rattle.ctl_server.specs.Daemons.{daemon_of, daemons_of, next_boot};
+ghost use Rattle.ctl_server.specs.Daemons.{HasTurned, daemon_of, daemons_of, next_boot, rests_of};
 
 use ctl_desk::desk::Desk;
 use node_daemon::daemon::DaemonState;
@@ -68,7 +68,9 @@ pub(crate) fn start_daemons(alloc: Global, nodes: &[NodeRecord]) -> Result<Vec<D
 // One daemon's turn. A daemon that has no numbers for reports left is passed over, and one for whose turn memory is
 // wanting.
 fn turn<D: Desk>(alloc: Global, desk: &mut D, now: u64, daemon: &mut DaemonState)
-    ensures { GoesOn (D.sight desk.old) (D.sight desk.new) }
+    ensures goes_on { GoesOn (D.sight desk.old) (D.sight desk.new) }
+    ensures turned { daemon.old.number + 1 < 2 ^ 64
+        → HasTurned now daemon.old daemon.new (D.sight desk.old) (D.sight desk.new) }
 {
     if daemon.can_report() {
         let _ = daemon_turn(alloc, desk, now, daemon);
@@ -100,7 +102,9 @@ fn rest<D: Desk, C: Clock>(desk: &mut D, clock: &mut C, rests: u64) -> bool
 
 /// How often the daemons' part rests between two rounds, where nodes fall silent after so many seconds: once for each
 /// half a minute of these, and at least once.
-pub(crate) fn rests_for(slurmd_timeout: u64) -> u64 {
+pub(crate) fn rests_for(slurmd_timeout: u64) -> u64
+    ensures { result ≡ rests_of slurmd_timeout }
+{
     (slurmd_timeout / SECONDS_A_REST).max(1)
 }
 

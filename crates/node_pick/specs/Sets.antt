@@ -51,11 +51,12 @@ dealt caps tasks (place ∷ later) =
 abbrev pub places : List Dealt → List ℕ
 places parts = map (λ (part : Dealt). part.place) parts
 
--- One need asks no more than the other, and its own bounds leave room for its required places.
+-- One need asks no more than the other, and its own bounds leave room for its required places. It may have as many places
+-- as the other, or one for each task of its own.
 pub record AsksNoMore (lesser need : Need) : Type 0 where
   pub tasks : lesser.tasks ≤ need.tasks
   pub least : lesser.least ≤ need.least
-  pub most : need.most ≤ lesser.most
+  pub most : min need.most lesser.tasks ≤ lesser.most
   pub required : lesser.required ≤ need.required
   pub room_for_least : lesser.least ≤ lesser.tasks
   pub room_for_required : lesser.required ≤ lesser.tasks

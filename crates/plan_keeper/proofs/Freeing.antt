@@ -6,7 +6,7 @@ use Rattle.resource_profile.specs.Profiles.{ProfileView}
 use Rattle.resource_profile.specs.Windows.{free_of, IsSteady}
 use Rattle.resource_profile.specs.declared.levels.Amount.{Amount}
 use Rattle.resource_profile.specs.declared.levels.Window.{Window}
-use Rattle.plan_keeper.specs.Nodes.{IsAsFree}
+use Rattle.plan_keeper.specs.Nodes.{IsAsFree, HasNoMore}
 
 least-one : (free : ℕ → ℕ) (second : ℕ) → least_over free second (second + 1) ≡ free second
 unfolding least_after
@@ -53,3 +53,32 @@ free-told old new now node second until before after was is same from below =
   where
     amounts : (one other : Amount) → one.cpus ≡ other.cpus → one.mem ≡ other.mem → one ≡ other
     amounts one other cpus mem = ap (λ c. amount c one.mem) cpus ∙ ap (λ m. amount other.cpus m) mem
+
+-- no more is free, where as much is
+pub no-more-from : (old new : ProfileView) (now node until : ℕ) → IsAsFree old new now node until → HasNoMore old new now node until
+no-more-from old new now node until same = record {
+  cpus = λ second from below. omega (arith, same.cpus second from below);
+  mem = λ second from below. omega (arith, same.mem second from below);
+}
+
+pub no-more-next : (old new : ProfileView) (now node second next : ℕ) (before after : Window) → IsSteady (λ moment. free_of old.rooms old.holds node moment) second (second + 1) before → IsSteady (λ moment. free_of new.rooms new.holds node moment) second (second + 1) after → after.free.cpus ≤ before.free.cpus → after.free.mem ≤ before.free.mem → HasNoMore old new now node second → next ≤ before.begins_before → next ≤ before.ends_up_to → next ≤ after.begins_before → next ≤ after.ends_up_to → HasNoMore old new now node next
+no-more-next old new now node second next before after was is cpus mem so_far begins ends new_begins new_ends = record {
+  cpus = λ at from below. elim (cases_lt at second) [
+    | inl earlier ↦ so_far.cpus at from earlier
+    | inr here ↦ omega (
+      arith,
+      cpus,
+      (tells (λ moment. free_of new.rooms new.holds node moment) second at after is here (omega (arith, below, new_begins)) (omega (arith, below, new_ends))).cpus,
+      (tells (λ moment. free_of old.rooms old.holds node moment) second at before was here (omega (arith, below, begins)) (omega (arith, below, ends))).cpus,
+    )
+  ];
+  mem = λ at from below. elim (cases_lt at second) [
+    | inl earlier ↦ so_far.mem at from earlier
+    | inr here ↦ omega (
+      arith,
+      mem,
+      (tells (λ moment. free_of new.rooms new.holds node moment) second at after is here (omega (arith, below, new_begins)) (omega (arith, below, new_ends))).mem,
+      (tells (λ moment. free_of old.rooms old.holds node moment) second at before was here (omega (arith, below, begins)) (omega (arith, below, ends))).mem,
+    )
+  ];
+}

@@ -34,7 +34,7 @@ held-off amount node second (hold ∷ holds) off =
     )
 
 -- a node that the job may not have is none of its own
-own-not : (job : PlanJob) (node own : ℕ) → Contains job.nodes own → own ≡ node → may_have_node node job ≡ false → ⊥
+pub own-not : (job : PlanJob) (node own : ℕ) → Contains job.nodes own → own ≡ node → may_have_node node job ≡ false → ⊥
 own-not job node own contains same without =
     let has : may_have_node own job ≡ true = All-contains (λ node. may_have_node node job ≡ true) job.nodes own (own-nodes job) contains in
     let wrong = rw (same, without) at has in
@@ -49,11 +49,11 @@ off-node laws rooms holds job lo hi node (Some placed) is without =
     (λ share own same. own-not job node share.node own same without) placed.parts (laws.own rooms holds job lo hi placed is))
 
 -- what else is held takes as much of what is free
-free-cpus-beside : (rooms : List NodeRoom) (holds more : List Hold) (node second : ℕ) → free_cpus rooms (holds ++ more) node second ≡ free_cpus rooms holds node second - held_cpus more node second
+pub free-cpus-beside : (rooms : List NodeRoom) (holds more : List Hold) (node second : ℕ) → free_cpus rooms (holds ++ more) node second ≡ free_cpus rooms holds node second - held_cpus more node second
 free-cpus-beside rooms holds more node second =
     omega (arith, sum_by-append (λ (hold : Hold). cond (covers node second hold) hold.cpus 0) holds more)
 
-free-mem-beside : (rooms : List NodeRoom) (holds more : List Hold) (node second : ℕ) → free_mem rooms (holds ++ more) node second ≡ free_mem rooms holds node second - held_mem more node second
+pub free-mem-beside : (rooms : List NodeRoom) (holds more : List Hold) (node second : ℕ) → free_mem rooms (holds ++ more) node second ≡ free_mem rooms holds node second - held_mem more node second
 free-mem-beside rooms holds more node second =
     omega (arith, sum_by-append (λ (hold : Hold). cond (covers node second hold) hold.mem 0) holds more)
 
@@ -102,6 +102,17 @@ stays-on laws base ranked now from node first (suc more) new_rooms new_holds few
     let so_far = stays-on laws base ranked now from node first more new_rooms new_holds (omega (arith, below)) (omega (arith, longer, there_same, rises)) stays in
     rw (next, laws.goes_on base ranked now (first + more) at.job below (at.is at.job))
     (stays-old base.rooms (holds_before base ranked now (first + more)) (holds_of at.job (placement_of base ranked now (first + more) at.job)) new_rooms new_holds from node (place-off laws base ranked now (first + more) node at.job without) so_far)
+
+-- what is as free as itself, and as something that is as free
+pub stays-self : (rooms : List NodeRoom) (holds : List Hold) (now node : ℕ) → StaysFrom rooms holds rooms holds now node
+stays-self rooms holds now node = record { room = refl; cpus = λ second from below. refl; mem = λ second from below. refl }
+
+pub stays-back : (rooms : List NodeRoom) (holds more : List Hold) (new_rooms : List NodeRoom) (new_holds : List Hold) (now node : ℕ) → StaysFrom rooms more rooms holds now node → StaysFrom rooms more new_rooms new_holds now node → StaysFrom rooms holds new_rooms new_holds now node
+stays-back rooms holds more new_rooms new_holds now node back stays = record {
+  room = stays.room;
+  cpus = λ second from below. stays.cpus second from below ∙ sym (back.cpus second from below);
+  mem = λ second from below. stays.mem second from below ∙ sym (back.mem second from below);
+}
 
 -- the order of the holds matters to nothing that is free
 pub stays-permuted : (rooms : List NodeRoom) (holds : List Hold) (new_rooms : List NodeRoom) (new_holds moved : List Hold) (now node : ℕ) → IsPermutation new_holds moved → StaysFrom rooms holds new_rooms moved now node → StaysFrom rooms holds new_rooms new_holds now node

@@ -8,8 +8,12 @@ pub mod Settled
 pub mod Listing
 pub mod Turning
 pub mod Freeing
-pub mod Starting
 pub mod Stepping
 pub mod SameTimes
 pub mod Alike
+pub mod Seconds
+pub mod Lowering
+pub mod Standing
+pub mod Keeping
+pub mod Parting
 pub mod Rest

@@ -86,3 +86,23 @@ flags-more P same count flag long each here node d below = elim (cases_lt node c
     end : (same : List Bool) → get_or (same ++ flag ∷ []) (length same) d ≡ flag
     end [] = refl
     end (first ∷ same) = end same
+
+-- two numbers more of a node hold what they hold
+pub pair-more : (P : ℕ → ℕ → ℕ → Type 0) (one other : List ℕ) (count more also : ℕ) → length one ≡ count → length other ≡ count → ((node : ℕ) → node < count → P node (get_or one node 0) (get_or other node 0)) → P count more also → (node : ℕ) → node < count + 1 → P node (get_or (one ++ more ∷ []) node 0) (get_or (other ++ also ∷ []) node 0)
+pair-more P one other count more also long long_other each here node below = elim (cases_lt node count) [
+  | inl lower ↦ rw (left one node more (omega (arith, lower, long)), left other node also (omega (arith, lower, long_other))) (each node lower)
+  | inr at ↦
+      let is : node ≡ count = omega (arith, at, below) in
+      let first : get_or (one ++ more ∷ []) count 0 ≡ more = rw (← long) (end one more) in
+      let second : get_or (other ++ also ∷ []) count 0 ≡ also = rw (← long_other) (end other also) in
+      rw (is, first, second) here
+]
+  where
+    left : (xs : List ℕ) (place x : ℕ) → place < length xs → get_or (xs ++ x ∷ []) place 0 ≡ get_or xs place 0
+    left [] place x low = absurd (omega (arith, low))
+    left (first ∷ xs) zero x low = refl
+    left (first ∷ xs) (suc place) x low = left xs place x (omega (arith, low))
+
+    end : (xs : List ℕ) (x : ℕ) → get_or (xs ++ x ∷ []) (length xs) 0 ≡ x
+    end [] x = refl
+    end (first ∷ xs) x = end xs x

@@ -8,7 +8,7 @@ use Rattle.backfill_planner.specs.Plans.{PlannedView, holds_of, holds_before, pl
 use Rattle.backfill_planner.specs.Staying.{StaysFrom}
 use Rattle.plan_keeper.specs.Steady.{may_have_node, IsSameFrom, AreSteady}
 use Rattle.plan_keeper.specs.Planner.{PlannerLaws}
-use Rattle.plan_keeper.specs.Marks.{on, times, times_before, IsMatched, IsMet, IsUnsettled, AreMarks, Fits, Meets, Without, AreFirst}
+use Rattle.plan_keeper.specs.Marks.{on, times, times_before, IsMatched, IsMet, IsUnsettled, AreMarks, Fits, Meets, Without}
 use Rattle.plan_keeper.proofs.Times.{times-next, times-past, times-up_to, not-on, has-on, sums-tell, owned, own-nodes}
 use Rattle.plan_keeper.proofs.SameFrom.{same-id, same-on, same-holds}
 use Rattle.plan_keeper.proofs.Frees.{stays-beside, stays-new, stays-on, place-off}
@@ -23,7 +23,7 @@ meets-more met new before other more marked = elim (cases_eq other before) [
 met-before : (old ranked : List PlanJob) (place before : ℕ) → IsMet old ranked place before → IsMet old ranked (place + 1) before
 met-before old ranked place before met = record { at = met.at; above = omega (arith, met.above); same = met.same }
 
-unsettled-before : (ranked : List PlanJob) (steady : ℕ → Bool) (place node : ℕ) → IsUnsettled ranked steady place node → IsUnsettled ranked steady (place + 1) node
+pub unsettled-before : (ranked : List PlanJob) (steady : ℕ → Bool) (place node : ℕ) → IsUnsettled ranked steady place node → IsUnsettled ranked steady (place + 1) node
 unsettled-before ranked steady place node one = record { at = one.at; above = omega (arith, one.above); has = one.has; other = one.other }
 
 -- a node that the job may not have stays matched
@@ -128,21 +128,6 @@ marks-met old base ranked now place same met new_met marks more known = record {
 pub holds-first : (base : BaseView) (ranked : List PlanJob) (now : ℕ) → holds_before base ranked now 0 ≡ base.holds
 unfolding plan_holds_of plan_holds_beside
 holds-first base ranked now = append-nil base.holds
-
-pub first-marks : PlannerLaws → (old : PlannedView) (base : BaseView) (ranked : List PlanJob) (now : ℕ) (same : List Bool) (met : ℕ → Bool) → AreFirst old base now same → ((before : ℕ) → met before ≡ false) → AreMarks old base ranked now 0 same met
-first-marks laws old base ranked now same met first none = record {
-  long = first.long;
-  known = λ before inside marked. absurd (let wrong = sym (none before) ∙ marked in cc);
-  matched = λ node inside marked. record {
-    passed = λ before d there has fewer. absurd (omega (arith, fewer));
-    stays = λ before few level.
-        let start : StaysFrom old.base.rooms (holds_before old.base old.ranked old.moment 0) base.rooms (holds_before base ranked now 0) now node = rw (holds-first base ranked now, holds-first old.base old.ranked old.moment) (first.stays node inside marked) in
-        let on_from = stays-on laws old.base old.ranked old.moment now node 0 before base.rooms (holds_before base ranked now 0) in
-        let same : 0 + before ≡ before = omega arith in
-        rw same at (on_from (omega (arith, few)) (rw same level) start);
-  };
-  changed = λ steady are node inside unmarked old_inside stays. absurd (first.changed node inside unmarked old_inside stays);
-}
 
 -- a job that fits has as many above it on each of its nodes as it had
 pub levels : (old : PlannedView) (base : BaseView) (ranked : List PlanJob) (now place : ℕ) (same : List Bool) (met : ℕ → Bool) (job : PlanJob) (before : ℕ) → AreMarks old base ranked now place same met → All (λ node. node < length base.rooms) job.nodes → Fits old.ranked same (times_before ranked place) met now job before → All (λ node. times node (take place ranked) ≡ times node (take before old.ranked)) job.nodes

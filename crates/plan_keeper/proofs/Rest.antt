@@ -9,9 +9,9 @@ use Rattle.std.proofs.lemmas.List.Elements.{All-head, All-tail}
 use Rattle.backfill_planner.specs.declared.job.PlanJob.{PlanJob}
 use Rattle.backfill_planner.specs.Plans.{PlannedView, PlanningView}
 use Rattle.plan_keeper.specs.Steady.{IsNamedOnce, IsSameFrom}
-use Rattle.plan_keeper.specs.Marks.{on, times, times_before, met_from, AreCounts, AreMarks, Counts, Fits, Meets, Without}
+use Rattle.plan_keeper.specs.Marks.{on, times, times_before, met_from, AreAlike, AreCounts, AreMarks, Counts, Fits, Meets, Without}
 use Rattle.plan_keeper.specs.Planner.{PlannerLaws}
-use Rattle.plan_keeper.specs.Turns.{IsFound, HasBegun}
+use Rattle.plan_keeper.specs.Turns.{IsFound}
 use Rattle.plan_keeper.proofs.Times.{times-next, sums-same}
 use Rattle.plan_keeper.proofs.Alike.{times-alike, met-alike}
 use Rattle.plan_keeper.proofs.Marking.{marks-met}
@@ -93,21 +93,21 @@ no-more count at = elim (cases_lt at count) [
     past_all (x ∷ xs) zero past = absurd (omega (arith, past))
     past_all (x ∷ xs) (suc at) past = past_all xs at (omega (arith, past))
 
-pub parted-marks : (old : PlannedView) (planning : PlanningView) (same : List Bool) (rest : ℕ) → HasBegun old planning same → AreMarks old planning.base planning.ranked planning.moment planning.done same (met_from planning.done (replicate rest false))
-parted-marks old planning same rest begun =
-    marks-met old planning.base planning.ranked planning.moment planning.done same (met_from planning.done []) (met_from planning.done (replicate rest false)) begun.marks
+pub parted-marks : (old : PlannedView) (planning : PlanningView) (same : List Bool) (rest : ℕ) → AreAlike planning.moment old.ranked planning.ranked planning.done → AreMarks old planning.base planning.ranked planning.moment planning.done same (met_from planning.done []) → AreMarks old planning.base planning.ranked planning.moment planning.done same (met_from planning.done (replicate rest false))
+parted-marks old planning same rest alike marks =
+    marks-met old planning.base planning.ranked planning.moment planning.done same (met_from planning.done []) (met_from planning.done (replicate rest false)) marks
     (λ before met. elim (or_cases (ltb before planning.done) false met) [
       | inl earlier ↦ or_left (ltb before planning.done) (get_or (replicate rest false) (before - planning.done) false) earlier
       | inr none ↦ absurd cc
     ])
-    (λ before inside met. met-alike planning.moment old.ranked planning.ranked planning.done planning.done before begun.alike (omega arith) (elim (or_cases (ltb before planning.done) (get_or (replicate rest false) (before - planning.done) false) met) [
+    (λ before inside met. met-alike planning.moment old.ranked planning.ranked planning.done planning.done before alike (omega arith) (elim (or_cases (ltb before planning.done) (get_or (replicate rest false) (before - planning.done) false) met) [
       | inl earlier ↦ ltb-true before planning.done earlier
       | inr later ↦ absurd (let wrong = sym (no-more rest (before - planning.done)) ∙ later in cc)
     ]))
 
-pub parted-counts : (old : PlannedView) (planning : PlanningView) (same : List Bool) (nodes rest : ℕ) → HasBegun old planning same → planning.done + rest ≡ length old.ranked → AreCounts old.ranked planning.ranked planning.moment planning.done planning.done nodes (replicate nodes 0) (replicate rest false)
-parted-counts old planning same nodes rest begun whole = record {
-  alike = begun.alike;
+pub parted-counts : (old : PlannedView) (planning : PlanningView) (nodes rest : ℕ) → AreAlike planning.moment old.ranked planning.ranked planning.done → planning.done + rest ≡ length old.ranked → AreCounts old.ranked planning.ranked planning.moment planning.done planning.done nodes (replicate nodes 0) (replicate rest false)
+parted-counts old planning nodes rest alike whole = record {
+  alike = alike;
   long = length-replicate nodes 0;
   met_long = omega (arith, whole, length-replicate rest false);
   counted = λ node d inside. omega (arith, get_or-replicate nodes node 0 d inside);

@@ -4,3 +4,4 @@ pub mod Planner
 pub mod Nodes
 pub mod Holding
 pub mod Turns
+pub mod Kept

@@ -118,12 +118,3 @@ pub record Without (same : List Bool) (job : PlanJob) (new : List Bool) : Type 0
   pub long : length new ≡ length same
   pub each : (node : ℕ) → node < length same
       → slice_index_or new node false ≡ (slice_index_or same node false && not (may_have_node node job))
-
--- before the first job those nodes are marked that were there and of which nothing has changed
-pub record AreFirst (old : PlannedView) (base : BaseView) (now : ℕ) (same : List Bool) : Type 0 where
-  pub long : length same ≡ length base.rooms
-  pub stays : (node : ℕ) → node < length base.rooms → slice_index_or same node false ≡ true
-      → StaysFrom old.base.rooms old.base.holds base.rooms base.holds now node
-  pub changed : (node : ℕ) → node < length base.rooms → slice_index_or same node false ≡ false
-      → node < length old.base.rooms
-      → ¬ StaysFrom old.base.rooms old.base.holds base.rooms base.holds now node

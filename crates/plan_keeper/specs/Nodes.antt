@@ -9,3 +9,10 @@ pub record IsAsFree (old new : ProfileView) (now node until : ℕ) : Type 0 wher
       → free_cpus new.rooms new.holds node second ≡ free_cpus old.rooms old.holds node second
   pub mem : (second : ℕ) → now ≤ second → second < until
       → free_mem new.rooms new.holds node second ≡ free_mem old.rooms old.holds node second
+
+-- no more of the node is free in the new one at each second from `now` on and before `until`
+pub record HasNoMore (old new : ProfileView) (now node until : ℕ) : Type 0 where
+  pub cpus : (second : ℕ) → now ≤ second → second < until
+      → free_cpus new.rooms new.holds node second ≤ free_cpus old.rooms old.holds node second
+  pub mem : (second : ℕ) → now ≤ second → second < until
+      → free_mem new.rooms new.holds node second ≤ free_mem old.rooms old.holds node second

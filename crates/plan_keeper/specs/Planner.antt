@@ -6,10 +6,11 @@ use Rattle.backfill_planner.specs.declared.Share.{Share}
 use Rattle.backfill_planner.specs.declared.Placed.{Placed}
 use Rattle.backfill_planner.specs.declared.job.PlanJob.{PlanJob}
 use Rattle.backfill_planner.specs.Bases.{BaseView}
+use Rattle.backfill_planner.specs.Giving.{window_end}
 use Rattle.backfill_planner.specs.Lesser.{NoneBefore}
 use Rattle.backfill_planner.specs.Plans.{holds_of, holds_before, placed_of, placement_of}
-use Rattle.backfill_planner.specs.Staying.{EndsInTime, StaysFrom}
-use Rattle.plain_data.specs.declared.seconds.TheConstants.{LAST_START}
+use Rattle.backfill_planner.specs.Staying.{EndsInTime, IsNoFreer, StaysBefore, StaysFrom}
+use Rattle.plain_data.specs.declared.seconds.TheConstants.{FOREVER, LAST_START}
 
 pub record PlannerLaws : Type 0 where
   pub own : (rooms : List NodeRoom) (holds : List Hold) (job : PlanJob) (lo hi : ℕ) (placed : Placed)
@@ -28,6 +29,22 @@ pub record PlannerLaws : Type 0 where
   pub nowhere : (rooms : List NodeRoom) (holds : List Hold) (job : PlanJob) (now last hi : ℕ)
       → hi ≤ last → hi ≤ LAST_START → NoneBefore rooms holds job now (last + 1)
       → placed_of rooms holds job now hi ≡ None
+  pub some_before : (rooms : List NodeRoom) (holds : List Hold) (new_rooms : List NodeRoom) (new_holds : List Hold)
+      (job : PlanJob) (before now last hi until : ℕ) (placed : Placed)
+      → before ≤ now → hi ≤ LAST_START → All (StaysBefore rooms holds new_rooms new_holds now until) job.nodes
+      → placed_of rooms holds job before last ≡ Some placed → now ≤ placed.start → placed.start ≤ hi
+      → placed.start < until → window_end job placed.start ≤ until
+      → placed_of new_rooms new_holds job now hi ≡ Some placed
+  pub no_earlier : (rooms : List NodeRoom) (holds : List Hold) (new_rooms : List NodeRoom) (new_holds : List Hold)
+      (job : PlanJob) (before now last until : ℕ) (placed : Placed)
+      → before ≤ now → All (IsNoFreer rooms holds new_rooms new_holds now until) job.nodes
+      → placed_of rooms holds job before last ≡ Some placed
+      → placed.start ≤ until → window_end job placed.start ≤ until
+      → NoneBefore new_rooms new_holds job now placed.start
+  pub none_yet : (rooms : List NodeRoom) (holds : List Hold) (new_rooms : List NodeRoom) (new_holds : List Hold)
+      (job : PlanJob) (before now last : ℕ)
+      → EndsInTime job → before ≤ now → All (IsNoFreer rooms holds new_rooms new_holds now FOREVER) job.nodes
+      → placed_of rooms holds job before last ≡ None → NoneBefore new_rooms new_holds job now (last + 1)
   pub goes_on : (base : BaseView) (ranked : List PlanJob) (now place : ℕ) (job : PlanJob)
       → place < length ranked → slice_index_or ranked place job ≡ job
       → holds_before base ranked now (place + 1)

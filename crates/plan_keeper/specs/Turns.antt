@@ -1,5 +1,5 @@
 -- What is found of the next job, and how many steps it costs. Of the proof alone.
-use Rattle.std.specs.Prelude.{◌≡◌, ℕ, ◌<◌, Bool, false, if◌then◌else◌, List, [], length, slice_index_or, All, Option, Some, None}
+use Rattle.std.specs.Prelude.{◌≡◌, ℕ, ◌<◌, Bool, false, if◌then◌else◌, List, length, slice_index_or, All, Option, Some, None}
 use Rattle.resource_profile.specs.Counts.{IsTickedUpTo}
 use Rattle.backfill_planner.specs.declared.Placed.{Placed}
 use Rattle.backfill_planner.specs.declared.job.PlanJob.{PlanJob}
@@ -7,7 +7,7 @@ use Rattle.backfill_planner.specs.Bases.{BaseView}
 use Rattle.backfill_planner.specs.Plans.{PlannedView, PlanningView, holds_before, placement_of}
 use Rattle.backfill_planner.specs.Staying.{EndsInTime, StaysFrom}
 use Rattle.plan_keeper.specs.Steady.{CanStand, IsSameFrom, AreSteady, others}
-use Rattle.plan_keeper.specs.Marks.{times_before, met_from, AreAlike, AreMarks, Fits}
+use Rattle.plan_keeper.specs.Marks.{times_before, Fits}
 
 -- the placement is the next job's
 abbrev pub IsNext : PlanningView → Option Placed → Type 0
@@ -71,8 +71,3 @@ pub record HasStepped (old : PlannedView) (base : BaseView) (ranked : List PlanJ
     : Type 0 where
   pub most : IsTickedUpTo index steps new
   pub steady : (steady : ℕ → Bool) → AreSteady old base ranked now steady → IsTickedUpTo (others steady index) steps new
-
--- so far all jobs are alike in both lists, and met
-pub record HasBegun (old : PlannedView) (planning : PlanningView) (same : List Bool) : Type 0 where
-  pub alike : AreAlike planning.moment old.ranked planning.ranked planning.done
-  pub marks : AreMarks old planning.base planning.ranked planning.moment planning.done same (met_from planning.done [])

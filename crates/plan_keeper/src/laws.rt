@@ -8,7 +8,9 @@ ghost use Rattle.backfill_planner.specs.Staying.{StaysFrom};
 ghost use Rattle.plan_keeper.specs.Holding.{holds_from};
 ghost use Rattle.plan_keeper.specs.Planner.{PlannerLaws};
 
-use backfill_planner::laws::{parts_are_on_own_nodes, placements_stay, plans_go_on};
+use backfill_planner::laws::{
+    parts_are_on_own_nodes, placements_stay, placements_stay_before, plans_go_on,
+};
 
 // What the planner promises.
 pub(crate) fn planner_laws()
@@ -16,6 +18,7 @@ pub(crate) fn planner_laws()
 {
     parts_are_on_own_nodes();
     placements_stay();
+    placements_stay_before();
     plans_go_on();
 }
 

@@ -3,14 +3,18 @@
 
 mod beginning;
 mod finding;
+mod kept;
 pub mod laws;
 mod marks;
+mod node_seconds;
 mod old_list;
 mod replanning;
 mod same_job;
 mod same_nodes;
+mod same_placed;
 mod same_plan;
 mod same_times;
+mod staying;
 mod unchanged;
 
 pub use replanning::replan;

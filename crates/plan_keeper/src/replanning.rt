@@ -1,6 +1,6 @@
 //! Planning over an older plan.
 
-ghost use Rattle.std.specs.Prelude.{◌≡◌, ◌≤◌, ◌<◌, ◌+◌, ◌++◌, ℕ, Bool, nat_eq, length, drop, replicate, false, IfOk, OnOk, IfSome, IfNone, Some, None, All};
+ghost use Rattle.std.specs.Prelude.{◌≡◌, ◌↔◌, ◌≤◌, ◌<◌, ◌+◌, ◌++◌, ℕ, Bool, nat_eq, length, drop, replicate, slice_index_or, true, false, IfOk, OnOk, IfSome, IfNone, Some, None, All};
 ghost use Rattle.std.specs.HashMap.{get};
 ghost use Rattle.resource_profile.specs.Counts.{IsTickedUpTo};
 ghost use Rattle.resource_profile.specs.Profiles.{AreWithin};
@@ -10,10 +10,13 @@ ghost use Rattle.backfill_planner.specs.Placements.{IsPlannable, AreParts, Start
 ghost use Rattle.backfill_planner.specs.Plans.{plan_of, plan_holds_of};
 ghost use Rattle.plan_keeper.specs.Steady.{AreSteady, others};
 ghost use Rattle.plan_keeper.specs.Marks.{met_from, AreCounts, AreMarks, IsListed};
-ghost use Rattle.plan_keeper.specs.Turns.{IsNext, IsFound, IsStepped, HasStepped, HasBegun};
+ghost use Rattle.plan_keeper.specs.Kept.{HasBegun};
+ghost use Rattle.plan_keeper.specs.Turns.{IsNext, IsFound, IsStepped, HasStepped};
+ghost use Rattle.plain_data.specs.declared.seconds.TheConstants.{FOREVER};
 
 use crate::beginning::{Beginning, begin};
 use crate::finding::{Found, find_again, find_anew};
+use crate::kept::Kept;
 use crate::laws::planner_laws;
 use crate::marks::Marks;
 use crate::old_list::OldList;
@@ -110,16 +113,15 @@ fn turn<L>(
 }
 
 // What is marked where the lists part.
-fn rest_marks(
-    alloc: Global,
-    unchanged: Unchanged,
-    nodes: usize,
-    rest: usize,
-) -> Result<Marks, Memory>
-    ensures unchanged { IfOk result (λ marks. marks.unchanged.nodes.items ≡ unchanged.nodes.items) }
+fn rest_marks(alloc: Global, kept: &Kept, nodes: usize, rest: usize) -> Result<Marks, Memory>
+    ensures long { IfOk result (λ marks. length marks.unchanged.nodes.items ≡ length kept.now.same.seconds.items) }
+    ensures unchanged { IfOk result (λ marks. (node : ℕ) (d : Bool) → node < length kept.now.same.seconds.items
+        → (slice_index_or marks.unchanged.nodes.items node d ≡ true)
+        ↔ FOREVER ≤ slice_index_or kept.now.same.seconds.items node 0) }
     ensures counts { IfOk result (λ marks. marks.counts.items ≡ replicate nodes 0) }
     ensures met { IfOk result (λ marks. marks.met.items ≡ replicate rest false) }
 {
+    let unchanged = Unchanged::of_seconds(alloc, kept.same.seconds.as_slice())?;
     let counts = vec![in alloc; 0; nodes]?;
     let met = vec![in alloc; false; rest]?;
     Ok(Marks {
@@ -140,7 +142,8 @@ fn plan_rest<L>(
     requires first { begun.first ≡ begun.planning.done }
     requires now { now ≡ begun.planning.moment }
     requires later { old.now.moment ≤ now }
-    requires begun { HasBegun old.now begun.planning begun.unchanged.nodes.items }
+    requires begun { HasBegun old.now begun.planning
+        begun.kept.same.seconds.items begun.kept.no_freer.seconds.items }
     ensures parts { IfOk result (λ planned. planned
         ≡ record { base = begun.planning.base; ranked = begun.planning.ranked; moment = begun.planning.moment }) }
     ensures jobs { OnOk result (All IsPlannable begun.planning.ranked) }
@@ -154,10 +157,11 @@ fn plan_rest<L>(
         begun.first start steps.old → HasStepped old.now begun.planning.base begun.planning.ranked
         begun.planning.moment (length begun.planning.ranked) start steps.new }
 {
+    planner_laws();
     let Beginning {
         mut planning,
         first,
-        unchanged,
+        kept,
     } = begun;
     let jobs = planning.ranked().len();
     if first == jobs {
@@ -165,7 +169,7 @@ fn plan_rest<L>(
     }
     let list = OldList::of(alloc, old, first)?;
     let nodes = planning.base().rooms.as_slice().len();
-    let mut marks = rest_marks(alloc, unchanged, nodes, old.ranked().len() - first)?;
+    let mut marks = rest_marks(alloc, &kept, nodes, old.ranked().len() - first)?;
     for index in first..jobs {
         planning = turn(alloc, old, &list, &mut marks, planning, index, now, steps)?;
     }

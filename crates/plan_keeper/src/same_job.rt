@@ -1,6 +1,8 @@
 //! Whether two jobs are one to the planner.
 
-ghost use Rattle.std.specs.Prelude.{◌≡◌, ◌≤◌, ◌↔◌, true, IfSome};
+ghost use Rattle.std.specs.Prelude.{◌≡◌, ℕ, ◌≤◌, ◌<◌, ◌↔◌, true, IfSome};
+ghost use Rattle.plain_data.specs.declared.seconds.TheConstants.{LAST_START};
+ghost use Rattle.backfill_planner.specs.Giving.{window_end};
 ghost use Rattle.backfill_planner.specs.Staying.{EndsInTime};
 ghost use Rattle.plan_keeper.specs.Steady.{but_for_times, IsSameFrom};
 
@@ -92,6 +94,15 @@ pub fn is_same_from(old: &PlanJob, new: &PlanJob, now: u64) -> bool
 /// It does nothing: its contract tells that the job's windows end in time, as its type has it.
 pub fn tell_ends_in_time(job: &PlanJob)
     ensures { EndsInTime job.now }
+{
+    if let Some(seconds) = job.seconds {
+        let _ = seconds.get();
+    }
+}
+
+/// It does nothing: its contract tells that the job's windows aren't empty, as its type has it.
+pub fn tell_windows(job: &PlanJob)
+    ensures { (start : ℕ) → start ≤ LAST_START → start < window_end job.now start }
 {
     if let Some(seconds) = job.seconds {
         let _ = seconds.get();

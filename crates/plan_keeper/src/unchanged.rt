@@ -1,13 +1,16 @@
 //! On which nodes nothing has changed by now.
 
-ghost use Rattle.std.specs.Prelude.{◌≡◌, ◌<◌, ◌&&◌, not, nat_eq, ℕ, Bool, true, false, length, slice_index_or, IfSome, IfNone, All, List};
+ghost use Rattle.std.specs.Prelude.{◌≡◌, ◌↔◌, ◌≤◌, ◌<◌, ◌&&◌, not, nat_eq, ℕ, Bool, true, false, length, slice_index_or, IfOk, IfSome, IfNone, All, List};
 ghost use Rattle.std.specs.List.{list_any, list_all};
 ghost use Rattle.plan_keeper.specs.Marks.{Without};
 
 use backfill_planner::PlanJob;
+use plain_data::seconds::FOREVER;
+use small_texts::memory_error::Memory;
+use std::alloc::Global;
 
-/// On which nodes nothing has changed by now: they were there, and the jobs so far that may have them are placed as those
-/// of the old list were.
+/// On which nodes nothing has changed by now: they were there, and as much of them is free as was when those of the jobs
+/// so far that may have them were planned in the old list.
 #[derive(Drop)]
 pub struct Unchanged {
     /// Of each node, whether it is one of these.
@@ -44,7 +47,27 @@ fn are_all(same: &[bool]) -> bool
     same.iter().all(|same| *same)
 }
 
+// Whether a node with this second is one of them: as much of it is free before the second as was.
+fn is_unchanged(second: u64) -> bool
+    ensures { (result ≡ true) ↔ FOREVER ≤ second }
+{
+    FOREVER <= second
+}
+
 impl Unchanged {
+    /// Those of which as much is free up to where all windows end. Linear in the nodes.
+    pub fn of_seconds(alloc: Global, seconds: &[u64]) -> Result<Unchanged, Memory>
+        ensures long { IfOk result (λ unchanged. length unchanged.nodes.items ≡ length seconds.now) }
+        ensures each { IfOk result (λ unchanged. (node : ℕ) (d : Bool) → node < length seconds.now
+            → (slice_index_or unchanged.nodes.items node d ≡ true) ↔ FOREVER ≤ slice_index_or seconds.now node 0) }
+    {
+        let mut nodes = Vec::with_capacity(alloc, seconds.len())?;
+        for second in seconds {
+            nodes.push(is_unchanged(*second)).unwrap();
+        }
+        Ok(Unchanged::of(nodes))
+    }
+
     /// Those that are marked in a list of all nodes. Linear in these.
     pub fn of(nodes: Vec<bool>) -> Unchanged
         ensures { result.nodes.items ≡ nodes.items }

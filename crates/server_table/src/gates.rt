@@ -14,11 +14,12 @@ const EVENTS: usize = 32;
 /// How often a gate looks for what it waits for.
 const MOST_LOOKS: u32 = 10_000_000;
 
-/// What has come, and whether some gate has given up waiting.
+/// What has come, whether some gate has given up waiting, and whether one was told a point at which its part isn't.
 #[derive(Drop)]
 pub struct Board {
     events: Vec<AtomicBool>,
     gave_up: AtomicBool,
+    misled: AtomicBool,
 }
 
 impl Board {
@@ -31,12 +32,18 @@ impl Board {
         Ok(Board {
             events,
             gave_up: AtomicBool::new(false),
+            misled: AtomicBool::new(false),
         })
     }
 
     /// Whether some gate has given up waiting.
     pub fn gave_up(&self) -> bool {
         self.gave_up.load(Ordering::SeqCst)
+    }
+
+    /// Whether some gate was told a point at which its part isn't.
+    pub fn misled(&self) -> bool {
+        self.misled.load(Ordering::SeqCst)
     }
 
     // Looks until this has come, and tells whether it has.
@@ -76,9 +83,23 @@ pub struct StepGate<'a> {
     passed: u32,
 }
 
+// Where a part stands when it passes its gate for this time: a worker before and behind each connection, the planner
+// before each plan and before it is kept.
+fn point_of(part: Part, pass: u32) -> Point {
+    match (part, pass % 2) {
+        (Part::Worker(_), 1) => Point::BeforeAnswer,
+        (Part::Worker(_), _) => Point::AfterAnswer,
+        (Part::Planner, 1) => Point::BeforePlan,
+        (Part::Planner, _) => Point::BeforeCommit,
+    }
+}
+
 impl<'a> Gate for StepGate<'a> {
-    fn at(&mut self, _point: Point) {
+    fn at(&mut self, point: Point) {
         self.passed = self.passed.saturating_add(1);
+        if point != point_of(self.part, self.passed) {
+            self.board.misled.store(true, Ordering::SeqCst);
+        }
         for step in self.steps {
             if step.part == self.part && step.pass == self.passed {
                 self.board.make(*step);

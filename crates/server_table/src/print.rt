@@ -102,7 +102,7 @@ pub fn push_work(alloc: Global, out: &mut String, work: &Work) -> Result<(), All
 }
 
 /// The output behind `>`; each door and its connections, and behind `&` the status and the lines of each reply; or the
-/// replies of all doors together; how the server ended; and whether a gate gave up waiting.
+/// replies of all doors together; how the server ended; and whether a gate gave up waiting, or was told another point.
 pub fn push_left(
     alloc: Global,
     out: &mut String,
@@ -119,6 +119,9 @@ pub fn push_left(
     push_end(out, &left.end)?;
     if left.gave_up {
         out.push_str("a gate gave up\n")?;
+    }
+    if left.misled {
+        out.push_str("a gate was told another point\n")?;
     }
     Ok(())
 }

@@ -28,6 +28,8 @@ pub struct Left {
     pub host: MemHost,
     /// Whether some gate has given up waiting.
     pub gave_up: bool,
+    /// Whether some gate was told a point at which its part isn't.
+    pub misled: bool,
 }
 
 // A connection as it comes.
@@ -127,5 +129,6 @@ pub fn run_case<R: Threads + Wait + Sync>(
         output,
         host,
         gave_up: board.gave_up(),
+        misled: board.misled(),
     }))
 }

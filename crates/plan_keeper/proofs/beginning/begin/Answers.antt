@@ -12,7 +12,7 @@ loop-index-init g c =
     record {
       first = refl;
       parts = ap from c.requires.none;
-      begun = c.in_ok-unchanged.ensures;
+      begun = c.in_ok-kept.ensures;
       stepped = stepped-none c.args.old.now planning.base planning.ranked planning.moment c.args.steps.now;
     }
 

@@ -6,6 +6,7 @@ use Rattle.backfill_planner.specs.Placements.{AreParts}
 use Rattle.backfill_planner.specs.Plans.{PlanningView, plan_of}
 use Rattle.plan_keeper.specs.Marks.{met_from, AreCounts, AreMarks}
 use Rattle.plan_keeper.specs.Turns.{HasStepped}
+use Rattle.plan_keeper.proofs.Parting.{begun-marks}
 use Rattle.plan_keeper.proofs.Rest.{parted-marks, parted-counts}
 use Rattle.plan_keeper.proofs.Stepping.{stepped-more, stepped-all}
 use Rattle.plan_keeper.proofs.replanning.plan_rest.Goals as goal
@@ -26,15 +27,15 @@ pub loop-index-init : goal.loop-index-init
 loop-index-init g c =
     let old = c.args.old.now in
     let planning = c.args.begun.planning in
-    let same = c.args.begun.unchanged.nodes.items in
+    let same = c.in_ok-marks.marks.unchanged.nodes.items in
     let from : ℕ → PlanningView = λ done. record { base = planning.base; ranked = planning.ranked; moment = planning.moment; done = done } in
     let rest = length c.ranked.result.now - planning.done in
     let nodes : length c.as_slice-nodes.result.now ≡ length planning.base.rooms = ap (λ some. length some) (c.as_slice-nodes.ensures ∙ ap (λ (b : BaseView). b.rooms) (c.behind-planning.view_is ∙ c.base.ensures)) in
     let whole : planning.done + rest ≡ length old.ranked = omega (arith, ap (λ some. length some) c.ranked.ensures.value, c.requires.begun.alike.few) in
     record {
       parts = ap from (sym c.requires.first);
-      marks = rw (c.in_ok-marks.ensures.unchanged, c.in_ok-marks.ensures.met, c.in_ok-list.ensures.first, c.requires.first) (parted-marks old planning same rest c.requires.begun);
-      counts = rw (c.in_ok-marks.ensures.counts, c.in_ok-marks.ensures.met, c.in_ok-list.ensures.first, c.requires.first, nodes) (parted-counts old planning same (length planning.base.rooms) rest c.requires.begun whole);
+      marks = rw (c.in_ok-marks.ensures.met, c.in_ok-list.ensures.first, c.requires.first) (parted-marks old planning same rest c.requires.begun.alike (begun-marks c.planner_laws.ensures old planning c.args.begun.kept.same.seconds.items c.args.begun.kept.no_freer.seconds.items same c.requires.begun c.in_ok-marks.ensures.long c.in_ok-marks.ensures.unchanged));
+      counts = rw (c.in_ok-marks.ensures.counts, c.in_ok-marks.ensures.met, c.in_ok-list.ensures.first, c.requires.first, nodes) (parted-counts old planning (length planning.base.rooms) rest c.requires.begun.alike whole);
       steps = λ start before. before;
     }
 

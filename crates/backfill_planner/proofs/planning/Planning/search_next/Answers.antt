@@ -1,4 +1,4 @@
-use Rattle.std.proofs.Common.{◌≡◌, ◌<◌, length, arith, subst, sym, ◌∙◌, get_or}
+use Rattle.std.proofs.Common.{◌≡◌, ◌<◌, length, subst, sym, ◌∙◌, get_or}
 use Rattle.std.proofs.lemmas.List.{get_or_default}
 use Rattle.backfill_planner.specs.declared.job.PlanJob.{PlanJob}
 use Rattle.backfill_planner.specs.Lesser.{NoneBefore}
@@ -18,6 +18,6 @@ returns-clause-placed g c = λ d.
     let none = none-in-profile inside.base ranked inside.moment inside.done inside.placements.items inside.counts.items inside.profile inside.searches.seen.items job c.args.from c.self.invariant (rw job_is at (known d)) in
     let shown = c.bound-shown.ensures.none inside.base.rooms inside.profile.holds (rw c.as_slice.ensures.value c.self.invariant.seen) in
     let both : NoneBefore inside.base.rooms inside.profile.holds job inside.moment c.max.result = rw c.max.ensures (none-before-max inside.base.rooms inside.profile.holds job inside.moment c.bound-shown.result c.args.from shown none) in
-    let found = c.in_ok-placed.ensures.placed inside.moment (omega (arith, c.max.ensures, c.bound-shown.ensures.from)) both in
+    let found = c.in_ok-placed.ensures.placed both in
     let there : c.in_ok-placed.placed ≡ placement_of inside.base ranked inside.moment inside.done (get_or ranked inside.done d) = rw job_is (found ∙ sym (placed-permuted inside.base.rooms (holds_before inside.base ranked inside.moment inside.done) inside.profile.holds job inside.moment inside.base.horizon c.self.invariant.held)) in
     subst (λ (v : PlanningView). c.in_ok-placed.placed ≡ placement_of v.base v.ranked v.moment v.done (get_or v.ranked v.done d)) c.self.view_is there

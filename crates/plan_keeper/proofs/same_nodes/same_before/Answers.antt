@@ -1,17 +1,14 @@
 use Rattle.std.proofs.Common.{rules, ◌≡◌, arith}
 use Rattle.plan_keeper.proofs.Freeing.{free-more, free-told}
-use Rattle.plan_keeper.proofs.same_nodes.is_as_free.Goals as goal
+use Rattle.plan_keeper.proofs.same_nodes.same_before.Goals as goal
 use Rattle.plain_data.specs.declared.seconds.TheConstants.{FOREVER}
 
-pub returns-then-ne : goal.returns-then-ne
-returns-then-ne c =
+pub returns-then-ne-clause-all : goal.returns-then-ne-clause-all
+returns-then-ne-clause-all c = λ same.
     let before = c.free_over-before.result in
-    let after = c.free_over-after.result in (
-      λ wrong. absurd cc,
-      λ same.
-          let told : before.free ≡ after.free = free-told c.args.old.now c.args.new.now c.args.now c.args.node c.loop-second.second FOREVER before after c.free_over-before.ensures c.free_over-after.ensures same c.loop-second.invariant.later c.loop-second-test.true in
-          absurd (search (rules, told)),
-    )
+    let after = c.free_over-after.result in
+    let told : before.free ≡ after.free = free-told c.args.old.now c.args.new.now c.args.now c.args.node c.loop-second.second FOREVER before after c.free_over-before.ensures c.free_over-after.ensures same c.loop-second.invariant.later c.loop-second-test.true in
+    absurd (search (rules, told))
 
 pub loop-second-preserved : goal.loop-second-preserved
 loop-second-preserved c =

@@ -1,6 +1,6 @@
 use Rattle.std.proofs.Common.{◌-◌, ◌≤◌}
 use Rattle.plan_keeper.specs.Nodes.{IsAsFree}
-use Rattle.plan_keeper.proofs.same_nodes.is_as_free.Given as goal
+use Rattle.plan_keeper.proofs.same_nodes.same_before.Given as goal
 use Rattle.plain_data.specs.declared.seconds.TheConstants.{FOREVER}
 
 -- as much is free at each second so far

@@ -1,0 +1,127 @@
+//! The placement of a job that is the one at its place in the old list: the one of then where as much is free of its
+//! nodes, else by a search from where none can fit before.
+
+ghost use Rattle.std.specs.Prelude.{◌≡◌, ◌↔◌, ◌≤◌, ◌<◌, true, length, option_copied, IfOk, IfSome, IfNone, Some, All};
+ghost use Rattle.backfill_planner.specs.Giving;
+ghost use Rattle.plan_keeper.specs.Kept.{BeginsAt, CanStay, HasBegun, IsThere};
+ghost use Rattle.plan_keeper.specs.Turns.{IsNext, IsStepped};
+
+use crate::kept::Kept;
+use crate::laws::planner_laws;
+use crate::node_seconds::NodeSeconds;
+use backfill_planner::{Placed, PlanJob, Planned, Planning};
+use plain_data::seconds::{FOREVER, LAST_START};
+use resource_profile::Steps;
+use small_texts::memory_error::Memory;
+use std::alloc::Global;
+
+// Where the job's window ends that begins at `start`.
+fn window_end(job: &PlanJob, start: u64) -> u64
+    requires { start ≤ LAST_START }
+    ensures { result ≡ Giving.window_end job.now start }
+{
+    match job.seconds {
+        Some(seconds) => start + seconds.get(),
+        None => FOREVER,
+    }
+}
+
+// Whether the placement of then can stay.
+fn can_stay(job: &PlanJob, placed: &Placed, same: &NodeSeconds, now: u64, horizon: u64) -> bool
+    requires nodes { All (λ node. node < length same.now.seconds.items) job.now.nodes }
+    requires low { horizon ≤ LAST_START }
+    ensures { (result ≡ true) ↔ CanStay job.now placed.now same.now.seconds.items now horizon }
+{
+    now <= placed.start
+        && placed.start <= horizon
+        && same.reach(job.nodes.as_slice(), window_end(job, placed.start))
+}
+
+// The placement of then, if there is one and it can stay.
+fn stay(
+    alloc: Global,
+    before: Option<&Placed>,
+    job: &PlanJob,
+    same: &NodeSeconds,
+    now: u64,
+    horizon: u64,
+) -> Result<Option<Placed>, Memory>
+    requires nodes { All (λ node. node < length same.now.seconds.items) job.now.nodes }
+    requires low { horizon ≤ LAST_START }
+    ensures some { IfOk result (λ found. IfSome found (λ placed. (option_copied before.entry ≡ Some placed)
+        × CanStay job.now placed same.now.seconds.items now horizon)) }
+    ensures none { IfOk result (λ found. IfNone found (IfSome (option_copied before.entry) (λ placed.
+        ¬ CanStay job.now placed same.now.seconds.items now horizon))) }
+{
+    let Some(placed) = before else {
+        return Ok(None);
+    };
+    if !can_stay(job, placed, same, now, horizon) {
+        return Ok(None);
+    }
+    let placed = placed.copy(alloc)?;
+    Ok(Some(placed))
+}
+
+// The second at which its search begins otherwise.
+fn search_begin(
+    before: Option<&Placed>,
+    job: &PlanJob,
+    no_freer: &NodeSeconds,
+    now: u64,
+    last: u64,
+) -> u64
+    requires nodes { All (λ node. node < length no_freer.now.seconds.items) job.now.nodes }
+    requires low { last ≤ LAST_START }
+    ensures { BeginsAt (option_copied before.entry) job.now no_freer.now.seconds.items now last result }
+{
+    let nodes = job.nodes.as_slice();
+    match before {
+        Some(placed) => {
+            if placed.start <= LAST_START && no_freer.reach(nodes, window_end(job, placed.start)) {
+                placed.start
+            } else {
+                now
+            }
+        }
+        None => {
+            if no_freer.reach(nodes, FOREVER) {
+                last + 1
+            } else {
+                now
+            }
+        }
+    }
+}
+
+/// The placement of the next job, which is the one at its place in the old list.
+pub fn find_there<L>(
+    alloc: Global,
+    old: &Planned,
+    kept: &Kept,
+    planning: &Planning,
+    job: &PlanJob,
+    index: usize,
+    now: u64,
+    steps: &mut Steps<L>,
+) -> Result<Option<Placed>, Memory>
+    requires index { index ≡ planning.now.done }
+    requires now { now ≡ planning.now.moment }
+    requires there { IsThere old.now planning.now job.now }
+    requires begun { HasBegun old.now planning.now kept.now.same.seconds.items kept.now.no_freer.seconds.items }
+    ensures placed { IfOk result (IsNext planning.now) }
+    ensures steps { IsStepped old.now planning.now steps.old steps.new }
+{
+    planner_laws();
+    let horizon = planning.base().horizon;
+    let before = old.placement_of(index);
+    if let Some(placed) = stay(alloc, before, job, &kept.same, now, horizon)? {
+        return Ok(Some(placed));
+    }
+    let begin = search_begin(before, job, &kept.no_freer, now, old.base().horizon);
+    if horizon < begin {
+        return Ok(None);
+    }
+    let placed = planning.search_next(alloc, begin, steps)?;
+    Ok(placed)
+}
