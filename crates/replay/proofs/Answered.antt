@@ -5,6 +5,7 @@ use Rattle.std.proofs.Common.{◌≡◌, ℕ, zero, suc, ◌+◌, ◌-◌, ◌�
 use Rattle.std.proofs.lemmas.Bool.{cases_Bool, leb-true}
 use Rattle.std.specs.List.{list_any}
 use Rattle.replay_plan.specs.declared.submission.Submission.{Submission}
+use Rattle.replay.specs.declared.pace.Pace.{Pace}
 use Rattle.replay.specs.Laws.{EachIsAnswered, MomentsNeverFall}
 use Rattle.replay.specs.Replay.{Standing, begun, cleared, event, events, first_moment, due_round, is_over, is_running, launched, most_events, next_moment, replayed, with_due, with_one, with_round}
 
@@ -37,12 +38,12 @@ few_answers now at (submission ∷ others) = elim (cases_Bool (nat_le submission
 abbrev AreFew : List Submission → Standing → Type 0
 AreFew submissions at = length at.replies ≤ length submissions
 
-few_behind : (interval : ℕ) (submissions : List Submission) (at : Standing) → AreFew submissions at
-    → AreFew submissions (event interval submissions at)
+few_behind : (pace : Pace) (submissions : List Submission) (at : Standing) → AreFew submissions at
+    → AreFew submissions (event pace submissions at)
 unfolding event cleared launched
-few_behind interval submissions at few =
-    let now = next_moment submissions at in
-    let begun = with_round interval (due_round now at) now (cleared now at) in
+few_behind pace submissions at few =
+    let now = next_moment pace submissions at in
+    let begun = with_round pace.reports (due_round now at) now (cleared now at) in
     let more = few_answers now begun (drop (length at.replies) submissions) in
     omega (arith, more, few, length-drop (length at.replies) submissions)
 
@@ -59,23 +60,23 @@ all_answered submissions at few over =
     (first_true (nat_le (length submissions) (length at.replies)) (not at.busy) (not (list_any is_running at.played)) over) in
     omega (arith, few, all)
 
-along : (n interval : ℕ) (submissions : List Submission) (at end : Standing) → AreFew submissions at
-    → events n interval submissions at ≡ Some end → length end.replies ≡ length submissions
-along zero interval submissions at end few is = cc
-along (suc n) interval submissions at end few is = elim (cases_Bool (is_over submissions (event interval submissions at))) [
+along : (n : ℕ) (pace : Pace) (submissions : List Submission) (at end : Standing) → AreFew submissions at
+    → events n pace submissions at ≡ Some end → length end.replies ≡ length submissions
+along zero pace submissions at end few is = cc
+along (suc n) pace submissions at end few is = elim (cases_Bool (is_over submissions (event pace submissions at))) [
   | inl over ↦
-      let here : event interval submissions at ≡ end = cc (rw over at is) in
+      let here : event pace submissions at ≡ end = cc (rw over at is) in
       subst (λ (r : Standing). length r.replies ≡ length submissions) here
-      (all_answered submissions (event interval submissions at) (few_behind interval submissions at few) over)
+      (all_answered submissions (event pace submissions at) (few_behind pace submissions at few) over)
   | inr more ↦
-      along n interval submissions (event interval submissions at) end (few_behind interval submissions at few) (rw more at is)
+      along n pace submissions (event pace submissions at) end (few_behind pace submissions at few) (rw more at is)
 ]
 
 pub each_answered : EachIsAnswered
 unfolding replayed
-each_answered interval submissions s end is =
-    along most_events interval submissions (begun (first_moment submissions) s) end (omega arith) is
+each_answered pace submissions s end is =
+    along most_events pace submissions (begun (first_moment submissions) s) end (omega arith) is
 
 pub never_fall : MomentsNeverFall
 unfolding event cleared launched next_moment
-never_fall interval submissions at = omega arith
+never_fall pace submissions at = omega arith

@@ -1,4 +1,5 @@
 pub mod Answered
+pub mod Called
 pub mod Due
 pub mod Events
 pub mod Reported

@@ -1,5 +1,5 @@
 -- The numbers of the daemons' reports along a replay.
-use Rattle.std.proofs.Common.{◌≡◌, ℕ, zero, suc, ◌+◌, ◌<◌, ◌≤◌, ◌^◌, Bool, true, false, if◌then◌else◌, List, [], ◌∷◌, refl, ap, sym, subst, ◌∙◌, arith, All}
+use Rattle.std.proofs.Common.{◌≡◌, ℕ, zero, suc, ◌+◌, ◌<◌, ◌≤◌, ◌^◌, Bool, true, false, if◌then◌else◌, List, [], ◌∷◌, refl, ap, sym, subst, ◌∙◌, arith, All, slice_get}
 use Rattle.std.specs.List.{filter_map, cons_option, list_any}
 use Rattle.std.proofs.lemmas.List.Elements.{All-nil, All-head, All-tail, All-cons, All-weaker}
 use Rattle.reply_data.specs.declared.reply.Reply.{Reply}
@@ -10,11 +10,11 @@ use Rattle.request_data.specs.declared.report.Start.{Start}
 use Rattle.ctl_state.specs.State.{State}
 use Rattle.node_daemon.specs.Daemon.{Daemon, is_among, polled, started}
 use Rattle.node_daemon.specs.Turn.{after_reply, report_at, root}
-use Rattle.replay.specs.Replay.{HaveReported, IsFew, has_ended, played_behind_round, played_behind_several, played_behind_turn, played_of, state_behind_several, state_behind_turn, told, turns_of}
+use Rattle.replay.specs.Replay.{HaveReported, IsFew, called_from, called_one, has_ended, played_behind_call, played_behind_round, played_behind_several, played_behind_turn, played_of, nodes_asked, rows_of, state_behind_several, state_behind_turn, told, turns_of}
 use Rattle.replay.specs.declared.played.Played.{Played}
 use Rattle.replay.specs.declared.played.Run.{Run}
 use Rattle.replay.specs.declared.turns.Round.{Round}
-use Rattle.replay.specs.declared.turns.Round.TheVariants.{Each, Ending, Others}
+use Rattle.replay.specs.declared.turns.Round.TheVariants.{Called, Each, Ending, Others}
 
 number_kept : (now : ℕ) (reply : Reply) (daemon : Daemon)
     → (after_reply now reply (polled now daemon)).number ≡ daemon.number + 1
@@ -49,6 +49,7 @@ pub few_turns : (round : Round) (now : ℕ) (ended : List Start) (one : Played) 
     → turns_of round now ended one ≤ 2
 few_turns (Each n) now ended one few = few
 few_turns Ending now ended one few = one_or_none (list_any (has_ended now) one.runs)
+few_turns Called now ended one few = one_or_none one.called
 few_turns Others now ended one few = two_or_none (list_any (λ (run : Run). is_among ended run.start) one.runs)
 
 -- what holds of a number and of both behind it, if it holds of that of a daemon, holds behind a round
@@ -108,6 +109,32 @@ room_behind_thrice due now ended s t u p0 p1 p2 p3 few first second third all =
     (room_behind 6 4 Others now ended t p1 p2 (omega arith) tt second
     (room_behind 8 6 Ending now ended s p0 p1 (omega arith) tt first all))
 
+-- what holds of the numbers of reports does so of those that are called
+called_kept : (P : ℕ → Type 0) (rows : List Row) (place : ℕ) (played : List Played)
+    → All (λ (one : Played). P one.daemon.number) played
+    → All (λ (one : Played). P one.daemon.number) (called_from rows place played)
+called_kept P rows place [] all = all
+called_kept P rows place (one ∷ others) all =
+    let Now = λ (d : Played). P d.daemon.number in
+    All-cons Now (called_one (slice_get rows place) one) (called_from rows (place + 1) others)
+    (All-head Now one others all) (called_kept P rows (place + 1) others (All-tail Now one others all))
+
+call_kept : (P : ℕ → Type 0) (round : Round) (now : ℕ) (s : State) (played : List Played)
+    → All (λ (one : Played). P one.daemon.number) played
+    → All (λ (one : Played). P one.daemon.number) (played_behind_call round now s played)
+call_kept P Called now s played all = called_kept P (rows_of (told root now nodes_asked s)) 0 played all
+call_kept P round now s played all = all
+
+pub room_called : (m : ℕ) (round : Round) (now : ℕ) (s : State) (played after : List Played)
+    → after ≡ played_behind_call round now s played → HaveRoom m played → HaveRoom m after
+room_called m round now s played after is all =
+    subst (HaveRoom m) (sym is) (call_kept (λ k. k + m < 2 ^ 64) round now s played all)
+
+pub reported_called : (n : ℕ) (round : Round) (now : ℕ) (s : State) (played after : List Played)
+    → after ≡ played_behind_call round now s played → HaveReported n played → HaveReported n after
+reported_called n round now s played after is all =
+    subst (HaveReported n) (sym is) (call_kept (λ k. k ≤ n) round now s played all)
+
 pub few_reports : (n : ℕ) (played : List Played) → n + 8 < 2 ^ 64 → HaveReported n played → HaveRoom 8 played
 few_reports n played few all =
     All-weaker (λ (d : Played). d.daemon.number ≤ n) (λ (d : Played). d.daemon.number + 8 < 2 ^ 64)
@@ -120,6 +147,6 @@ new_daemons (row ∷ rows) = by row (new_daemons rows) where
   by : (row : Row) → HaveReported 0 (filter_map played_of rows)
       → HaveReported 0 (cons_option (played_of row) (filter_map played_of rows))
   by (Node node) others =
-      All-cons (λ (d : Played). d.daemon.number ≤ 0) (record { daemon = started node.name 1; runs = []; launched = [] })
+      All-cons (λ (d : Played). d.daemon.number ≤ 0) (record { daemon = started node.name 1; runs = []; launched = []; called = false })
       (filter_map played_of rows) (omega arith) others
   by other others = others

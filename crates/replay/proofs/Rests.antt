@@ -5,19 +5,20 @@ use Rattle.replay_plan.specs.declared.submission.Submission.{Submission}
 use Rattle.replay.specs.Replay.{Progress, Standing, events, leads_to, standing}
 use Rattle.replay.specs.Resting.{Stopped, Stops, rested}
 use Rattle.replay.specs.declared.handing.Course.{Course}
+use Rattle.replay.specs.declared.pace.Pace.{Pace}
 use Rattle.replay.specs.declared.played.Played.{Played}
 use Rattle.replay.specs.declared.replaying.Rest.{Rest}
 use Rattle.replay.specs.declared.replaying.Stop.{Stop}
 
 -- from where it stopped it leads to where it did before
-pub from_stop : (interval : ℕ) (submissions : List Submission) (rest : Option Rest) (s s' : State) (entries : ℕ)
+pub from_stop : (pace : Pace) (submissions : List Submission) (rest : Option Rest) (s s' : State) (entries : ℕ)
     (progress : Progress) (old new : List Played) (course : Course) (stopped : Option Stop) (stop : Stop)
     → progress.over ≡ false → old ≡ progress.played → stopped ≡ Some stop
-    → Stopped interval submissions rest (events progress.left interval submissions (standing s old progress.course)) s' entries new course stopped
-    → leads_to interval submissions s' (rested new course stop) ≡ leads_to interval submissions s progress
+    → Stopped pace submissions rest (events progress.left pace submissions (standing s old progress.course)) s' entries new course stopped
+    → leads_to pace submissions s' (rested new course stop) ≡ leads_to pace submissions s progress
 unfolding leads_to
-from_stop interval submissions rest s s' entries progress old new course stopped stop more same is stops =
-    let end : Option Standing = events progress.left interval submissions (standing s old progress.course) in
-    let Ends : Option Stop → Type 0 = λ o. Stopped interval submissions rest end s' entries new course o in
-    let at_stop : Stops interval submissions rest end s' entries new course stop = subst Ends is stops in
+from_stop pace submissions rest s s' entries progress old new course stopped stop more same is stops =
+    let end : Option Standing = events progress.left pace submissions (standing s old progress.course) in
+    let Ends : Option Stop → Type 0 = λ o. Stopped pace submissions rest end s' entries new course o in
+    let at_stop : Stops pace submissions rest end s' entries new course stop = subst Ends is stops in
     at_stop.leads ∙ rw (more, same) refl

@@ -51,9 +51,9 @@ pub played_told : (old new : Seat) (now : ℕ) (one : Played) (daemon : Daemon) 
     → IsTold old new now root (report_at now one.daemon) reply → daemon ≡ after_reply now reply (polled now one.daemon)
     → runs ≡ runs_left now reply one.runs ++ runs_ordered now reply
     → launched ≡ one.launched ++ runs_ordered now reply
-    → record { daemon = daemon; runs = runs; launched = launched } ≡ played_behind_turn now (state_of old) one
+    → record { daemon = daemon; runs = runs; launched = launched; called = one.called } ≡ played_behind_turn now (state_of old) one
 played_told old new now one daemon runs launched reply is daemon_is runs_are launched_are =
-    let With : Daemon → List Run → List Run → Played = λ d r l. record { daemon = d; runs = r; launched = l } in
+    let With : Daemon → List Run → List Run → Played = λ d r l. record { daemon = d; runs = r; launched = l; called = one.called } in
     ap (λ d. With d runs launched) daemon_is
     ∙ ap (λ r. With (after_reply now reply (polled now one.daemon)) r launched) runs_are
     ∙ ap (With (after_reply now reply (polled now one.daemon)) (runs_left now reply one.runs ++ runs_ordered now reply)) launched_are

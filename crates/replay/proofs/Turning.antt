@@ -27,7 +27,7 @@ pub turns_begin : (round : Round) (now : ℕ) (ended : List Start) (s : State) (
 turns_begin round now ended s daemons = record { state = refl; done = refl; left = refl }
 
 -- the first of those that are left
-first_left : (was daemons : List Played) (place : ℕ) (default : Played) → place < length daemons
+pub first_left : (was daemons : List Played) (place : ℕ) (default : Played) → place < length daemons
     → drop place daemons ≡ drop place was
     → drop place was ≡ get_or daemons place default ∷ drop (place + 1) daemons
 first_left was daemons place default within left =
@@ -38,7 +38,7 @@ tail_is : {X : Type 0} (x y : X) (xs ys : List X) → x ∷ xs ≡ y ∷ ys → 
 tail_is x y xs ys e = cc
 
 -- those behind it, before and now
-others_left : (was daemons : List Played) (place : ℕ) (default : Played) → place < length daemons
+pub others_left : (was daemons : List Played) (place : ℕ) (default : Played) → place < length daemons
     → place < length was
     → drop place daemons ≡ drop place was → drop (place + 1) daemons ≡ drop (place + 1) was
 others_left was daemons place default within there left =

@@ -1,7 +1,7 @@
 //! What is asked at the desk of a replay.
 
 ghost use Rattle.std.specs.Prelude.{◌≡◌, IfOk, OnOk};
-ghost use Rattle.request_data.specs.declared.request.Request.TheVariants.{Pass};
+ghost use Rattle.request_data.specs.declared.request.Request.TheVariants.{Pass, Show};
 ghost use Rattle.ctl_desk.specs.Desk.{history_of, sight_of, state_of};
 ghost use Rattle.ctl_desk.specs.History.{IsHistory};
 ghost use Rattle.node_daemon.specs.Turn.{root};
@@ -12,6 +12,7 @@ use ctl_desk::laws::answers_follow_at_a_desk_of_its_own;
 use ctl_desk::own_desk::OwnDesk;
 use node_daemon::root;
 use reply_data::reply::Reply;
+use request_data::query::Query;
 use request_data::request::Request;
 use resource_profile::{Plain, Steps};
 use small_texts::memory_error::Memory;
@@ -55,6 +56,14 @@ pub(crate) fn ask_as_root(
 {
     let root = root(alloc)?;
     ask(desk, now, &root, request)
+}
+
+/// Asks as root what a query shows.
+pub fn look(alloc: Global, desk: &mut OwnDesk, now: u64, query: Query) -> Result<Reply, Memory>
+    ensures reply { IfOk result (λ reply. reply ≡ told root now (Show query) (state_of desk.old)) }
+    ensures state { OnOk result (state_of desk.new ≡ behind root now (Show query) (state_of desk.old)) }
+{
+    ask_as_root(alloc, desk, now, Request::Show(query))
 }
 
 /// Makes a pass as root.

@@ -9,10 +9,12 @@ ghost use Rattle.node_daemon.specs.Turn.{root};
 ghost use Rattle.replay.specs.declared.handing.Course.{Course};
 ghost use Rattle.replay.specs.declared.played.Played.{Played};
 ghost use Rattle.replay.specs.declared.turns.Round.{Round};
-ghost use Rattle.replay.specs.Replay.{HaveReported, IsFew, cleared, event, due_round, is_busy, is_over, is_running, launched, least_end, next_moment, next_submission, passed, put_off, round_behind, standing, told, turned, with_round};
+ghost use Rattle.replay.specs.Replay.{HaveReported, IsFew, at_latest, cleared, event, due_round, is_busy, is_over, is_running, launched, least_end, next_moment, next_submission, passed, put_off, round_behind, standing, told, turned, with_round};
 
 use crate::asking::pass;
+use crate::calling::call;
 use crate::handing::{Course, hand_in, rest_of};
+use crate::pace::Pace;
 use crate::played::{Played, ended_starts, is_running, least};
 use crate::turns::{Round, turn_all};
 use ctl_desk::own_desk::OwnDesk;
@@ -45,7 +47,7 @@ fn round_behind(reply: &Reply) -> Round
             if *ended > 0 {
                 Round::Each(2)
             } else if *started > 0 {
-                Round::Each(1)
+                Round::Called
             } else {
                 Round::Each(0)
             }
@@ -85,7 +87,7 @@ fn put_off(interval: u64, round: Round, now: u64, round_at: u64) -> u64
                 round_at
             }
         }
-        Round::Ending | Round::Others => round_at,
+        Round::Ending | Round::Others | Round::Called => round_at,
     }
 }
 
@@ -131,12 +133,21 @@ fn waiting<'a>(submissions: &'a [Submission], course: &Course) -> &'a [Submissio
     rest_of(submissions, course.replies.len())
 }
 
+// When an event comes at the latest.
+fn at_latest(pace: Pace, course: &Course) -> u64
+    ensures { result ≡ at_latest pace course.now.moment course.now.round_at }
+{
+    course
+        .round_at
+        .min(course.moment.saturating_add(pace.passes))
+}
+
 // The moment of the next event.
 #[tactic(auto, unfolding(crate::specs::Replay::next_moment))]
-fn next_moment(submissions: &[Submission], played: &[Played], course: &Course) -> u64
-    ensures { (s : State) → result ≡ next_moment submissions.now (standing s played.now course.now) }
+fn next_moment(pace: Pace, submissions: &[Submission], played: &[Played], course: &Course) -> u64
+    ensures { (s : State) → result ≡ next_moment pace submissions.now (standing s played.now course.now) }
 {
-    let least = least_end(course.round_at, played);
+    let least = least_end(at_latest(pace, course), played);
     next_submission(least, waiting(submissions, course)).max(course.moment)
 }
 
@@ -183,45 +194,46 @@ fn launch(
     desk: &mut OwnDesk,
     now: u64,
     steps: &mut Steps<Plain>,
-    interval: u64,
+    pace: Pace,
     played: &mut [Played],
     course: &mut Course,
 ) -> Result<(), Memory>
     requires { All (λ (one : Played). one.daemon.number + 2 < 2 ^ 64) played.old }
     ensures launched { OnOk result (standing (state_of desk.new) played.new course.new
-        ≡ launched interval now (standing (state_of desk.old) played.old course.old)) }
+        ≡ launched pace now (standing (state_of desk.old) played.old course.old)) }
     ensures reported { OnOk result ((n : ℕ) → HaveReported n played.old → HaveReported (n + 2) played.new) }
 {
     let round = make_pass(alloc, desk, now, steps, course)?;
+    call(alloc, desk, now, round, played)?;
     turn_all(alloc, desk, now, round, &[], played)?;
-    note_round(interval, round, now, course);
+    note_round(pace.reports, round, now, course);
     Ok(())
 }
 
-/// An event: ends are told, what is due is handed in, a pass is made, and what it started is launched. It costs a pass, and
-/// the reports of the daemons that have something to tell; of all of them where one of these is due, or where the pass started
-/// something.
+/// An event: ends are told, what is due is handed in, a pass is made, and what it started is launched. It costs a pass, the
+/// reports of the daemons that have something to tell or to launch, and a look at the nodes where the pass started something;
+/// the reports of all daemons where these are due, or where the pass ended something.
 #[tactic(auto, unfolding(crate::specs::Replay::event))]
 pub(crate) fn make_event(
     alloc: Global,
     desk: &mut OwnDesk,
     steps: &mut Steps<Plain>,
-    interval: u64,
+    pace: Pace,
     submissions: &[Submission],
     played: &mut [Played],
     course: &mut Course,
 ) -> Result<(), Memory>
     requires { All (λ (one : Played). one.daemon.number + 8 < 2 ^ 64) played.old }
     ensures event { OnOk result (standing (state_of desk.new) played.new course.new
-        ≡ event interval submissions.now (standing (state_of desk.old) played.old course.old)) }
+        ≡ event pace submissions.now (standing (state_of desk.old) played.old course.old)) }
     ensures reported { OnOk result ((n : ℕ) → HaveReported n played.old → HaveReported (n + 8) played.new) }
 {
-    let now = next_moment(submissions, played, course);
+    let now = next_moment(pace, submissions, played, course);
     let left = waiting(submissions, course);
     let round = due_round(now, course);
     clear(alloc, desk, now, played, course)?;
-    note_round(interval, round, now, course);
+    note_round(pace.reports, round, now, course);
     hand_in(desk, now, left, course)?;
-    launch(alloc, desk, now, steps, interval, played, course)?;
+    launch(alloc, desk, now, steps, pace, played, course)?;
     Ok(())
 }

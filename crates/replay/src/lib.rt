@@ -3,13 +3,17 @@
 #![tactic(auto)]
 
 mod asking;
+mod calling;
 mod event;
 mod handing;
 pub mod laws;
 mod nodes;
+mod pace;
 mod played;
 mod replaying;
 mod turns;
 
+pub use asking::look;
+pub use pace::Pace;
 pub use played::{Played, Run};
 pub use replaying::{ReplayRefusal, Replayed, Replaying, Rest, begin, finish, go_on, replay};

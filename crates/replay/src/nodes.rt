@@ -36,6 +36,7 @@ fn played_of(alloc: Global, row: &Row) -> Result<Option<Played>, Memory>
             daemon: DaemonState::new(alloc, &node.name, 1)?,
             runs: Items::from_vec(Vec::new(alloc)),
             launched: Items::from_vec(Vec::new(alloc)),
+            called: false,
         })),
         _ => Ok(None),
     }

@@ -33,6 +33,8 @@ pub struct Played {
     pub runs: Items<Run>,
     /// All that it was ever ordered to launch, in this order.
     pub launched: Items<Run>,
+    /// Whether the controller held other processors of its node than it ran on, when that was looked at last.
+    pub called: bool,
 }
 
 fn end_of(now: u64, launch: &Launch) -> Option<u64>

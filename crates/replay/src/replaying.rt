@@ -3,6 +3,7 @@
 ghost use Rattle.std.specs.Prelude.{◌≡◌, ◌≤◌, ◌-◌, ◌*◌, ◌||◌, ℕ, None, true, length, IfOk, IsErrOf, IsSomeAnd};
 ghost use Rattle.ctl_desk.specs.Desk.{seen, sight_of, state_of};
 ghost use Rattle.node_daemon.specs.Turn.{root};
+ghost use Rattle.replay.specs.declared.pace.Pace.{Pace};
 ghost use Rattle.replay.specs.Replay.{HaveReported, events, first_moment, jobs_asked, leads_to, may_rest, most_events, replayed, standing, told};
 ghost use Rattle.replay.specs.Resting.{Stopped};
 
@@ -10,6 +11,7 @@ use crate::asking::ask_as_root;
 use crate::event::{is_over, make_event};
 use crate::handing::Course;
 use crate::nodes::start_daemons;
+use crate::pace::Pace;
 use crate::played::Played;
 use ctl_desk::desk::Desk;
 use ctl_desk::own_desk::OwnDesk;
@@ -144,7 +146,7 @@ fn make_events(
     alloc: Global,
     desk: &mut OwnDesk,
     steps: &mut Steps<Plain>,
-    interval: u64,
+    pace: Pace,
     submissions: &[Submission],
     rest: Option<Rest>,
     left: u32,
@@ -153,11 +155,11 @@ fn make_events(
 ) -> Result<Option<Stop>, Memory>
     requires few { left ≤ most_events }
     requires reported { HaveReported (8 * (most_events - left)) played.old }
-    ensures { IfOk result (Stopped interval submissions.now rest (events left interval submissions.now (standing (state_of desk.old) played.old course.old))
+    ensures { IfOk result (Stopped pace submissions.now rest (events left pace submissions.now (standing (state_of desk.old) played.old course.old))
         (state_of desk.new) (length (seen (sight_of desk.new))) played.new course.new) }
 {
     for count in 0..left {
-        make_event(alloc, desk, steps, interval, submissions, played, course)?;
+        make_event(alloc, desk, steps, pace, submissions, played, course)?;
         let over = is_over(submissions, played, course);
         if stops(desk, course, rest, over) {
             let left = left - count - 1;
@@ -173,8 +175,8 @@ pub fn begin(
     submissions: &[Submission],
     desk: &mut OwnDesk,
 ) -> Result<Replaying, Memory>
-    ensures { IfOk result (λ replaying. (interval : ℕ) → leads_to interval submissions.now (state_of desk.new) replaying
-        ≡ replayed interval submissions.now (state_of desk.old)) }
+    ensures { IfOk result (λ replaying. (pace : Pace) → leads_to pace submissions.now (state_of desk.new) replaying
+        ≡ replayed pace submissions.now (state_of desk.old)) }
 {
     let now = first_moment(submissions);
     let played = start_daemons(alloc, desk, now)?;
@@ -196,18 +198,18 @@ pub fn begin(
 #[tactic(auto, unfolding(crate::specs::Replay::leads_to))]
 pub fn go_on(
     alloc: Global,
-    interval: u64,
+    pace: Pace,
     submissions: &[Submission],
     rest: Option<Rest>,
     desk: &mut OwnDesk,
     steps: &mut Steps<Plain>,
     replaying: Replaying,
 ) -> Result<Replaying, ReplayRefusal>
-    ensures leads { IfOk result (λ after. leads_to interval submissions.now (state_of desk.new) after
-        ≡ leads_to interval submissions.now (state_of desk.old) replaying) }
+    ensures leads { IfOk result (λ after. leads_to pace submissions.now (state_of desk.new) after
+        ≡ leads_to pace submissions.now (state_of desk.old) replaying) }
     ensures rests { IfOk result (λ after.
         (after.over || may_rest rest after.course.moment (length (seen (sight_of desk.new)))) ≡ true) }
-    ensures spent { IsErrOf result ReplayRefusal.Spent → leads_to interval submissions.now (state_of desk.old) replaying ≡ None }
+    ensures spent { IsErrOf result ReplayRefusal.Spent → leads_to pace submissions.now (state_of desk.old) replaying ≡ None }
 {
     if replaying.over {
         return Ok(replaying);
@@ -222,7 +224,7 @@ pub fn go_on(
         alloc,
         desk,
         steps,
-        interval,
+        pace,
         submissions,
         rest,
         left,
@@ -263,24 +265,24 @@ pub fn finish(alloc: Global, desk: &mut OwnDesk, replaying: Replaying) -> Result
 }
 
 /// Hands in what a plan says at a desk that nobody else asks, each at its moment, while the daemons of the cluster's nodes
-/// run what they are ordered for as long as it ran. A pass is made whenever a job is handed in or ends by itself, and all
-/// daemons report when they did so many seconds before, with a pass behind that. It is over when all were handed in, nothing runs, and a pass had
+/// run what they are ordered for as long as it ran. A pass is made whenever a job is handed in or ends by itself, when all
+/// daemons report, and so many seconds behind the last pass at the latest. It is over when all were handed in, nothing runs, and a pass had
 /// nothing to start or to plan. The submissions are in the order of their moments. The desk is left with the state of the
 /// last event, and keeps what was entered, also after a refusal (own).
 #[tactic(auto, unfolding(crate::specs::Replay::leads_to))]
 pub fn replay(
     alloc: Global,
-    interval: u64,
+    pace: Pace,
     submissions: &[Submission],
     desk: &mut OwnDesk,
     steps: &mut Steps<Plain>,
 ) -> Result<Replayed, ReplayRefusal>
-    ensures replies { IfOk result (λ end. IsSomeAnd (replayed interval submissions.now (state_of desk.old))
+    ensures replies { IfOk result (λ end. IsSomeAnd (replayed pace submissions.now (state_of desk.old))
         (λ at. (end.replies.items ≡ at.replies) × (end.moment ≡ at.moment) × (end.played.items ≡ at.played) × (end.shown ≡ told root at.moment jobs_asked at.state))) }
-    ensures spent { IsErrOf result ReplayRefusal.Spent → replayed interval submissions.now (state_of desk.old) ≡ None }
+    ensures spent { IsErrOf result ReplayRefusal.Spent → replayed pace submissions.now (state_of desk.old) ≡ None }
 {
     let begun = begin(alloc, submissions, desk)?;
-    let over = go_on(alloc, interval, submissions, None, desk, steps, begun)?;
+    let over = go_on(alloc, pace, submissions, None, desk, steps, begun)?;
     let end = finish(alloc, desk, over)?;
     Ok(end)
 }

@@ -27,6 +27,8 @@ pub(crate) enum Round {
     Ending,
     /// Those that run what has ended elsewhere have two.
     Others,
+    /// Those that were called have one.
+    Called,
 }
 
 // Lets go of an answer.
@@ -92,6 +94,13 @@ fn turns_where_left(ended: &[Start], runs: &[Run]) -> u8
     if is_any_among(ended, runs) { 2 } else { 0 }
 }
 
+// The turns of a daemon that may be called.
+fn turns_where_called(called: bool) -> u8
+    ensures { result ≡ (if called then 1 else 0) }
+{
+    if called { 1 } else { 0 }
+}
+
 // How many turns a daemon has in a round.
 fn turns_of(round: Round, now: u64, ended: &[Start], one: &Played) -> u8
     ensures { result ≡ turns_of round now ended.now one.now }
@@ -100,6 +109,7 @@ fn turns_of(round: Round, now: u64, ended: &[Start], one: &Played) -> u8
         Round::Each(count) => count,
         Round::Ending => turns_where_ended(now, one.runs.as_slice()),
         Round::Others => turns_where_left(ended, one.runs.as_slice()),
+        Round::Called => turns_where_called(one.called),
     }
 }
 

@@ -1,15 +1,16 @@
 //! The records of jobs that have ended, gathered before the controller forgets them.
 
-use ctl_desk::desk::Desk;
+ghost use Rattle.std.specs.Prelude.{OnOk};
+ghost use Rattle.ctl_desk.specs.Desk.{state_of};
+ghost use Rattle.replay_run.specs.Replays.{WasLookedAt};
+
 use ctl_desk::own_desk::OwnDesk;
 use plain_data::items::Items;
-use replay::Replayed;
+use replay::{self, Replayed};
 use reply_data::reply::Reply;
 use reply_data::view::{JobRow, Row, View};
 use request_data::query::{JobQuery, Query, StateCode, Who};
-use request_data::request::Request;
 use small_texts::memory_error::Memory;
-use small_texts::name::Name;
 use std::alloc::Global;
 use std::collections::HashMap;
 
@@ -32,11 +33,12 @@ fn ended_states(alloc: Global) -> Result<Items<StateCode>, Memory> {
 
 // The query of all jobs that have ended.
 fn ended_jobs(alloc: Global) -> Result<JobQuery, Memory> {
+    let states = ended_states(alloc)?;
     Ok(JobQuery {
         who: Who::Anyone,
         jobs: None,
         partition: None,
-        states: Some(ended_states(alloc)?),
+        states: Some(states),
         titles: false,
         starts: false,
         format: None,
@@ -83,16 +85,27 @@ impl Records {
         }
     }
 
-    // All of them, in the order in which the jobs were taken.
-    fn in_order(&self, alloc: Global, replies: &[Reply]) -> Result<Vec<Row>, Memory> {
-        let mut rows = Vec::with_capacity(alloc, replies.len())?;
+    // Copies them, in the order in which the jobs were taken.
+    fn push_in_order(&self, rows: &mut Vec<Row>, replies: &[Reply]) -> Result<(), Memory> {
         for reply in replies {
             if let Some(row) = self.record_told(reply) {
                 rows.push(Row::Job(row.copy()?))?;
             }
         }
-        Ok(rows)
+        Ok(())
     }
+}
+
+/// Looks at a desk at what a query shows.
+pub(crate) fn look(
+    alloc: Global,
+    desk: &mut OwnDesk,
+    moment: u64,
+    query: Query,
+) -> Result<Reply, Memory>
+    ensures { OnOk result (WasLookedAt (state_of desk.old) (state_of desk.new)) }
+{
+    replay::look(alloc, desk, moment, query)
 }
 
 /// Gathers the records of the jobs at a desk that have ended: of those that are gathered already nothing changes.
@@ -101,25 +114,24 @@ pub(crate) fn gather(
     desk: &mut OwnDesk,
     moment: u64,
     records: &mut Records,
-) -> Result<(), Memory> {
-    let Ok(root) = Name::read(alloc, b"root") else {
-        return Err(Memory);
-    };
+) -> Result<(), Memory>
+    ensures { OnOk result (WasLookedAt (state_of desk.old) (state_of desk.new)) }
+{
     let query = Query::Squeue(ended_jobs(alloc)?);
-    let answer = desk.ask(moment, &root, Request::Show(query))?;
-    records.take_shown(&answer.reply)
+    let reply = look(alloc, desk, moment, query)?;
+    records.take_shown(&reply)
 }
 
-/// Puts the records that were gathered among those that a replay shows at its end.
-pub(crate) fn show_all(
+/// The records of all jobs of a replay: those that were gathered, and those that it shows at its end.
+pub(crate) fn all_shown(
     alloc: Global,
-    end: &mut Replayed,
+    end: &Replayed,
     records: &mut Records,
-) -> Result<(), Memory> {
+) -> Result<Reply, Memory> {
     records.take_shown(&end.shown)?;
-    let rows = records.in_order(alloc, end.replies.as_slice())?;
-    end.shown = Reply::Shown(View {
+    let mut rows = Vec::new(alloc);
+    records.push_in_order(&mut rows, end.replies.as_slice())?;
+    Ok(Reply::Shown(View {
         rows: Items::from_vec(rows),
-    });
-    Ok(())
+    }))
 }

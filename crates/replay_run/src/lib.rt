@@ -5,9 +5,11 @@ mod gathering;
 mod picture;
 mod refusal;
 mod reporting;
+mod watching;
 mod words;
 mod working;
 
 pub use refusal::RunRefusal;
 pub use reporting::{Report, Texts, make_report};
+pub use watching::{Progress, Unwatched, Watch};
 pub use words::{USAGE, Wanted, WordFault, wanted_in};

@@ -1,5 +1,8 @@
 //! Why a run gives no text.
 
+ghost use Rattle.std.specs.Prelude.{◌≡◌};
+ghost use Rattle.trace_text.specs.declared.fault.TraceRefusal.{TraceRefusal};
+
 use cluster_opening::ClusterRefusal;
 use small_texts::memory_error;
 use std::fmt;
@@ -23,6 +26,37 @@ impl From<memory_error::Memory> for RunRefusal {
 
     fn from(_error: memory_error::Memory) -> RunRefusal {
         RunRefusal::Memory
+    }
+}
+
+/// Why a trace that was read gives no text.
+#[derive(Clone, Copy)]
+pub(crate) enum WorkRefusal {
+    BadCluster(ClusterRefusal),
+    /// The replay isn't over behind the last event that it may have.
+    Spent,
+    Memory,
+}
+
+impl From<memory_error::Memory> for WorkRefusal {
+    ghost use Rattle.std.specs.Prelude.{◌≡◌};
+    ghost use Rattle.replay_run.specs.declared.refusal.WorkRefusal.TheVariants.{Memory};
+
+    ghost from_gives = { λ _ e. e ≡ Memory };
+
+    fn from(_error: memory_error::Memory) -> WorkRefusal {
+        WorkRefusal::Memory
+    }
+}
+
+/// Why a run gives none, where its trace was read.
+pub(crate) fn of_work(refusal: WorkRefusal) -> RunRefusal
+    ensures { (bad : TraceRefusal) → result ≡ RunRefusal.BadTrace bad → ⊥ }
+{
+    match refusal {
+        WorkRefusal::BadCluster(refusal) => RunRefusal::BadCluster(refusal),
+        WorkRefusal::Spent => RunRefusal::Spent,
+        WorkRefusal::Memory => RunRefusal::Memory,
     }
 }
 

@@ -9,9 +9,6 @@ use trace_text::TraceKind;
 pub const USAGE: &str =
     "usage: slurm_replay -f CONF -a ASSOC [--swf] [--interval SECONDS] [--add-users] [--csv] [--compare-conf CONF] [--compare-assoc ASSOC] [--most JOBS] [--svg FILE] [--compare-svg FILE] TRACE";
 
-/// How many seconds lie between two passes at the most, where the words don't say.
-const USUAL_INTERVAL: u64 = 30;
-
 /// How many jobs a comparison lists that wait less, and that wait more, where the words don't say.
 const USUAL_MOST: u64 = 10;
 
@@ -22,8 +19,8 @@ pub struct Wanted<'a> {
     pub assocs: &'a str,
     pub trace: &'a str,
     pub kind: TraceKind,
-    /// The most seconds between two passes.
-    pub interval: u64,
+    /// The most seconds between two passes, where they are given.
+    pub interval: Option<u64>,
     pub taken: TakenNames,
     /// Whether users and accounts of the trace are made that the association file lacks.
     pub add_users: bool,
@@ -234,14 +231,14 @@ fn is_compared(draft: &Draft<'_>) -> bool {
     draft.other_conf.is_some() || draft.other_assocs.is_some()
 }
 
-// The number that was said, or what is usual.
-fn number_or(said: Option<&str>, usual: u64) -> Result<u64, WordFault<'_>> {
+// The number that was said, if one was.
+fn number_said(said: Option<&str>) -> Result<Option<u64>, WordFault<'_>> {
     match said {
         Some(text) => match parse_number(text.as_bytes(), 9, 999_999_999) {
-            Some(number) => Ok(number),
+            Some(number) => Ok(Some(number)),
             None => Err(WordFault::BadNumber(text)),
         },
-        None => Ok(usual),
+        None => Ok(None),
     }
 }
 
@@ -259,8 +256,8 @@ pub fn wanted_in(words: &[String]) -> Result<Wanted<'_>, WordFault<'_>> {
     let conf = needed(draft.conf, "-f")?;
     let assocs = needed(draft.assocs, "-a")?;
     let trace = needed(draft.trace, "TRACE")?;
-    let interval = number_or(draft.interval, USUAL_INTERVAL)?;
-    let most = number_or(draft.most, USUAL_MOST)?;
+    let interval = number_said(draft.interval)?;
+    let most = number_said(draft.most)?.unwrap_or(USUAL_MOST);
     if draft.csv && is_compared(&draft) {
         return Err(WordFault::CsvCompared);
     }
@@ -277,7 +274,7 @@ pub fn wanted_in(words: &[String]) -> Result<Wanted<'_>, WordFault<'_>> {
         } else {
             TraceKind::Sacct
         },
-        interval: interval.max(1),
+        interval,
         taken: TakenNames {
             account: counts,
             partition: counts,

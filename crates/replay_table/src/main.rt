@@ -7,7 +7,7 @@
 mod case;
 
 use case::Case;
-use replay_run::{Texts, make_report, wanted_in};
+use replay_run::{Texts, Unwatched, make_report, wanted_in};
 use std::alloc::{AllocError, Global};
 use std::io;
 
@@ -37,7 +37,7 @@ fn push_case(alloc: Global, out: &mut String, case: &Case<'_>) -> Result<(), All
         other_conf: wanted.other_conf.map(|_| case.other_conf.as_slice()),
         other_assocs: wanted.other_assocs.map(|_| case.other_assocs.as_slice()),
     };
-    match make_report(alloc, &wanted, &texts) {
+    match make_report(alloc, &wanted, &texts, &mut Unwatched) {
         Ok(report) => match std::str::from_utf8(report.text.as_slice()) {
             Ok(text) => out.push_str(text)?,
             Err(_) => writeln!(out, "error: no text")?,

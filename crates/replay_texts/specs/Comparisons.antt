@@ -7,7 +7,7 @@ use Rattle.replay_report.specs.declared.spreads.Spread.{Spread}
 use Rattle.replay_texts.specs.Cells.{hundredths, label, number_cell, permille, right}
 use Rattle.replay_texts.specs.Summaries.{seconds_of, whole_capacity}
 use Rattle.replay_texts.specs.Values.{id_text}
-use Rattle.replay_texts.specs.declared.comparison.Worked.{Worked}
+use Rattle.replay_texts.specs.declared.summary.Worked.{Worked}
 
 -- a title and two cells
 abbrev pub row_of : List ℕ → List ℕ → List ℕ → List ℕ
@@ -69,6 +69,7 @@ unfoldable pub use_rows : Worked → Worked → List ℕ
 use_rows before after =
     row (codes "seconds") (seconds_of before.summary.reach) (seconds_of after.summary.reach)
     ++ row (codes "processors") before.processors after.processors
+    ++ row (codes "passes") before.passes after.passes
     ++ row (codes "cpu seconds") before.summary.sums.used after.summary.sums.used
     ++ share_row (codes "use") (share_of before) (share_of after)
 

@@ -7,6 +7,7 @@ use Rattle.replay_report.specs.declared.summary.Summary.{Summary}
 use Rattle.replay_report.specs.declared.sums.Sums.{Sums}
 use Rattle.replay_texts.specs.Cells.{label, number_cell}
 use Rattle.replay_texts.specs.Groups.{groups_text, sums_cells, titles, use_cells}
+use Rattle.replay_texts.specs.declared.summary.Worked.{Worked}
 
 -- for how many seconds a replay goes on
 abbrev pub seconds_of : Option Reach → ℕ
@@ -23,15 +24,16 @@ counts_text counts =
     ++ label (codes "all") ++ number_cell counts.ran ++ number_cell counts.waits ++ number_cell counts.forgotten
     ++ number_cell counts.refused ++ number_cell counts.left_out ++ codes "\n"
 
-unfoldable pub reach_line : ℕ → Reach → List ℕ
-reach_line processors reach =
-    codes "\nTIME                        FIRST         LAST      SECONDS   PROCESSORS\n"
+-- on a cluster of so many processors, in so many passes
+unfoldable pub reach_line : ℕ → ℕ → Reach → List ℕ
+reach_line processors passes reach =
+    codes "\nTIME                        FIRST         LAST      SECONDS   PROCESSORS       PASSES\n"
     ++ label (codes "all") ++ number_cell reach.first ++ number_cell reach.last
-    ++ number_cell (reach.last - reach.first) ++ number_cell processors ++ codes "\n"
+    ++ number_cell (reach.last - reach.first) ++ number_cell processors ++ number_cell passes ++ codes "\n"
 
-abbrev pub reach_text : ℕ → Option Reach → List ℕ
-reach_text processors (Some reach) = reach_line processors reach
-reach_text processors None = []
+abbrev pub reach_text : ℕ → ℕ → Option Reach → List ℕ
+reach_text processors passes (Some reach) = reach_line processors passes reach
+reach_text processors passes None = []
 
 unfoldable pub sums_text : ℕ → Sums → List ℕ
 sums_text capacity sums = codes "\n" ++ titles (codes "JOBS") ++ label (codes "all") ++ sums_cells capacity sums
@@ -77,8 +79,8 @@ all_sums_text processors summary =
     sums_text (whole_capacity processors summary) summary.sums
     ++ tables_text (whole_capacity processors summary) summary
 
--- on a cluster of so many processors
-unfoldable pub summary_text : ℕ → Summary → List ℕ
-summary_text processors summary =
-    counts_text summary.counts ++ reach_text processors summary.reach ++ all_sums_text processors summary
-    ++ hours_text processors summary.reach summary.hours.items
+unfoldable pub summary_text : Worked → List ℕ
+summary_text worked =
+    counts_text worked.summary.counts ++ reach_text worked.processors worked.passes worked.summary.reach
+    ++ all_sums_text worked.processors worked.summary
+    ++ hours_text worked.processors worked.summary.reach worked.summary.hours.items

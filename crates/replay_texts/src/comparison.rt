@@ -4,19 +4,12 @@ ghost use Rattle.std.specs.Prelude.{◌≡◌, ◌++◌, OnOk, flat_map};
 ghost use Rattle.replay_texts.specs.Comparisons.{change_line, changes_text, comparison_text, count_rows, high_in, hundredths_cell, hundredths_row, known_cell, known_row, mean_in, median_in, row, share_of, share_row, slowdown_rows, use_rows, wait_rows};
 
 use crate::cells::{push_hundredths, push_label, push_number_cell, push_permille, push_right};
-use crate::summary::{capacity_of, seconds_of};
+use crate::summary::{Worked, capacity_of, seconds_of};
 use crate::values::push_id;
-use replay_report::{Change, Counts, Spread, Summary, thousandths};
+use replay_report::{Change, Counts, Spread, thousandths};
 use small_texts::memory_error::Memory;
 use small_texts::pieces::push_text;
 use std::alloc::Global;
-
-/// A replay, and how many processors its cluster has (own).
-#[derive(Debug, Drop)]
-pub struct Worked {
-    pub processors: u64,
-    pub summary: Summary,
-}
 
 fn push_row(out: &mut Vec<u8>, title: &[u8], before: u64, after: u64) -> Result<(), Memory>
     ensures { OnOk result (out.new.items ≡ out.old.items ++ row title.now before after) }
@@ -191,6 +184,7 @@ fn push_uses(
     );
     push_row(out, b"seconds", seconds, later_seconds)?;
     push_row(out, b"processors", before.processors, after.processors)?;
+    push_row(out, b"passes", before.passes, after.passes)?;
     push_row(
         out,
         b"cpu seconds",

@@ -10,6 +10,6 @@ mod groups;
 mod summary;
 mod values;
 
-pub use comparison::{Worked, push_comparison};
+pub use comparison::push_comparison;
 pub use csv::push_csv;
-pub use summary::push_summary;
+pub use summary::{Worked, push_summary};

@@ -14,6 +14,14 @@ use std::alloc::Global;
 /// The seconds of an hour.
 const HOUR: u64 = 3600;
 
+/// A replay, how many processors its cluster has, and how many passes were made in it (own).
+#[derive(Debug, Drop)]
+pub struct Worked {
+    pub processors: u64,
+    pub passes: u64,
+    pub summary: Summary,
+}
+
 /// For how many seconds a replay goes on.
 pub(crate) fn seconds_of(reach: Option<Reach>) -> u64
     ensures { result ≡ seconds_of reach }
@@ -49,27 +57,38 @@ fn push_counts(out: &mut Vec<u8>, counts: Counts) -> Result<(), Memory>
     Ok(())
 }
 
-fn push_reach_line(out: &mut Vec<u8>, processors: u64, reach: Reach) -> Result<(), Memory>
-    ensures { OnOk result (out.new.items ≡ out.old.items ++ reach_line processors reach) }
+fn push_reach_line(
+    out: &mut Vec<u8>,
+    processors: u64,
+    passes: u64,
+    reach: Reach,
+) -> Result<(), Memory>
+    ensures { OnOk result (out.new.items ≡ out.old.items ++ reach_line processors passes reach) }
 {
     push_text(
         out,
-        b"\nTIME                        FIRST         LAST      SECONDS   PROCESSORS\n",
+        b"\nTIME                        FIRST         LAST      SECONDS   PROCESSORS       PASSES\n",
     )?;
     push_label(out, b"all")?;
     push_number_cell(out, reach.first)?;
     push_number_cell(out, reach.last)?;
     push_number_cell(out, seconds_of(Some(reach)))?;
     push_number_cell(out, processors)?;
+    push_number_cell(out, passes)?;
     push_text(out, b"\n")?;
     Ok(())
 }
 
-fn push_reach(out: &mut Vec<u8>, processors: u64, reach: Option<Reach>) -> Result<(), Memory>
-    ensures { OnOk result (out.new.items ≡ out.old.items ++ reach_text processors reach) }
+fn push_reach(
+    out: &mut Vec<u8>,
+    processors: u64,
+    passes: u64,
+    reach: Option<Reach>,
+) -> Result<(), Memory>
+    ensures { OnOk result (out.new.items ≡ out.old.items ++ reach_text processors passes reach) }
 {
     match reach {
-        Some(reach) => push_reach_line(out, processors, reach),
+        Some(reach) => push_reach_line(out, processors, passes, reach),
         None => Ok(()),
     }
 }
@@ -207,25 +226,21 @@ fn push_sum_tables(
     Ok(())
 }
 
-/// Writes the summary of a replay on a cluster of so many processors: how many jobs had which fate, from when to when it
-/// went, the sums over all jobs and by account, partition and quality of service, and the use by hour. An hour counts as
-/// a whole one, also the last.
+/// Writes the summary of a replay: how many jobs had which fate, from when to when it went and in how many passes, the sums
+/// over all jobs and by account, partition and quality of service, and the use by hour. An hour counts as a whole one, also
+/// the last.
 #[tactic(auto, unfolding(crate::specs::Summaries::summary_text))]
-pub fn push_summary(
-    alloc: Global,
-    out: &mut Vec<u8>,
-    processors: u64,
-    summary: &Summary,
-) -> Result<(), Memory>
-    ensures { OnOk result (out.new.items ≡ out.old.items ++ summary_text processors summary.now) }
+pub fn push_summary(alloc: Global, out: &mut Vec<u8>, worked: &Worked) -> Result<(), Memory>
+    ensures { OnOk result (out.new.items ≡ out.old.items ++ summary_text worked.now) }
 {
+    let summary = &worked.summary;
     push_counts(out, summary.counts)?;
-    push_reach(out, processors, summary.reach)?;
-    push_sum_tables(alloc, out, processors, summary)?;
+    push_reach(out, worked.processors, worked.passes, summary.reach)?;
+    push_sum_tables(alloc, out, worked.processors, summary)?;
     push_hours(
         alloc,
         out,
-        processors,
+        worked.processors,
         summary.reach,
         summary.hours.as_slice(),
     )?;

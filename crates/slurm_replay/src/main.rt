@@ -1,9 +1,12 @@
 //! slurm_replay: what a cluster would have done with the jobs that a trace tells of.
 #![tactic(auto)]
 
+mod telling;
+
 use replay_run::{Texts, USAGE, Wanted, make_report, wanted_in};
 use std::process::ExitCode;
 use std::{env, fs, io};
+use telling::Teller;
 
 // The bytes of a file, where one is named.
 fn read_named(rt: &HostRuntime, name: Option<&str>) -> io::Result<Option<Vec<u8>>> {
@@ -46,7 +49,7 @@ fn replay_files(rt: &HostRuntime, wanted: &Wanted<'_>) -> io::Result<u8> {
         other_conf,
         other_assocs,
     };
-    match make_report(rt.alloc(), wanted, &texts) {
+    match make_report(rt.alloc(), wanted, &texts, &mut Teller::new(rt)) {
         Ok(report) => {
             rt.write_all(report.text.as_slice())?;
             write_named(rt, wanted.svg, &report.picture)?;

@@ -6,7 +6,7 @@ use Rattle.replay.proofs.event.make_event.Goals as goal
 
 pub returns-clause-event : goal.returns-clause-event
 returns-clause-event c =
-    event_is c.args.interval c.next_moment-now.result _ c.args.submissions.now c.waiting-left.result.now
+    event_is c.args.pace c.next_moment-now.result _ c.args.submissions.now c.waiting-left.result.now
     (state_of c.args.desk.now) _ _ _ c.args.played.now _ _ c.args.course.now c.note_round.new.course c.hand_in.new.course
     c.launch.new.course (c.next_moment-now.ensures (state_of c.args.desk.now)) c.waiting-left.ensures
     (c.due_round-round.ensures.is (state_of c.args.desk.now) c.args.played.now)

@@ -16,9 +16,9 @@ invariant_of-result c =
     )
 
 pub returns : goal.returns
-returns c = λ interval.
+returns c = λ pace.
     let now = c.first_moment-now.result in
     let course : Course = record { replies = c.new.result; moment = now; busy = false; round_at = now } in
-    begins_there 1000000000 interval _ (state_of c.args.desk.now) _ _ course (sym most_events_is)
+    begins_there 1000000000 pace _ (state_of c.args.desk.now) _ _ course (sym most_events_is)
     (begun_is now _ _ _ _ course c.first_moment-now.ensures c.in_ok-played.ensures.state c.in_ok-played.ensures.played
     c.new.ensures.items refl refl refl)

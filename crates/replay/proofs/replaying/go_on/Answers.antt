@@ -15,9 +15,9 @@ returns-in-Some-clause-leads c =
     let course = c.make_events.new.course in
     let after = state_of c.make_events.new.desk in
     let long : length played ≡ here.played.len = c.make_events.auto.played ∙ c.as_mut_slice.ensures.len in
-    let Leads : List Played → Option Standing = λ ps. leads_to c.args.interval c.args.submissions.now after
+    let Leads : List Played → Option Standing = λ ps. leads_to c.args.pace c.args.submissions.now after
     (record { played = ps; course = course; left = stop.left; over = stop.over }) in
     ap Leads (with_items_is here.played played long)
-    ∙ from_stop c.args.interval c.args.submissions.now c.args.rest (state_of c.args.desk.now) after _ before _ played course _ stop
+    ∙ from_stop c.args.pace c.args.submissions.now c.args.rest (state_of c.args.desk.now) after _ before _ played course _ stop
     c.if-replaying.false c.as_mut_slice.ensures.value c.in-Some.is c.in_ok-stop.ensures
-    ∙ ap (leads_to c.args.interval c.args.submissions.now (state_of c.args.desk.now)) c.replaying.view_is
+    ∙ ap (leads_to c.args.pace c.args.submissions.now (state_of c.args.desk.now)) c.replaying.view_is
