@@ -20,6 +20,7 @@ use ctl_saved::saved;
 use plain_data::assoc::AssocFile;
 use plain_data::conf::Conf;
 use saved_data::saved::Saved;
+use small_texts::memory_error::Memory;
 use std::alloc::Global;
 
 fn conf_of(alloc: Global, text: &[u8]) -> Result<Conf, ClusterRefusal>
@@ -58,8 +59,12 @@ fn saved_at(alloc: Global, desk: OwnDesk) -> Result<Saved, ClusterRefusal>
     ensures { IfOk result (λ kept. kept ≡ saved_of (state_of desk)) }
 {
     let book = desk.into_book();
-    let kept = saved(alloc, book.ctl())?;
-    Ok(kept)
+    let kept = saved(alloc, book.ctl());
+    book.let_go();
+    match kept {
+        Ok(kept) => Ok(kept),
+        Err(Memory) => Err(ClusterRefusal::Memory),
+    }
 }
 
 // A desk at a new book, which opens with what was saved.
@@ -72,8 +77,13 @@ fn seated(
     ensures { IfOk result (λ desk. (s : State) × IsReopened conf.now assocs.now saved.now s × (desk ≡ fresh s)) }
 {
     let ctl = reopened(alloc, conf, assocs, saved)?;
-    let opening = reopened(alloc, conf, assocs, saved)?;
-    Ok(own_desk(Book::new(alloc, ctl, opening)))
+    match reopened(alloc, conf, assocs, saved) {
+        Ok(opening) => Ok(own_desk(Book::new(alloc, ctl, opening))),
+        Err(refusal) => {
+            ctl.let_go();
+            Err(refusal)
+        }
+    }
 }
 
 /// A desk at a new book of the cluster of these two files, which opens as the cluster stands at a desk: its history, and the sum of

@@ -66,6 +66,11 @@ pub fn open_desk(alloc: Global, conf: &[u8], assocs: &[u8]) -> Result<OwnDesk, C
     ensures no_state { (line : ℕ) → IsErrOf result (ClusterRefusal.BadState line) → ⊥ }
 {
     let ctl = new_controller(alloc, conf, assocs)?;
-    let opening = new_controller(alloc, conf, assocs)?;
-    Ok(own_desk(Book::new(alloc, ctl, opening)))
+    match new_controller(alloc, conf, assocs) {
+        Ok(opening) => Ok(own_desk(Book::new(alloc, ctl, opening))),
+        Err(refusal) => {
+            ctl.let_go();
+            Err(refusal)
+        }
+    }
 }

@@ -74,6 +74,11 @@ pub fn desk(alloc: Global, files: &ClusterFiles) -> Result<OwnDesk, Memory>
     ensures { (s : State) → OpensIn files.now s → IfOk result (λ desk. desk ≡ fresh s) }
 {
     let ctl = controller(alloc, files)?;
-    let opening = controller(alloc, files)?;
-    Ok(own_desk(Book::new(alloc, ctl, opening)))
+    match controller(alloc, files) {
+        Ok(opening) => Ok(own_desk(Book::new(alloc, ctl, opening))),
+        Err(Memory) => {
+            ctl.let_go();
+            Err(Memory)
+        }
+    }
 }

@@ -65,7 +65,10 @@ fn fits(
     ensures no_assocs { (line : ℕ) → (kind : AssocKind) → IsErrOf result (ClusterRefusal.BadAssocs line kind) → ⊥ }
 {
     match begin(alloc, conf, assocs, saved) {
-        Ok(_) => Ok(()),
+        Ok(ctl) => {
+            ctl.let_go();
+            Ok(())
+        }
         Err(RestoreRefusal::Unfit) => Err(ClusterRefusal::BadState { line: 0 }),
         Err(RestoreRefusal::Memory) => Err(ClusterRefusal::Memory),
     }

@@ -107,13 +107,17 @@ impl Ctl {
         }
     }
 
+    /// Lets it go.
+    pub fn let_go(self) {}
+
     /// Decides one request, and changes the state where it is accepted. A submission is linear in associations,
     /// partitions and nodes, sorts the nodes of its partition, costs for each of these what it names of nodes and
-    /// features, is linear in its tasks, and for each limit of submitted jobs that it counts towards in the jobs.
+    /// features, is linear in its tasks, and for each limit of submitted jobs that it counts towards in the pairs of an
+    /// association and a quality of service that jobs were added of, or in the jobs where these are fewer.
     /// What is done to jobs is for each target logarithmic in the jobs and linear in the tasks of its array, of a user's
     /// jobs linear in all, and then linear in the plan; it takes no memory, nor does another state of a partition, which
-    /// is linear in the partitions, or a shutdown. A report is linear in the jobs, and for each job
-    /// of the node in what it tells. A new slurm.conf is linear in both files, in the jobs and their parts and in the
+    /// is linear in the partitions, or a shutdown. A report takes a look for each 64 jobs, is linear in the jobs of those
+    /// 64s in which one may hold something of its node, and for each job of the node in what it tells. A new slurm.conf is linear in both files, in the jobs and their parts and in the
     /// plan, and for each reservation in the nodes. A pass costs what its plan costs. A query of jobs or priorities ranks the users, is
     /// linear in the jobs, the parts of those that run or are shown and the plan, and for each job in the targets and
     /// states that it names; one of partitions is linear in the nodes, the jobs' parts and the nodes of the partitions

@@ -16,9 +16,17 @@ pub struct Entry {
     pub reply: Reply,
 }
 
+/// Lets entries go.
+pub fn let_all_go(_entries: Vec<Entry>) {}
+
 /// An answer and its place in the history: how many entries were there when it was decided.
 #[derive(Drop)]
 pub struct Answer {
     pub reply: Reply,
     pub place: u64,
+}
+
+impl Answer {
+    /// Lets it go.
+    pub fn let_go(self) {}
 }

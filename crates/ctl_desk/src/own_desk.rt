@@ -54,6 +54,9 @@ impl OwnDesk {
     {
         self.book
     }
+
+    /// Lets it go, with its book.
+    pub fn let_go(self) {}
 }
 
 impl Desk for OwnDesk {

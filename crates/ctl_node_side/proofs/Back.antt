@@ -1,12 +1,11 @@
 -- What was kept is put back: the cluster is as it was.
-use Rattle.std.proofs.Common.{ℕ, ◌≡◌, ◌∙◌, Bool, true, false, ◌||◌, List, [], ◌∷◌, map, refl, sym, ap, subst}
+use Rattle.std.proofs.Common.{ℕ, ◌≡◌, ◌∙◌, Bool, List, [], ◌∷◌, map, refl, ap}
 use Rattle.std.specs.List.{filter, list_any}
 use Rattle.job_table.specs.declared.record.JobRecord.{JobRecord}
 use Rattle.job_table.specs.declared.record.Part.{Part}
 use Rattle.job_table.specs.Table.{HaveRisingIds, JobsView}
 use Rattle.ctl_state.specs.declared.cluster.Cluster.{Cluster}
-use Rattle.ctl_state.specs.Holding.{parts_of}
-use Rattle.ctl_state.specs.Index.{IsIndexed, ShowsParts}
+use Rattle.ctl_state.specs.Index.{IsIndexed}
 use Rattle.ctl_state.specs.State.{State, state_of}
 use Rattle.ctl_nodes.specs.Failing.{after_loss, loses}
 use Rattle.ctl_node_side.specs.declared.kept.Kept.{Kept}

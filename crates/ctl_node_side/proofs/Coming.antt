@@ -1,8 +1,7 @@
 -- What comes of passes in which nodes fall silent, or none does.
-use Rattle.std.proofs.Common.{ℕ, zero, suc, ◌≡◌, ◌≤◌, ◌+◌, ◌*◌, ◌<◌, ◌^◌, ◌∙◌, Bool, true, false, ◌&&◌, List, [], ◌∷◌, length, map, count_by, refl, sym, ap, subst, arith}
+use Rattle.std.proofs.Common.{ℕ, zero, suc, ◌≡◌, ◌≤◌, ◌+◌, ◌*◌, ◌∙◌, Bool, true, false, ◌&&◌, List, [], ◌∷◌, length, count_by, refl, sym, ap, subst, arith}
 use Rattle.std.specs.List.{list_any}
 use Rattle.std.proofs.lemmas.Bool.{or_from, or_parts}
-use Rattle.std.proofs.lemmas.List.{length-map}
 use Rattle.std.proofs.lemmas.List.Sums.{count_by-le-length, length-filter}
 use Rattle.node_state.specs.declared.record.NodeRecord.{NodeRecord}
 use Rattle.job_table.specs.declared.record.JobRecord.{JobRecord}
@@ -11,12 +10,12 @@ use Rattle.job_table.specs.JobStates.{is_running}
 use Rattle.ctl_state.specs.Planning.{is_at}
 use Rattle.ctl_state.specs.Soundness.{IsSound}
 use Rattle.ctl_state.specs.State.{State, last_job_id}
-use Rattle.ctl_nodes.specs.Failing.{after_loss, loses}
+use Rattle.ctl_nodes.specs.Failing.{loses}
 use Rattle.ctl_pass.specs.Passing.{is_idle, jobs_ended, jobs_planned, outcome, pass_after}
 use Rattle.ctl_node_side.specs.declared.passing.PassOutcome.TheVariants.{Idle, Full, Passed}
 use Rattle.ctl_node_side.specs.Came.{Came}
 use Rattle.ctl_node_side.specs.Passes.{ended_by_pass, pass_is_idle, planned_by_pass}
-use Rattle.ctl_node_side.specs.Silence.{any_silent, failing_count, falls_silent, silent_at, silenced, without_silent}
+use Rattle.ctl_node_side.specs.Silence.{any_silent, failing_count, falls_silent, silent_at, without_silent}
 use Rattle.ctl_node_side.proofs.Back.{any_alike, filter_alike}
 use Rattle.ctl_node_side.proofs.Silent.{silenced_none, silenced_some}
 

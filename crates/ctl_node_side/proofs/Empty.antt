@@ -1,9 +1,9 @@
 -- A node of which no job holds anything.
-use Rattle.std.proofs.Common.{ℕ, ◌≡◌, ◌∙◌, Bool, true, false, ◌&&◌, not, nat_eq, List, [], ◌∷◌, ◌++◌, map, All, Option, None, refl, sym, ap, arith}
-use Rattle.std.specs.List.{cons_option, filter, filter_map, find, list_any}
+use Rattle.std.proofs.Common.{ℕ, ◌≡◌, false, not, nat_eq, List, [], ◌∷◌, map, All, Option, None, refl, ap, arith}
+use Rattle.std.specs.List.{filter_map, find, list_any}
 use Rattle.std.proofs.lemmas.Bool.{cond_both}
 use Rattle.std.proofs.lemmas.Bool.Decides.{nat_tests}
-use Rattle.std.proofs.lemmas.List.Elements.{All-cons, All-head, All-nil, All-tail, filter_agree}
+use Rattle.std.proofs.lemmas.List.Elements.{All-head, All-tail, filter_agree}
 use Rattle.reply_data.specs.declared.orders.Launch.{Launch}
 use Rattle.request_data.specs.declared.report.Report.{Report}
 use Rattle.request_data.specs.declared.report.Start.{Start}
@@ -11,7 +11,7 @@ use Rattle.job_table.specs.declared.record.JobRecord.{JobRecord}
 use Rattle.job_table.specs.declared.record.Part.{Part}
 use Rattle.job_table.specs.Changes.{is_on}
 use Rattle.ctl_state.specs.Holding.{parts_of}
-use Rattle.ctl_node_side.specs.Ordering.{in_order, killed, launch_of, orders_of, runs_start}
+use Rattle.ctl_node_side.specs.Ordering.{killed, launch_of, orders_of, runs_start}
 use Rattle.ctl_node_side.specs.Reporting.{is_at, reported}
 use Rattle.list_lemmas.proofs.Elements.{all-left, all-right}
 

@@ -14,3 +14,4 @@ pub mod Reported
 pub mod Launching
 pub mod Dropped
 pub mod Empty
+pub mod Skipped

@@ -1,11 +1,10 @@
 -- Jobs that are put back, each in the place of the one with its number.
-use Rattle.std.proofs.Common.{ℕ, suc, ◌≡◌, ◌<◌, ◌∙◌, Bool, true, false, cond, List, [], ◌∷◌, map, get_or, All, nat_eq, refl, sym, ap, arith, inl, inr}
+use Rattle.std.proofs.Common.{ℕ, suc, ◌≡◌, ◌<◌, ◌∙◌, Bool, false, List, [], ◌∷◌, map, All, refl, ap, arith, inl, inr}
 use Rattle.std.specs.List.{filter}
 use Rattle.std.proofs.lemmas.Bool.{cases_Bool, cond-false, cond-true, cond_both, eq-eqb, ne_eqb}
 use Rattle.std.proofs.lemmas.List.Elements.{All-cons, All-head, All-nil, All-tail}
 use Rattle.job_table.specs.declared.record.JobRecord.{JobRecord}
 use Rattle.job_table.specs.Table.{HaveRisingIds, has_id, put_back_if}
-use Rattle.ctl_nodes.specs.Failing.{after_loss, loses}
 use Rattle.ctl_node_side.specs.Keeping.{put_all}
 
 -- the job is behind a number

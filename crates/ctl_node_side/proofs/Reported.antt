@@ -14,7 +14,6 @@ use Rattle.node_state.specs.Nodes.{is_up}
 use Rattle.job_table.specs.declared.record.JobRecord.{JobRecord}
 use Rattle.job_table.specs.declared.change.Change.TheVariants.{Leave, DropPart}
 use Rattle.job_table.specs.Changes.{changed, off_node}
-use Rattle.job_table.specs.Usage.{charged}
 use Rattle.ctl_state.specs.Events.{LetsGo, become}
 use Rattle.job_table.specs.JobStates.{is_pending, is_running}
 use Rattle.ctl_state.specs.Laws.{Changing, ChangesLetGo, Charging, KeptLater, KeptOn, LetsGoNothing, LetsGoTwice, NodesStay}

@@ -1,5 +1,5 @@
 -- Reports of daemons that were restarted.
-use Rattle.std.proofs.Common.{ℕ, ◌≡◌, ◌≤◌, ◌∙◌, Bool, true, false, cond, nat_eq, List, [], All, refl, sym, ap, arith, inl, inr}
+use Rattle.std.proofs.Common.{ℕ, ◌≡◌, ◌≤◌, ◌∙◌, true, false, cond, nat_eq, List, [], All, sym, ap, arith, inl, inr}
 use Rattle.std.proofs.lemmas.Bool.{cases_Bool, cond-false, cond-true, cond_both}
 use Rattle.request_data.specs.declared.report.Report.{Report as Told}
 use Rattle.job_table.specs.declared.record.JobRecord.{JobRecord}

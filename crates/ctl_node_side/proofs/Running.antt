@@ -1,7 +1,7 @@
 -- Jobs that run after a pass ran before it, or were planned.
 use Rattle.std.proofs.Common.{ℕ, ◌≡◌, ◌<◌, ◌∙◌, ◌⊎◌, Bool, true, false, List, [], ◌∷◌, length, map, get_or, All, Any, refl, sym, ap, arith, inl, inr}
 use Rattle.std.specs.List.{Contains}
-use Rattle.std.proofs.lemmas.Bool.{both_ways, cases_Bool, cond-false, cond-true, cond_both}
+use Rattle.std.proofs.lemmas.Bool.{both_ways, cases_Bool, cond-false, cond-true}
 use Rattle.std.proofs.lemmas.List.{get_or-map, length-map}
 use Rattle.request_data.specs.declared.state.Final.{Final}
 use Rattle.request_data.specs.declared.state.Final.TheVariants as final
@@ -17,7 +17,7 @@ use Rattle.ctl_pass.specs.Passing.{pass_after}
 use Rattle.ctl_pass.specs.Readiness.{placements}
 use Rattle.ctl_nodes.specs.Failing.{after_loss, failed, failing, loses, off_lost, parts_kept}
 use Rattle.ctl_node_side.specs.Passes.{after_pass}
-use Rattle.ctl_node_side.specs.Silence.{any_silent, silent_at, silenced, without_silent}
+use Rattle.ctl_node_side.specs.Silence.{any_silent, silent_at, silenced}
 use Rattle.ctl_node_side.proofs.Silent.{silenced_none, silenced_some}
 
 -- a job that has lost something doesn't run

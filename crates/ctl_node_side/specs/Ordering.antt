@@ -1,6 +1,7 @@
 -- What the node is ordered to do in answer to its report.
 use Rattle.std.specs.Prelude.{ℕ, Bool, ◌&&◌, ◌||◌, not, nat_eq, is_some, if◌then◌else◌, List, [], ◌∷◌, map, filter, find, filter_map, Option, Some, None, option_map}
 use Rattle.std.specs.List.{list_any}
+use Rattle.std.specs.Borrow.{Bor}
 use Rattle.reply_data.specs.Starts.{is_before}
 use Rattle.request_data.specs.declared.report.Start.{Start}
 use Rattle.request_data.specs.declared.report.Done.{Done}
@@ -12,6 +13,10 @@ use Rattle.job_table.specs.declared.record.JobRecord.{JobRecord}
 use Rattle.job_table.specs.JobStates.{is_running}
 use Rattle.job_table.specs.Changes.{is_on}
 use Rattle.ctl_node_side.specs.Reporting.{is_last_start, is_listed, done_of, is_at, is_batch_host, reported}
+
+-- the jobs that these point to
+abbrev pub shown : List (Bor JobRecord) → List JobRecord
+shown jobs = map (λ (job : Bor JobRecord). job.now) jobs
 
 -- the job's last start
 abbrev pub start_of : JobRecord → Start

@@ -2,6 +2,7 @@
 //! nodes are ordered; and passes, which see to nodes that fell silent first.
 #![tactic(auto)]
 
+mod at_node;
 mod inputs;
 mod jobs;
 mod kept;

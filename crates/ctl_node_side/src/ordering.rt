@@ -1,10 +1,10 @@
 //! What the node is ordered to do.
 
-ghost use Rattle.std.specs.Prelude.{◌≡◌, ◌||◌, not, is_some, IfOk, map, filter, filter_map, ℕ};
+ghost use Rattle.std.specs.Prelude.{◌≡◌, ◌||◌, ◌++◌, ◌∷◌, [], not, is_some, IfOk, OnOk, map, filter, filter_map, ℕ};
 ghost use Rattle.std.specs.List.{list_any};
 ghost use Rattle.job_table.specs.Table.{HaveRisingIds};
 ghost use Rattle.ctl_node_side.specs.Reporting.{is_listed, done_of};
-ghost use Rattle.ctl_node_side.specs.Ordering.{in_order, is_same, killed, launch_of, launch_part, start_of, stays};
+ghost use Rattle.ctl_node_side.specs.Ordering.{in_order, is_same, killed, launch_of, launch_part, shown, start_of, stays};
 
 use crate::jobs::{done_of, is_at, is_batch_host, is_listed, part_on};
 use crate::starts::in_order;
@@ -19,12 +19,12 @@ use std::alloc::Global;
 /// moment.
 pub(crate) fn kills(
     alloc: Global,
-    jobs: &[JobRecord],
+    jobs: &[&JobRecord],
     node: u32,
     report: &Report,
 ) -> Result<Starts, Memory>
     ensures { IfOk result (λ kills. (now : ℕ) →
-        kills ≡ in_order (killed now node report.now jobs.now report.now.running)) }
+        kills ≡ in_order (killed now node report.now (shown jobs.now) report.now.running)) }
 {
     let kept = kept_starts(alloc, jobs, node, report)?;
     let lost = without(alloc, report.running.as_slice(), kept.as_slice())?;
@@ -48,18 +48,33 @@ fn without(alloc: Global, starts: &[Start], kept: &[Start]) -> Result<Vec<Start>
 // The starts that run on the node once the report is accepted.
 fn kept_starts(
     alloc: Global,
-    jobs: &[JobRecord],
+    jobs: &[&JobRecord],
     node: u32,
     report: &Report,
 ) -> Result<Vec<Start>, Memory>
-    ensures { IfOk result (λ starts. starts.items ≡ map start_of (filter (stays node report.now) jobs.now)) }
+    ensures { IfOk result (λ starts. starts.items ≡ map start_of (filter (stays node report.now) (shown jobs.now))) }
 {
-    Ok(
-        jobs.iter()
-            .filter(|job| stays(job, node, report))
-            .map(|job| start_of(job))
-            .collect(alloc)?,
-    )
+    let mut starts = Vec::new(alloc);
+    for job in jobs {
+        add_start(&mut starts, *job, node, report)?;
+    }
+    Ok(starts)
+}
+
+// Adds the job's start, if it runs on the node once the report is accepted.
+fn add_start(
+    starts: &mut Vec<Start>,
+    job: &JobRecord,
+    node: u32,
+    report: &Report,
+) -> Result<(), Memory>
+    ensures { OnOk result (starts.new.items
+        ≡ starts.old.items ++ map start_of (filter (stays node report.now) (job.now ∷ []))) }
+{
+    if stays(job, node, report) {
+        starts.push(start_of(job))?;
+    }
+    Ok(())
 }
 
 // Whether the job runs on the node, also once the report is accepted.
@@ -96,16 +111,16 @@ fn starts_over(alloc: Global, done: &[Done]) -> Result<Vec<Start>, Memory>
 /// The running jobs of the node that the report doesn't tell of.
 pub(crate) fn launches(
     alloc: Global,
-    jobs: &[JobRecord],
+    jobs: &[&JobRecord],
     node: u32,
     report: &Report,
 ) -> Result<Launches, Memory>
-    requires { HaveRisingIds jobs.now }
-    ensures { IfOk result (λ launches. launches ≡ filter_map (launch_of node report.now) jobs.now) }
+    requires { HaveRisingIds (shown jobs.now) }
+    ensures { IfOk result (λ launches. launches ≡ filter_map (launch_of node report.now) (shown jobs.now)) }
 {
     let mut launches = Vec::new(alloc);
     for job in jobs {
-        if let Some(launch) = launch_of(job, node, report)? {
+        if let Some(launch) = launch_of(*job, node, report)? {
             launches.push(launch)?;
         }
     }

@@ -7,7 +7,7 @@ ghost use Rattle.ctl_state.specs.Index.{IsIndexed};
 ghost use Rattle.ctl_state.specs.Soundness.{IsSound};
 ghost use Rattle.ctl_state.specs.Refusals.{first_refusal};
 ghost use Rattle.ctl_node_side.specs.Reporting.{report_after};
-ghost use Rattle.ctl_node_side.specs.Ordering.{orders_of};
+ghost use Rattle.ctl_node_side.specs.Ordering.{orders_of, shown};
 ghost use Rattle.ctl_node_side.specs.Answering;
 
 use crate::jobs::report_jobs;
@@ -83,6 +83,28 @@ pub fn orders(
 ) -> Result<Orders, Memory>
     requires { HaveRisingIds jobs.now }
     ensures { IfOk result (λ orders. (now : ℕ) → orders ≡ orders_of jobs.now now node report.now) }
+{
+    let jobs = pointed_to(alloc, jobs)?;
+    let orders = orders_by(alloc, jobs.as_slice(), node, report)?;
+    Ok(orders)
+}
+
+// The jobs, each pointed to.
+fn pointed_to<'a>(alloc: Global, jobs: &'a [JobRecord]) -> Result<Vec<&'a JobRecord>, Memory>
+    ensures { IfOk result (λ all. shown all.items ≡ jobs.now) }
+{
+    Ok(jobs.iter().collect(alloc)?)
+}
+
+/// What the node at a place is ordered in answer to its report, by the jobs that are pointed to.
+pub(crate) fn orders_by(
+    alloc: Global,
+    jobs: &[&JobRecord],
+    node: u32,
+    report: &Report,
+) -> Result<Orders, Memory>
+    requires { HaveRisingIds (shown jobs.now) }
+    ensures { IfOk result (λ orders. (now : ℕ) → orders ≡ orders_of (shown jobs.now) now node report.now) }
 {
     Ok(Orders {
         node: report.node.copy()?,

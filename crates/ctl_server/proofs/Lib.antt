@@ -13,4 +13,3 @@ pub mod Following
 pub mod Timings
 pub mod Turning
 pub mod Counting
-pub mod DaemonTurns

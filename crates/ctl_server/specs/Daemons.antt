@@ -1,11 +1,11 @@
 -- The daemons with which a server begins, and their turns.
-use Rattle.std.specs.Prelude.{◌≡◌, ◌⊎◌, ℕ, ◌+◌, ◌/◌, ◌^◌, max, nat_lt, if◌then◌else◌, List, filter_map, Option, Some, None, option_map}
+use Rattle.std.specs.Prelude.{◌≡◌, ℕ, ◌+◌, ◌/◌, ◌^◌, max, nat_lt, if◌then◌else◌, List, filter_map, Option, Some, None, option_map}
 use Rattle.request_data.specs.declared.report.Heard.{Heard}
 use Rattle.node_state.specs.declared.record.NodeRecord.{NodeRecord}
 use Rattle.ctl_desk.specs.declared.entry.Answer.{Answer}
 use Rattle.ctl_desk.specs.Desk.{Sight}
 use Rattle.node_daemon.specs.Daemon.{Daemon, polled, started}
-use Rattle.node_daemon.specs.Turn.{AnswersReport, IsCutTurn, after_reply}
+use Rattle.node_daemon.specs.Turn.{AnswersReport, after_reply}
 
 -- the boot number above this one; there is none above the last
 abbrev pub boot_above : ℕ → Option ℕ
@@ -25,12 +25,11 @@ abbrev pub daemons_of : List NodeRecord → List Daemon
 daemons_of nodes = filter_map daemon_of nodes
 
 -- what a daemon's turn at a moment leaves of it and of the desk: its report was answered, and it does what it was ordered
--- in answer; or memory was wanting
+-- in answer
 abbrev pub HasTurned : ℕ → Daemon → Daemon → Sight → Sight → Type 0
 HasTurned now daemon daemon' desk desk' =
-    ((answer : Answer) × (AnswersReport now daemon desk desk' answer
-    × (daemon' ≡ after_reply now answer.reply (polled now daemon))))
-    ⊎ IsCutTurn now daemon daemon' desk desk'
+    (answer : Answer) × (AnswersReport now daemon desk desk' answer
+    × (daemon' ≡ after_reply now answer.reply (polled now daemon)))
 
 -- how often the daemons rest between two rounds, where nodes fall silent after so many seconds
 abbrev pub rests_of : ℕ → ℕ

@@ -1,10 +1,11 @@
 //! The turns of the nodes' daemons, round after round.
 
-ghost use Rattle.std.specs.Prelude.{◌≡◌, ◌+◌, ◌<◌, ◌^◌, ◌++◌, IfOk, OnOk, true, false};
+ghost use Rattle.std.specs.Prelude.{◌≡◌, ◌+◌, ◌<◌, ◌^◌, ◌++◌, IfOk, OnOk, OnErr, true, false};
 ghost use Rattle.std.specs.Bool.{OnFalse, OnTrue};
 ghost use Rattle.std.specs.Option.{option_to_list};
 ghost use Rattle.ctl_desk.specs.Desk.{GoesOn, history_of};
 ghost use Rattle.ctl_desk.specs.History.{present};
+ghost use Rattle.node_daemon.specs.Turn.{IsCutTurn};
 ghost use Rattle.ctl_server.specs.Daemons.{HasTurned, daemon_of, daemons_of, next_boot, rests_of};
 
 use ctl_desk::desk::Desk;
@@ -65,24 +66,31 @@ pub(crate) fn start_daemons(alloc: Global, nodes: &[NodeRecord]) -> Result<Vec<D
     Ok(daemons)
 }
 
-// One daemon's turn. A daemon that has no numbers for reports left is passed over, and one for whose turn memory is
-// wanting.
-fn turn<D: Desk>(alloc: Global, desk: &mut D, now: u64, daemon: &mut DaemonState)
+// One daemon's turn. A daemon that has no numbers for reports left is passed over.
+fn turn<D: Desk>(
+    alloc: Global,
+    desk: &mut D,
+    now: u64,
+    daemon: &mut DaemonState,
+) -> Result<(), Memory>
     ensures goes_on { GoesOn (D.sight desk.old) (D.sight desk.new) }
-    ensures turned { daemon.old.number + 1 < 2 ^ 64
-        → HasTurned now daemon.old daemon.new (D.sight desk.old) (D.sight desk.new) }
+    ensures turned { OnOk result (daemon.old.number + 1 < 2 ^ 64
+        → HasTurned now daemon.old daemon.new (D.sight desk.old) (D.sight desk.new)) }
+    ensures cut { OnErr result (IsCutTurn now daemon.old daemon.new (D.sight desk.old) (D.sight desk.new)) }
 {
     if daemon.can_report() {
-        let _ = daemon_turn(alloc, desk, now, daemon);
+        let answer = daemon_turn(alloc, desk, now, daemon)?;
+        answer.let_go();
     }
+    Ok(())
 }
 
-// Each daemon's turn, one after the other.
+// Each daemon's turn, one after the other; one for whose turn memory is wanting is passed over.
 fn turn_all<D: Desk>(alloc: Global, desk: &mut D, now: u64, daemons: &mut [DaemonState])
     ensures { GoesOn (D.sight desk.old) (D.sight desk.new) }
 {
     for daemon in daemons.iter_mut() {
-        turn(alloc, desk, now, daemon);
+        let _ = turn(alloc, desk, now, daemon);
     }
 }
 

@@ -5,8 +5,8 @@ ghost use Rattle.ctl_state.specs.State.{state_of, last_moment};
 ghost use Rattle.ctl_state.specs.Soundness.{IsSound};
 ghost use Rattle.ctl_show.specs.Showing;
 
-use crate::outlook::outlook_of;
-use crate::rows::row_of;
+use crate::rows::row_at;
+use crate::spans::places_meant;
 use ctl_state::cluster::Cluster;
 use job_table::record::JobRecord;
 use job_table::targets::is_named;
@@ -25,7 +25,8 @@ fn is_meant(target: &Option<Target>, job: &JobRecord) -> bool
     }
 }
 
-/// The rows of the jobs that the target names, or of all, in the order of their numbers.
+/// The rows of the jobs that the target names, or of all, in the order of their numbers. It walks the places between which
+/// these lie.
 pub(crate) fn kept_rows(
     alloc: Global,
     cluster: &Cluster,
@@ -36,11 +37,12 @@ pub(crate) fn kept_rows(
     requires in_time { moment ≤ last_moment }
     ensures { IfOk result (λ rows. rows.items ≡ Showing.kept_rows (state_of cluster.now) moment target.now) }
 {
-    let outlook = outlook_of(alloc, cluster, moment)?;
+    let mut outlook = None;
     let mut rows = Vec::new(alloc);
-    for job in cluster.jobs.records() {
-        if is_meant(target, job) {
-            let row = row_of(alloc, cluster, moment, &outlook, job)?;
+    let places = places_meant(&cluster.jobs, target);
+    for place in places.first..places.end {
+        if is_meant(target, &cluster.jobs.records()[place]) {
+            let row = row_at(alloc, cluster, moment, &mut outlook, place)?;
             rows.push(Row::Job(row))?;
         }
     }

@@ -12,6 +12,7 @@ mod show;
 mod shown_nodes;
 mod shown_partitions;
 mod shown_reservations;
+mod spans;
 mod standing;
 
 pub use show::{refusal_of, view_of};

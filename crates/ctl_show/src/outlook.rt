@@ -1,18 +1,21 @@
-//! What a query of jobs finds once for all rows of pending jobs.
+//! What a query of jobs finds once for all rows.
 
-ghost use Rattle.std.specs.Prelude.{◌≡◌, ◌≢◌, ◌≤◌, ℕ, IfOk, All, AllPairs, nat_eq};
+ghost use Rattle.std.specs.Prelude.{◌≡◌, ◌≢◌, ◌≤◌, ℕ, true, is_some, IfOk, IfSome, OnOk, All, AllPairs, nat_eq};
 ghost use Rattle.std.specs.HashMap.{get};
 ghost use Rattle.backfill_planner.specs.declared.Placed.{Placed};
 ghost use Rattle.ctl_state.specs.State.{last_second, state_of};
 ghost use Rattle.ctl_state.specs.Soundness.{IsSound};
-ghost use Rattle.ctl_show.specs.Found.{IsOutlook};
+ghost use Rattle.ctl_waiting.specs.Measured.{IsMeasured};
+ghost use Rattle.ctl_show.specs.Found.{IsOutlook, HasFound, ShowsWaiting};
 ghost use Rattle.ctl_show.specs.Showing;
 
 use backfill_planner::Placed;
 use ctl_state::cluster::Cluster;
 use ctl_state::counting::count_holding;
+use ctl_state::jobs::is_pending;
 use ctl_waiting::{Factors, highest_beside, measure};
 use job_table::behind::Behind;
+use job_table::record::JobRecord;
 use plain_data::ranged::Ranged;
 use plain_data::seconds::Second;
 use run_limits::tally::Tally;
@@ -22,7 +25,7 @@ use std::collections::HashMap;
 
 /// What the rows of pending jobs need of the other jobs and of the plan.
 #[derive(Drop)]
-pub(crate) struct Outlook {
+pub(crate) struct Waiting {
     /// The number of the job that is highest in rank.
     pub(crate) highest: Option<u32>,
     /// The seconds that the plan gives, by the numbers of the jobs.
@@ -31,8 +34,15 @@ pub(crate) struct Outlook {
     pub(crate) tally: Tally,
     /// Which jobs have others of their user and name before them.
     pub(crate) behind: Behind,
+}
+
+/// What rows need beside their jobs.
+#[derive(Drop)]
+pub(crate) struct Outlook {
     /// What the priorities rest on.
     pub(crate) factors: Factors,
+    /// What the rows of pending jobs need besides, once one is shown.
+    pub(crate) waiting: Option<Waiting>,
 }
 
 // The seconds that the plan gives, by the numbers of the jobs. Linear in the plan.
@@ -48,21 +58,88 @@ fn starts_of(alloc: Global, plan: &[Placed]) -> Result<HashMap<u32, Second>, Mem
     Ok(starts)
 }
 
-/// Linear in nodes, partitions, jobs and the plan, beside a sort of the users by what they have used; each job that holds
-/// processors, and each pending one that is higher in rank than the candidates before it, costs its association's way up
-/// to root besides.
-pub(crate) fn outlook_of(alloc: Global, cluster: &Cluster, moment: u64) -> Result<Outlook, Memory>
-    requires { IsSound (state_of cluster.now) }
-    ensures { IfOk result (IsOutlook (state_of cluster.now) moment) }
+// What the rows of pending jobs need, at the factors' moment. Linear in the jobs and the plan; each job that holds
+// processors, and each pending one that is higher in rank than the candidates before it, costs its association's way up
+// to root besides.
+fn waiting_at(alloc: Global, cluster: &Cluster, factors: &Factors) -> Result<Waiting, Memory>
+    requires sound { IsSound (state_of cluster.now) }
+    requires measured { IsMeasured (state_of cluster.now) factors.now }
+    ensures { IfOk result (ShowsWaiting (state_of cluster.now) factors.now.moment) }
 {
     let tally = count_holding(alloc, &cluster.assocs, cluster.jobs.records())?;
     let behind = Behind::of(alloc, &cluster.jobs)?;
-    let factors = measure(alloc, cluster, moment)?;
-    Ok(Outlook {
-        highest: highest_beside(cluster, &tally, &behind, &factors),
+    Ok(Waiting {
+        highest: highest_beside(cluster, &tally, &behind, factors),
         starts: starts_of(alloc, &cluster.plan)?,
         tally,
         behind,
-        factors,
     })
+}
+
+// What the priorities rest on at a moment, and nothing yet of what pending jobs need. It costs what `measure` does.
+fn outlook_of(alloc: Global, cluster: &Cluster, moment: u64) -> Result<Outlook, Memory>
+    ensures { IfOk result (IsOutlook (state_of cluster.now) moment) }
+{
+    Ok(Outlook {
+        factors: measure(alloc, cluster, moment)?,
+        waiting: None,
+    })
+}
+
+// Makes the outlook, where there is none yet.
+fn find_outlook(
+    alloc: Global,
+    cluster: &Cluster,
+    moment: u64,
+    outlook: &mut Option<Outlook>,
+) -> Result<(), Memory>
+    requires { IfSome outlook.old (IsOutlook (state_of cluster.now) moment) }
+    ensures outlook { OnOk result (IfSome outlook.new (IsOutlook (state_of cluster.now) moment)) }
+    ensures there { OnOk result (is_some outlook.new ≡ true) }
+{
+    if outlook.is_none() {
+        *outlook = Some(outlook_of(alloc, cluster, moment)?);
+    }
+    Ok(())
+}
+
+// Finds what pending jobs need, where the job is one and this isn't found yet.
+fn find_waiting(
+    alloc: Global,
+    cluster: &Cluster,
+    outlook: &mut Outlook,
+    job: &JobRecord,
+) -> Result<(), Memory>
+    requires sound { IsSound (state_of cluster.now) }
+    requires measured { IsMeasured (state_of cluster.now) outlook.old.factors }
+    ensures outlook { (now : ℕ) → IsOutlook (state_of cluster.now) now outlook.old
+        → OnOk result (IsOutlook (state_of cluster.now) now outlook.new) }
+    ensures found { OnOk result (HasFound outlook.new job.now) }
+{
+    if is_pending(job) && outlook.waiting.is_none() {
+        outlook.waiting = Some(waiting_at(alloc, cluster, &outlook.factors)?);
+    }
+    Ok(())
+}
+
+/// Finds what the job's row needs, as far as it isn't found yet. The first time it measures what the priorities rest on:
+/// linear in nodes, partitions, associations, jobs and the parts of those that run, beside a sort of the users by what
+/// they have used. At the first pending job it is linear in the jobs and the plan besides; each job that holds
+/// processors, and each pending one that is higher in rank than the candidates before it, costs its association's way up
+/// to root. Else it takes constant time.
+pub(crate) fn look(
+    alloc: Global,
+    cluster: &Cluster,
+    moment: u64,
+    outlook: &mut Option<Outlook>,
+    job: &JobRecord,
+) -> Result<(), Memory>
+    requires sound { IsSound (state_of cluster.now) }
+    requires outlook { IfSome outlook.old (IsOutlook (state_of cluster.now) moment) }
+    ensures outlook { OnOk result (IfSome outlook.new (IsOutlook (state_of cluster.now) moment)) }
+    ensures there { OnOk result (is_some outlook.new ≡ true) }
+    ensures found { OnOk result (IfSome outlook.new (λ outlook. HasFound outlook job.now)) }
+{
+    find_outlook(alloc, cluster, moment, outlook)?;
+    find_waiting(alloc, cluster, outlook.as_mut().unwrap(), job)
 }

@@ -8,6 +8,7 @@ ghost use Rattle.ctl_show.specs.Showing;
 
 use crate::jobs::is_weighed;
 use crate::rows::partition_name;
+use crate::spans::places_among;
 use ctl_state::cluster::Cluster;
 use ctl_waiting::{Factors, measure, priority_of};
 use job_table::record::JobRecord;
@@ -38,7 +39,8 @@ fn row_of(cluster: &Cluster, factors: &Factors, job: &JobRecord) -> Result<Prior
     })
 }
 
-/// The rows of the pending jobs' priorities that a user's query shows, in the order of the jobs' numbers.
+/// The rows of the pending jobs' priorities that a user's query shows, in the order of the jobs' numbers. It walks the
+/// places between which the jobs lie that the query names.
 pub(crate) fn priority_rows(
     alloc: Global,
     cluster: &Cluster,
@@ -53,7 +55,9 @@ pub(crate) fn priority_rows(
 {
     let factors = measure(alloc, cluster, moment)?;
     let mut rows = Vec::new(alloc);
-    for job in cluster.jobs.records() {
+    let places = places_among(&cluster.jobs, jobs);
+    for place in places.first..places.end {
+        let job = &cluster.jobs.records()[place];
         if is_weighed(asker, who, jobs, job) {
             rows.push(Row::Priority(row_of(cluster, &factors, job)?))?;
         }

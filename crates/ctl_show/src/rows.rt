@@ -1,16 +1,18 @@
 //! The rows of jobs.
 
-ghost use Rattle.std.specs.Prelude.{◌≡◌, ◌≤◌, ◌<◌, ℕ, IfOk, length, unwrap_or};
+ghost use Rattle.std.specs.Prelude.{◌≡◌, ◌≤◌, ◌<◌, ℕ, true, IfOk, IfSome, OnOk, is_some, length, unwrap_or};
+ghost use Rattle.std.specs.List.{HoldsAt};
 ghost use Rattle.ctl_state.specs.State.{State, state_of, last_moment};
 ghost use Rattle.ctl_state.specs.Soundness.{IsSound};
 ghost use Rattle.job_table.specs.Behind.{ShowsBehind};
 ghost use Rattle.job_table.specs.Targets.{AreTogether};
-ghost use Rattle.ctl_show.specs.Found.{IsOutlook};
+ghost use Rattle.ctl_show.specs.Found.{IsOutlook, HasFound, ShowsWaiting};
 ghost use Rattle.ctl_show.specs.Showing;
 
 use crate::jobs::is_shown;
-use crate::outlook::{Outlook, outlook_of};
+use crate::outlook::{Outlook, Waiting, look};
 use crate::parts::named_parts;
+use crate::spans::places_among;
 use ctl_state::cluster::Cluster;
 use ctl_state::jobs::is_pending;
 use ctl_state::planning::names_of;
@@ -111,30 +113,59 @@ fn reason_by_rank(highest: Option<u32>, job: &JobRecord) -> Reason
     }
 }
 
-// Why the job waits, where it does.
-fn reason_shown(cluster: &Cluster, outlook: &Outlook, job: &JobRecord) -> Option<Reason>
+// Why a pending job waits.
+fn reason_of(cluster: &Cluster, waiting: &Waiting, moment: u64, job: &JobRecord) -> Reason
     requires together { AreTogether cluster.now.jobs.records }
-    requires outlook { IsOutlook (state_of cluster.now) outlook.now.factors.moment outlook.now }
-    requires behind { ShowsBehind outlook.now.behind cluster.now.jobs.records job.now }
-    ensures { result ≡ Showing.reason_shown (state_of cluster.now) outlook.now.factors.moment job.now }
+    requires waiting { ShowsWaiting (state_of cluster.now) moment waiting.now }
+    requires behind { ShowsBehind waiting.now.behind cluster.now.jobs.records job.now }
+    ensures { result ≡ Showing.reason_of (state_of cluster.now) moment job.now }
 {
-    if !is_pending(job) {
-        return None;
+    match hindrance_beside(cluster, &waiting.tally, &waiting.behind, moment, job) {
+        Some(reason) => reason,
+        None => reason_by_rank(waiting.highest, job),
     }
-    let moment = outlook.factors.moment;
-    match hindrance_beside(cluster, &outlook.tally, &outlook.behind, moment, job) {
-        Some(reason) => Some(reason),
-        None => Some(reason_by_rank(outlook.highest, job)),
+}
+
+// Why the job waits, where it does.
+fn reason_shown(
+    cluster: &Cluster,
+    moment: u64,
+    outlook: &Outlook,
+    job: &JobRecord,
+) -> Option<Reason>
+    requires together { AreTogether cluster.now.jobs.records }
+    requires outlook { IsOutlook (state_of cluster.now) moment outlook.now }
+    requires found { HasFound outlook.now job.now }
+    requires behind { IfSome outlook.now.waiting (λ waiting.
+        ShowsBehind waiting.behind cluster.now.jobs.records job.now) }
+    ensures { result ≡ Showing.reason_shown (state_of cluster.now) moment job.now }
+{
+    match &outlook.waiting {
+        Some(waiting) if is_pending(job) => Some(reason_of(cluster, waiting, moment, job)),
+        _ => None,
+    }
+}
+
+// The second that is planned for the job.
+fn planned_start(waiting: &Option<Waiting>, job: &JobRecord) -> Option<Second>
+    requires { is_some waiting.now ≡ true }
+    ensures { (s : State) (now : ℕ) → IfSome waiting.now (ShowsWaiting s now)
+        → result ≡ Showing.planned_start s.plan job.now.id }
+{
+    match waiting {
+        Some(waiting) => waiting.starts.get(&job.id).copied(),
+        None => None,
     }
 }
 
 // The second of the job's start, or the one planned for it.
 fn start_shown(outlook: &Outlook, job: &JobRecord) -> Option<Second>
-    requires { unwrap_or job.now.started 0 ≤ last_moment }
+    requires started { unwrap_or job.now.started 0 ≤ last_moment }
+    requires found { HasFound outlook.now job.now }
     ensures { (s : State) (now : ℕ) → IsOutlook s now outlook.now → result ≡ Showing.start_shown s job.now }
 {
     if is_pending(job) {
-        return outlook.starts.get(&job.id).copied();
+        return planned_start(&outlook.waiting, job);
     }
     match job.started {
         Some(start) => Some(Ranged::new(start)),
@@ -177,8 +208,8 @@ fn end_shown(job: &JobRecord) -> EndAt
     }
 }
 
-/// What is shown of the job. Linear in its parts, beside what it costs to tell why it waits.
-pub(crate) fn row_of(
+// What is shown of the job. Linear in its parts, beside what it costs to tell why it waits.
+fn row_of(
     alloc: Global,
     cluster: &Cluster,
     moment: u64,
@@ -188,7 +219,9 @@ pub(crate) fn row_of(
     requires in_time { moment ≤ last_moment }
     requires together { AreTogether cluster.now.jobs.records }
     requires outlook { IsOutlook (state_of cluster.now) moment outlook.now }
-    requires behind { ShowsBehind outlook.now.behind cluster.now.jobs.records job.now }
+    requires found { HasFound outlook.now job.now }
+    requires behind { IfSome outlook.now.waiting (λ waiting.
+        ShowsBehind waiting.behind cluster.now.jobs.records job.now) }
     requires partition { job.now.partition < length cluster.now.partitions }
     requires started { unwrap_or job.now.started 0 ≤ last_moment }
     requires ended { unwrap_or job.now.ended 0 ≤ last_moment }
@@ -210,7 +243,7 @@ pub(crate) fn row_of(
         elapsed: elapsed_of(moment, job),
         nodes: nodes_of(job),
         node_names: node_names(alloc, cluster, job)?,
-        reason: reason_shown(cluster, outlook, job),
+        reason: reason_shown(cluster, moment, outlook, job),
         start: start_shown(outlook, job),
         priority: priority_of(&outlook.factors, cluster, job).sum,
         limit: job.limit,
@@ -228,7 +261,30 @@ pub(crate) fn row_of(
     })
 }
 
-/// The rows of the jobs that a user's query shows, in the order of their numbers.
+/// What is shown of the job at a place. Linear in its parts, beside what `look` costs, and where it is pending what it
+/// costs to tell why it waits.
+pub(crate) fn row_at(
+    alloc: Global,
+    cluster: &Cluster,
+    moment: u64,
+    outlook: &mut Option<Outlook>,
+    place: usize,
+) -> Result<JobRow, Memory>
+    requires sound { IsSound (state_of cluster.now) }
+    requires in_time { moment ≤ last_moment }
+    requires outlook { IfSome outlook.old (IsOutlook (state_of cluster.now) moment) }
+    requires there { place < length cluster.now.jobs.records }
+    ensures row { IfOk result (λ row.
+        HoldsAt (λ job. row ≡ Showing.row_of (state_of cluster.now) moment job) cluster.now.jobs.records place) }
+    ensures outlook { OnOk result (IfSome outlook.new (IsOutlook (state_of cluster.now) moment)) }
+{
+    let job = &cluster.jobs.records()[place];
+    look(alloc, cluster, moment, outlook, job)?;
+    row_of(alloc, cluster, moment, outlook.as_ref().unwrap(), job)
+}
+
+/// The rows of the jobs that a user's query shows, in the order of their numbers. It walks the places between which the
+/// jobs lie that the query names.
 pub(crate) fn job_rows(
     alloc: Global,
     cluster: &Cluster,
@@ -241,11 +297,12 @@ pub(crate) fn job_rows(
     ensures { IfOk result (λ rows.
         rows.items ≡ Showing.job_rows (state_of cluster.now) moment asker.now query.now) }
 {
-    let outlook = outlook_of(alloc, cluster, moment)?;
+    let mut outlook = None;
     let mut rows = Vec::new(alloc);
-    for job in cluster.jobs.records() {
-        if is_shown(cluster, asker, query, job) {
-            let row = row_of(alloc, cluster, moment, &outlook, job)?;
+    let places = places_among(&cluster.jobs, &query.jobs);
+    for place in places.first..places.end {
+        if is_shown(cluster, asker, query, &cluster.jobs.records()[place]) {
+            let row = row_at(alloc, cluster, moment, &mut outlook, place)?;
             rows.push(Row::Job(row))?;
         }
     }

@@ -132,14 +132,16 @@ fn rows_of(
     }
 }
 
-/// What a user's query shows, at its raised moment. A query of jobs is linear in these, in the parts of those that are
-/// shown, and in the plan, and for each job in the targets and states that it names; each job that holds processors and
-/// each pending one costs its association's way up to root besides; and it measures what the priorities rest on, which
-/// sorts the users. One of priorities measures these, and is linear in the jobs and for each in its targets. One of
-/// partitions and how their nodes stand is linear in the nodes, the jobs' parts and the nodes of the partitions that it
-/// shows. What scontrol(1) shows of jobs costs what a query of all jobs does; of nodes it is linear in these and the
-/// jobs' parts, of partitions in these and the nodes of those that are shown, and of reservations in these with the
-/// nodes and names of those that are shown.
+/// What a user's query shows, at its raised moment. A query of jobs walks the places between which the jobs lie that it
+/// names, or all: beside a search for each target it is linear in these places, and for each in the targets and states
+/// that it names. Once a job is shown it measures what the priorities rest on, which is linear in nodes, partitions,
+/// associations, jobs and the parts of those that run, and sorts the users. Once a pending one is shown it is linear in
+/// the jobs and the plan besides, and each job that holds processors and each pending one costs its association's way
+/// up to root. A row is linear in its job's parts. What scontrol(1) shows of jobs costs what a query of jobs does. A
+/// query of priorities walks such places too, and always measures what these rest on. One of partitions and how their
+/// nodes stand is linear in the nodes, the jobs' parts and the nodes of the partitions that it shows. What scontrol(1)
+/// shows of nodes is linear in these and the jobs' parts, of partitions in these and the nodes of those that are shown,
+/// and of reservations in these with the nodes and names of those that are shown.
 #[tactic(auto, unfolding(crate::specs::Showing::view_of))]
 pub fn view_of(
     alloc: Global,

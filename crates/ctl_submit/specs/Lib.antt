@@ -1,2 +1,3 @@
 pub mod Submission
 pub mod Drafts
+pub mod Tallied

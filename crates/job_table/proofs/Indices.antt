@@ -9,6 +9,9 @@ use Rattle.std.proofs.lemmas.Bool.Decides.{nat_tests}
 use Rattle.std.proofs.lemmas.List.{get_or-drop, get_or-map, get_or-take, get_or_default, length-drop, length-map, length-take, length-take-le, take_all}
 use Rattle.job_table.specs.declared.record.JobRecord.{JobRecord}
 use Rattle.job_table.specs.Table.{HaveRisingIds, IsJobTable, IsTable, entry_of}
+use Rattle.job_table.specs.Blocks.{AreMarked}
+use Rattle.job_table.specs.Tallies.{IsTallied}
+use Rattle.job_table.specs.declared.unended.Tallies.{Tallies}
 use Rattle.job_table.specs.Walks.{map_at}
 use Rattle.job_table.proofs.Entries.{values-entries}
 use Rattle.job_table.specs.Targets.{AreTogether, HaveRisingIndices, follows, follows_in, found_by, index_of, is_named_by, is_number, is_task_of, lies_before}
@@ -243,12 +246,18 @@ pub found-alike : (one other : JobRecord) → one.id ≡ other.id → one.array 
 found-alike one other same array index = cc
 
 -- A table whose records are found by the same as those of another.
-pub table-found : (entries : List (ℕ × JobRecord)) (jobs were : List JobRecord) (by_index : Bool) → IsTable entries
+pub table-found : (entries : List (ℕ × JobRecord)) (jobs were : List JobRecord) (by_index : Bool)
+    (blocks : List (List ℕ)) (tallies : Tallies)
+    → IsTable entries
     → entries ≡ map entry_of jobs → map found_by jobs ≡ map found_by were
     → (by_index ≡ true → HaveRisingIndices were)
-    → IsJobTable entries by_index
-table-found entries jobs were by_index table are same rises = record {
-  table = table;
-  indices = λ known.
-      rw (ap values_of are ∙ values-entries jobs) (indices-same jobs were same (rises known));
-}
+    → AreMarked blocks jobs → IsTallied tallies jobs
+    → IsJobTable entries by_index blocks tallies
+table-found entries jobs were by_index blocks tallies table are same rises marked tallied =
+    let listed : values_of entries ≡ jobs = ap values_of are ∙ values-entries jobs in
+    record {
+      table = table;
+      indices = λ known. rw listed (indices-same jobs were same (rises known));
+      marked = rw listed marked;
+      tallied = rw listed tallied;
+    }

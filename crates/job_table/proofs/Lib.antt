@@ -9,3 +9,5 @@ pub mod Earlier
 pub mod Passes
 pub mod Moved
 pub mod Indices
+pub mod Marks
+pub mod Counts

@@ -1,5 +1,6 @@
 -- Lists of which members change one after the other.
 use Rattle.std.proofs.Common.{◌≡◌, ℕ, zero, suc, ◌+◌, ◌<◌, ◌≤◌, List, [], ◌∷◌, ◌++◌, length, map, take, drop, slice_get, All, HoldsAt, refl, ap, sym, ◌∙◌, arith, add-one}
+use Rattle.std.specs.List.{AllWithin}
 use Rattle.std.proofs.lemmas.List.{map-append, take-append-drop}
 use Rattle.std.proofs.lemmas.List.Elements.{All-head, All-tail}
 use Rattle.job_table.specs.Walks.{map_at, walked}
@@ -41,6 +42,24 @@ slice_get-walked f zero other xs before = refl
 slice_get-walked f (suc place) other [] before = refl
 slice_get-walked f (suc place) zero (x ∷ xs) before = absurd (omega (arith, before))
 slice_get-walked f (suc place) (suc other) (x ∷ xs) before = slice_get-walked f place other xs (omega (arith, before))
+
+-- those that stay as they are may be left out
+pub walked-leaves_out : {X : Type 0} (f : X → X) (place next : ℕ) (xs : List X) → place ≤ next
+    → AllWithin (λ x. f x ≡ x) xs place next
+    → walked f next xs ≡ walked f place xs
+walked-leaves_out f zero zero xs before same = refl
+walked-leaves_out f zero (suc next) [] before same = refl
+walked-leaves_out f zero (suc next) (x ∷ xs) before same =
+    let one : f x ≡ x = same 0 x (omega arith) (omega arith) in
+    let rest : walked f next xs ≡ xs = walked-leaves_out f zero next xs (omega arith)
+    (λ k d low below. same (suc k) d (omega arith) (omega (arith, below))) in
+    ap (λ y. y ∷ walked f next xs) one ∙ ap (λ ys. x ∷ ys) rest
+walked-leaves_out f (suc place) zero xs before same = absurd (omega (arith, before))
+walked-leaves_out f (suc place) (suc next) [] before same = refl
+walked-leaves_out f (suc place) (suc next) (x ∷ xs) before same =
+    ap (λ rest. f x ∷ rest)
+    (walked-leaves_out f place next xs (omega (arith, before))
+    (λ k d low below. same (suc k) d (omega (arith, low)) (omega (arith, below))))
 
 pub map_at-same : {X : Type 0} (f g : X → X) (place : ℕ) (xs : List X) → HoldsAt (λ x. f x ≡ g x) xs place
     → map_at place f xs ≡ map_at place g xs

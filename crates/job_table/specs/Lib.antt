@@ -10,3 +10,5 @@ pub mod Standing
 pub mod Behind
 pub mod Laws
 pub mod Moving
+pub mod Blocks
+pub mod Tallies

@@ -6,6 +6,9 @@ use Rattle.job_table.specs.declared.change.Change.{Change}
 use Rattle.job_table.specs.Changes.{changed}
 use Rattle.job_table.specs.JobStates.{is_ended}
 use Rattle.job_table.specs.Targets.{HaveRisingIndices}
+use Rattle.job_table.specs.Blocks.{AreMarked}
+use Rattle.job_table.specs.Tallies.{IsTallied}
+use Rattle.job_table.specs.declared.unended.Tallies.{Tallies}
 
 -- what contracts see of the table
 pub record JobsView : Type 0 where
@@ -26,10 +29,13 @@ pub record IsTable (entries : List (ℕ × JobRecord)) : Type 0 where
   pub under_ids : entries ≡ map entry_of (values_of entries)
   pub rising : HaveRisingIds (values_of entries)
 
--- entries that are a table, and whether it is known that indices rise in it
-pub record IsJobTable (entries : List (ℕ × JobRecord)) (by_index : Bool) : Type 0 where
+-- Entries that are a table, whether it is known that indices rise in it, what may lie on which node, and how many jobs
+-- haven't ended.
+pub record IsJobTable (entries : List (ℕ × JobRecord)) (by_index : Bool) (blocks : List (List ℕ)) (tallies : Tallies) : Type 0 where
   pub table : IsTable entries
   pub indices : by_index ≡ true → HaveRisingIndices (values_of entries)
+  pub marked : AreMarked blocks (values_of entries)
+  pub tallied : IsTallied tallies (values_of entries)
 
 abbrev pub has_id : ℕ → JobRecord → Bool
 has_id id job = nat_eq job.id id

@@ -1,6 +1,6 @@
 -- Lists of which members change one after the other.
 use Rattle.std.specs.Prelude.{◌≡◌, ℕ, zero, suc, ◌+◌, ◌<◌, ◌≤◌, List, [], ◌∷◌, ◌++◌, map, take, drop, length, slice_get, All}
-use Rattle.std.specs.List.{HoldsAt}
+use Rattle.std.specs.List.{AllWithin, HoldsAt}
 
 -- the list once the member at a place has become this of it
 abbrev pub map_at : {X : Type 0} → ℕ → (X → X) → List X → List X
@@ -31,6 +31,11 @@ WalkKeepsLength X = (f : X → X) (place : ℕ) (xs : List X) → length (walked
 abbrev pub WalkKeepsRest : Type 0 → Type 0
 WalkKeepsRest X = (f : X → X) (place other : ℕ) (xs : List X) → place ≤ other
     → slice_get (walked f place xs) other ≡ slice_get xs other
+
+-- It may leave out those that stay as they are.
+abbrev pub WalkLeavesOut : Type 0 → Type 0
+WalkLeavesOut X = (f : X → X) (place next : ℕ) (xs : List X) → place ≤ next → AllWithin (λ x. f x ≡ x) xs place next
+    → walked f next xs ≡ walked f place xs
 
 -- What one change makes of the member at a place, by what it makes of that member.
 abbrev pub SameAtPlace : Type 0 → Type 0

@@ -1,6 +1,7 @@
 //! The table of jobs, in the order of their numbers, with an index of these; and what their associations have used.
 
-ghost use Rattle.std.specs.Prelude.{◌≡◌, ◌+◌, ◌^◌, ◌<◌, ◌≤◌, ◌↔◌, ◌++◌, [], ◌∷◌, ℕ, IfOk, true, false, IsErrOf, IsTrue, OnOk, OnErr, All, length, map, filter, not, replicate, slice_get, option_copied, take, drop};
+ghost use Rattle.std.specs.Prelude.{◌≡◌, ◌+◌, ◌^◌, ◌<◌, ◌≤◌, ◌↔◌, ◌++◌, [], ◌∷◌, ℕ, IfOk, IfSome, true, false, IsErrOf, IsTrue, OnOk, OnErr, All, length, map, filter, not, replicate, slice_get, option_copied, take, drop, unwrap_or};
+ghost use Rattle.std.specs.List.{AllWithin, HoldsAt};
 ghost use Rattle.indexmap.specs.IndexMap.{spare, values};
 ghost use Rattle.job_table.specs.declared.record.JobRecord.{JobRecord};
 ghost use Rattle.job_table.specs.Changes.{changed};
@@ -10,13 +11,18 @@ ghost use Rattle.job_table.specs.Targets.{AreTogether, found_by, is_named};
 ghost use Rattle.job_table.specs.Usage.{Charges, IsNoStart, charged_by, is_start};
 ghost use Rattle.job_table.specs.Moving.{partition_moved, parts_moved};
 ghost use Rattle.job_table.specs.Walks.{map_at};
+ghost use Rattle.job_table.specs.Blocks.{holds_on};
+ghost use Rattle.job_table.specs.Tallies.{ShowsUnended};
 
 use crate::awaited::Awaited;
+use crate::blocks::{BLOCK, count_from, count_left, follow, next_marked};
 use crate::change::{Change, apply};
 use crate::moving::{move_partition, move_parts};
 use crate::record::JobRecord;
 use crate::targets::{Places, place_of_task, places_of, rise_from};
+use crate::unended::{Tallies, Unended, pair_of};
 use crate::usage::charge;
+use cpu_ids::CpuIds;
 use indexmap::IndexMap;
 use request_data::state::JobState;
 use request_data::target::Target;
@@ -81,6 +87,10 @@ pub struct Jobs {
     // Whether it is known that the indices of each array's tasks rise with their numbers, as they do of all that are
     // handed in: then a search finds one.
     by_index: bool,
+    // For each 64 places the nodes of which a job there may hold something.
+    blocks: Vec<CpuIds>,
+    // How many jobs haven't ended, by association and quality of service.
+    unended: Tallies,
 }
 
 impl Model for Jobs {
@@ -91,7 +101,7 @@ impl Model for Jobs {
 
     ghost view = { λ jobs. record { records = values jobs.by_id; usage = jobs.usage.items } };
 
-    ghost invariant = { λ jobs. IsJobTable jobs.by_id.entries jobs.by_index };
+    ghost invariant = { λ jobs. IsJobTable jobs.by_id.entries jobs.by_index jobs.blocks.items jobs.unended };
 }
 
 impl Jobs {
@@ -104,6 +114,8 @@ impl Jobs {
             by_id: IndexMap::new(alloc),
             usage: vec![in alloc; 0; assocs]?,
             by_index: true,
+            blocks: Vec::new(alloc),
+            unended: Tallies::new(alloc),
         })
     }
 
@@ -169,6 +181,28 @@ impl Jobs {
         &self.records()[places.first..places.end]
     }
 
+    /// The first place from one on at which a job may hold something of the node; none before it does. One look for each
+    /// 64 places that are left out.
+    pub fn next_on(&self, node: u32, from: usize) -> Option<usize>
+        ensures there { IfSome result (λ place. (from ≤ place) × (place < length self.now.records)) }
+        ensures before { AllWithin (λ job. holds_on node job ≡ false) self.now.records from
+            (unwrap_or result (length self.now.records)) }
+    {
+        next_marked(self.blocks.as_slice(), self.len(), node, from)
+    }
+
+    /// How many jobs haven't ended, by association and quality of service, in constant time. It isn't known once a record
+    /// was put back of an association and a quality of service that no job was added of.
+    pub fn unended(&self) -> Option<&[Unended]>
+        ensures { IfSome result (λ tallies. ShowsUnended tallies.now self.now.records) }
+    {
+        if self.unended.known {
+            Some(self.unended.list.as_slice())
+        } else {
+            None
+        }
+    }
+
     /// Adds these jobs, whose numbers rise and are above all others, where with them there are at most so many. Linear
     /// in them, but for a table that outgrows its memory; want of memory leaves the table as it was.
     pub fn add(&mut self, more: Vec<JobRecord>, most: u64) -> Result<(), AddRefusal>
@@ -186,13 +220,19 @@ impl Jobs {
             return Err(AddRefusal::Full);
         }
         self.by_id.reserve(more.len())?;
+        self.blocks.reserve(more.len() / BLOCK + 1)?;
+        self.unended.open(more.as_slice())?;
+        self.unended.add(more.as_slice());
         insert_all(&mut self.by_id, more);
-        let known = rise_from(self.by_index, self.by_id.values().as_slice(), before);
+        let jobs = self.by_id.values().as_slice();
+        let known = rise_from(self.by_index, jobs, before);
+        count_from(&mut self.blocks, jobs, before / BLOCK);
         self.by_index = known;
         Ok(())
     }
 
-    /// Changes the job with this number, in constant time beside the job's parts. It takes no memory.
+    /// Changes the job with this number, in constant time beside the job's parts, and where it has let go of the last one
+    /// beside those of its 64 neighbours. It takes no memory.
     pub fn change(&mut self, id: u32, change: Change)
         ensures records { self.new.records ≡ map (changed_if id change) self.old.records }
         ensures charges { (now : ℕ) → IsNoStart now change → Charges now self.old self.new }
@@ -203,8 +243,9 @@ impl Jobs {
         }
     }
 
-    /// Changes the job at a place, in constant time beside the job's parts. Where it leaves Running its association is
-    /// charged with what it has used. It takes no memory.
+    /// Changes the job at a place, in constant time beside the job's parts, and where it has let go of the last one beside
+    /// those of its 64 neighbours. Where it leaves Running its association is charged with what it has used. It takes no
+    /// memory.
     pub fn change_at(&mut self, place: usize, change: Change)
         requires { place < length self.old.records }
         ensures records { self.new.records ≡ map_at place (changed change) self.old.records }
@@ -213,8 +254,14 @@ impl Jobs {
         ensures starts { is_start change ≡ true → self.new.usage ≡ self.old.usage }
     {
         let alloc = *self.by_id.allocator();
+        let before = pair_of(&self.by_id[place]);
+        let held = holds_any(&self.by_id[place]);
         charge(&mut self.usage, &self.by_id[place], &change);
         apply(alloc, &mut self.by_id[place], change);
+        let after = pair_of(&self.by_id[place]);
+        self.unended.change(before, after);
+        let jobs = self.by_id.values().as_slice();
+        follow(&mut self.blocks, jobs, place, held);
     }
 
     /// The jobs' parts are on the same nodes, which are at other places now: for each place the new one is told. Linear
@@ -225,6 +272,8 @@ impl Jobs {
     {
         let alloc = *self.by_id.allocator();
         move_all_parts(alloc, &mut self.by_id, places);
+        let jobs = self.by_id.values().as_slice();
+        count_from(&mut self.blocks, jobs, 0);
     }
 
     /// The jobs are of the same partitions, which are at other places now: for each place the new one is told. Linear in
@@ -242,8 +291,27 @@ impl Jobs {
         ensures records { self.new.records ≡ map (put_back_if job) self.old.records }
         ensures usage { self.new.usage ≡ self.old.usage }
     {
-        let same = put(&mut self.by_id, job);
+        if let Some(place) = self.by_id.get_index_of(&job.id) {
+            self.put_at(place, job);
+        }
+    }
+
+    // Puts a record in the place of one with its number.
+    fn put_at(&mut self, place: usize, job: JobRecord)
+        requires there { place < length self.old.records }
+        requires same { HoldsAt (λ other. other.id ≡ job.id) self.old.records place }
+        ensures records { self.new.records ≡ map_at place (λ other. job) self.old.records }
+        ensures usage { self.new.usage ≡ self.old.usage }
+    {
+        let before = pair_of(&self.by_id[place]);
+        let after = pair_of(&job);
+        let had = holds_any(&self.by_id[place]);
+        let same = are_found_alike(&self.by_id[place], &job);
+        self.by_id[place] = job;
         self.by_index = self.by_index && same;
+        self.unended.change(before, after);
+        let jobs = self.by_id.values().as_slice();
+        follow(&mut self.blocks, jobs, place, had);
     }
 
     /// Puts back what the associations had used (own). It takes no memory.
@@ -260,11 +328,14 @@ impl Jobs {
         ensures usage { self.new.usage ≡ self.old.usage }
         ensures records { self.new.records ≡ filter (λ job. not (has_gone age now awaited.now job)) self.old.records }
     {
+        let before = self.len();
         self.by_id.retain(
             |_id: &u32, job: &mut JobRecord| -> bool
                 ensures { (result ≡ not (has_gone age now awaited.entry.now job.old)) × (job.new ≡ job.old) }
             { !has_gone(age, now, awaited, job) },
         );
+        let jobs = self.by_id.values().as_slice();
+        count_left(&mut self.blocks, jobs, before);
     }
 }
 
@@ -293,18 +364,9 @@ fn are_found_alike(one: &JobRecord, other: &JobRecord) -> bool
     one.array == other.array && one.index == other.index
 }
 
-// Puts a record in the place of the one with its number, if there is one; and whether all are found by the same then.
-fn put(by_id: &mut IndexMap<u32, JobRecord>, job: JobRecord) -> bool
-    requires { IsTable by_id.old.entries }
-    ensures entries { by_id.new.entries ≡ map entry_of (map (put_back_if job) (values by_id.old)) }
-    ensures found { result ≡ true → map found_by (values by_id.new) ≡ map found_by (values by_id.old) }
-{
-    let Some(place) = by_id.get_index_of(&job.id) else {
-        return true;
-    };
-    let same = are_found_alike(&by_id[place], &job);
-    by_id[place] = job;
-    same
+// Whether the job holds something.
+fn holds_any(job: &JobRecord) -> bool {
+    !job.parts.as_slice().is_empty()
 }
 
 // Puts jobs whose numbers rise and are above all others behind these, where there is room for them.

@@ -12,6 +12,7 @@ pub fn a_walk_changes_all<T>()
     ensures ends { Walks.WalkEnds T }
     ensures length { Walks.WalkKeepsLength T }
     ensures rest { Walks.WalkKeepsRest T }
+    ensures leaves_out { Walks.WalkLeavesOut T }
 {}
 
 /// What a change makes of the member at a place depends on that member alone.

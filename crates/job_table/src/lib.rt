@@ -4,6 +4,7 @@
 
 pub mod awaited;
 pub mod behind;
+mod blocks;
 pub mod change;
 pub mod dependency_laws;
 pub mod jobs;
@@ -13,4 +14,5 @@ pub mod record;
 pub mod standing;
 pub mod targets;
 pub mod terms;
+pub mod unended;
 pub mod usage;

@@ -1,11 +1,11 @@
 -- The jobs with which both lists begin.
-use Rattle.std.proofs.Common.{◌≡◌, ℕ, ◌+◌, ◌≤◌, ◌<◌, zero, suc, true, false, ltb, List, [], length, take, arith, refl, sym, inl, inr, get_or}
+use Rattle.std.proofs.Common.{◌≡◌, ℕ, ◌+◌, ◌≤◌, ◌<◌, zero, suc, true, false, ltb, List, [], length, take, arith, refl, inl, inr, get_or}
 use Rattle.std.proofs.lemmas.Bool.{cases_lt, ltb-true, or_cases}
 use Rattle.backfill_planner.specs.declared.job.PlanJob.{PlanJob}
 use Rattle.plan_keeper.specs.Steady.{IsSameFrom}
-use Rattle.plan_keeper.specs.Marks.{times, met_from, AreAlike, IsMet}
+use Rattle.plan_keeper.specs.Marks.{times, met_from, AreAlike}
 use Rattle.plan_keeper.proofs.Times.{there, times-next}
-use Rattle.plan_keeper.proofs.SameFrom.{same-id, same-on}
+use Rattle.plan_keeper.proofs.SameFrom.{same-on}
 
 pub alike-none : (now : ℕ) (old ranked : List PlanJob) → AreAlike now old ranked 0
 alike-none now old ranked = record {
@@ -37,14 +37,6 @@ times-alike now old ranked first (suc count) node alike few =
       times-next node old count at.job (omega (arith, few, alike.few)),
       same-on now (get_or old count at.job) (get_or ranked count at.job) (alike.each count at.job (omega (arith, few))) node,
     ))
-
--- each of them was met
-pub met-alike : (now : ℕ) (old ranked : List PlanJob) (first place before : ℕ) → AreAlike now old ranked first → first ≤ place → before < first → IsMet old ranked place before
-met-alike now old ranked first place before alike few below = record {
-  at = before;
-  above = omega (arith, few, below);
-  same = λ d. sym (same-id now (get_or old before d) (get_or ranked before d) (alike.each before d below));
-}
 
 -- those before a place are those that are met up to it
 pub met-before-place : (place before : ℕ) → met_from place [] before ≡ true → before < place

@@ -4,6 +4,8 @@ pub mod Holding
 pub mod SameFrom
 pub mod Walking
 pub mod Marking
+pub mod Gone
+pub mod Counting
 pub mod Settled
 pub mod Listing
 pub mod Turning
@@ -15,5 +17,7 @@ pub mod Seconds
 pub mod Lowering
 pub mod Standing
 pub mod Keeping
+pub mod Passed
+pub mod Leaving
 pub mod Parting
 pub mod Rest

@@ -137,7 +137,7 @@ parts-late job (Some placed) node second until order =
     ])
 
 -- a node that the job may not have isn't touched
-none-on : (job : PlanJob) (node : ℕ) (parts : List Share) → may_have_node node job ≡ false → All (λ (share : Share). Contains job.nodes share.node) parts → has_part node parts ≡ false
+pub none-on : (job : PlanJob) (node : ℕ) (parts : List Share) → may_have_node node job ≡ false → All (λ (share : Share). Contains job.nodes share.node) parts → has_part node parts ≡ false
 none-on job node [] without own = refl
 none-on job node (share ∷ parts) without own =
     let differs : eqb node share.node ≡ false = ne_eqb node share.node (λ same. own-not job node share.node (All-head (λ (share : Share). Contains job.nodes share.node) share parts own) (sym same) without) in

@@ -8,7 +8,7 @@ use Rattle.backfill_planner.specs.Plans.{PlannedView, holds_of, holds_before, pl
 use Rattle.backfill_planner.specs.Staying.{StaysFrom}
 use Rattle.plan_keeper.specs.Steady.{may_have_node, IsSameFrom, AreSteady}
 use Rattle.plan_keeper.specs.Planner.{PlannerLaws}
-use Rattle.plan_keeper.specs.Marks.{on, times, times_before, IsMatched, IsMet, IsUnsettled, AreMarks, Fits, Meets, Without}
+use Rattle.plan_keeper.specs.Marks.{on, times, times_before, IsMatched, IsPast, IsGoneMet, IsUnsettled, AreMarks, Fits, Meets, Without}
 use Rattle.plan_keeper.proofs.Times.{times-next, times-past, times-up_to, not-on, has-on, sums-tell, owned, own-nodes}
 use Rattle.plan_keeper.proofs.SameFrom.{same-id, same-on, same-holds}
 use Rattle.plan_keeper.proofs.Frees.{stays-beside, stays-new, stays-on, place-off}
@@ -20,11 +20,21 @@ meets-more met new before other more marked = elim (cases_eq other before) [
   | inr apart ↦ more.others other apart ∙ marked
 ]
 
-met-before : (old ranked : List PlanJob) (place before : ℕ) → IsMet old ranked place before → IsMet old ranked (place + 1) before
-met-before old ranked place before met = record { at = met.at; above = omega (arith, met.above); same = met.same }
+past-more : (now : ℕ) (old ranked : List PlanJob) (place before : ℕ) → IsPast now old ranked place before → IsPast now old ranked (place + 1) before
+past-more now old ranked place before past other d later inside same once once_before = past other d (omega (arith, later)) inside same once once_before
 
 pub unsettled-before : (ranked : List PlanJob) (steady : ℕ → Bool) (place node : ℕ) → IsUnsettled ranked steady place node → IsUnsettled ranked steady (place + 1) node
 unsettled-before ranked steady place node one = record { at = one.at; above = omega (arith, one.above); has = one.has; other = one.other }
+
+-- the job at this place is none behind it
+past-here : (now : ℕ) (old ranked : List PlanJob) (place before : ℕ) (job : PlanJob) → place < length ranked → ((d : PlanJob) → get_or ranked place d ≡ job) → ((d : PlanJob) → IsSameFrom now (get_or old before d) job) → IsPast now old ranked (place + 1) before
+past-here now old ranked place before job below is was other d later inside same once once_before =
+    let ids : (get_or ranked place d).id ≡ (get_or ranked other d).id = ap (λ (one : PlanJob). one.id) (is d) ∙ sym (same-id now (get_or old before d) job (was d)) ∙ same-id now (get_or old before d) (get_or ranked other d) same in
+    let twice : place ≡ other = once place d below ids in
+    omega (arith, twice, later)
+
+gone-met : (now : ℕ) (old ranked : List PlanJob) (met new_met : ℕ → Bool) (node : ℕ) → ((before : ℕ) → met before ≡ true → new_met before ≡ true) → IsGoneMet now old ranked met node → IsGoneMet now old ranked new_met node
+gone-met now old ranked met new_met node more one = record { first = one.first; gone = one.gone; all_met = λ before below. more before (one.all_met before below) }
 
 -- a node that the job may not have stays matched
 matched-off : PlannerLaws → (old : PlannedView) (base : BaseView) (ranked : List PlanJob) (now place : ℕ) (met new_met : ℕ → Bool) (node : ℕ) (job : PlanJob) → place < length ranked → ((d : PlanJob) → get_or ranked place d ≡ job) → may_have_node node job ≡ false → ((other : ℕ) → met other ≡ true → new_met other ≡ true) → IsMatched old base ranked now place met node → IsMatched old base ranked now (place + 1) new_met node
@@ -79,28 +89,34 @@ pub kept-marks : PlannerLaws → (old : PlannedView) (base : BaseView) (ranked :
 kept-marks laws old base ranked now place same met new_met job before marks below is fits level placed more = record {
   long = marks.long;
   known = λ other inside marked. elim (cases_eq other before) [
-    | inl here ↦ record { at = place; above = omega arith; same = λ d. rw here (ap (λ (one : PlanJob). one.id) (is d) ∙ sym (same-id now (get_or old.ranked before d) job (fits.is d))) }
-    | inr apart ↦ met-before old.ranked ranked place other (marks.known other inside (sym (more.others other apart) ∙ marked))
+    | inl here ↦ rw here (past-here now old.ranked ranked place before job below is fits.is)
+    | inr apart ↦ past-more now old.ranked ranked place other (marks.known other inside (sym (more.others other apart) ∙ marked))
   ];
   matched = λ node inside marked. elim (cases_Bool (may_have_node node job)) [
     | inl has ↦ matched-on laws old base ranked now place met new_met node job before below is fits.there more (fits.is job) has (owned (λ node. times node (take place ranked) ≡ times node (take before old.ranked)) job node level has) placed (marks.matched node inside marked)
     | inr without ↦ matched-off laws old base ranked now place met new_met node job below is without (λ other marked. meets-more met new_met before other more marked) (marks.matched node inside marked)
   ];
-  changed = λ steady are node inside unmarked old_inside stays. unsettled-before ranked steady place node (marks.changed steady are node inside unmarked old_inside stays);
+  changed = λ steady are node inside unmarked old_inside stays. elim (marks.changed steady are node inside unmarked old_inside stays) [
+    | inl one ↦ inl (unsettled-before ranked steady place node one)
+    | inr lost ↦ inr (gone-met now old.ranked ranked met new_met node (λ other marked. meets-more met new_met before other more marked) lost)
+  ];
 }
 
 -- the job is placed anew
 pub other-marks : PlannerLaws → (old : PlannedView) (base : BaseView) (ranked : List PlanJob) (now place : ℕ) (same : List Bool) (met : ℕ → Bool) (new_same : List Bool) (job : PlanJob) → AreMarks old base ranked now place same met → place < length ranked → ((d : PlanJob) → get_or ranked place d ≡ job) → ((steady : ℕ → Bool) → AreSteady old base ranked now steady → steady place ≡ false) → Without same job new_same → AreMarks old base ranked now (place + 1) new_same met
 other-marks laws old base ranked now place same met new_same job marks below is other without = record {
   long = without.long ∙ marks.long;
-  known = λ before inside marked. met-before old.ranked ranked place before (marks.known before inside marked);
+  known = λ before inside marked. past-more now old.ranked ranked place before (marks.known before inside marked);
   matched = λ node inside marked.
       let both = and_parts (get_or same node false) (not (may_have_node node job)) (sym (without.each node (omega (arith, inside, marks.long))) ∙ marked) in
       matched-off laws old base ranked now place met met node job below is (not-true (may_have_node node job) both.1) (λ before marked. marked) (marks.matched node inside both.0);
   changed = λ steady are node inside unmarked old_inside stays. elim (cases_Bool (get_or same node false)) [
-    | inr changed ↦ unsettled-before ranked steady place node (marks.changed steady are node inside changed old_inside stays)
+    | inr changed ↦ elim (marks.changed steady are node inside changed old_inside stays) [
+      | inl one ↦ inl (unsettled-before ranked steady place node one)
+      | inr lost ↦ inr lost
+    ]
     | inl was ↦ elim (cases_Bool (may_have_node node job)) [
-      | inl has ↦ record { at = place; above = omega arith; has = λ d. rw (is d) has; other = other steady are }
+      | inl has ↦ inl (record { at = place; above = omega arith; has = λ d. rw (is d) has; other = other steady are })
       | inr has_not ↦ absurd (let wrong = rw (without.each node (omega (arith, inside, marks.long)), was, has_not) at unmarked in cc)
     ]
   ];
@@ -111,7 +127,7 @@ other-marks laws old base ranked now place same met new_same job marks below is 
     not-true true marked = cc
 
 -- more jobs of the old list are met
-pub marks-met : (old : PlannedView) (base : BaseView) (ranked : List PlanJob) (now place : ℕ) (same : List Bool) (met new_met : ℕ → Bool) → AreMarks old base ranked now place same met → ((before : ℕ) → met before ≡ true → new_met before ≡ true) → ((before : ℕ) → before < length old.ranked → new_met before ≡ true → IsMet old.ranked ranked place before) → AreMarks old base ranked now place same new_met
+pub marks-met : (old : PlannedView) (base : BaseView) (ranked : List PlanJob) (now place : ℕ) (same : List Bool) (met new_met : ℕ → Bool) → AreMarks old base ranked now place same met → ((before : ℕ) → met before ≡ true → new_met before ≡ true) → ((before : ℕ) → before < length old.ranked → new_met before ≡ true → IsPast now old.ranked ranked place before) → AreMarks old base ranked now place same new_met
 marks-met old base ranked now place same met new_met marks more known = record {
   long = marks.long;
   known = known;
@@ -121,7 +137,10 @@ marks-met old base ranked now place same met new_met marks more known = record {
         passed = λ before d there has fewer. more before (was.passed before d there has fewer);
         stays = was.stays;
       };
-  changed = marks.changed;
+  changed = λ steady are node inside unmarked old_inside stays. elim (marks.changed steady are node inside unmarked old_inside stays) [
+    | inl one ↦ inl one
+    | inr lost ↦ inr (gone-met now old.ranked ranked met new_met node more lost)
+  ];
 }
 
 -- before the first job

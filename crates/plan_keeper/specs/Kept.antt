@@ -1,6 +1,6 @@
 -- What is kept in mind of the nodes while each job of the new list is the one at its place in the old list. Of the proof
 -- alone: no public call speaks of it.
-use Rattle.std.specs.Prelude.{◌≡◌, ◌≢◌, ◌⊎◌, ℕ, ◌+◌, ◌≤◌, ◌<◌, min, Bool, nat_eq, if◌then◌else◌, List, length, slice_index_or, All, Option, Some, None}
+use Rattle.std.specs.Prelude.{◌≡◌, ◌≢◌, ◌⊎◌, ℕ, ◌+◌, ◌≤◌, ◌<◌, min, Bool, true, false, nat_eq, if◌then◌else◌, List, length, slice_index_or, All, Option, Some, None}
 use Rattle.std.specs.List.{list_any}
 use Rattle.resource_profile.specs.Profiles.{ProfileView}
 use Rattle.backfill_planner.specs.declared.Share.{Share}
@@ -12,7 +12,7 @@ use Rattle.backfill_planner.specs.Placements.{IsOnRooms}
 use Rattle.backfill_planner.specs.Plans.{PlannedView, PlanningView, holds_before, placement_of}
 use Rattle.backfill_planner.specs.Staying.{EndsInTime, IsNoFreer, StaysBefore, StaysFrom}
 use Rattle.plan_keeper.specs.Steady.{IsSameFrom, AreSteady}
-use Rattle.plan_keeper.specs.Marks.{AreAlike, IsUnsettled}
+use Rattle.plan_keeper.specs.Marks.{AreAlike, IsGone, IsUnsettled}
 use Rattle.plain_data.specs.declared.seconds.TheConstants.{FOREVER, LAST_START}
 
 -- one of the parts is on the node
@@ -51,47 +51,51 @@ GoesOn same no_freer before after new_same new_no_freer =
     ((before ≡ after) × (new_same ≡ same) × (new_no_freer ≡ no_freer))
     ⊎ ((before ≢ after) × Moves same no_freer before after new_same new_no_freer)
 
--- Once the jobs before a place are planned, as much is free of each node before the one second as was when those of the
--- old list were, and no more before the other; nothing is known where the second is 0. What has changed did so by a job
--- that isn't steady.
-pub record AreKept (old : PlannedView) (base : BaseView) (ranked : List PlanJob) (now place : ℕ)
+-- Once the jobs before a place are planned, as much is free of each node before the one second as was when those before a
+-- place of the old list were, and no more before the other; nothing is known where the second is 0. What has changed did
+-- so by a job that isn't steady, or by one that is gone.
+pub record AreKept (old : PlannedView) (base : BaseView) (ranked : List PlanJob) (now before place : ℕ)
     (same no_freer : List ℕ) : Type 0 where
   pub long : length same ≡ length base.rooms
   pub long_no_freer : length no_freer ≡ length base.rooms
   pub order : (node : ℕ) → node < length base.rooms → slice_index_or same node 0 ≤ slice_index_or no_freer node 0
   pub stays : (node : ℕ) → node < length base.rooms → 0 < slice_index_or same node 0
-      → StaysBefore old.base.rooms (holds_before old.base old.ranked old.moment place)
+      → StaysBefore old.base.rooms (holds_before old.base old.ranked old.moment before)
       base.rooms (holds_before base ranked now place) now (slice_index_or same node 0) node
   pub keeps : (node : ℕ) → node < length base.rooms → 0 < slice_index_or no_freer node 0
-      → IsNoFreer old.base.rooms (holds_before old.base old.ranked old.moment place)
+      → IsNoFreer old.base.rooms (holds_before old.base old.ranked old.moment before)
       base.rooms (holds_before base ranked now place) now (slice_index_or no_freer node 0) node
   pub changed : (steady : ℕ → Bool) → AreSteady old base ranked now steady → (node : ℕ) → node < length base.rooms
       → slice_index_or same node 0 < FOREVER → node < length old.base.rooms
       → StaysFrom old.base.rooms old.base.holds base.rooms base.holds now node
-      → IsUnsettled ranked steady place node
+      → IsUnsettled ranked steady place node ⊎ IsGone now old.ranked ranked before node
+
+-- so it is when a plan in the making has come as far
+abbrev pub AreKeptTo : PlannedView → PlanningView → ℕ → List ℕ → List ℕ → Type 0
+AreKeptTo old planning before same no_freer =
+    AreKept old planning.base planning.ranked planning.moment before planning.done same no_freer
 
 -- so far each job is the one at its place in the old list, and this is kept in mind
 pub record HasBegun (old : PlannedView) (planning : PlanningView) (same no_freer : List ℕ) : Type 0 where
   pub alike : AreAlike planning.moment old.ranked planning.ranked planning.done
-  pub kept : AreKept old planning.base planning.ranked planning.moment planning.done same no_freer
+  pub kept : AreKeptTo old planning planning.done same no_freer
 
--- the next job is the one at its place in the old list
-pub record IsThere (old : PlannedView) (planning : PlanningView) (job : PlanJob) : Type 0 where
+-- the next job is the one at this place of the old list
+pub record IsThere (old : PlannedView) (planning : PlanningView) (before : ℕ) (job : PlanJob) : Type 0 where
   pub more : planning.done < length planning.ranked
-  pub there : planning.done < length old.ranked
+  pub there : before < length old.ranked
   pub is : (d : PlanJob) → slice_index_or planning.ranked planning.done d ≡ job
-  pub was : (d : PlanJob) → IsSameFrom planning.moment (slice_index_or old.ranked planning.done d) job
+  pub was : (d : PlanJob) → IsSameFrom planning.moment (slice_index_or old.ranked before d) job
   pub in_time : EndsInTime job
   pub windows : (start : ℕ) → start ≤ LAST_START → start < window_end job start
   pub later : old.moment ≤ planning.moment
   pub nodes : All (λ node. node < length planning.base.rooms) job.nodes
   pub old_nodes : All (IsOnRooms old.base.rooms) old.ranked
 
--- the placement that the job at the next place had
-abbrev pub IsThen : PlannedView → PlanningView → Option Placed → Type 0
-IsThen old planning placed =
-    (d : PlanJob) → placed
-    ≡ placement_of old.base old.ranked old.moment planning.done (slice_index_or old.ranked planning.done d)
+-- the placement that the job at this place had
+abbrev pub IsThen : PlannedView → ℕ → Option Placed → Type 0
+IsThen old before placed =
+    (d : PlanJob) → placed ≡ placement_of old.base old.ranked old.moment before (slice_index_or old.ranked before d)
 
 -- the start is one from now to the horizon, and as much is free of the job's nodes before its window's end
 pub record CanStay (job : PlanJob) (placed : Placed) (same : List ℕ) (now horizon : ℕ) : Type 0 where
@@ -116,3 +120,15 @@ pub record IsKeptFrom (old new : ProfileView) (now node same no_freer : ℕ) : T
   pub stays : 0 < same → StaysBefore old.rooms old.holds new.rooms new.holds now same node
   pub keeps : 0 < no_freer → IsNoFreer old.rooms old.holds new.rooms new.holds now no_freer node
   pub all : node < length old.rooms → StaysFrom old.rooms old.holds new.rooms new.holds now node → FOREVER ≤ same
+
+-- both seconds of each node with a part are known by these profiles, those of the others are what they were
+pub record AreCountedAnew (old new : ProfileView) (now : ℕ) (parts : List Share)
+    (same no_freer new_same new_no_freer : List ℕ) : Type 0 where
+  pub long : length new_same ≡ length same
+  pub long_no_freer : length new_no_freer ≡ length no_freer
+  pub each : (node : ℕ) → node < length same
+      → ((has_part node parts ≡ true)
+      × IsKeptFrom old new now node (slice_index_or new_same node 0) (slice_index_or new_no_freer node 0))
+      ⊎ ((has_part node parts ≡ false)
+      × (slice_index_or new_same node 0 ≡ slice_index_or same node 0)
+      × (slice_index_or new_no_freer node 0 ≡ slice_index_or no_freer node 0))

@@ -5,3 +5,4 @@ pub mod Nodes
 pub mod Holding
 pub mod Turns
 pub mod Kept
+pub mod Passing

@@ -1,10 +1,10 @@
 -- What replanning keeps in mind of the nodes and of the old list. Of the proof alone: no public call speaks of it.
-use Rattle.std.specs.Prelude.{◌≡◌, ◌≢◌, ℕ, ◌+◌, ◌-◌, ◌≤◌, ◌<◌, Bool, true, false, ◌&&◌, ◌||◌, not, nat_eq, nat_lt, List, length, take, count_by, sum_by, slice_index_or, All, Option, Some, None}
+use Rattle.std.specs.Prelude.{◌≡◌, ◌≢◌, ◌⊎◌, ℕ, ◌+◌, ◌-◌, ◌≤◌, ◌<◌, Bool, true, false, ◌&&◌, ◌||◌, not, nat_eq, nat_lt, List, length, take, count_by, sum_by, slice_index_or, All, Option, Some, None}
 use Rattle.backfill_planner.specs.declared.job.PlanJob.{PlanJob}
 use Rattle.backfill_planner.specs.Bases.{BaseView}
 use Rattle.backfill_planner.specs.Plans.{PlannedView, holds_before}
 use Rattle.backfill_planner.specs.Staying.{StaysFrom}
-use Rattle.plan_keeper.specs.Steady.{may_have_node, IsSameFrom, AreSteady}
+use Rattle.plan_keeper.specs.Steady.{may_have_node, IsNamedOnce, IsSameFrom, AreSteady}
 
 -- how often the node is among the job's, and among those of some jobs
 abbrev pub on : ℕ → PlanJob → ℕ
@@ -46,11 +46,12 @@ pub record IsMatched (old : PlannedView) (base : BaseView) (ranked : List PlanJo
       → StaysFrom old.base.rooms (holds_before old.base old.ranked old.moment before)
       base.rooms (holds_before base ranked now place) now node
 
--- the job at a place of the old list was met before this place of the new one
-pub record IsMet (old ranked : List PlanJob) (place before : ℕ) : Type 0 where
-  pub at : ℕ
-  pub above : at < place
-  pub same : (d : PlanJob) → (slice_index_or ranked at d).id ≡ (slice_index_or old before d).id
+-- the job at a place of the old list is none from this place of the new one on that both name once
+abbrev pub IsPast : ℕ → List PlanJob → List PlanJob → ℕ → ℕ → Type 0
+IsPast now old ranked place before =
+    (other : ℕ) (d : PlanJob) → place ≤ other → other < length ranked
+    → IsSameFrom now (slice_index_or old before d) (slice_index_or ranked other d)
+    → IsNamedOnce ranked other → ¬ IsNamedOnce old before
 
 -- one of the jobs before this place may have the node and isn't steady
 pub record IsUnsettled (ranked : List PlanJob) (steady : ℕ → Bool) (place node : ℕ) : Type 0 where
@@ -59,17 +60,32 @@ pub record IsUnsettled (ranked : List PlanJob) (steady : ℕ → Bool) (place no
   pub has : (d : PlanJob) → may_have_node node (slice_index_or ranked at d) ≡ true
   pub other : steady at ≡ false
 
+-- one of the jobs before this place of the old list may have the node, and is none of the new list that both name once
+pub record IsGone (now : ℕ) (old ranked : List PlanJob) (before node : ℕ) : Type 0 where
+  pub at : ℕ
+  pub above : at < before
+  pub there : at < length old
+  pub has : (d : PlanJob) → may_have_node node (slice_index_or old at d) ≡ true
+  pub gone : IsPast now old ranked 0 at
+
+-- so it is of one behind which all that stand above it are met
+pub record IsGoneMet (now : ℕ) (old ranked : List PlanJob) (met : ℕ → Bool) (node : ℕ) : Type 0 where
+  pub first : ℕ
+  pub gone : IsGone now old ranked first node
+  pub all_met : (before : ℕ) → before < first → met before ≡ true
+
 -- what is marked of nodes, and which jobs of the old list are met, once the jobs before a place of the new one are planned
 pub record AreMarks (old : PlannedView) (base : BaseView) (ranked : List PlanJob) (now place : ℕ) (same : List Bool)
     (met : ℕ → Bool) : Type 0 where
   pub long : length same ≡ length base.rooms
-  pub known : (before : ℕ) → before < length old.ranked → met before ≡ true → IsMet old.ranked ranked place before
+  pub known : (before : ℕ) → before < length old.ranked → met before ≡ true
+      → IsPast now old.ranked ranked place before
   pub matched : (node : ℕ) → node < length base.rooms → slice_index_or same node false ≡ true
       → IsMatched old base ranked now place met node
   pub changed : (steady : ℕ → Bool) → AreSteady old base ranked now steady → (node : ℕ) → node < length base.rooms
       → slice_index_or same node false ≡ false → node < length old.base.rooms
       → StaysFrom old.base.rooms old.base.holds base.rooms base.holds now node
-      → IsUnsettled ranked steady place node
+      → IsUnsettled ranked steady place node ⊎ IsGoneMet now old.ranked ranked met node
 
 -- From now on the job is the one at a place of the old list, which wasn't met before, and on none of its nodes has
 -- anything changed by now; as many jobs that may have them stand above it as did.
@@ -97,15 +113,19 @@ pub record AreAlike (now : ℕ) (old ranked : List PlanJob) (first : ℕ) : Type
 abbrev pub met_from : ℕ → List Bool → (ℕ → Bool)
 met_from first met = λ before. nat_lt before first || slice_index_or met (before - first) false
 
--- what is counted behind the first jobs, which are alike in both lists, once the jobs before a place of the new one are
--- planned
-pub record AreCounts (old ranked : List PlanJob) (now first place nodes : ℕ) (counts : List ℕ) (met : List Bool)
-    : Type 0 where
-  pub alike : AreAlike now old ranked first
+-- What is counted behind the first jobs of both lists, once the jobs before a place of the new one are planned: of each
+-- node that is marked as the same as many of these jobs may have it in both.
+pub record AreCounts (old ranked : List PlanJob) (first place nodes : ℕ) (same : List Bool) (counts : List ℕ)
+    (met : List Bool) : Type 0 where
+  pub few : first ≤ length old
   pub long : length counts ≡ nodes
   pub met_long : first + length met ≡ length old
+  -- how many the first ones of the new list are
+  pub first_new : ℕ
+  pub level : (node : ℕ) → node < nodes → slice_index_or same node false ≡ true
+      → times node (take first_new ranked) ≡ times node (take first old)
   pub counted : (node d : ℕ) → node < nodes
-      → slice_index_or counts node d + times node (take first ranked) ≡ times node (take place ranked)
+      → slice_index_or counts node d + times node (take first_new ranked) ≡ times node (take place ranked)
 
 -- the counts with a job's nodes added
 pub record Counts (counts : List ℕ) (job : PlanJob) (new : List ℕ) : Type 0 where

@@ -1,18 +1,16 @@
 //! The jobs with which both lists begin: as long as each job of the new list is the one at its place in the old list, how
 //! often a node is among those of the jobs above needn't be counted, and what a job that moves has changed is known.
 
-ghost use Rattle.std.specs.Prelude.{◌≡◌, ◌≤◌, ◌<◌, ◌+◌, length, slice_index_or, IfOk, OnErr, All};
+ghost use Rattle.std.specs.Prelude.{◌≡◌, ◌≤◌, ◌<◌, ◌+◌, length, slice_index_or, IfOk, OnErr};
 ghost use Rattle.backfill_planner.specs.declared.job.PlanJob.{PlanJob as AJob};
-ghost use Rattle.backfill_planner.specs.Placements.{IsOnRooms};
 ghost use Rattle.plan_keeper.specs.Steady.{IsSameFrom};
 ghost use Rattle.plan_keeper.specs.Kept.{HasBegun};
 ghost use Rattle.plan_keeper.specs.Turns.{IsStepped, HasStepped};
 
 use crate::kept::Kept;
-use crate::laws::planner_laws;
-use crate::same_job::{is_same_from, tell_ends_in_time, tell_windows};
+use crate::same_job::is_same_from;
 use crate::same_nodes;
-use crate::staying::find_there;
+use crate::staying::settle_there;
 use backfill_planner::{Planned, Planning};
 use resource_profile::{Profile, Steps};
 use small_texts::memory_error::Memory;
@@ -49,13 +47,6 @@ fn first_kept(alloc: Global, old: &Planned, planning: &Planning, now: u64) -> Re
     Ok(kept)
 }
 
-// It does nothing: its contract tells that a plan's jobs are on its nodes, as its type has it.
-fn tell_nodes(planned: &Planned)
-    ensures { All (IsOnRooms planned.now.base.rooms) planned.now.ranked }
-{
-    let _ranked = planned.ranked();
-}
-
 // The next job, which is the one at its place in the old list, gets its placement.
 fn turn<L>(
     alloc: Global,
@@ -80,19 +71,12 @@ fn turn<L>(
         HasBegun old.now next.planning next.kept.same.seconds.items next.kept.no_freer.seconds.items) }
     ensures steps { IsStepped old.now begun.planning steps.old steps.new }
 {
-    planner_laws();
-    tell_nodes(old);
     let Beginning {
         planning,
         first,
         mut kept,
     } = begun;
-    let job = &planning.ranked()[first];
-    tell_ends_in_time(job);
-    tell_windows(job);
-    let placed = find_there(alloc, old, &kept, &planning, job, first, now, steps)?;
-    kept.go_on(old.placement_of(first), &placed);
-    let planning = planning.settle_next(placed)?;
+    let planning = settle_there(alloc, old, first, &mut kept, planning, first, now, steps)?;
     Ok(Beginning {
         planning,
         first: first + 1,

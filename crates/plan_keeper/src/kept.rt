@@ -44,4 +44,15 @@ impl Kept {
         lower_by(&mut self.same, after.as_ref());
         lower_by(&mut self.no_freer, before);
     }
+
+    /// A job is planned that the old list has not. Linear in its parts: from its start on less may be free on their nodes.
+    pub fn place_new(&mut self, after: &Option<Placed>)
+        requires { AreOnNodes (length self.old.same.seconds.items) after.now }
+        ensures same { Lowers self.old.same.seconds.items after.now self.new.same.seconds.items }
+        ensures no_freer { self.new.no_freer.seconds.items ≡ self.old.no_freer.seconds.items }
+    {
+        if let Some(placed) = after {
+            self.same.lower(placed);
+        }
+    }
 }

@@ -2,12 +2,15 @@
 #![tactic(auto)]
 
 mod beginning;
+mod both_plans;
 mod finding;
 mod kept;
 pub mod laws;
+mod made_again;
 mod marks;
 mod node_seconds;
 mod old_list;
+mod places;
 mod replanning;
 mod same_job;
 mod same_nodes;

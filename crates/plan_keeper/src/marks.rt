@@ -66,7 +66,6 @@ impl Marks {
     /// One job more is planned: as the one at a place of the old list was, or anew. Linear in its nodes. After want of
     /// memory the marks are of no use.
     pub fn go_on(&mut self, job: &PlanJob, before: Option<usize>) -> Result<(), Memory>
-        requires same { All (λ node. node < length self.old.unchanged.nodes.items) job.now.nodes }
         requires counts { All (λ node. node < length self.old.counts.items) job.now.nodes }
         requires met { IfSome before (λ before. before < length self.old.met.items) }
         ensures counts { OnOk result (Counts self.old.counts.items job.now self.new.counts.items) }

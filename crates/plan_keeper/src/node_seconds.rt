@@ -1,6 +1,6 @@
 //! Of each node, a second before which something is known of it.
 
-ghost use Rattle.std.specs.Prelude.{◌≡◌, ◌↔◌, ℕ, ◌≤◌, ◌<◌, min, true, nat_le, if◌then◌else◌, length, slice_index_or, Some, All};
+ghost use Rattle.std.specs.Prelude.{◌≡◌, ◌↔◌, ℕ, ◌≤◌, ◌<◌, min, true, nat_le, if◌then◌else◌, length, set, slice_index_or, Some, All};
 ghost use Rattle.std.specs.List.{list_all};
 ghost use Rattle.backfill_planner.specs.declared.Share.{Share as AShare};
 ghost use Rattle.plan_keeper.specs.Kept.{has_part, Lowers};
@@ -76,5 +76,21 @@ impl NodeSeconds {
     {
         self.least = placed.start.min(self.least);
         lower(&mut self.seconds, placed.parts.as_slice(), placed.start);
+    }
+
+    /// Of this node it is this one then.
+    pub fn set(&mut self, node: usize, second: u64)
+        requires { node < length self.old.seconds.items }
+        ensures { self.new.seconds.items ≡ set self.old.seconds.items node second }
+    {
+        self.least = second.min(self.least);
+        self.seconds[node] = second;
+    }
+
+    /// It looks for the least of them, which may have risen. Linear in the nodes.
+    pub fn look_again(&mut self)
+        ensures { self.new.seconds.items ≡ self.old.seconds.items }
+    {
+        self.least = least_of(self.seconds.as_slice());
     }
 }

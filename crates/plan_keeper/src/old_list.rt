@@ -21,8 +21,8 @@ pub struct OldList {
     pub depths: Vec<u64>,
 }
 
-// The place of each job by its id; of several of one id the last.
-fn places_of(alloc: Global, ranked: &[PlanJob]) -> Result<HashMap<u32, usize>, Memory>
+/// The place of each job by its id; of several of one id the last.
+pub fn places_of(alloc: Global, ranked: &[PlanJob]) -> Result<HashMap<u32, usize>, Memory>
     ensures { IfOk result (λ places. (id : ℕ) → FindsId ranked.now (length ranked.now) id (get nat_eq places id)) }
 {
     let mut places = HashMap::with_capacity(alloc, ranked.len())?;

@@ -11,10 +11,12 @@ ghost use Rattle.backfill_planner.specs.Plans.{plan_of, plan_holds_of};
 ghost use Rattle.plan_keeper.specs.Steady.{AreSteady, others};
 ghost use Rattle.plan_keeper.specs.Marks.{met_from, AreCounts, AreMarks, IsListed};
 ghost use Rattle.plan_keeper.specs.Kept.{HasBegun};
+ghost use Rattle.plan_keeper.specs.Passing.{IsPassed};
 ghost use Rattle.plan_keeper.specs.Turns.{IsNext, IsFound, IsStepped, HasStepped};
 ghost use Rattle.plain_data.specs.declared.seconds.TheConstants.{FOREVER};
 
 use crate::beginning::{Beginning, begin};
+use crate::both_plans::{Passed, begun_passed, pass_both};
 use crate::finding::{Found, find_again, find_anew};
 use crate::kept::Kept;
 use crate::laws::planner_laws;
@@ -46,8 +48,8 @@ fn find<L>(
     requires later { old.now.moment ≤ now }
     requires marks { AreMarks old.now planning.now.base planning.now.ranked planning.now.moment planning.now.done
         marks.now.unchanged.nodes.items (met_from list.now.first marks.now.met.items) }
-    requires counts { AreCounts old.now.ranked planning.now.ranked planning.now.moment list.now.first
-        planning.now.done (length planning.now.base.rooms) marks.now.counts.items marks.now.met.items }
+    requires counts { AreCounts old.now.ranked planning.now.ranked list.now.first planning.now.done
+        (length planning.now.base.rooms) marks.now.unchanged.nodes.items marks.now.counts.items marks.now.met.items }
     ensures placed { IfOk result (λ found. IsNext planning.now found.placed) }
     ensures before { IfOk result (λ found. IsFound old.now planning.now
         marks.now.unchanged.nodes.items (met_from list.now.first marks.now.met.items) found.before) }
@@ -96,13 +98,13 @@ fn turn<L>(
     requires later { old.now.moment ≤ now }
     requires marks { AreMarks old.now planning.base planning.ranked planning.moment planning.done
         marks.old.unchanged.nodes.items (met_from list.now.first marks.old.met.items) }
-    requires counts { AreCounts old.now.ranked planning.ranked planning.moment list.now.first
-        planning.done (length planning.base.rooms) marks.old.counts.items marks.old.met.items }
+    requires counts { AreCounts old.now.ranked planning.ranked list.now.first planning.done
+        (length planning.base.rooms) marks.old.unchanged.nodes.items marks.old.counts.items marks.old.met.items }
     ensures next { IfOk result (λ next. next ≡ record planning { done = planning.done + 1 }) }
     ensures marks { OnOk result (AreMarks old.now planning.base planning.ranked planning.moment (planning.done + 1)
         marks.new.unchanged.nodes.items (met_from list.now.first marks.new.met.items)) }
-    ensures counts { OnOk result (AreCounts old.now.ranked planning.ranked planning.moment list.now.first
-        (planning.done + 1) (length planning.base.rooms) marks.new.counts.items marks.new.met.items) }
+    ensures counts { OnOk result (AreCounts old.now.ranked planning.ranked list.now.first (planning.done + 1)
+        (length planning.base.rooms) marks.new.unchanged.nodes.items marks.new.counts.items marks.new.met.items) }
     ensures steps { IsStepped old.now planning steps.old steps.new }
 {
     planner_laws();
@@ -112,16 +114,24 @@ fn turn<L>(
     planning.settle_next(found.placed)
 }
 
-// What is marked where the lists part.
-fn rest_marks(alloc: Global, kept: &Kept, nodes: usize, rest: usize) -> Result<Marks, Memory>
+// What is marked where the lists part for good.
+fn rest_marks(
+    alloc: Global,
+    kept: &Kept,
+    level: &Unchanged,
+    nodes: usize,
+    rest: usize,
+) -> Result<Marks, Memory>
+    requires { length level.now.nodes.items ≡ length kept.now.same.seconds.items }
     ensures long { IfOk result (λ marks. length marks.unchanged.nodes.items ≡ length kept.now.same.seconds.items) }
     ensures unchanged { IfOk result (λ marks. (node : ℕ) (d : Bool) → node < length kept.now.same.seconds.items
         → (slice_index_or marks.unchanged.nodes.items node d ≡ true)
-        ↔ FOREVER ≤ slice_index_or kept.now.same.seconds.items node 0) }
+        ↔ ((FOREVER ≤ slice_index_or kept.now.same.seconds.items node 0)
+        × (slice_index_or level.now.nodes.items node false ≡ true))) }
     ensures counts { IfOk result (λ marks. marks.counts.items ≡ replicate nodes 0) }
     ensures met { IfOk result (λ marks. marks.met.items ≡ replicate rest false) }
 {
-    let unchanged = Unchanged::of_seconds(alloc, kept.same.seconds.as_slice())?;
+    let unchanged = Unchanged::of_seconds(alloc, kept.same.seconds.as_slice(), level)?;
     let counts = vec![in alloc; 0; nodes]?;
     let met = vec![in alloc; false; rest]?;
     Ok(Marks {
@@ -129,6 +139,51 @@ fn rest_marks(alloc: Global, kept: &Kept, nodes: usize, rest: usize) -> Result<M
         counts,
         met,
     })
+}
+
+// The plan whose jobs are planned up to where the lists part for good.
+fn plan_behind<L>(
+    alloc: Global,
+    old: &Planned,
+    passed: Passed,
+    now: u64,
+    steps: &mut Steps<L>,
+) -> Result<Planned, Memory>
+    requires passed { IsPassed old.now passed }
+    requires now { now ≡ passed.planning.moment }
+    requires later { old.now.moment ≤ now }
+    ensures parts { IfOk result (λ planned. planned
+        ≡ record { base = passed.planning.base; ranked = passed.planning.ranked; moment = passed.planning.moment }) }
+    ensures jobs { OnOk result (All IsPlannable passed.planning.ranked) }
+    ensures within { OnOk result (AreWithin passed.planning.base.rooms (passed.planning.base.holds
+        ++ plan_holds_of passed.planning.base passed.planning.ranked passed.planning.moment)) }
+    ensures starts_fit { OnOk result (StartsFit passed.planning.base
+        (plan_of passed.planning.base passed.planning.ranked passed.planning.moment) passed.planning.moment) }
+    ensures apart { OnOk result (All (λ (placed : Placed). AreParts passed.planning.base.rooms placed.parts)
+        (plan_of passed.planning.base passed.planning.ranked passed.planning.moment)) }
+    ensures steps { (start : ℕ) → HasStepped old.now passed.planning.base passed.planning.ranked passed.planning.moment
+        passed.index start steps.old → HasStepped old.now passed.planning.base passed.planning.ranked
+        passed.planning.moment (length passed.planning.ranked) start steps.new }
+{
+    planner_laws();
+    let Passed {
+        mut planning,
+        index: first,
+        before,
+        kept,
+        level,
+    } = passed;
+    let jobs = planning.ranked().len();
+    if first == jobs {
+        return Ok(planning.finish());
+    }
+    let list = OldList::of(alloc, old, before)?;
+    let nodes = planning.base().rooms.as_slice().len();
+    let mut marks = rest_marks(alloc, &kept, &level, nodes, old.ranked().len() - before)?;
+    for index in first..jobs {
+        planning = turn(alloc, old, &list, &mut marks, planning, index, now, steps)?;
+    }
+    Ok(planning.finish())
 }
 
 // The plan whose first jobs are planned, up to where the lists part.
@@ -157,23 +212,14 @@ fn plan_rest<L>(
         begun.first start steps.old → HasStepped old.now begun.planning.base begun.planning.ranked
         begun.planning.moment (length begun.planning.ranked) start steps.new }
 {
-    planner_laws();
-    let Beginning {
-        mut planning,
-        first,
-        kept,
-    } = begun;
-    let jobs = planning.ranked().len();
-    if first == jobs {
-        return Ok(planning.finish());
+    let first = begun.first;
+    let ends = first == begun.planning.ranked().len() || first == old.ranked().len();
+    let passed = begun_passed(alloc, begun)?;
+    if ends {
+        return plan_behind(alloc, old, passed, now, steps);
     }
-    let list = OldList::of(alloc, old, first)?;
-    let nodes = planning.base().rooms.as_slice().len();
-    let mut marks = rest_marks(alloc, &kept, nodes, old.ranked().len() - first)?;
-    for index in first..jobs {
-        planning = turn(alloc, old, &list, &mut marks, planning, index, now, steps)?;
-    }
-    Ok(planning.finish())
+    let passed = pass_both(alloc, old, passed, now, steps)?;
+    plan_behind(alloc, old, passed, now, steps)
 }
 
 // The plan of the ranked jobs at this moment over an older plan of no later one.
@@ -204,7 +250,8 @@ fn plan_over<L>(
 /// plan of whatever moment, nodes and jobs. It counts a step for each job that it searches for, at most one for each of
 /// the new list, and none for a steady one: a job which stands in the old list too, on nodes of which nothing has changed,
 /// below the same jobs that may have them; nor any where the older plan was made of the same. Linear in the nodes and times
-/// of all jobs of both lists besides, where times differ in the nodes for each time, and in the holds of both bases.
+/// of all jobs of both lists besides, where times differ in the nodes for each time, and in the holds of both bases; each
+/// job that is in the new list no more costs a look at all nodes.
 pub fn replan<L>(
     alloc: Global,
     old: &Planned,

@@ -1,11 +1,12 @@
 //! How long as much of a node is free as was, from a moment on.
 
 ghost use Rattle.std.specs.Prelude.{◌≡◌, ℕ, ◌≤◌, ◌<◌, length, slice_index_or, IfOk};
-ghost use Rattle.plan_keeper.specs.Kept.{IsKeptFrom};
+ghost use Rattle.plan_keeper.specs.Kept.{AreCountedAnew, IsKeptFrom};
 ghost use Rattle.plan_keeper.specs.Nodes.{IsAsFree, HasNoMore};
 
 use crate::kept::Kept;
 use crate::node_seconds::NodeSeconds;
+use backfill_planner::Share;
 use plain_data::seconds::FOREVER;
 use resource_profile::{NodeRoom, Profile};
 use small_texts::memory_error::Memory;
@@ -112,4 +113,34 @@ pub fn first_kept(
         same: NodeSeconds::of(same),
         no_freer: NodeSeconds::of(no_freer),
     })
+}
+
+/// Counts both seconds of each node with a part anew. Linear in the nodes, and for those with a part in the steps of both.
+pub fn count_anew(
+    kept: &mut Kept,
+    parts: &[Share],
+    old: &Profile,
+    old_rooms: &[NodeRoom],
+    new: &Profile,
+    new_rooms: &[NodeRoom],
+    now: u64,
+)
+    requires old { old_rooms.now ≡ old.now.rooms }
+    requires new { new_rooms.now ≡ new.now.rooms }
+    requires long { length kept.old.same.seconds.items ≡ length new.now.rooms }
+    requires long_no_freer { length kept.old.no_freer.seconds.items ≡ length new.now.rooms }
+    ensures { AreCountedAnew old.now new.now now parts.now
+        kept.old.same.seconds.items kept.old.no_freer.seconds.items
+        kept.new.same.seconds.items kept.new.no_freer.seconds.items }
+{
+    for part in parts {
+        let node = part.node as usize;
+        if node < new_rooms.len() {
+            let seconds = seconds_of(old, old_rooms, new, new_rooms, part.node, now);
+            kept.same.set(node, seconds.0);
+            kept.no_freer.set(node, seconds.1);
+        }
+    }
+    kept.same.look_again();
+    kept.no_freer.look_again();
 }

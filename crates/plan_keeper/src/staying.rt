@@ -1,14 +1,18 @@
-//! The placement of a job that is the one at its place in the old list: the one of then where as much is free of its
+//! The placement of a job that is the one at a place of the old list: the one of then where as much is free of its
 //! nodes, else by a search from where none can fit before.
 
-ghost use Rattle.std.specs.Prelude.{◌≡◌, ◌↔◌, ◌≤◌, ◌<◌, true, length, option_copied, IfOk, IfSome, IfNone, Some, All};
+ghost use Rattle.std.specs.Prelude.{◌≡◌, ◌↔◌, ◌≤◌, ◌<◌, ◌+◌, true, length, slice_index_or, option_copied, IfOk, OnOk, IfSome, IfNone, Some, All};
 ghost use Rattle.backfill_planner.specs.Giving;
-ghost use Rattle.plan_keeper.specs.Kept.{BeginsAt, CanStay, HasBegun, IsThere};
+ghost use Rattle.backfill_planner.specs.Placements.{IsOnRooms};
+ghost use Rattle.backfill_planner.specs.declared.job.PlanJob.{PlanJob as AJob};
+ghost use Rattle.plan_keeper.specs.Kept.{AreKept, AreKeptTo, BeginsAt, CanStay, IsThere};
+ghost use Rattle.plan_keeper.specs.Steady.{IsSameFrom};
 ghost use Rattle.plan_keeper.specs.Turns.{IsNext, IsStepped};
 
 use crate::kept::Kept;
 use crate::laws::planner_laws;
 use crate::node_seconds::NodeSeconds;
+use crate::same_job::{tell_ends_in_time, tell_windows};
 use backfill_planner::{Placed, PlanJob, Planned, Planning};
 use plain_data::seconds::{FOREVER, LAST_START};
 use resource_profile::Steps;
@@ -94,27 +98,26 @@ fn search_begin(
     }
 }
 
-/// The placement of the next job, which is the one at its place in the old list.
-pub fn find_there<L>(
+// The placement of the next job, which is the one at this place of the old list.
+fn find_there<L>(
     alloc: Global,
     old: &Planned,
     kept: &Kept,
     planning: &Planning,
     job: &PlanJob,
-    index: usize,
+    place: usize,
     now: u64,
     steps: &mut Steps<L>,
 ) -> Result<Option<Placed>, Memory>
-    requires index { index ≡ planning.now.done }
     requires now { now ≡ planning.now.moment }
-    requires there { IsThere old.now planning.now job.now }
-    requires begun { HasBegun old.now planning.now kept.now.same.seconds.items kept.now.no_freer.seconds.items }
+    requires there { IsThere old.now planning.now place job.now }
+    requires kept { AreKeptTo old.now planning.now place kept.now.same.seconds.items kept.now.no_freer.seconds.items }
     ensures placed { IfOk result (IsNext planning.now) }
     ensures steps { IsStepped old.now planning.now steps.old steps.new }
 {
     planner_laws();
     let horizon = planning.base().horizon;
-    let before = old.placement_of(index);
+    let before = old.placement_of(place);
     if let Some(placed) = stay(alloc, before, job, &kept.same, now, horizon)? {
         return Ok(Some(placed));
     }
@@ -124,4 +127,45 @@ pub fn find_there<L>(
     }
     let placed = planning.search_next(alloc, begin, steps)?;
     Ok(placed)
+}
+
+// It does nothing: its contract tells that a plan's jobs are on its nodes, as its type has it.
+fn tell_nodes(planned: &Planned)
+    ensures { All (IsOnRooms planned.now.base.rooms) planned.now.ranked }
+{
+    let _ranked = planned.ranked();
+}
+
+/// The next job, which is the one at this place of the old list, gets its placement, and what is kept in mind goes on.
+pub fn settle_there<L>(
+    alloc: Global,
+    old: &Planned,
+    place: usize,
+    kept: &mut Kept,
+    planning: Planning,
+    index: usize,
+    now: u64,
+    steps: &mut Steps<L>,
+) -> Result<Planning, Memory>
+    requires index { index ≡ planning.done }
+    requires there { place < length old.now.ranked }
+    requires more { planning.done < length planning.ranked }
+    requires is { (d : AJob) → IsSameFrom planning.moment (slice_index_or old.now.ranked place d)
+        (slice_index_or planning.ranked planning.done d) }
+    requires now { now ≡ planning.moment }
+    requires later { old.now.moment ≤ now }
+    requires kept { AreKeptTo old.now planning place kept.old.same.seconds.items kept.old.no_freer.seconds.items }
+    ensures next { IfOk result (λ next. next ≡ record planning { done = planning.done + 1 }) }
+    ensures kept { OnOk result (AreKept old.now planning.base planning.ranked planning.moment (place + 1)
+        (planning.done + 1) kept.new.same.seconds.items kept.new.no_freer.seconds.items) }
+    ensures steps { IsStepped old.now planning steps.old steps.new }
+{
+    planner_laws();
+    tell_nodes(old);
+    let job = &planning.ranked()[index];
+    tell_ends_in_time(job);
+    tell_windows(job);
+    let placed = find_there(alloc, old, kept, &planning, job, place, now, steps)?;
+    kept.go_on(old.placement_of(place), &placed);
+    planning.settle_next(placed)
 }

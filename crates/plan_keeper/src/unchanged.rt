@@ -1,6 +1,6 @@
 //! On which nodes nothing has changed by now.
 
-ghost use Rattle.std.specs.Prelude.{◌≡◌, ◌↔◌, ◌≤◌, ◌<◌, ◌&&◌, not, nat_eq, ℕ, Bool, true, false, length, slice_index_or, IfOk, IfSome, IfNone, All, List};
+ghost use Rattle.std.specs.Prelude.{◌≡◌, ◌↔◌, ◌≤◌, ◌<◌, ◌&&◌, not, nat_eq, ℕ, Bool, true, false, length, replicate, slice_index_or, IfOk, IfSome, IfNone, All, List};
 ghost use Rattle.std.specs.List.{list_any, list_all};
 ghost use Rattle.plan_keeper.specs.Marks.{Without};
 
@@ -28,15 +28,17 @@ fn are_same(same: &[bool], nodes: &[u32]) -> bool
     nodes.iter().all(|node| same[*node as usize])
 }
 
-// Takes these nodes out of those that are the same.
+// Takes these nodes out of those that are the same; some of them may not be there.
 fn take_out(same: &mut Vec<bool>, nodes: &[u32])
-    requires { All (λ node. node < length same.old.items) nodes.now }
     ensures long { length same.new.items ≡ length same.old.items }
     ensures each { (node : ℕ) → node < length same.old.items → slice_index_or same.new.items node false
         ≡ (slice_index_or same.old.items node false && not (list_any (nat_eq node) nodes.now)) }
 {
     for node in nodes {
-        same[*node as usize] = false;
+        let node = *node as usize;
+        if node < same.len() {
+            same[node] = false;
+        }
     }
 }
 
@@ -47,25 +49,49 @@ fn are_all(same: &[bool]) -> bool
     same.iter().all(|same| *same)
 }
 
-// Whether a node with this second is one of them: as much of it is free before the second as was.
-fn is_unchanged(second: u64) -> bool
-    ensures { (result ≡ true) ↔ FOREVER ≤ second }
+// Whether a node with this second is one of them: as much of it is free before the second as was, and it was marked.
+fn is_unchanged(second: u64, marked: bool) -> bool
+    ensures { (result ≡ true) ↔ ((FOREVER ≤ second) × (marked ≡ true)) }
 {
-    FOREVER <= second
+    FOREVER <= second && marked
 }
 
 impl Unchanged {
-    /// Those of which as much is free up to where all windows end. Linear in the nodes.
-    pub fn of_seconds(alloc: Global, seconds: &[u64]) -> Result<Unchanged, Memory>
+    /// Those that were marked, of which as much is free up to where all windows end. Linear in the nodes.
+    pub fn of_seconds(
+        alloc: Global,
+        seconds: &[u64],
+        marked: &Unchanged,
+    ) -> Result<Unchanged, Memory>
+        requires { length marked.now.nodes.items ≡ length seconds.now }
         ensures long { IfOk result (λ unchanged. length unchanged.nodes.items ≡ length seconds.now) }
         ensures each { IfOk result (λ unchanged. (node : ℕ) (d : Bool) → node < length seconds.now
-            → (slice_index_or unchanged.nodes.items node d ≡ true) ↔ FOREVER ≤ slice_index_or seconds.now node 0) }
+            → (slice_index_or unchanged.nodes.items node d ≡ true)
+            ↔ ((FOREVER ≤ slice_index_or seconds.now node 0)
+            × (slice_index_or marked.now.nodes.items node false ≡ true))) }
     {
         let mut nodes = Vec::with_capacity(alloc, seconds.len())?;
-        for second in seconds {
-            nodes.push(is_unchanged(*second)).unwrap();
+        for node in 0..seconds.len() {
+            nodes
+                .push(is_unchanged(seconds[node], marked.nodes[node]))
+                .unwrap();
         }
         Ok(Unchanged::of(nodes))
+    }
+
+    /// All of so many nodes.
+    pub fn all(alloc: Global, nodes: usize) -> Result<Unchanged, Memory>
+        ensures { IfOk result (λ unchanged. unchanged.nodes.items ≡ replicate nodes true) }
+    {
+        Ok(Unchanged::of(vec![in alloc; true; nodes]?))
+    }
+
+    /// A job is passed that stands in one list alone: those of its nodes that are there have changed.
+    pub fn pass(&mut self, job: &PlanJob)
+        ensures { Without self.old.nodes.items job.now self.new.nodes.items }
+    {
+        self.all = false;
+        take_out(&mut self.nodes, job.nodes.as_slice());
     }
 
     /// Those that are marked in a list of all nodes. Linear in these.
@@ -86,13 +112,11 @@ impl Unchanged {
 
     /// One job more is planned: as the one at a place of the old list was, or anew, which changes its nodes.
     pub fn go_on(&mut self, job: &PlanJob, before: Option<usize>)
-        requires { All (λ node. node < length self.old.nodes.items) job.now.nodes }
         ensures some { IfSome before (λ _. self.new.nodes.items ≡ self.old.nodes.items) }
         ensures none { IfNone before (Without self.old.nodes.items job.now self.new.nodes.items) }
     {
         if before.is_none() {
-            self.all = false;
-            take_out(&mut self.nodes, job.nodes.as_slice());
+            self.pass(job);
         }
     }
 }

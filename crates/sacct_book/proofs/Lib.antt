@@ -11,3 +11,4 @@ pub mod Quiet
 pub mod Others
 pub mod Passes
 pub mod Keeps
+pub mod Legal

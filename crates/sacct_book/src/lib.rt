@@ -2,6 +2,7 @@
 #![tactic(auto)]
 
 mod following;
+pub mod history;
 pub mod laws;
 pub mod lines;
 mod naming;

@@ -103,6 +103,9 @@ impl Sums {
         Ok(())
     }
 
+    /// Lets them go.
+    pub fn let_go(self) {}
+
     /// The controller after the entries. It takes no memory.
     pub fn ctl(&self) -> &Ctl
         ensures { result.now.state ≡ present self.now }

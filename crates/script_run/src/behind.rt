@@ -33,6 +33,19 @@ fn push_saved(alloc: Global, text: &mut Vec<u8>, ctl: &Ctl, save: bool) -> Resul
     }
 }
 
+// This text, and behind it that of a state, where it is to be saved.
+fn with_saved(alloc: Global, text: Vec<u8>, ctl: &Ctl, save: bool) -> Result<Vec<u8>, SaveRefusal>
+    ensures text { IfOk result (λ whole. whole.items ≡ text.items ++ saved_if save ctl.now.state) }
+    ensures short { OnOk result (length (saved_if save ctl.now.state) ≤ longest_text) }
+    ensures long { IsErrOf result SaveRefusal.TooLong → longest_text < length (saved_if save ctl.now.state) }
+{
+    let mut whole = text;
+    match push_saved(alloc, &mut whole, ctl, save) {
+        Ok(()) => Ok(whole),
+        Err(refusal) => Err(refusal),
+    }
+}
+
 /// What is written behind the answers of a script that ended at this book.
 pub(crate) fn text_behind(
     alloc: Global,
@@ -48,14 +61,12 @@ pub(crate) fn text_behind(
         → longest_text < length (saved_if save (present (history_in book))) }
 {
     let (ctl, entries) = book.into_parts();
-    let mut text = match sums_text(alloc, files, entries, sacct) {
-        Ok(text) => text,
-        Err(Memory) => return Err(SaveRefusal::Memory),
+    let text = match sums_text(alloc, files, entries, sacct) {
+        Ok(text) => with_saved(alloc, text, &ctl, save),
+        Err(Memory) => Err(SaveRefusal::Memory),
     };
-    match push_saved(alloc, &mut text, &ctl, save) {
-        Ok(()) => Ok(text),
-        Err(refusal) => Err(refusal),
-    }
+    ctl.let_go();
+    text
 }
 
 /// Writes it, in one piece.

@@ -55,6 +55,9 @@ pub fn run_script<L: Link>(
     let mut desk = desk;
     match answer_script(alloc, &mut desk, link) {
         How::Closed => end_at(alloc, files, desk.into_book(), link, sacct, save),
-        how => how,
+        how => {
+            desk.let_go();
+            how
+        }
     }
 }

@@ -1,6 +1,6 @@
 //! The sums of a period, over the entries of a book.
 
-ghost use Rattle.std.specs.Prelude.{◌≡◌, [], IfOk, OnOk};
+ghost use Rattle.std.specs.Prelude.{◌≡◌, [], IfOk};
 ghost use Rattle.ctl_state.specs.State.{State};
 ghost use Rattle.ctl_desk.specs.History.{IsLegal, present};
 ghost use Rattle.sacct_book.specs.Lines as book;
@@ -8,9 +8,9 @@ ghost use Rattle.cluster_opening.specs.Restoring.{OpensIn};
 ghost use Rattle.script_run.specs.Behind.{sums_text, window_of};
 
 use cluster_opening::{ClusterFiles, controller};
-use ctl_desk::entry::Entry;
-use ctl_desk::laws::a_legal_history_begins_legally;
+use ctl_desk::entry::{Entry, let_all_go};
 use program_words::Period;
+use sacct_book::history::add_all;
 use sacct_book::lines::lines;
 use sacct_book::sums::Sums;
 use small_texts::memory_error::Memory;
@@ -22,21 +22,13 @@ fn begin(alloc: Global, files: &ClusterFiles) -> Result<Sums, Memory>
     ensures { (s : State) → OpensIn files.now s → IfOk result (λ sums. sums ≡ record { opening = s; entries = [] }) }
 {
     let opening = controller(alloc, files)?;
-    let current = controller(alloc, files)?;
-    Sums::new(alloc, opening, current)
-}
-
-// Goes on by entries.
-fn add_all(sums: &mut Sums, entries: Vec<Entry>) -> Result<(), Memory>
-    requires none { sums.old.entries ≡ [] }
-    requires legal { IsLegal sums.old.opening entries.items }
-    ensures { OnOk result (sums.new ≡ record { opening = sums.old.opening; entries = entries.items }) }
-{
-    a_legal_history_begins_legally();
-    for entry in entries {
-        sums.add(entry)?;
+    match controller(alloc, files) {
+        Ok(current) => Sums::new(alloc, opening, current),
+        Err(Memory) => {
+            opening.let_go();
+            Err(Memory)
+        }
     }
-    Ok(())
 }
 
 // The lines of a period, what runs being counted until the last moment.
@@ -45,6 +37,28 @@ fn lines_of(alloc: Global, sums: &Sums, period: Period) -> Result<Vec<u8>, Memor
 {
     let now = sums.ctl().cluster().moment;
     lines(alloc, sums, period.from, period.until, now)
+}
+
+// The lines of a period, where these sums have gone on by entries.
+fn lines_behind(
+    alloc: Global,
+    sums: Sums,
+    entries: Vec<Entry>,
+    period: Period,
+) -> Result<Vec<u8>, Memory>
+    requires none { sums.entries ≡ [] }
+    requires legal { IsLegal sums.opening entries.items }
+    ensures { IfOk result (λ text. text.items
+        ≡ book.lines (record { opening = sums.opening; entries = entries.items }) (window_of period)
+        (present (record { opening = sums.opening; entries = entries.items })).moment) }
+{
+    let mut sums = sums;
+    let text = match add_all(&mut sums, entries) {
+        Ok(()) => lines_of(alloc, &sums, period),
+        Err(Memory) => Err(Memory),
+    };
+    sums.let_go();
+    text
 }
 
 // The lines of a period, over the entries of a book of these files.
@@ -59,9 +73,13 @@ fn summed(
         ≡ book.lines (record { opening = s; entries = entries.items }) (window_of period)
         (present (record { opening = s; entries = entries.items })).moment) }
 {
-    let mut sums = begin(alloc, files)?;
-    add_all(&mut sums, entries)?;
-    lines_of(alloc, &sums, period)
+    match begin(alloc, files) {
+        Ok(sums) => lines_behind(alloc, sums, entries, period),
+        Err(Memory) => {
+            let_all_go(entries);
+            Err(Memory)
+        }
+    }
 }
 
 /// The lines of a period, where sums of one are asked for, over the entries of a book of these files. Each entry is
@@ -78,6 +96,9 @@ pub(crate) fn sums_text(
 {
     match sacct {
         Some(period) => summed(alloc, files, entries, period),
-        None => Ok(Vec::new(alloc)),
+        None => {
+            let_all_go(entries);
+            Ok(Vec::new(alloc))
+        }
     }
 }

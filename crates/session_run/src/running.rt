@@ -75,9 +75,6 @@ fn read_text<Q: Shelf>(alloc: Global, shelf: &mut Q, name: &str) -> Result<Vec<u
     }
 }
 
-// Lets a desk go.
-fn let_go(_desk: OwnDesk) {}
-
 // A session of a file.
 fn talk_of_file<S: Source, K: Sink, Q: Shelf>(
     alloc: Global,
@@ -100,7 +97,7 @@ fn talk_of_file<S: Source, K: Sink, Q: Shelf>(
             RunEnd::Talked(ended)
         }
         Err(end) => {
-            let_go(desk);
+            desk.let_go();
             end
         }
     }

@@ -398,7 +398,7 @@ fn talk_on<S: Source, K: Sink, Q: Shelf>(
 {
     let mut desk = desk;
     let mut pending = BytesMut::new(alloc);
-    work_lines(
+    let ended = work_lines(
         alloc,
         &mut desk,
         source,
@@ -408,7 +408,9 @@ fn talk_on<S: Source, K: Sink, Q: Shelf>(
         input,
         name,
         session,
-    )
+    );
+    desk.let_go();
+    ended
 }
 
 /// Works the lines of an input one after another at a desk that nobody else asks, until the input ends, a line says so or
@@ -433,9 +435,12 @@ pub fn talk<S: Source, K: Sink, Q: Shelf>(
 {
     match first_session(alloc) {
         Ok(session) => talk_on(alloc, desk, source, output, shelf, input, name, session),
-        Err(Memory) => Ended {
-            how: How::Memory,
-            wrong: false,
-        },
+        Err(Memory) => {
+            desk.let_go();
+            Ended {
+                how: How::Memory,
+                wrong: false,
+            }
+        }
     }
 }

@@ -12,7 +12,6 @@ use crate::nodes::rows_of;
 use crate::rota::Rota;
 use crate::tally::Tally;
 use ctl_desk::desk::Desk;
-use ctl_desk::entry::Answer;
 use node_daemon::daemon::DaemonState;
 use node_daemon::{daemon_turn, root};
 use request_data::query::Query;
@@ -43,12 +42,9 @@ fn turn<D: Desk>(
     let desk = &mut desks[place];
     keeps_history(desk);
     let answer = daemon_turn(alloc, desk, now, daemon)?;
-    let_go(answer);
+    answer.let_go();
     Ok(())
 }
-
-// Lets go of an answer.
-fn let_go(_answer: Answer) {}
 
 // Each daemon's turn, one after the other.
 fn turn_all<D: Desk>(

@@ -1,8 +1,8 @@
-use Rattle.std.proofs.Common.{◌≡◌, ◌∙◌, ap, subst, sym}
+use Rattle.std.proofs.Common.{◌∙◌, ap, subst, sym}
 use Rattle.cpu_ids.specs.Rows.{has_id}
 use Rattle.ctl_state.specs.Index.{IsIndexed}
 use Rattle.ctl_state.specs.Soundness.{IsSound}
-use Rattle.ctl_state.specs.State.{State, state_of}
+use Rattle.ctl_state.specs.State.{state_of}
 use Rattle.ctl_node_side.proofs.Back.{index_back, state_back}
 use Rattle.ctl_node_side.proofs.Silent.{silenced_some}
 use Rattle.ctl_node_side.proofs.inputs.input_silenced.Goals as goal

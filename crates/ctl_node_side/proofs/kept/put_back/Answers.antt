@@ -1,4 +1,4 @@
-use Rattle.std.proofs.Common.{◌≡◌, ◌∙◌, ap}
+use Rattle.std.proofs.Common.{◌∙◌, ap}
 use Rattle.job_table.specs.Table.{JobsView}
 use Rattle.ctl_state.specs.declared.cluster.Cluster.{Cluster}
 use Rattle.ctl_node_side.specs.Keeping.{put_all}

@@ -1,20 +1,28 @@
-use Rattle.std.proofs.Common.{◌≡◌, ◌+◌, ◌≤◌, [], ◌++◌, length, take, sym, refl, arith, append-nil}
+use Rattle.std.proofs.Common.{◌≡◌, ◌∙◌, ◌+◌, ◌<◌, ◌≤◌, [], ◌++◌, get_or, length, take, sym, ap, refl, arith, append-nil}
+use Rattle.std.specs.Borrow.{Bor}
 use Rattle.std.specs.List.{filter_map, cons_option}
-use Rattle.std.proofs.lemmas.List.{take_more, take_all}
+use Rattle.std.proofs.lemmas.List.{get_or-map, length-map, take_all, take_more}
 use Rattle.ctl_node_side.proofs.Launching.{launches-rise}
 use Rattle.std.proofs.lemmas.List.Elements.{filter_map-append}
-use Rattle.ctl_node_side.specs.Ordering.{launch_of}
+use Rattle.job_table.specs.declared.record.JobRecord.{JobRecord}
+use Rattle.ctl_node_side.specs.Ordering.{launch_of, shown}
 use Rattle.ctl_node_side.proofs.ordering.launches.Goals as goal
 use Rattle.ctl_node_side.proofs.ordering.launches.Goals.{in-Some+in_ok-push, in_default}
 
 pub loop-job-preserved : goal.loop-job-preserved
 loop-job-preserved c =
-    let jobs = c.args.jobs.now in
+    let all = c.args.jobs.now in
+    let jobs = shown all in
     let i = c.loop-job.job-index in
+    let item = c.job-item.result in
     let launch = launch_of c.args.node c.args.report.now in
+    let inside : i < length all = omega arith in
+    let at : get_or jobs i item.now ≡ item.now =
+    get_or-map (λ (job : Bor JobRecord). job.now) all i item item.now inside
+    ∙ ap (λ (job : Bor JobRecord). job.now) (sym c.job-item.is) in
     let more : filter_map launch (take (i + 1) jobs) ≡ filter_map launch (take i jobs) ++ cons_option
-    (launch c.job-item.result) [] =
-    rw (take_more jobs i c.job-item.result (omega arith), ← c.job-item.is, filter_map-append) in
+    (launch item.now) [] =
+    rw (take_more jobs i item.now (omega (arith, inside, length-map all (λ (job : Bor JobRecord). job.now))), at, filter_map-append) in
     elim c.match-branch-2.branch [
       | in-Some+in_ok-push w ↦ rw (
         w.launches-is,
@@ -30,6 +38,8 @@ loop-job-preserved c =
 
 pub from_vec-requires : goal.from_vec-requires
 from_vec-requires c =
-    let past : length c.args.jobs.now ≤ c.loop-job.job-index = omega arith in
-    rw (c.loop-job.invariant, take_all c.loop-job.job-index c.args.jobs.now past)
-    (launches-rise c.args.node c.args.report.now c.args.jobs.now c.requires)
+    let jobs = shown c.args.jobs.now in
+    let past : length jobs ≤ c.loop-job.job-index =
+    omega (arith, length-map c.args.jobs.now (λ (job : Bor JobRecord). job.now)) in
+    rw (c.loop-job.invariant, take_all c.loop-job.job-index jobs past)
+    (launches-rise c.args.node c.args.report.now jobs c.requires)

@@ -1,11 +1,11 @@
-use Rattle.std.proofs.Common.{◌≡◌, ◌∙◌, ◌&&◌, ap, arith, count_by, subst, sym}
+use Rattle.std.proofs.Common.{◌∙◌, ◌&&◌, ap, arith, count_by, subst, sym}
 use Rattle.std.specs.Prelude.{option_copied}
 use Rattle.cpu_ids.specs.Rows.{has_id}
 use Rattle.job_table.specs.declared.record.JobRecord.{JobRecord}
 use Rattle.job_table.specs.JobStates.{is_running}
 use Rattle.ctl_state.specs.Index.{IsIndexed}
 use Rattle.ctl_state.specs.Soundness.{IsSound}
-use Rattle.ctl_state.specs.State.{State, state_of}
+use Rattle.ctl_state.specs.State.{state_of}
 use Rattle.ctl_nodes.specs.Failing.{loses}
 use Rattle.ctl_node_side.specs.Came.{Came}
 use Rattle.ctl_node_side.proofs.Back.{index_back, state_back}

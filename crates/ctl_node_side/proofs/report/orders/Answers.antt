@@ -1,8 +1,12 @@
-use Rattle.ctl_node_side.specs.Ordering.{orders_of}
+use Rattle.std.proofs.Common.{◌∙◌, ap}
+use Rattle.ctl_node_side.specs.Ordering.{orders_of, shown}
 use Rattle.ctl_node_side.proofs.report.orders.Goals as goal
 
+pub orders_by-requires : goal.orders_by-requires
+orders_by-requires c = rw (c.as_slice.ensures.value, c.in_ok-jobs.ensures) c.requires
+
 pub returns : goal.returns
-unfolding orders_of
 returns c = λ now.
-    let forgets = rw c.as_slice.ensures at c.in_ok-forgets.ensures in
-    rw (c.in_ok-copy.ensures, c.in_ok-kills.ensures now, forgets, c.in_ok-launches.ensures)
+    c.in_ok-orders.ensures now
+    ∙ ap (λ jobs. orders_of (shown jobs) now c.args.node c.args.report.now) c.as_slice.ensures.value
+    ∙ ap (λ jobs. orders_of jobs now c.args.node c.args.report.now) c.in_ok-jobs.ensures

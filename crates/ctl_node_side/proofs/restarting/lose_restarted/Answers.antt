@@ -1,7 +1,7 @@
-use Rattle.std.proofs.Common.{◌≡◌, ◌∙◌, ◌||◌, ap, nat_eq, refl, subst, sym}
+use Rattle.std.proofs.Common.{◌∙◌, ◌||◌, ap, nat_eq, subst, sym}
 use Rattle.cpu_ids.specs.Rows.{has_id}
 use Rattle.ctl_state.specs.Soundness.{IsSound}
-use Rattle.ctl_state.specs.State.{State, state_of}
+use Rattle.ctl_state.specs.State.{state_of}
 use Rattle.ctl_state.specs.Verdicts.{stamped}
 use Rattle.ctl_node_side.proofs.Restarted.{met_none, met_some, sound_met}
 use Rattle.ctl_node_side.proofs.restarting.lose_restarted.Goals as goal

@@ -1,7 +1,6 @@
 use Rattle.std.proofs.Common.{◌∙◌, ◌||◌, ap, nat_eq, sym}
-use Rattle.std.proofs.lemmas.List.{take_all}
 use Rattle.ctl_node_side.specs.Silence.{falls_silent}
-use Rattle.ctl_node_side.proofs.Places.{at_more, at_none, at_other}
+use Rattle.ctl_node_side.proofs.Places.{at_more, at_other}
 use Rattle.ctl_node_side.proofs.silence.silent_places.Goals as goal
 use Rattle.ctl_node_side.proofs.silence.silent_places.Goals.{then-falls_silent, else-falls_silent}
 

@@ -1,43 +1,57 @@
-use Rattle.std.proofs.Common.{◌≡◌, take, sym, refl, append-nil}
-use Rattle.std.proofs.lemmas.List.{take_all}
+use Rattle.std.proofs.Common.{◌≡◌, ◌<◌, ◌∙◌, ap, append-nil, arith, get_or, length, map, refl, sym}
 use Rattle.reply_data.specs.declared.view.Row.TheVariants.{Job}
 use Rattle.job_table.specs.declared.record.JobRecord.{JobRecord}
 use Rattle.ctl_state.specs.State.{state_of}
 use Rattle.ctl_show.specs.Showing.{row_of, is_shown}
 use Rattle.ctl_show.proofs.Gathered.{map-filter-more}
+use Rattle.ctl_show.proofs.Walked.{filter-before, filter-past, shown-lie}
 use Rattle.ctl_show.proofs.rows.job_rows.Goals as goal
 use Rattle.ctl_show.proofs.rows.job_rows.Goals.{then-is_shown+in_ok-row+in_ok-push, else-is_shown}
 
-pub loop-job-preserved : goal.loop-job-preserved
-loop-job-preserved c =
-    let row = λ (job : JobRecord). Job (row_of (state_of c.args.cluster.now) c.args.moment job) in
-    let same = c.records-job-items.ensures.value in
-    let more = rw (← c.is_shown.ensures) at
-    (map-filter-more row (is_shown (state_of c.args.cluster.now) c.args.asker.now c.args.query.now)
-    c.args.cluster.now.jobs.records c.loop-job.job-index c.job-item.result (rw same at c.loop-job-test.true)
-    (rw same at c.job-item.is)) in
+pub loop-place-init : goal.loop-place-init
+loop-place-init c =
+    let s = state_of c.args.cluster.now in
+    let places = c.places_among-places in
+    let lie = shown-lie s c.args.asker.now c.args.query.now places.result places.ensures in
+    let row = λ (job : JobRecord). Job (row_of s c.args.moment job) in
+    record {
+      rows = c.new-rows.ensures.items ∙ ap (map row) (sym (filter-before (is_shown s c.args.asker.now c.args.query.now) s.jobs places.result lie));
+      outlook = tt;
+      within = lie.within.0;
+      end = lie.within.1;
+    }
+
+pub loop-place-preserved : goal.loop-place-preserved
+loop-place-preserved c =
+    let s = state_of c.args.cluster.now in
+    let row = λ (job : JobRecord). Job (row_of s c.args.moment job) in
+    let held = c.loop-place.invariant in
+    let place = c.loop-place.place in
+    let job = c.index-records-place.result in
+    let inside : place < length s.jobs = omega (arith, c.loop-place-test.true, held.end) in
+    let is : job ≡ get_or s.jobs place job = rw c.records.ensures.value at c.index-records-place.is in
+    let more = rw (← c.is_shown.ensures) at (map-filter-more row (is_shown s c.args.asker.now c.args.query.now) s.jobs place job inside is) in
     elim c.if-is_shown.branch [
-      | then-is_shown+in_ok-row+in_ok-push w ↦
-          rw (
-            w.rows-is,
-            w.in_ok-push.ensures.items,
-            c.loop-job.invariant,
-            w.in_ok-row.ensures,
-            more,
-            w.if-is_shown.true,
-          ) refl
-      | else-is_shown w ↦ rw (w.rows-is, c.loop-job.invariant, more, w.if-is_shown.false) (sym (append-nil _))
+      | then-is_shown+in_ok-row+in_ok-push w ↦ record {
+        rows = rw (w.rows-is, w.in_ok-push.ensures.items, held.rows, rw (← is) at (w.in_ok-row.ensures.row job), more, w.if-is_shown.true) refl;
+        outlook = rw w.outlook-is w.in_ok-row.ensures.outlook;
+        within = omega (arith, inside);
+        end = held.end;
+      }
+      | else-is_shown w ↦ record {
+        rows = rw (w.rows-is, held.rows, more, w.if-is_shown.false) (sym (append-nil _));
+        outlook = rw w.outlook-is held.outlook;
+        within = omega (arith, inside);
+        end = held.end;
+      }
     ]
 
 pub returns : goal.returns
 returns c =
-    let jobs = c.args.cluster.now.jobs.records in
-    let whole : take c.loop-job.job-index jobs ≡ jobs =
-    take_all c.loop-job.job-index jobs (rw c.records-job-items.ensures.value at c.loop-job-test.false) in
-    rw whole at c.loop-job.invariant
-
-pub row_of-requires-clause-behind : goal.row_of-requires-clause-behind
-row_of-requires-clause-behind c =
-    let same = c.records-job-items.ensures.value in
-    rw (rw same at c.job-item.is)
-    (c.in_ok-outlook.ensures.behind c.loop-job.job-index c.job-item.result (rw same at c.loop-job-test.true))
+    let s = state_of c.args.cluster.now in
+    let places = c.places_among-places in
+    let lie = shown-lie s c.args.asker.now c.args.query.now places.result places.ensures in
+    let row = λ (job : JobRecord). Job (row_of s c.args.moment job) in
+    let held = c.loop-place.invariant in
+    held.rows ∙ ap (map row) (filter-past (is_shown s c.args.asker.now c.args.query.now) s.jobs places.result c.loop-place.place lie
+    c.loop-place-test.false held.within)

@@ -2,7 +2,6 @@ use Rattle.std.proofs.Common.{ap, refl, ◌∙◌}
 use Rattle.reply_data.specs.declared.priority.PriorityParts.{PriorityParts}
 use Rattle.ctl_state.specs.State.{state_of}
 use Rattle.ctl_waiting.specs.Rank.{priority_of}
-use Rattle.ctl_show.specs.Showing.{reason_shown}
 use Rattle.ctl_show.proofs.RowOf.{row-found}
 use Rattle.ctl_show.proofs.rows.row_of.Goals as goal
 
@@ -15,7 +14,7 @@ returns c =
     c.terms-terms.ensures c.in_ok-copy.ensures c.in_ok-copy-2.ensures c.in_ok-copy-3.ensures
     c.in_ok-partition_name.ensures c.in_ok-copy-4.ensures
     c.elapsed_of.ensures c.nodes_of.ensures c.in_ok-node_names.ensures
-    (c.reason_shown.ensures ∙ ap (λ now. reason_shown s now job) moment)
+    c.reason_shown.ensures
     (c.start_shown.ensures s c.args.moment c.requires.outlook)
     (ap (λ (parts : PriorityParts). parts.sum) c.priority_of.ensures ∙ ap (λ now. priority_of s now job) moment)
     c.cpus_of.ensures c.get.ensures.value c.in_ok-copy-5.ensures c.saturating_sub.ensures

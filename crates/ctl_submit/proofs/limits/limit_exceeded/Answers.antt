@@ -5,6 +5,6 @@ use Rattle.ctl_submit.proofs.limits.limit_exceeded.Goals as goal
 pub returns : goal.returns
 returns c =
     let assocs = c.args.cluster.now.assocs.records in
-    let jobs = c.records.result.now in
-    rw (← c.records.ensures.value, ← c.counted_of.ensures)
+    let jobs = c.args.cluster.now.jobs.records in
+    rw (← c.counted_of.ensures)
     (c.submit_limit.ensures (unended jobs) (λ group. unended-counted assocs jobs group))

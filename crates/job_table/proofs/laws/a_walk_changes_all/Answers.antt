@@ -1,4 +1,4 @@
-use Rattle.job_table.proofs.Walks.{length-walked, slice_get-walked, walked-begins, walked-ends, walked-goes_on}
+use Rattle.job_table.proofs.Walks.{length-walked, slice_get-walked, walked-begins, walked-ends, walked-goes_on, walked-leaves_out}
 use Rattle.job_table.proofs.laws.a_walk_changes_all.Goals as goal
 
 pub returns : goal.returns
@@ -8,4 +8,5 @@ returns g c = record {
   ends = walked-ends;
   length = length-walked;
   rest = slice_get-walked;
+  leaves_out = walked-leaves_out;
 }

@@ -1,76 +1,46 @@
-use Rattle.std.proofs.Common.{◌≡◌, ◌<◌, ◌≤◌, ◌+◌, ◌-◌, ℕ, length, All, arith, ap, subst, sym, ◌∙◌}
-use Rattle.std.proofs.lemmas.Grind.{common_steps}
+use Rattle.std.proofs.Common.{◌≤◌, length, All, arith, ap, subst, sym, ◌∙◌}
+use Rattle.std.specs.Prelude.{OnOk}
 use Rattle.backfill_planner.specs.declared.Placed.{Placed}
-use Rattle.backfill_planner.specs.Bases.{BaseView}
 use Rattle.backfill_planner.specs.Placements.{AreParts}
 use Rattle.backfill_planner.specs.Plans.{PlanningView, plan_of}
-use Rattle.plan_keeper.specs.Marks.{met_from, AreCounts, AreMarks}
 use Rattle.plan_keeper.specs.Turns.{HasStepped}
-use Rattle.plan_keeper.proofs.Parting.{begun-marks}
-use Rattle.plan_keeper.proofs.Rest.{parted-marks, parted-counts}
-use Rattle.plan_keeper.proofs.Stepping.{stepped-more, stepped-all}
+use Rattle.plan_keeper.proofs.Stepping.{stepped-all}
 use Rattle.plan_keeper.proofs.replanning.plan_rest.Goals as goal
 
-pub returns-in_err-list-clause-steps : goal.returns-in_err-list-clause-steps
-returns-in_err-list-clause-steps g c = λ start before.
+pub returns-in_err-passed-clause-steps : goal.returns-in_err-passed-clause-steps
+returns-in_err-passed-clause-steps g c = λ start before.
     let planning = c.args.begun.planning in
     let few : c.args.begun.first ≤ length planning.ranked = omega (arith, c.requires.first, c.requires.begun.alike.few_new) in
     stepped-all c.args.old.now planning.base planning.ranked planning.moment c.args.begun.first (length planning.ranked) start c.args.steps.now few before
 
-pub returns-in_err-marks-clause-steps : goal.returns-in_err-marks-clause-steps
-returns-in_err-marks-clause-steps g c = λ start before.
-    let planning = c.args.begun.planning in
-    let few : c.args.begun.first ≤ length planning.ranked = omega (arith, c.requires.first, c.requires.begun.alike.few_new) in
-    stepped-all c.args.old.now planning.base planning.ranked planning.moment c.args.begun.first (length planning.ranked) start c.args.steps.now few before
+pub returns-then-ends-clause-apart : goal.returns-then-ends-clause-apart
+returns-then-ends-clause-apart g c =
+    subst (λ (v : PlanningView). OnOk c.plan_behind.result (All (λ (placed : Placed). AreParts v.base.rooms placed.parts) (plan_of v.base v.ranked v.moment))) c.in_ok-passed.ensures.planning c.plan_behind.ensures.apart
 
-pub loop-index-init : goal.loop-index-init
-loop-index-init g c =
+pub returns-then-ends-clause-steps : goal.returns-then-ends-clause-steps
+returns-then-ends-clause-steps g c = λ start before.
     let old = c.args.old.now in
-    let planning = c.args.begun.planning in
-    let same = c.in_ok-marks.marks.unchanged.nodes.items in
-    let from : ℕ → PlanningView = λ done. record { base = planning.base; ranked = planning.ranked; moment = planning.moment; done = done } in
-    let rest = length c.ranked.result.now - planning.done in
-    let nodes : length c.as_slice-nodes.result.now ≡ length planning.base.rooms = ap (λ some. length some) (c.as_slice-nodes.ensures ∙ ap (λ (b : BaseView). b.rooms) (c.behind-planning.view_is ∙ c.base.ensures)) in
-    let whole : planning.done + rest ≡ length old.ranked = omega (arith, ap (λ some. length some) c.ranked.ensures.value, c.requires.begun.alike.few) in
-    record {
-      parts = ap from (sym c.requires.first);
-      marks = rw (c.in_ok-marks.ensures.met, c.in_ok-list.ensures.first, c.requires.first) (parted-marks old planning same rest c.requires.begun.alike (begun-marks c.planner_laws.ensures old planning c.args.begun.kept.same.seconds.items c.args.begun.kept.no_freer.seconds.items same c.requires.begun c.in_ok-marks.ensures.long c.in_ok-marks.ensures.unchanged));
-      counts = rw (c.in_ok-marks.ensures.counts, c.in_ok-marks.ensures.met, c.in_ok-list.ensures.first, c.requires.first, nodes) (parted-counts old planning (length planning.base.rooms) rest c.requires.begun.alike whole);
-      steps = λ start before. before;
-    }
-
-pub returns-in_err-planning-clause-steps : goal.returns-in_err-planning-clause-steps
-returns-in_err-planning-clause-steps g c = λ start before.
-    let old = c.args.old.now in
-    let planning = c.args.begun.planning in
-    let index = c.loop-index.index in
-    let was = c.loop-index.invariant in
-    let more : HasStepped old planning.base planning.ranked planning.moment (index + 1) start c.turn.new.steps = stepped-more old planning.base planning.ranked planning.moment index c.loop-index.planning start c.loop-index.steps c.turn.new.steps was.parts (was.steps start before) c.turn.ensures.steps in
-    let below : index < length planning.ranked = grind (arith, common_steps) in
-    stepped-all old planning.base planning.ranked planning.moment (index + 1) (length planning.ranked) start c.turn.new.steps (omega (arith, below)) more
-
-pub loop-index-preserved : goal.loop-index-preserved
-loop-index-preserved g c =
-    let old = c.args.old.now in
-    let planning = c.args.begun.planning in
-    let index = c.loop-index.index in
-    let was = c.loop-index.invariant in
-    let first = c.in_ok-list.list.first in
-    let marks = c.turn.new.marks in
-    record {
-      parts = c.in_ok-planning.ensures.next ∙ ap (λ (v : PlanningView). record { base = v.base; ranked = v.ranked; moment = v.moment; done = v.done + 1 }) was.parts;
-      marks = subst (λ (v : PlanningView). AreMarks old v.base v.ranked v.moment (v.done + 1) marks.unchanged.nodes.items (met_from first marks.met.items)) was.parts c.in_ok-planning.ensures.marks;
-      counts = subst (λ (v : PlanningView). AreCounts old.ranked v.ranked v.moment first (v.done + 1) (length v.base.rooms) marks.counts.items marks.met.items) was.parts c.in_ok-planning.ensures.counts;
-      steps = λ start before. stepped-more old planning.base planning.ranked planning.moment index c.loop-index.planning start c.loop-index.steps c.turn.new.steps was.parts (was.steps start before) c.turn.ensures.steps;
-    }
+    let passed = c.in_ok-passed.passed in
+    let planning = passed.planning in
+    let is = c.in_ok-passed.ensures.planning in
+    let first : HasStepped old planning.base planning.ranked planning.moment passed.index start c.args.steps.now =
+    rw c.in_ok-passed.ensures.index (subst (λ (v : PlanningView). HasStepped old v.base v.ranked v.moment c.args.begun.first start c.args.steps.now) (sym is) before) in
+    subst (λ (v : PlanningView). HasStepped old v.base v.ranked v.moment (length v.ranked) start c.plan_behind.new.steps) is (c.plan_behind.ensures.steps start first)
 
 pub returns-clause-apart : goal.returns-clause-apart
 returns-clause-apart g c =
-    subst (λ (v : PlanningView). All (λ (placed : Placed). AreParts v.base.rooms placed.parts) (plan_of v.base v.ranked v.moment)) c.loop-index.invariant.parts c.finish-2.ensures.apart
+    let index = c.in_ok-passed-2.passed.index in
+    let is = c.in_ok-passed-2.ensures.next ∙ ap (λ (v : PlanningView). record { base = v.base; ranked = v.ranked; moment = v.moment; done = index }) c.in_ok-passed.ensures.planning in
+    subst (λ (v : PlanningView). OnOk c.plan_behind-2.result (All (λ (placed : Placed). AreParts v.base.rooms placed.parts) (plan_of v.base v.ranked v.moment))) is c.plan_behind-2.ensures.apart
 
 pub returns-clause-steps : goal.returns-clause-steps
 returns-clause-steps g c = λ start before.
-    let planning = c.args.begun.planning in
-    let all : length c.ranked-jobs.result.now ≡ length planning.ranked = ap (λ some. length some) c.ranked-jobs.ensures.value in
-    let jobs : c.loop-index.index ≡ length planning.ranked = omega (arith, all, c.loop-index-test.false, c.loop-index.auto.index, c.loop-index.auto.index-end, c.requires.first, c.requires.begun.alike.few_new) in
-    rw (← jobs) (c.loop-index.invariant.steps start before)
+    let old = c.args.old.now in
+    let passed = c.in_ok-passed.passed in
+    let planning = passed.planning in
+    let index = c.in_ok-passed-2.passed.index in
+    let first : HasStepped old planning.base planning.ranked planning.moment passed.index start c.args.steps.now =
+    rw c.in_ok-passed.ensures.index (subst (λ (v : PlanningView). HasStepped old v.base v.ranked v.moment c.args.begun.first start c.args.steps.now) (sym c.in_ok-passed.ensures.planning) before) in
+    let both = subst (λ (v : PlanningView). HasStepped old v.base v.ranked v.moment index start c.pass_both.new.steps) (sym c.in_ok-passed-2.ensures.next) (c.in_ok-passed-2.ensures.steps start first) in
+    let is = c.in_ok-passed-2.ensures.next ∙ ap (λ (v : PlanningView). record { base = v.base; ranked = v.ranked; moment = v.moment; done = index }) c.in_ok-passed.ensures.planning in
+    subst (λ (v : PlanningView). HasStepped old v.base v.ranked v.moment (length v.ranked) start c.plan_behind-2.new.steps) is (c.plan_behind-2.ensures.steps start both)

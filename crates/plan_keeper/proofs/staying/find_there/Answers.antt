@@ -20,11 +20,12 @@ returns-in-Some-clause-placed g c = λ d.
     let there = c.requires.there in
     let horizon_is : c.behind-planning.inside.horizon ≡ planning.base.horizon = ap (λ (b : BaseView). b.horizon) (c.behind-planning.view_is ∙ c.base.ensures) in
     let low : planning.base.horizon ≤ LAST_START = rw horizon_is at c.behind-planning.invariant.1 in
-    let was : IsThen old planning before = λ d. rw c.requires.index at (c.placement_of-before.ensures d) in
+    let place = c.args.place in
+    let was : IsThen old place before = c.placement_of-before.ensures in
     let placed = c.in-Some.placed in
     let told : (before ≡ Some placed) × CanStay job placed same c.args.now c.behind-planning.inside.horizon = rw c.in-Some.is at c.in_ok-placed.ensures.some in
     let stay : CanStay job placed same planning.moment planning.base.horizon = rw (c.requires.now, horizon_is) at told.1 in
-    rw (there.is d) (sym (stays-there c.planner_laws.ensures old planning same no_freer job placed c.requires.begun there low (λ d. sym told.0 ∙ was d) stay))
+    rw (there.is d) (sym (stays-there c.planner_laws.ensures old planning place same no_freer job placed c.requires.kept there low (λ d. sym told.0 ∙ was d) stay))
 
 pub returns-then-horizon-begin-clause-placed : goal.returns-then-horizon-begin-clause-placed
 returns-then-horizon-begin-clause-placed g c = λ d.
@@ -37,11 +38,12 @@ returns-then-horizon-begin-clause-placed g c = λ d.
     let there = c.requires.there in
     let horizon_is : c.behind-planning.inside.horizon ≡ planning.base.horizon = ap (λ (b : BaseView). b.horizon) (c.behind-planning.view_is ∙ c.base.ensures) in
     let low : planning.base.horizon ≤ LAST_START = rw horizon_is at c.behind-planning.invariant.1 in
-    let was : IsThen old planning before = λ d. rw c.requires.index at (c.placement_of-before.ensures d) in
+    let place = c.args.place in
+    let was : IsThen old place before = c.placement_of-before.ensures in
     let last_is : c.behind-old.inside.horizon ≡ old.base.horizon = ap (λ (b : BaseView). b.horizon) (c.behind-old.view_is ∙ c.base-2.ensures) in
     let begin = c.search_begin-begin.result in
     let begins : BeginsAt before job no_freer planning.moment old.base.horizon begin = rw (c.requires.now, last_is) at c.search_begin-begin.ensures in
-    let none : NoneBefore planning.base.rooms (holds_before planning.base planning.ranked planning.moment planning.done) job planning.moment begin = none-there c.planner_laws.ensures old planning same no_freer job before begin c.requires.begun there was begins in
+    let none : NoneBefore planning.base.rooms (holds_before planning.base planning.ranked planning.moment planning.done) job planning.moment begin = none-there c.planner_laws.ensures old planning place same no_freer job before begin c.requires.kept there was begins in
     rw (there.is d) (sym (nowhere-left c.planner_laws.ensures planning job begin low (omega (arith, horizon_is, c.if-horizon-begin.true)) none))
 
 pub search_next-requires-clause-none : goal.search_next-requires-clause-none
@@ -55,11 +57,12 @@ search_next-requires-clause-none g c = λ d.
     let there = c.requires.there in
     let horizon_is : c.behind-planning.inside.horizon ≡ planning.base.horizon = ap (λ (b : BaseView). b.horizon) (c.behind-planning.view_is ∙ c.base.ensures) in
     let low : planning.base.horizon ≤ LAST_START = rw horizon_is at c.behind-planning.invariant.1 in
-    let was : IsThen old planning before = λ d. rw c.requires.index at (c.placement_of-before.ensures d) in
+    let place = c.args.place in
+    let was : IsThen old place before = c.placement_of-before.ensures in
     let last_is : c.behind-old.inside.horizon ≡ old.base.horizon = ap (λ (b : BaseView). b.horizon) (c.behind-old.view_is ∙ c.base-2.ensures) in
     let begin = c.search_begin-begin.result in
     let begins : BeginsAt before job no_freer planning.moment old.base.horizon begin = rw (c.requires.now, last_is) at c.search_begin-begin.ensures in
-    let none : NoneBefore planning.base.rooms (holds_before planning.base planning.ranked planning.moment planning.done) job planning.moment begin = none-there c.planner_laws.ensures old planning same no_freer job before begin c.requires.begun there was begins in
+    let none : NoneBefore planning.base.rooms (holds_before planning.base planning.ranked planning.moment planning.done) job planning.moment begin = none-there c.planner_laws.ensures old planning place same no_freer job before begin c.requires.kept there was begins in
     rw (there.is d) none
 
 pub returns-in_err-placed-2-clause-steps : goal.returns-in_err-placed-2-clause-steps
@@ -73,13 +76,14 @@ returns-in_err-placed-2-clause-steps g c =
     let there = c.requires.there in
     let horizon_is : c.behind-planning.inside.horizon ≡ planning.base.horizon = ap (λ (b : BaseView). b.horizon) (c.behind-planning.view_is ∙ c.base.ensures) in
     let low : planning.base.horizon ≤ LAST_START = rw horizon_is at c.behind-planning.invariant.1 in
-    let was : IsThen old planning before = λ d. rw c.requires.index at (c.placement_of-before.ensures d) in
+    let place = c.args.place in
+    let was : IsThen old place before = c.placement_of-before.ensures in
     let last_is : c.behind-old.inside.horizon ≡ old.base.horizon = ap (λ (b : BaseView). b.horizon) (c.behind-old.view_is ∙ c.base-2.ensures) in
     let begin = c.search_begin-begin.result in
     let begins : BeginsAt before job no_freer planning.moment old.base.horizon begin = rw (c.requires.now, last_is) at c.search_begin-begin.ensures in
     let moved : IfSome before (λ placed. ¬ CanStay job placed same planning.moment planning.base.horizon) = rw (c.requires.now, horizon_is) at (none-found c.in_ok-placed.field-0 (IfSome before (λ placed. ¬ CanStay job placed same c.args.now c.behind-planning.inside.horizon)) c.in_default.not-Some c.in_ok-placed.ensures.none) in
     stepped-anew old planning c.args.steps.now c.search_next.new.steps
-    (not-settled old planning same no_freer job before begin c.requires.begun there low was moved begins (omega (arith, horizon_is, c.if-horizon-begin.false)))
+    (not-settled old planning place same no_freer job before begin c.requires.kept there low was moved begins (omega (arith, horizon_is, c.if-horizon-begin.false)))
     c.search_next.ensures.steps
 
 pub returns-clause-steps : goal.returns-clause-steps
@@ -93,11 +97,12 @@ returns-clause-steps g c =
     let there = c.requires.there in
     let horizon_is : c.behind-planning.inside.horizon ≡ planning.base.horizon = ap (λ (b : BaseView). b.horizon) (c.behind-planning.view_is ∙ c.base.ensures) in
     let low : planning.base.horizon ≤ LAST_START = rw horizon_is at c.behind-planning.invariant.1 in
-    let was : IsThen old planning before = λ d. rw c.requires.index at (c.placement_of-before.ensures d) in
+    let place = c.args.place in
+    let was : IsThen old place before = c.placement_of-before.ensures in
     let last_is : c.behind-old.inside.horizon ≡ old.base.horizon = ap (λ (b : BaseView). b.horizon) (c.behind-old.view_is ∙ c.base-2.ensures) in
     let begin = c.search_begin-begin.result in
     let begins : BeginsAt before job no_freer planning.moment old.base.horizon begin = rw (c.requires.now, last_is) at c.search_begin-begin.ensures in
     let moved : IfSome before (λ placed. ¬ CanStay job placed same planning.moment planning.base.horizon) = rw (c.requires.now, horizon_is) at (none-found c.in_ok-placed.field-0 (IfSome before (λ placed. ¬ CanStay job placed same c.args.now c.behind-planning.inside.horizon)) c.in_default.not-Some c.in_ok-placed.ensures.none) in
     stepped-anew old planning c.args.steps.now c.search_next.new.steps
-    (not-settled old planning same no_freer job before begin c.requires.begun there low was moved begins (omega (arith, horizon_is, c.if-horizon-begin.false)))
+    (not-settled old planning place same no_freer job before begin c.requires.kept there low was moved begins (omega (arith, horizon_is, c.if-horizon-begin.false)))
     c.search_next.ensures.steps

@@ -5,6 +5,8 @@ use Rattle.job_table.specs.Moving.{partition_moved}
 use Rattle.job_table.specs.Table.{JobsView}
 use Rattle.job_table.proofs.Entries.{table-entries, values-entries}
 use Rattle.job_table.proofs.Indices.{found-map, table-found}
+use Rattle.job_table.proofs.Counts.{tallied-map}
+use Rattle.job_table.proofs.Marks.{marked-kept}
 use Rattle.job_table.proofs.Moved.{rising-map}
 use Rattle.job_table.proofs.jobs.Jobs.move_partitions.Goals as goal
 
@@ -15,8 +17,10 @@ invariant_of-self c =
     let entries = c.move_all_partitions.new.by_id.entries in
     let table = table-entries entries (map f jobs) c.move_all_partitions.ensures
     (rising-map f (λ job. refl) jobs c.self.invariant.table.rising) in
-    table-found entries (map f jobs) jobs c.self.inside.by_index table c.move_all_partitions.ensures
+    table-found entries (map f jobs) jobs c.self.inside.by_index c.self.inside.blocks.items c.self.inside.unended table c.move_all_partitions.ensures
     (found-map f (λ job. refl) jobs) c.self.invariant.indices
+    (marked-kept c.self.inside.blocks.items jobs f (λ job. refl) c.self.invariant.marked)
+    (tallied-map c.self.inside.unended f jobs (λ test job. refl) c.self.invariant.tallied)
 
 pub returns-clause-records : goal.returns-clause-records
 returns-clause-records c =

@@ -5,6 +5,7 @@ use Rattle.job_table.specs.Moving.{parts_moved}
 use Rattle.job_table.specs.Table.{JobsView}
 use Rattle.job_table.proofs.Entries.{table-entries, values-entries}
 use Rattle.job_table.proofs.Indices.{found-map, table-found}
+use Rattle.job_table.proofs.Counts.{tallied-map}
 use Rattle.job_table.proofs.Moved.{rising-map}
 use Rattle.job_table.proofs.jobs.Jobs.move_parts.Goals as goal
 
@@ -15,8 +16,11 @@ invariant_of-self c =
     let entries = c.move_all_parts.new.by_id.entries in
     let table = table-entries entries (map f jobs) c.move_all_parts.ensures
     (rising-map f (λ job. refl) jobs c.self.invariant.table.rising) in
-    table-found entries (map f jobs) jobs c.self.inside.by_index table c.move_all_parts.ensures
+    table-found entries (map f jobs) jobs c.self.inside.by_index c.count_from.new.blocks.items c.self.inside.unended table c.move_all_parts.ensures
     (found-map f (λ job. refl) jobs) c.self.invariant.indices
+    (rw (c.as_slice-jobs.ensures ∙ c.values.ensures.rest ∙ ap values_of c.move_all_parts.ensures ∙ values-entries (map f jobs))
+    at c.count_from.ensures)
+    (tallied-map c.self.inside.unended f jobs (λ test job. refl) c.self.invariant.tallied)
 
 pub returns-clause-records : goal.returns-clause-records
 returns-clause-records c =
