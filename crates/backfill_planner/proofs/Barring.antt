@@ -132,7 +132,7 @@ given-clear true given some = absurd (omega (arith, some))
 given-clear false given some = refl
 
 -- one time more
-pub times-more : (P Q : Barred → Type 0) (barred : List Barred) (i : ℕ) (time : Barred) → i < length barred → time ≡ get_or barred i time → ((one : Barred) → P one → Q one) → Q time → All P (take i barred) → All Q (take (i + 1) barred)
+pub times-more : {X : Type 0} (P Q : X → Type 0) (barred : List X) (i : ℕ) (time : X) → i < length barred → time ≡ get_or barred i time → ((one : X) → P one → Q one) → Q time → All P (take i barred) → All Q (take (i + 1) barred)
 times-more P Q barred i time inside is weaker here all =
     All-more Q barred i time inside (All-weaker P Q weaker (take i barred) all) (subst Q is here)
 

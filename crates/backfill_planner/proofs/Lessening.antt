@@ -5,6 +5,7 @@ use Rattle.std.specs.List.Sorted.{IsPermutation}
 use Rattle.std.proofs.Math.Nat.{div-mul-le_self}
 use Rattle.std.proofs.lemmas.Nat.{le-div, mul-le}
 use Rattle.std.proofs.lemmas.Bool.{cases_lt, cases_Bool, leb-true, le-leb}
+use Rattle.std.proofs.lemmas.List.{get_or_default}
 use Rattle.std.proofs.lemmas.List.Sums.{sum_by-append, sum_by-cons}
 use Rattle.std.proofs.lemmas.List.Sorted.{sum_by-IsPermutation}
 use Rattle.resource_profile.specs.declared.NodeRoom.{NodeRoom}
@@ -25,7 +26,7 @@ use Rattle.backfill_planner.specs.Plans.{shares_of, placement_at, first_second, 
 use Rattle.backfill_planner.specs.Placements.{FitsAt}
 use Rattle.backfill_planner.specs.declared.seen.Seen.{Seen}
 use Rattle.backfill_planner.specs.Searches.{IsSeen, bound_of}
-use Rattle.backfill_planner.specs.Lesser.{IsNoMoreMem, IsLesser, NoneBefore}
+use Rattle.backfill_planner.specs.Lesser.{HaveSameNodes, IsNoMoreMem, IsLesser, NoneBefore}
 use Rattle.backfill_planner.proofs.Rises.{chosen-none_fits, tasks-more, map-more, none-chosen, fits-more}
 use Rattle.backfill_planner.proofs.Seconds.{placed-none}
 use Rattle.backfill_planner.proofs.LeastSecond.{placed-is, placed-nowhere}
@@ -282,17 +283,44 @@ pub has-window : (less : Option ℕ) (second : ℕ) → IfSome less (λ s. (1 �
 has-window None second is last = omega (arith, last)
 has-window (Some less) second is last = omega (arith, is.0)
 
--- what is known of a job that was searched for tells of one that asks no less
-pub seen-none : LowerLaws → (rooms : List NodeRoom) (holds : List Hold) (ranked : List PlanJob) (now : ℕ) (one : Seen) (read job : PlanJob) → IsSeen rooms holds ranked now one → read ≡ get_or ranked one.place read → IsLesser read job → NoneBefore rooms holds job now one.bound
-seen-none laws rooms holds ranked now one read job seen is lesser =
+-- a job at a place may have the same nodes as itself
+pub same-itself : (ranked : List PlanJob) (place : ℕ) (job d : PlanJob) → place < length ranked → job ≡ get_or ranked place job → HaveSameNodes (get_or ranked place d) job
+same-itself ranked place job d below is =
+    let read : get_or ranked place d ≡ job = get_or_default ranked place d job below ∙ sym is in
+    record { nodes = ap (λ (j : PlanJob). j.nodes) read; barred = ap (λ (j : PlanJob). j.barred) read }
+
+-- one search more is kept in mind
+pub seen-also : (rooms : List NodeRoom) (holds : List Hold) (ranked : List PlanJob) (now place bound alike : ℕ) (job : PlanJob) → place < length ranked → job ≡ get_or ranked place job → alike < length ranked → ((d : PlanJob) → HaveSameNodes (get_or ranked alike d) job)
+    → ((d : PlanJob) → NoneBefore rooms holds (get_or ranked place d) now bound) → IsSeen rooms holds ranked now (record { place = place; bound = bound; alike = alike })
+seen-also rooms holds ranked now place bound alike job below is alike_below same none = record {
+  there = below;
+  none = none;
+  alike_there = alike_below;
+  alike = λ d. subst (λ j. HaveSameNodes (get_or ranked alike d) j) (is ∙ get_or_default ranked place job d below) (same d);
+}
+
+-- what is known of a job that was searched for tells of one that may have the same nodes and asks no less
+pub seen-none : LowerLaws → (rooms : List NodeRoom) (holds : List Hold) (ranked : List PlanJob) (now alike : ℕ) (one : Seen) (read job : PlanJob) → IsSeen rooms holds ranked now one → read ≡ get_or ranked one.place read → one.alike ≡ alike → ((d : PlanJob) → HaveSameNodes (get_or ranked alike d) job) → (HaveSameNodes read job → IsLesser read job) → NoneBefore rooms holds job now one.bound
+seen-none laws rooms holds ranked now alike one read job seen is alike_is same lesser =
     let P : PlanJob → Type 0 = λ j. NoneBefore rooms holds j now one.bound in
-    lesser-none laws rooms holds read job now one.bound lesser (subst P (sym is) (seen.none read))
+    let known : HaveSameNodes (get_or ranked one.alike read) job = subst (λ k. HaveSameNodes (get_or ranked k read) job) (sym alike_is) (same read) in
+    let own = seen.alike read in
+    let nodes : HaveSameNodes read job = record {
+      nodes = ap (λ (j : PlanJob). j.nodes) is ∙ sym own.nodes ∙ known.nodes;
+      barred = ap (λ (j : PlanJob). j.barred) is ∙ sym own.barred ∙ known.barred;
+    } in
+    lesser-none laws rooms holds read job now one.bound (lesser nodes) (subst P (sym is) (seen.none read))
 
 -- also beside more holds
 pub seen-held : LowerLaws → (rooms : List NodeRoom) (holds more all : List Hold) (ranked : List PlanJob) (now : ℕ) (seen : List Seen) → IsPermutation (holds ++ more) all → All (IsSeen rooms holds ranked now) seen → All (IsSeen rooms all ranked now) seen
 seen-held laws rooms holds more all ranked now seen moved each k d inside =
     let one = each k d inside in
-    record { there = one.there; none = λ job. held-none laws rooms holds more all (get_or ranked (get_or seen k d).place job) now (get_or seen k d).bound moved (one.none job) }
+    record {
+      there = one.there;
+      none = λ job. held-none laws rooms holds more all (get_or ranked (get_or seen k d).place job) now (get_or seen k d).bound moved (one.none job);
+      alike_there = one.alike_there;
+      alike = one.alike;
+    }
 
 pub bound-shown : LowerLaws → (rooms : List NodeRoom) (holds : List Hold) (job : PlanJob) (now hi : ℕ) (placed : Option Placed) → placed ≡ placed_of rooms holds job now hi → NoneBefore rooms holds job now (bound_of placed hi)
 bound-shown laws rooms holds job now hi None is = none-placed laws rooms holds job now hi is

@@ -1,5 +1,6 @@
 pub mod Windows
 pub mod Barring
+pub mod Stretching
 pub mod Beginnings
 pub mod Takes
 pub mod Dealing
@@ -18,3 +19,4 @@ pub mod Lessening
 pub mod Staying
 pub mod NoFreer
 pub mod Settling
+pub mod NothingHeld

@@ -16,7 +16,7 @@ use Rattle.backfill_planner.proofs.Barring.{unless-less}
 use Rattle.backfill_planner.proofs.Rises.{tasks-more, fits-more}
 use Rattle.backfill_planner.proofs.Lessening.{least_after-within, none-from, some-placed, none-placed}
 use Rattle.backfill_planner.proofs.Staying.{EndBy, in-time, ends-by}
-use Rattle.plain_data.specs.declared.seconds.TheConstants.{FOREVER, LAST_START}
+use Rattle.plain_data.specs.declared.seconds.TheConstants.{FOREVER}
 
 least_after-no_more : (free more : ℕ → ℕ) (from count : ℕ) → ((moment : ℕ) → from ≤ moment → moment ≤ from + count → free moment ≤ more moment) → least_after free from count ≤ least_after more from count
 unfolding least_after

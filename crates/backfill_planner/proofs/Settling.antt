@@ -75,7 +75,7 @@ next-free laws base ranked now done made counts profile searches job placed is l
 pub next-planned : LowerLaws → (base : BaseView) (ranked : List PlanJob) (now done : ℕ) (made : List Placed) (counts : List ℕ) (profile : ProfileView) (searches : List Seen) (job : PlanJob) (placed : Option Placed)
     → (new_made : List Placed) (new_counts : List ℕ) (new_profile : ProfileView) (new_searches : List Seen) → IsPlanning base ranked now done made counts profile searches → done < length ranked → job ≡ get_or ranked done job → IsPlannable job → placed ≡ placement_of base ranked now done job
     → new_made ≡ made ++ option_to_list placed → new_counts ≡ counts ++ length new_made ∷ [] → new_profile.rooms ≡ profile.rooms → IsPermutation (profile.holds ++ holds_of job placed) new_profile.holds
-    → (IsSeen base.rooms profile.holds ranked now (record { place = done; bound = bound_of placed base.horizon }) → All (IsSeen base.rooms profile.holds ranked now) new_searches)
+    → (((d : PlanJob) → NoneBefore base.rooms profile.holds (get_or ranked done d) now (bound_of placed base.horizon)) → All (IsSeen base.rooms profile.holds ranked now) new_searches)
     → IsPlanning base ranked now (done + 1) new_made new_counts new_profile new_searches
 next-planned laws base ranked now done made counts profile searches job placed new_made new_counts new_profile new_searches is below job_is plannable there made_is counts_are rooms_are held_is seen_are =
     let beside = holds_before base ranked now done in
@@ -94,10 +94,7 @@ next-planned laws base ranked now done made counts profile searches job placed n
       counted = rw counts_are (counted-more base ranked now done counts (length new_made) is.counted (ap (λ some. length some) plan_is));
       rooms = rooms_are ∙ is.rooms;
       held = rw (holds-next base ranked now done job below (sym job_is), ← mine) moved;
-      seen = seen-held laws base.rooms profile.holds (holds_of job placed) new_profile.holds ranked now new_searches held_is (seen_are (record {
-        there = below;
-        none = λ d. subst (λ j. NoneBefore base.rooms profile.holds j now (bound_of placed base.horizon)) (job_is ∙ get_or_default ranked done job d below) shown;
-      }));
+      seen = seen-held laws base.rooms profile.holds (holds_of job placed) new_profile.holds ranked now new_searches held_is (seen_are (λ d. subst (λ j. NoneBefore base.rooms profile.holds j now (bound_of placed base.horizon)) (job_is ∙ get_or_default ranked done job d below) shown));
     }
 
 -- before the first job

@@ -17,6 +17,11 @@ IsNoMoreMem (PerNode lesser) (PerNode asked) = lesser ≤ asked
 IsNoMoreMem (PerCpu lesser) (PerCpu asked) = (1 ≤ lesser) × (lesser ≤ asked)
 IsNoMoreMem _ _ = ⊥
 
+-- the jobs may have the same nodes, barred at the same times
+pub record HaveSameNodes (one other : PlanJob) : Type 0 where
+  pub nodes : one.nodes ≡ other.nodes
+  pub barred : one.barred ≡ other.barred
+
 -- Of the same nodes, barred at the same times, it asks for no more tasks, processors, megabytes and seconds; and a node
 -- may have as many tasks of it as of the other, or all of its own.
 pub record IsLesser (lesser job : PlanJob) : Type 0 where

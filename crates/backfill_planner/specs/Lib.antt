@@ -8,3 +8,4 @@ pub mod Searches
 pub mod Making
 pub mod Staying
 pub mod LowerLaws
+pub mod Stretches

@@ -1,6 +1,7 @@
 ghost use Rattle.std.specs.Prelude.{◌≡◌, ◌≢◌, IfOk, AllPairs};
 ghost use Rattle.backfill_planner.specs.Placements.{IsPlannable};
 
+use crate::barred_list::BarredList;
 use cpu_ids::CpuIds;
 use node_pick::Need;
 use plain_data::mem_ask::MemAsk;
@@ -68,51 +69,6 @@ pub struct Barred {
     pub until: u64,
 }
 
-/// Times at which a job may not have nodes, in any order: a list that jobs share, and that nothing changes once it is
-/// made. It may be shared between threads too.
-#[derive(Drop)]
-pub struct BarredList {
-    times: ArcSlice<Barred>,
-}
-
-impl Model for BarredList {
-    ghost use Rattle.std.specs.Prelude.{List};
-    ghost use Rattle.std.specs.Arc.{arc_slice_items};
-    ghost use Rattle.backfill_planner.specs.declared.job.Barred.{Barred};
-
-    ghost Value = { List Barred };
-
-    ghost view = { λ list. arc_slice_items list.times };
-}
-
-impl BarredList {
-    /// These times. It takes memory for what counts those that share them, and copies none.
-    pub fn from_vec(times: Vec<Barred>) -> Result<Self, Memory>
-        ensures { IfOk result (λ list. list ≡ times.items) }
-    {
-        Ok(BarredList {
-            times: ArcSlice::from_vec(times)?,
-        })
-    }
-
-    /// An equal list, which shares the times with this one. Constant time; it copies no time and takes no memory, and
-    /// is refused only where more lists share the times than can be counted.
-    pub fn share(&self) -> Result<Self, Memory>
-        ensures { IfOk result (λ list. list ≡ self.now) }
-    {
-        Ok(BarredList {
-            times: self.times.clone()?,
-        })
-    }
-
-    /// The times in order.
-    pub fn as_slice(&self) -> &[Barred]
-        ensures { result.now ≡ self.now }
-    {
-        self.times.as_slice()
-    }
-}
-
 /// A job that is to be planned.
 #[derive(Drop)]
 pub struct PlanJob {
@@ -127,7 +83,8 @@ pub struct PlanJob {
     pub exclusive: bool,
     /// The nodes that it may get, in the order in which they are chosen.
     pub nodes: NodeList,
-    /// The times at which it may not have some of them. Each costs a test for each node and second that are tried.
+    /// The times at which it may not have some of them. Where they are not kept by node, each costs a test for each node
+    /// and second that are tried.
     pub barred: BarredList,
     /// Its limit; None where it has none.
     pub seconds: Option<Ranged<1, 3153600000>>,

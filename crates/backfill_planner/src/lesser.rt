@@ -1,7 +1,7 @@
 ghost use Rattle.std.specs.Prelude.{◌≡◌, ◌≤◌, IfSome, unwrap_or};
 ghost use Rattle.std.specs.Bool.{OnTrue};
 ghost use Rattle.node_pick.specs.Sets.{AsksNoMore};
-ghost use Rattle.backfill_planner.specs.Lesser.{IsNoMoreMem, IsLesser};
+ghost use Rattle.backfill_planner.specs.Lesser.{HaveSameNodes, IsNoMoreMem, IsLesser};
 
 use crate::job::{Barred, PlanJob};
 use node_pick::Need;
@@ -55,10 +55,18 @@ fn are_same(one: &[Barred], other: &[Barred]) -> bool
     one == other
 }
 
-/// Whether of the same nodes, barred at the same times, one job asks for no more tasks, processors, megabytes and
-/// seconds than the other, and may have as many tasks on a node, or all of its own.
+/// Whether both jobs may have the same nodes, barred at the same times. It compares the lists.
+pub(crate) fn have_same_nodes(one: &PlanJob, other: &PlanJob) -> bool
+    ensures { OnTrue result (HaveSameNodes one.now other.now) }
+{
+    one.nodes.as_slice() == other.nodes.as_slice()
+        && are_same(one.barred.as_slice(), other.barred.as_slice())
+}
+
+/// Whether one job asks for no more tasks, processors, megabytes and seconds than another one of the same nodes, and may
+/// have as many tasks on a node, or all of its own. In constant time.
 pub(crate) fn is_lesser(lesser: &PlanJob, job: &PlanJob) -> bool
-    ensures { OnTrue result (IsLesser lesser.now job.now) }
+    ensures { OnTrue result (HaveSameNodes lesser.now job.now → IsLesser lesser.now job.now) }
 {
     if lesser.exclusive != job.exclusive {
         return false;
@@ -72,9 +80,5 @@ pub(crate) fn is_lesser(lesser: &PlanJob, job: &PlanJob) -> bool
     if window_length(lesser) > window_length(job) {
         return false;
     }
-    if !asks_no_more(&lesser.need, &job.need) || !is_no_more_mem(&lesser.mem_ask, &job.mem_ask) {
-        return false;
-    }
-    lesser.nodes.as_slice() == job.nodes.as_slice()
-        && are_same(lesser.barred.as_slice(), job.barred.as_slice())
+    asks_no_more(&lesser.need, &job.need) && is_no_more_mem(&lesser.mem_ask, &job.mem_ask)
 }

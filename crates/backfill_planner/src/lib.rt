@@ -8,8 +8,10 @@ use plain_data::items::Items;
 use small_texts::memory_error::Memory;
 use std::alloc::Global;
 
+mod barred_list;
 mod barred_times;
 mod base;
+mod empty_nodes;
 mod job;
 pub mod laws;
 mod lesser;
@@ -17,10 +19,13 @@ mod placing;
 mod planned;
 mod planning;
 mod seen;
+mod stretches;
 mod sweep;
 
+pub use barred_list::BarredList;
 pub use base::Base;
-pub use job::{Barred, BarredList, NodeList, PlanJob};
+pub use empty_nodes::fits_empty_nodes;
+pub use job::{Barred, NodeList, PlanJob};
 pub use placing::place;
 pub use plain_data::mem_ask::MemAsk;
 pub use planned::{Planned, plan};

@@ -17,7 +17,7 @@ use crate::job::PlanJob;
 use crate::laws::lower_laws;
 use crate::placing::{next_second, place, window_end};
 use crate::planned::Planned;
-use crate::seen::{Searches, Seen};
+use crate::seen::Searches;
 use plain_data::seconds::LAST_START;
 use resource_profile::{Hold, Profile, Steps};
 use small_texts::memory_error::Memory;
@@ -202,7 +202,7 @@ impl Planning {
         let job = &ranked[done];
         job.tell_plannable();
         let bound = bound_of(&placed, base.horizon);
-        searches.add(ranked.as_slice(), moment, Seen { place: done, bound })?;
+        searches.add(ranked.as_slice(), moment, done, bound)?;
         if let Some(placed) = placed {
             hold(&mut profile, job, &placed)?;
             placements.push(placed)?;

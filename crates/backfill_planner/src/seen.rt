@@ -1,14 +1,14 @@
-ghost use Rattle.std.specs.Prelude.{◌≡◌, ℕ, ◌≤◌, ◌<◌, List, [], length, IfOk, All};
+ghost use Rattle.std.specs.Prelude.{◌≡◌, ℕ, ◌≤◌, ◌<◌, List, [], length, slice_index_or, IfOk, IfSome, OnOk, All};
 ghost use Rattle.resource_profile.specs.declared.NodeRoom.{NodeRoom as Room};
 ghost use Rattle.resource_profile.specs.declared.Hold.{Hold};
-ghost use Rattle.backfill_planner.specs.Lesser.{NoneBefore};
+ghost use Rattle.backfill_planner.specs.Lesser.{HaveSameNodes, NoneBefore};
 ghost use Rattle.backfill_planner.specs.Searches.{IsSeen};
 ghost use Rattle.backfill_planner.specs.declared.seen.Seen.{Seen as OneSeen};
 ghost use Rattle.backfill_planner.specs.declared.job.PlanJob.{PlanJob as AJob};
 
 use crate::job::PlanJob;
 use crate::laws::lower_laws;
-use crate::lesser::is_lesser;
+use crate::lesser::{have_same_nodes, is_lesser};
 use small_texts::memory_error::Memory;
 use std::alloc::Global;
 
@@ -20,6 +20,8 @@ const MOST: usize = 64;
 pub(crate) struct Seen {
     pub(crate) place: usize,
     pub(crate) bound: u64,
+    // The place of a job that may have the same nodes: the same one for all such.
+    pub(crate) alike: usize,
 }
 
 // The last searches that told most.
@@ -37,9 +39,26 @@ impl Searches {
         })
     }
 
-    // A second, `now` or a later one, before which no set of the job fits, since none did of a job that asks no more.
-    pub(crate) fn bound(&self, ranked: &[PlanJob], job: &PlanJob, now: u64) -> u64
-        requires { All (λ (one : OneSeen). one.place < length ranked.now) self.now.seen.items }
+    // The place by which those are known that were searched for and may have the same nodes as the job.
+    fn first_alike(&self, ranked: &[PlanJob], job: &PlanJob) -> Option<usize>
+        requires { All (λ (one : OneSeen). one.alike < length ranked.now) self.now.seen.items }
+        ensures there { IfSome result (λ alike. alike < length ranked.now) }
+        ensures alike { IfSome result (λ alike. (d : AJob)
+            → HaveSameNodes (slice_index_or ranked.now alike d) job.now) }
+    {
+        for one in self.seen.as_slice() {
+            if have_same_nodes(&ranked[one.alike], job) {
+                return Some(one.alike);
+            }
+        }
+        None
+    }
+
+    // A second, `now` or a later one, before which no set of the job fits, since none did of a job that asks no more
+    // among those that are known by this place.
+    fn bound_among(&self, ranked: &[PlanJob], alike: usize, job: &PlanJob, now: u64) -> u64
+        requires there { All (λ (one : OneSeen). one.place < length ranked.now) self.now.seen.items }
+        requires alike { (d : AJob) → HaveSameNodes (slice_index_or ranked.now alike d) job.now }
         ensures from { now ≤ result }
         ensures none { (rooms : List Room) (holds : List Hold)
             → All (IsSeen rooms holds ranked.now now) self.now.seen.items
@@ -48,26 +67,59 @@ impl Searches {
         lower_laws();
         let mut bound = now;
         for one in self.seen.as_slice() {
-            if one.bound > bound && is_lesser(&ranked[one.place], job) {
+            if one.bound > bound && one.alike == alike && is_lesser(&ranked[one.place], job) {
                 bound = one.bound;
             }
         }
         bound
     }
 
-    // Keeps one search more in mind, where those that are kept don't tell as much of its job. Where there are many, the
-    // one goes that tells least.
-    pub(crate) fn add(&mut self, ranked: &[PlanJob], now: u64, one: Seen) -> Result<(), Memory>
-        requires there { All (λ (seen : OneSeen). seen.place < length ranked.now) self.old.seen.items }
-        requires place { one.place < length ranked.now }
-        ensures { (rooms : List Room) (holds : List Hold) (ranked : List AJob) (now : ℕ)
-            → All (IsSeen rooms holds ranked now) self.old.seen.items → IsSeen rooms holds ranked now one
-            → All (IsSeen rooms holds ranked now) self.new.seen.items }
+    // A second, `now` or a later one, before which no set of the job fits, since none did of a job that asks no more. It
+    // compares the job's nodes with those of each list of nodes that was searched, up to the one that is the same.
+    pub(crate) fn bound(&self, ranked: &[PlanJob], job: &PlanJob, now: u64) -> u64
+        requires there { All (λ (one : OneSeen). one.place < length ranked.now) self.now.seen.items }
+        requires alike { All (λ (one : OneSeen). one.alike < length ranked.now) self.now.seen.items }
+        ensures from { now ≤ result }
+        ensures none { (rooms : List Room) (holds : List Hold)
+            → All (IsSeen rooms holds ranked.now now) self.now.seen.items
+            → NoneBefore rooms holds job.now now result }
     {
-        if self.bound(ranked, &ranked[one.place], now) >= one.bound {
+        match self.first_alike(ranked, job) {
+            Some(alike) => self.bound_among(ranked, alike, job, now),
+            None => now,
+        }
+    }
+
+    // Keeps in mind that none of the sets of the job at the place fits before the bound, where those searches that are
+    // kept don't tell as much of it. Where there are many, the one goes that tells least.
+    pub(crate) fn add(
+        &mut self,
+        ranked: &[PlanJob],
+        now: u64,
+        place: usize,
+        bound: u64,
+    ) -> Result<(), Memory>
+        requires there { All (λ (one : OneSeen). one.place < length ranked.now) self.old.seen.items }
+        requires alike { All (λ (one : OneSeen). one.alike < length ranked.now) self.old.seen.items }
+        requires place { place < length ranked.now }
+        ensures { (rooms : List Room) (holds : List Hold)
+            → All (IsSeen rooms holds ranked.now now) self.old.seen.items
+            → ((d : AJob) → NoneBefore rooms holds (slice_index_or ranked.now place d) now bound)
+            → All (IsSeen rooms holds ranked.now now) self.new.seen.items }
+    {
+        let job = &ranked[place];
+        let alike = match self.first_alike(ranked, job) {
+            Some(alike) => alike,
+            None => place,
+        };
+        if self.bound_among(ranked, alike, job, now) >= bound {
             return Ok(());
         }
-        self.put(one)
+        self.put(Seen {
+            place,
+            bound,
+            alike,
+        })
     }
 
     // Puts one search more among those that are kept. Where there are many, the one goes that tells least.

@@ -52,7 +52,7 @@ fn given_from_free(
         window.free.cpus,
         window.free.mem,
     );
-    let last = next_begin(job.barred.as_slice(), node, end, window.ends_up_to);
+    let last = next_begin(&job.barred, node, end, window.ends_up_to);
     let until = match job.seconds {
         Some(seconds) => window.begins_before.min(last - (seconds.get() - 1)),
         None => window.begins_before,
@@ -70,7 +70,7 @@ fn given_from(profile: &Profile, rooms: &[NodeRoom], job: &PlanJob, node: u32, s
     ensures word { result.tasks < 2 ^ 32 }
 {
     let end = window_end(job, second);
-    if let Some(until) = barred_until(job.barred.as_slice(), node, second, end) {
+    if let Some(until) = barred_until(&job.barred, node, second, end) {
         return Given { tasks: 0, until };
     }
     given_from_free(profile, rooms, job, node, second)

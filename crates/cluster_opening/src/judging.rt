@@ -74,6 +74,12 @@ fn fits(
     }
 }
 
+// Lets go of what two files say.
+fn let_both_go(_conf: Conf, _assocs: AssocFile) {}
+
+// Lets go of a saved state.
+fn let_go(_saved: Option<Saved>) {}
+
 /// The saved state among texts that open a cluster, or why they open none.
 pub(crate) fn judge(alloc: Global, files: &Files) -> Result<Option<Saved>, ClusterRefusal>
     ensures { IsJudged files.now result }
@@ -84,10 +90,16 @@ pub(crate) fn judge(alloc: Global, files: &Files) -> Result<Option<Saved>, Clust
     };
     let saved = match read_state(alloc, &files.state) {
         Ok(saved) => saved,
-        Err(refusal) => return Err(refusal),
+        Err(refusal) => {
+            let_both_go(conf, assocs);
+            return Err(refusal);
+        }
     };
     match fits(alloc, conf, assocs, &saved) {
         Ok(()) => Ok(saved),
-        Err(refusal) => Err(refusal),
+        Err(refusal) => {
+            let_go(saved);
+            Err(refusal)
+        }
     }
 }

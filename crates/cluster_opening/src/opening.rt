@@ -42,6 +42,9 @@ fn with_state(files: Files, saved: Option<Saved>) -> ClusterFiles
     }
 }
 
+// Lets go of the files of a cluster.
+fn let_go(_files: ClusterFiles) {}
+
 /// Reads the file slurm.conf(5), the association file, sacctmgr(1), and the saved state of these names, all before any is
 /// judged, and keeps them, where they open a cluster. Linear in the files. To judge them a controller is made, and let
 /// go again.
@@ -83,7 +86,13 @@ pub fn open_named<Q: Shelf>(
         Err(refusal) => return Err(refusal),
     };
     match desk(alloc, &files) {
-        Ok(desk) => Ok(desk),
-        Err(Memory) => Err(OpenRefusal::Memory),
+        Ok(desk) => {
+            let_go(files);
+            Ok(desk)
+        }
+        Err(Memory) => {
+            let_go(files);
+            Err(OpenRefusal::Memory)
+        }
     }
 }

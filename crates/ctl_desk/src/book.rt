@@ -3,7 +3,8 @@
 ghost use Rattle.std.specs.Prelude.{◌≡◌, ◌<◌, ◌++◌, ◌∷◌, [], IfOk, IfSome, IfNone, OnOk, OnErr, if◌then◌else◌, length, Some, None, vec_len, vec_capacity};
 ghost use Rattle.request_data.specs.declared.request.Request.TheVariants.{Pass};
 ghost use Rattle.resource_profile.specs.Counts.{IsTickedUpTo};
-ghost use Rattle.ctl_core.specs.Step.{IsHinted, input_at, kept_after, reply_of, is_entered, steps_of};
+ghost use Rattle.ctl_state.specs.Soundness.{IsSound};
+ghost use Rattle.ctl_core.specs.Step.{IsHinted, input_at, kept_after, raised, reply_of, is_entered, state_after, steps_of};
 ghost use Rattle.ctl_desk.specs.History.{entry_of, history_in, present, IsHistory};
 
 use crate::entry::{Answer, Entry};
@@ -111,10 +112,13 @@ impl Book {
     {
         raised_moments_decide_alike();
         passes_are_free();
-        self.entries.reserve(1)?;
-        let name = user.copy()?;
-        let decided = self.ctl.ask(now, user, &request)?;
-        Ok(enter(&mut self.entries, session, name, request, decided))
+        match decide(&mut self.entries, &mut self.ctl, now, user, &request) {
+            Ok((name, decided)) => Ok(enter(&mut self.entries, session, name, request, decided)),
+            Err(Memory) => {
+                request.let_go();
+                Err(Memory)
+            }
+        }
     }
 
     /// Makes a pass for a session, whatever plan is at hand, and enters it where it is accepted. The cost is the
@@ -143,10 +147,16 @@ impl Book {
     {
         raised_moments_decide_alike();
         passes_are_free();
-        self.entries.reserve(1)?;
-        let name = user.copy()?;
-        let decided = self.ctl.pass(now, user, hint, steps)?;
-        Ok(enter(&mut self.entries, session, name, Request::Pass, decided))
+        match decide_pass(&mut self.entries, &mut self.ctl, now, user, hint, steps) {
+            Ok((name, decided)) => Ok(enter(
+                &mut self.entries,
+                session,
+                name,
+                Request::Pass,
+                decided,
+            )),
+            Err(Memory) => Err(Memory),
+        }
     }
 
     /// What a pass by a privileged user at a moment would make its plan of, with a copy of the plan that the controller
@@ -160,6 +170,80 @@ impl Book {
         self.ctl.input(now)
     }
 }
+
+// Decides a request, once there is room for its entry and a name for it.
+fn decide(
+    entries: &mut Vec<Entry>,
+    ctl: &mut Ctl,
+    now: u64,
+    user: &Name,
+    request: &Request,
+) -> Result<(Name, Decided), Memory>
+    ensures items { entries.new.items ≡ entries.old.items }
+    ensures spare { OnOk result (vec_len entries.new < vec_capacity entries.new) }
+    ensures name { IfOk result (λ made. made.0 ≡ user.now) }
+    ensures reply { IfOk result (λ made. made.1.reply ≡ reply_of ctl.old.state now user.now request.now) }
+    ensures entered { IfOk result (λ made.
+        made.1.entered ≡ (if is_entered made.1.reply then Some made.1.reply else None)) }
+    ensures moment { IfOk result (λ made. made.1.moment ≡ raised ctl.old.state now) }
+    ensures after { OnOk result (ctl.new.state ≡ state_after ctl.old.state now user.now request.now) }
+    ensures kept { OnOk result (ctl.new.kept ≡ kept_after ctl.old.state ctl.old.kept now user.now request.now) }
+    ensures err { OnErr result (ctl.new ≡ ctl.old) }
+    ensures sound { OnOk result (IsSound ctl.old.state × IsSound ctl.new.state) }
+{
+    let name = prepare(entries, user)?;
+    let decided = ctl.ask(now, user, request)?;
+    Ok((name, decided))
+}
+
+// Makes a pass, once there is room for its entry and a name for it.
+fn decide_pass<L>(
+    entries: &mut Vec<Entry>,
+    ctl: &mut Ctl,
+    now: u64,
+    user: &Name,
+    hint: Option<Planned>,
+    steps: &mut Steps<L>,
+) -> Result<(Name, Decided), Memory>
+    ensures items { entries.new.items ≡ entries.old.items }
+    ensures spare { OnOk result (vec_len entries.new < vec_capacity entries.new) }
+    ensures name { IfOk result (λ made. made.0 ≡ user.now) }
+    ensures reply { IfOk result (λ made. made.1.reply ≡ reply_of ctl.old.state now user.now Pass) }
+    ensures entered { IfOk result (λ made.
+        made.1.entered ≡ (if is_entered made.1.reply then Some made.1.reply else None)) }
+    ensures moment { IfOk result (λ made. made.1.moment ≡ raised ctl.old.state now) }
+    ensures after { OnOk result (ctl.new.state ≡ state_after ctl.old.state now user.now Pass) }
+    ensures kept { OnOk result (ctl.new.kept ≡ kept_after ctl.old.state ctl.old.kept now user.now Pass) }
+    ensures err { OnErr result (ctl.new ≡ ctl.old) }
+    ensures steps { IsTickedUpTo (steps_of ctl.old.state now user.now) steps.old steps.new }
+    ensures over { IfSome hint (λ hint. IsHinted hint ctl.old.state now steps.old steps.new) }
+    ensures over_kept { IfNone hint (IfSome ctl.old.kept (λ kept. IsHinted kept ctl.old.state now steps.old steps.new)) }
+    ensures sound { OnOk result (IsSound ctl.old.state × IsSound ctl.new.state) }
+{
+    match prepare(entries, user) {
+        Ok(name) => {
+            let decided = ctl.pass(now, user, hint, steps)?;
+            Ok((name, decided))
+        }
+        Err(Memory) => {
+            let_hint_go(hint);
+            Err(Memory)
+        }
+    }
+}
+
+// Makes room for one entry more, and copies the name for it.
+fn prepare(entries: &mut Vec<Entry>, user: &Name) -> Result<Name, Memory>
+    ensures items { entries.new.items ≡ entries.old.items }
+    ensures spare { OnOk result (vec_len entries.new < vec_capacity entries.new) }
+    ensures name { IfOk result (λ name. name ≡ user.now) }
+{
+    entries.reserve(1)?;
+    user.copy()
+}
+
+// Lets go of a plan that no pass was made over.
+fn let_hint_go(_hint: Option<Planned>) {}
 
 // Enters what was decided, where it was accepted, and makes the answer of it.
 fn enter(

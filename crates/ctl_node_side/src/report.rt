@@ -73,30 +73,8 @@ pub fn refusal_of(cluster: &Cluster, user: &Name, report: &Report) -> Option<Ref
     staleness(cluster, report)
 }
 
-/// What the node at a place is ordered in answer to its report, by the jobs in whose midst it is worked, whatever its
-/// moment. Linear in the jobs, and for each that holds something of the node in what the report tells.
-pub fn orders(
-    alloc: Global,
-    jobs: &[JobRecord],
-    node: u32,
-    report: &Report,
-) -> Result<Orders, Memory>
-    requires { HaveRisingIds jobs.now }
-    ensures { IfOk result (λ orders. (now : ℕ) → orders ≡ orders_of jobs.now now node report.now) }
-{
-    let jobs = pointed_to(alloc, jobs)?;
-    let orders = orders_by(alloc, jobs.as_slice(), node, report)?;
-    Ok(orders)
-}
-
-// The jobs, each pointed to.
-fn pointed_to<'a>(alloc: Global, jobs: &'a [JobRecord]) -> Result<Vec<&'a JobRecord>, Memory>
-    ensures { IfOk result (λ all. shown all.items ≡ jobs.now) }
-{
-    Ok(jobs.iter().collect(alloc)?)
-}
-
-/// What the node at a place is ordered in answer to its report, by the jobs that are pointed to.
+/// What the node at a place is ordered in answer to its report, by the jobs that are pointed to, whatever its moment.
+/// For each that holds something of the node it is linear in what the report tells.
 pub(crate) fn orders_by(
     alloc: Global,
     jobs: &[&JobRecord],

@@ -77,7 +77,9 @@ fn ask<D: Desk>(
     let answer = decide(desk, steps, asked)?;
     let status = status_by(&answer.reply);
     let place = answer.place;
-    match text(alloc, &asked.request, &answer.reply) {
+    let made = text(alloc, &asked.request, &answer.reply);
+    answer.let_go();
+    match made {
         Ok(text) => Ok(Told {
             text,
             status,
@@ -85,6 +87,11 @@ fn ask<D: Desk>(
         }),
         Err(Memory) => Err(Memory),
     }
+}
+
+// Lets go of what was asked.
+fn let_go(asked: Asked) {
+    asked.request.let_go();
 }
 
 fn copied(alloc: Global, text: &[u8]) -> Result<Vec<u8>, Memory>
@@ -117,7 +124,11 @@ fn tell<D: Desk>(
         ⊎ Works meaning (D.sight desk.old) (D.sight desk.new)) }
 {
     match meaning {
-        Meaning::Asks(asked) => ask(alloc, desk, steps, &asked),
+        Meaning::Asks(asked) => {
+            let told = ask(alloc, desk, steps, &asked);
+            let_go(asked);
+            told
+        }
         Meaning::Malformed { command, fault } => unasked(malformed(alloc, command, fault)),
         Meaning::UnknownCommand => unasked(copied(alloc, unknown_command())),
         Meaning::BadWords { place } => unasked(bad_words(alloc, place)),

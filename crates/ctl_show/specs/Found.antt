@@ -13,6 +13,7 @@ use Rattle.ctl_state.specs.Counted.{holding}
 use Rattle.ctl_state.specs.State.{State}
 use Rattle.ctl_waiting.specs.Measured.{IsMeasured}
 use Rattle.ctl_show.specs.declared.outlook.Outlook.{Outlook}
+use Rattle.ctl_show.specs.declared.outlook.Shared.{Shared}
 use Rattle.ctl_show.specs.declared.outlook.Waiting.{Waiting}
 use Rattle.ctl_show.specs.Standing.{group_at}
 use Rattle.ctl_show.specs.Showing.{highest, planned_start}
@@ -35,13 +36,17 @@ pub record LieWithin (test : JobRecord → Bool) (jobs : List JobRecord) (places
   pub before : AllWithin (λ job. test job ≡ false) jobs 0 places.first
   pub behind : AllWithin (λ job. test job ≡ false) jobs places.end (length jobs)
 
--- What the jobs count that hold processors, which have others of their user and name before them, the job that is
--- highest in rank at a moment, and the second that the plan gives each job.
+-- the job that is highest in rank at a moment, and the second that the plan gives each job
+pub record IsShared (s : State) (now : ℕ) (shared : Shared) : Type 0 where
+  pub highest : shared.highest ≡ highest s now
+  pub starts : (id : ℕ) → get nat_eq shared.starts id ≡ planned_start s.plan id
+
+-- What the jobs count that hold processors, which have others of their user and name before them, and what many share,
+-- where that is found.
 pub record ShowsWaiting (s : State) (now : ℕ) (waiting : Waiting) : Type 0 where
   pub tally : Shows s.assocs waiting.tally (holding s.jobs)
   pub behind : All (ShowsBehind waiting.behind s.jobs) s.jobs
-  pub highest : waiting.highest ≡ highest s now
-  pub starts : (id : ℕ) → get nat_eq waiting.starts id ≡ planned_start s.plan id
+  pub shared : IfSome waiting.shared (IsShared s now)
 
 -- what priorities rest on at a moment, and what pending jobs wait for then, where that is found
 pub record IsOutlook (s : State) (now : ℕ) (outlook : Outlook) : Type 0 where

@@ -6,7 +6,7 @@ ghost use Rattle.ctl_state.specs.Soundness.{IsSound};
 ghost use Rattle.ctl_show.specs.Showing;
 
 use crate::rows::row_at;
-use crate::spans::places_meant;
+use crate::spans::{extent_of, places_meant};
 use ctl_state::cluster::Cluster;
 use job_table::record::JobRecord;
 use job_table::targets::is_named;
@@ -40,9 +40,10 @@ pub(crate) fn kept_rows(
     let mut outlook = None;
     let mut rows = Vec::new(alloc);
     let places = places_meant(&cluster.jobs, target);
+    let extent = extent_of(places);
     for place in places.first..places.end {
         if is_meant(target, &cluster.jobs.records()[place]) {
-            let row = row_at(alloc, cluster, moment, &mut outlook, place)?;
+            let row = row_at(alloc, cluster, moment, extent, &mut outlook, place)?;
             rows.push(Row::Job(row))?;
         }
     }

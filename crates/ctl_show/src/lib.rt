@@ -6,6 +6,7 @@ mod jobs;
 mod kept;
 mod outlook;
 mod parts;
+mod pending;
 mod priorities;
 mod rows;
 mod show;

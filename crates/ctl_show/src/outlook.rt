@@ -9,6 +9,7 @@ ghost use Rattle.ctl_waiting.specs.Measured.{IsMeasured};
 ghost use Rattle.ctl_show.specs.Found.{IsOutlook, HasFound, ShowsWaiting};
 ghost use Rattle.ctl_show.specs.Showing;
 
+use crate::spans::Extent;
 use backfill_planner::Placed;
 use ctl_state::cluster::Cluster;
 use ctl_state::counting::count_holding;
@@ -23,17 +24,24 @@ use small_texts::memory_error::Memory;
 use std::alloc::Global;
 use std::collections::HashMap;
 
-/// What the rows of pending jobs need of the other jobs and of the plan.
+/// What the rows of many pending jobs share.
 #[derive(Drop)]
-pub(crate) struct Waiting {
+pub(crate) struct Shared {
     /// The number of the job that is highest in rank.
     pub(crate) highest: Option<u32>,
     /// The seconds that the plan gives, by the numbers of the jobs.
     pub(crate) starts: HashMap<u32, Second>,
+}
+
+/// What the rows of pending jobs need of the other jobs and of the plan.
+#[derive(Drop)]
+pub(crate) struct Waiting {
     /// What the jobs count that hold processors.
     pub(crate) tally: Tally,
     /// Which jobs have others of their user and name before them.
     pub(crate) behind: Behind,
+    /// What is found once for all rows, where many are shown: where few are, it is found for each.
+    pub(crate) shared: Option<Shared>,
 }
 
 /// What rows need beside their jobs.
@@ -58,22 +66,57 @@ fn starts_of(alloc: Global, plan: &[Placed]) -> Result<HashMap<u32, Second>, Mem
     Ok(starts)
 }
 
-// What the rows of pending jobs need, at the factors' moment. Linear in the jobs and the plan; each job that holds
+// What the rows of many pending jobs need, at the factors' moment. Linear in the jobs and the plan; each job that holds
 // processors, and each pending one that is higher in rank than the candidates before it, costs its association's way up
 // to root besides.
-fn waiting_at(alloc: Global, cluster: &Cluster, factors: &Factors) -> Result<Waiting, Memory>
+fn waiting_for_many(alloc: Global, cluster: &Cluster, factors: &Factors) -> Result<Waiting, Memory>
     requires sound { IsSound (state_of cluster.now) }
     requires measured { IsMeasured (state_of cluster.now) factors.now }
     ensures { IfOk result (ShowsWaiting (state_of cluster.now) factors.now.moment) }
 {
     let tally = count_holding(alloc, &cluster.assocs, cluster.jobs.records())?;
     let behind = Behind::of(alloc, &cluster.jobs)?;
-    Ok(Waiting {
+    let shared = Shared {
         highest: highest_beside(cluster, &tally, &behind, factors),
         starts: starts_of(alloc, &cluster.plan)?,
+    };
+    Ok(Waiting {
         tally,
         behind,
+        shared: Some(shared),
     })
+}
+
+// What the rows of few pending jobs need, at any moment: each that is shown looks for the rest by itself. Linear in the
+// jobs; each that holds processors costs its association's way up to root besides.
+fn waiting_for_few(alloc: Global, cluster: &Cluster) -> Result<Waiting, Memory>
+    requires { IsSound (state_of cluster.now) }
+    ensures { IfOk result (λ waiting. (now : ℕ) → ShowsWaiting (state_of cluster.now) now waiting) }
+{
+    let tally = count_holding(alloc, &cluster.assocs, cluster.jobs.records())?;
+    let behind = Behind::of(alloc, &cluster.jobs)?;
+    Ok(Waiting {
+        tally,
+        behind,
+        shared: None,
+    })
+}
+
+// What the rows of pending jobs need, at the factors' moment.
+fn waiting_at(
+    alloc: Global,
+    cluster: &Cluster,
+    factors: &Factors,
+    extent: Extent,
+) -> Result<Waiting, Memory>
+    requires sound { IsSound (state_of cluster.now) }
+    requires measured { IsMeasured (state_of cluster.now) factors.now }
+    ensures { IfOk result (ShowsWaiting (state_of cluster.now) factors.now.moment) }
+{
+    match extent {
+        Extent::Few => waiting_for_few(alloc, cluster),
+        Extent::Many => waiting_for_many(alloc, cluster, factors),
+    }
 }
 
 // What the priorities rest on at a moment, and nothing yet of what pending jobs need. It costs what `measure` does.
@@ -107,6 +150,7 @@ fn find_outlook(
 fn find_waiting(
     alloc: Global,
     cluster: &Cluster,
+    extent: Extent,
     outlook: &mut Outlook,
     job: &JobRecord,
 ) -> Result<(), Memory>
@@ -117,20 +161,21 @@ fn find_waiting(
     ensures found { OnOk result (HasFound outlook.new job.now) }
 {
     if is_pending(job) && outlook.waiting.is_none() {
-        outlook.waiting = Some(waiting_at(alloc, cluster, &outlook.factors)?);
+        outlook.waiting = Some(waiting_at(alloc, cluster, &outlook.factors, extent)?);
     }
     Ok(())
 }
 
-/// Finds what the job's row needs, as far as it isn't found yet. The first time it measures what the priorities rest on:
-/// linear in nodes, partitions, associations, jobs and the parts of those that run, beside a sort of the users by what
-/// they have used. At the first pending job it is linear in the jobs and the plan besides; each job that holds
-/// processors, and each pending one that is higher in rank than the candidates before it, costs its association's way up
-/// to root. Else it takes constant time.
+/// Finds what the job's row needs, as far as it isn't found yet. The first time it measures what the priorities rest
+/// on: linear in nodes, partitions, associations, jobs and the parts of those that run, beside a sort of the users by
+/// what they have used. At the first pending job it is linear in the jobs, and each that holds processors costs its
+/// association's way up to root besides; where many are shown it is linear in the plan then, and each pending one that
+/// is higher in rank than the candidates before it costs such a way too. Else it takes constant time.
 pub(crate) fn look(
     alloc: Global,
     cluster: &Cluster,
     moment: u64,
+    extent: Extent,
     outlook: &mut Option<Outlook>,
     job: &JobRecord,
 ) -> Result<(), Memory>
@@ -141,5 +186,5 @@ pub(crate) fn look(
     ensures found { OnOk result (IfSome outlook.new (λ outlook. HasFound outlook job.now)) }
 {
     find_outlook(alloc, cluster, moment, outlook)?;
-    find_waiting(alloc, cluster, outlook.as_mut().unwrap(), job)
+    find_waiting(alloc, cluster, extent, outlook.as_mut().unwrap(), job)
 }

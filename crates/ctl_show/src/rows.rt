@@ -1,22 +1,23 @@
 //! The rows of jobs.
 
-ghost use Rattle.std.specs.Prelude.{◌≡◌, ◌≤◌, ◌<◌, ℕ, true, IfOk, IfSome, OnOk, is_some, length, unwrap_or};
+ghost use Rattle.std.specs.Prelude.{◌≡◌, ◌≤◌, ◌<◌, ℕ, All, Contains, IfOk, IfSome, OnOk, length, unwrap_or};
 ghost use Rattle.std.specs.List.{HoldsAt};
-ghost use Rattle.ctl_state.specs.State.{State, state_of, last_moment};
+ghost use Rattle.backfill_planner.specs.declared.Placed.{Placed};
+ghost use Rattle.ctl_state.specs.State.{state_of, last_moment, last_second};
 ghost use Rattle.ctl_state.specs.Soundness.{IsSound};
-ghost use Rattle.job_table.specs.Behind.{ShowsBehind};
 ghost use Rattle.job_table.specs.Targets.{AreTogether};
-ghost use Rattle.ctl_show.specs.Found.{IsOutlook, HasFound, ShowsWaiting};
+ghost use Rattle.ctl_show.specs.Found.{IsOutlook, HasFound};
 ghost use Rattle.ctl_show.specs.Showing;
 
 use crate::jobs::is_shown;
-use crate::outlook::{Outlook, Waiting, look};
+use crate::outlook::{Outlook, look};
 use crate::parts::named_parts;
-use crate::spans::places_among;
+use crate::pending::{planned_start, reason_of};
+use crate::spans::{Extent, extent_of, places_among};
 use ctl_state::cluster::Cluster;
 use ctl_state::jobs::is_pending;
 use ctl_state::planning::names_of;
-use ctl_waiting::{hindrance_beside, priority_of};
+use ctl_waiting::priority_of;
 use job_table::record::JobRecord;
 use job_table::usage::cpus_in;
 use plain_data::Plain;
@@ -103,29 +104,6 @@ fn cpus_of(job: &JobRecord) -> u64
     }
 }
 
-// Why a job waits that nothing hinders.
-fn reason_by_rank(highest: Option<u32>, job: &JobRecord) -> Reason
-    ensures { result ≡ Showing.reason_by_rank highest job.now }
-{
-    match highest {
-        Some(id) if id == job.id => Reason::Resources,
-        _ => Reason::Priority,
-    }
-}
-
-// Why a pending job waits.
-fn reason_of(cluster: &Cluster, waiting: &Waiting, moment: u64, job: &JobRecord) -> Reason
-    requires together { AreTogether cluster.now.jobs.records }
-    requires waiting { ShowsWaiting (state_of cluster.now) moment waiting.now }
-    requires behind { ShowsBehind waiting.now.behind cluster.now.jobs.records job.now }
-    ensures { result ≡ Showing.reason_of (state_of cluster.now) moment job.now }
-{
-    match hindrance_beside(cluster, &waiting.tally, &waiting.behind, moment, job) {
-        Some(reason) => reason,
-        None => reason_by_rank(waiting.highest, job),
-    }
-}
-
 // Why the job waits, where it does.
 fn reason_shown(
     cluster: &Cluster,
@@ -136,36 +114,30 @@ fn reason_shown(
     requires together { AreTogether cluster.now.jobs.records }
     requires outlook { IsOutlook (state_of cluster.now) moment outlook.now }
     requires found { HasFound outlook.now job.now }
-    requires behind { IfSome outlook.now.waiting (λ waiting.
-        ShowsBehind waiting.behind cluster.now.jobs.records job.now) }
+    requires there { Contains cluster.now.jobs.records job.now }
     ensures { result ≡ Showing.reason_shown (state_of cluster.now) moment job.now }
 {
     match &outlook.waiting {
-        Some(waiting) if is_pending(job) => Some(reason_of(cluster, waiting, moment, job)),
+        Some(waiting) if is_pending(job) => {
+            Some(reason_of(cluster, &outlook.factors, waiting, job))
+        }
         _ => None,
     }
 }
 
-// The second that is planned for the job.
-fn planned_start(waiting: &Option<Waiting>, job: &JobRecord) -> Option<Second>
-    requires { is_some waiting.now ≡ true }
-    ensures { (s : State) (now : ℕ) → IfSome waiting.now (ShowsWaiting s now)
-        → result ≡ Showing.planned_start s.plan job.now.id }
-{
-    match waiting {
-        Some(waiting) => waiting.starts.get(&job.id).copied(),
-        None => None,
-    }
-}
-
 // The second of the job's start, or the one planned for it.
-fn start_shown(outlook: &Outlook, job: &JobRecord) -> Option<Second>
+fn start_shown(cluster: &Cluster, outlook: &Outlook, job: &JobRecord) -> Option<Second>
     requires started { unwrap_or job.now.started 0 ≤ last_moment }
+    requires planned { All (λ (placed : Placed). placed.start ≤ last_second) cluster.now.plan.items }
     requires found { HasFound outlook.now job.now }
-    ensures { (s : State) (now : ℕ) → IsOutlook s now outlook.now → result ≡ Showing.start_shown s job.now }
+    ensures { (now : ℕ) → IsOutlook (state_of cluster.now) now outlook.now
+        → result ≡ Showing.start_shown (state_of cluster.now) job.now }
 {
     if is_pending(job) {
-        return planned_start(&outlook.waiting, job);
+        return match &outlook.waiting {
+            Some(waiting) => planned_start(cluster, waiting, job),
+            None => None,
+        };
     }
     match job.started {
         Some(start) => Some(Ranged::new(start)),
@@ -220,8 +192,8 @@ fn row_of(
     requires together { AreTogether cluster.now.jobs.records }
     requires outlook { IsOutlook (state_of cluster.now) moment outlook.now }
     requires found { HasFound outlook.now job.now }
-    requires behind { IfSome outlook.now.waiting (λ waiting.
-        ShowsBehind waiting.behind cluster.now.jobs.records job.now) }
+    requires there { Contains cluster.now.jobs.records job.now }
+    requires planned { All (λ (placed : Placed). placed.start ≤ last_second) cluster.now.plan.items }
     requires partition { job.now.partition < length cluster.now.partitions }
     requires started { unwrap_or job.now.started 0 ≤ last_moment }
     requires ended { unwrap_or job.now.ended 0 ≤ last_moment }
@@ -244,7 +216,7 @@ fn row_of(
         nodes: nodes_of(job),
         node_names: node_names(alloc, cluster, job)?,
         reason: reason_shown(cluster, moment, outlook, job),
-        start: start_shown(outlook, job),
+        start: start_shown(cluster, outlook, job),
         priority: priority_of(&outlook.factors, cluster, job).sum,
         limit: job.limit,
         cpus: cpus_of(job),
@@ -267,6 +239,7 @@ pub(crate) fn row_at(
     alloc: Global,
     cluster: &Cluster,
     moment: u64,
+    extent: Extent,
     outlook: &mut Option<Outlook>,
     place: usize,
 ) -> Result<JobRow, Memory>
@@ -279,7 +252,7 @@ pub(crate) fn row_at(
     ensures outlook { OnOk result (IfSome outlook.new (IsOutlook (state_of cluster.now) moment)) }
 {
     let job = &cluster.jobs.records()[place];
-    look(alloc, cluster, moment, outlook, job)?;
+    look(alloc, cluster, moment, extent, outlook, job)?;
     row_of(alloc, cluster, moment, outlook.as_ref().unwrap(), job)
 }
 
@@ -300,9 +273,10 @@ pub(crate) fn job_rows(
     let mut outlook = None;
     let mut rows = Vec::new(alloc);
     let places = places_among(&cluster.jobs, &query.jobs);
+    let extent = extent_of(places);
     for place in places.first..places.end {
         if is_shown(cluster, asker, query, &cluster.jobs.records()[place]) {
-            let row = row_at(alloc, cluster, moment, &mut outlook, place)?;
+            let row = row_at(alloc, cluster, moment, extent, &mut outlook, place)?;
             rows.push(Row::Job(row))?;
         }
     }

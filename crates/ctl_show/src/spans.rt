@@ -12,6 +12,26 @@ use job_table::targets::Places;
 use plain_data::items::Items;
 use request_data::target::Target;
 
+// How many places are few (own).
+const FEW: usize = 16;
+
+/// How many jobs a query may show. What the rows of many share is found once; where they are few, each row finds what
+/// it needs by itself.
+#[derive(Clone, Copy, PartialEq, Eq, Debug)]
+pub(crate) enum Extent {
+    Few,
+    Many,
+}
+
+/// How many jobs a query may show that walks these places.
+pub(crate) fn extent_of(places: Places) -> Extent {
+    if places.end.saturating_sub(places.first) <= FEW {
+        Extent::Few
+    } else {
+        Extent::Many
+    }
+}
+
 // All places.
 fn all_places(jobs: &Jobs) -> Places
     ensures { (test : JobRecord → Bool) → LieWithin test jobs.now.records result }

@@ -2,7 +2,7 @@
 use Rattle.std.proofs.Common.{◌≡◌, ◌≢◌, ℕ, ◌<◌, Bool, true, false, not, ◌&&◌, List, [], ◌∷◌, length, filter, get_or, slice_get, All, AllPairs, Option, Some, None, option_map, unwrap_or, refl, sym, ap, ◌∙◌, arith, Bor, Ordering}
 use Rattle.std.specs.Cmp.{IsStrictWeakOrder}
 use Rattle.std.specs.Fn.{ComputesKey, Mut}
-use Rattle.std.specs.List.Sorted.{IsSortedByKeyClosure, IsStableByKeyClosure, ties}
+use Rattle.std.specs.List.Sorted.{IsSortedBy, IsSortedByKeyClosure, IsStableByKeyClosure, ties}
 use Rattle.std.specs.Ordering.{is_lt, nat_cmp, ordering_then}
 use Rattle.std.proofs.lemmas.Bool.{both_ways, cond_both, not-true}
 use Rattle.std.proofs.lemmas.Bool.Decides.{nat_tests}
@@ -43,6 +43,11 @@ sorted-node_order nodes partition order computes sorted stable =
     ap (λ b. not b && not (before y x)) (by-key nodes x y) ∙ ap (λ b. not (lower x y) && not b) (by-key nodes y x) in
     sorted-is_ordered before (weak nodes) partition.nodes order (λ k d low below. by-key nodes _ _ ∙ sorted (key_of nodes) computes k d low below)
     (λ x. filter_agree _ _ (by x) order ∙ stable (key_of nodes) computes x ∙ sym (filter_agree (ties before x) (ties lower x) (by x) partition.nodes))
+
+-- where they stand in that order they stay as they stand
+pub standing-node_order : (nodes : List NodeRecord) (partition : PartRecord) → IsSortedBy (is_taken_before nodes) partition.nodes → partition.nodes ≡ node_order nodes partition
+unfolding node_order
+standing-node_order nodes partition sorted = sorted-is_ordered (is_taken_before nodes) (weak nodes) partition.nodes partition.nodes sorted (λ x. refl)
 
 -- they are the partition's nodes
 pub order-there : (nodes : List NodeRecord) (partition : PartRecord) → IsOnNodes (length nodes) partition

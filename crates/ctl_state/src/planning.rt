@@ -1,6 +1,7 @@
 //! What the planner is told of nodes and jobs.
 
-ghost use Rattle.std.specs.Prelude.{◌≡◌, ◌≤◌, ◌<◌, ◌||◌, length, map, unwrap_or, IfOk, All};
+ghost use Rattle.std.specs.Prelude.{◌≡◌, ◌≤◌, ◌<◌, ◌||◌, length, map, unwrap_or, IsTrue, IfOk, All};
+ghost use Rattle.std.specs.List.Sorted.{IsSortedBy};
 ghost use Rattle.node_state.specs.Partitions.{IsOnNodes};
 ghost use Rattle.ctl_state.specs.Planning;
 
@@ -61,6 +62,28 @@ fn weight_at(nodes: &[NodeRecord], place: u32) -> u64
         .map_or(0, |node| node.conf.weight.get())
 }
 
+// Whether jobs take the node at one place before that at another.
+fn is_taken_before(nodes: &[NodeRecord], one: u32, other: u32) -> bool
+    ensures { result ≡ Planning.is_taken_before nodes.now one other }
+{
+    let weight = weight_at(nodes, one);
+    let other_weight = weight_at(nodes, other);
+    weight < other_weight || weight == other_weight && one < other
+}
+
+// Whether jobs take the places as they stand.
+fn are_in_order(nodes: &[NodeRecord], places: &[u32]) -> bool
+    ensures { IsTrue result → IsSortedBy (Planning.is_taken_before nodes.now) places.now }
+{
+    for i in 1..places.len() {
+        if is_taken_before(nodes, places[i], places[i - 1]) {
+            return false;
+        }
+    }
+    true
+}
+
+// The places of a partition's nodes, in the order in which jobs take them. It sorts them where they don't stand so.
 fn sorted_places(
     alloc: Global,
     nodes: &[NodeRecord],
@@ -69,12 +92,15 @@ fn sorted_places(
     ensures { IfOk result (λ order. order.items ≡ Planning.node_order nodes.now partition.now) }
 {
     let mut order = Vec::from_slice(alloc, partition.nodes.as_slice())?;
+    if are_in_order(nodes, &order) {
+        return Ok(order);
+    }
     order.sort_by_key(|place| (weight_at(nodes, *place), *place))?;
     Ok(order)
 }
 
-/// The places of a partition's nodes, in the order in which jobs take them, as a list that jobs can share. It sorts
-/// them.
+/// The places of a partition's nodes, in the order in which jobs take them, as a list that jobs can share. Linear
+/// where they stand in that order; else it sorts them.
 pub fn node_order(
     alloc: Global,
     nodes: &[NodeRecord],

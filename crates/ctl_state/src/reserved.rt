@@ -103,7 +103,8 @@ fn push_barred(
 }
 
 /// The times at which a job that names this reservation, or none, may not have the nodes of those that aren't over at
-/// the moment. Linear in the reservations.
+/// the moment. Linear in the reservations; those of the many jobs that name none are kept by node, which
+/// `BarredList::by_node` says the cost of.
 #[tactic(auto, unfolding(crate::specs::Planning::barred_of))]
 pub fn barred_for(
     alloc: Global,
@@ -119,5 +120,8 @@ pub fn barred_for(
             push_barred(&mut times, reservation, name)?;
         }
     }
-    BarredList::from_vec(times)
+    match name {
+        Some(_) => BarredList::from_vec(times),
+        None => BarredList::by_node(times),
+    }
 }

@@ -14,7 +14,8 @@ use small_texts::memory_error::Memory;
 use small_texts::name::Name;
 use std::alloc::Global;
 
-/// The place of the association that a submission counts for. Linear in the associations.
+/// The place of the association that a submission counts for. It costs what `Assocs::find` does: constant time for a user
+/// of one association.
 pub(crate) fn assoc_for(cluster: &Cluster, user: &Name, desc: &JobDesc) -> Option<u32>
     ensures { result ≡ Submission.assoc_for (state_of cluster.now) user.now desc.now }
 {

@@ -7,7 +7,7 @@ ghost use Rattle.ctl_state.specs.State.{state_of};
 ghost use Rattle.ctl_state.specs.Soundness.{IsSound};
 ghost use Rattle.ctl_submit.specs.Submission;
 
-use backfill_planner::{BarredList, Base, NodeList, place};
+use backfill_planner::{BarredList, NodeList, fits_empty_nodes};
 use ctl_state::cluster::Cluster;
 use ctl_state::laws::jobs_get_nodes_that_are_there;
 use ctl_state::planning::{node_order, open_rooms_of, plan_job};
@@ -15,8 +15,6 @@ use ctl_state::reserved::places_in;
 use job_table::record::JobRecord;
 use job_table::terms::Terms;
 use node_state::partition_record::PartRecord;
-use plain_data::items::Items;
-use resource_profile::{Profile, start};
 use small_texts::memory_error::Memory;
 use std::alloc::Global;
 
@@ -52,8 +50,8 @@ fn places_for(
     }
 }
 
-/// Whether some nodes of the partition could run the job if all were free and available (own). It sorts the partition's
-/// nodes.
+/// Whether some nodes of the partition could run the job if all were free and available (own). Linear in all nodes; it
+/// sorts the partition's nodes where they don't stand in order.
 #[tactic(auto, unfolding(crate::specs::Submission::is_placeable))]
 pub(crate) fn is_placeable(
     alloc: Global,
@@ -71,16 +69,6 @@ pub(crate) fn is_placeable(
     let bounds = own_bounds(job.terms());
     let anytime = BarredList::from_vec(Vec::new(alloc))?;
     let job = plan_job(alloc, nodes, partition, &places, anytime, bounds, job)?;
-    let base = Base {
-        rooms: Items::from_vec(open_rooms_of(alloc, nodes)?),
-        holds: Items::from_vec(Vec::new(alloc)),
-        horizon: 0,
-    };
-    let Ok(profile) = Profile::new(alloc, base.rooms.as_slice()) else {
-        return Err(Memory);
-    };
-    match place(alloc, &profile, &base, &job, 0, 0, &mut start()) {
-        Ok(placed) => Ok(placed.is_some()),
-        Err(_) => Err(Memory),
-    }
+    let rooms = open_rooms_of(alloc, nodes)?;
+    fits_empty_nodes(alloc, &rooms, &job)
 }

@@ -40,9 +40,9 @@ fn decide_in(
     }
 }
 
-/// Why the submission is refused, or the jobs that it makes; the cluster stays as it is. Linear in the associations and
-/// the partitions; it sorts the partition's nodes and makes one profile of all nodes; and linear in the tasks that it
-/// makes. sbatch(1).
+/// Why the submission is refused, or the jobs that it makes; the cluster stays as it is. Linear in the partitions, in all
+/// nodes, in the tasks that it makes, and in the associations from the user's first to his last; it sorts the partition's
+/// nodes where they don't stand in order. sbatch(1).
 pub fn decide(
     alloc: Global,
     cluster: &Cluster,

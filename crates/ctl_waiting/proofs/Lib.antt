@@ -1,5 +1,6 @@
 pub mod FirstReason
 pub mod Orders
+pub mod ComesFirst
 pub mod Needs
 pub mod Places
 pub mod Users

@@ -34,7 +34,7 @@ abbrev pub first-of : {X : Type 0} → (X → X → Bool) → X → Option X →
 first-of before x None = Some x
 first-of before x (Some y) = cond (before y x) (Some y) (Some x)
 
-first-put : {X : Type 0} (before : X → X → Bool) (x : X) (xs : List X)
+pub first-put : {X : Type 0} (before : X → X → Bool) (x : X) (xs : List X)
     → slice_get (put before x xs) 0 ≡ first-of before x (slice_get xs 0)
 first-put before x [] = refl
 first-put before x (y ∷ ys) = elim (cases_Bool (before y x)) [ inl behind ↦ rw behind refl | inr ahead ↦ rw ahead refl ]

@@ -1,5 +1,5 @@
 -- Which of two jobs is higher in rank.
-use Rattle.std.specs.Prelude.{ℕ, Bool, ◌&&◌, ◌||◌, nat_eq, nat_lt, unwrap_or, option_map}
+use Rattle.std.specs.Prelude.{ℕ, Bool, ◌&&◌, ◌||◌, not, nat_eq, nat_lt, unwrap_or, option_map}
 use Rattle.node_state.specs.declared.partition_record.PartRecord.{PartRecord}
 use Rattle.job_table.specs.declared.record.JobRecord.{JobRecord}
 use Rattle.ctl_state.specs.State.{State, partition_of}
@@ -26,3 +26,8 @@ is_above one other =
 -- One job is higher in rank than another. Jobs that are alike in both rank by their numbers.
 unfoldable pub is_higher : State → ℕ → JobRecord → JobRecord → Bool
 is_higher s now one other = is_above (key_of s now one) (key_of s now other)
+
+-- one job comes before another: it is higher in rank, or as high and of a lower number
+abbrev pub comes_before : State → ℕ → JobRecord → JobRecord → Bool
+comes_before s now one other =
+    is_higher s now one other || (nat_lt one.id other.id && not (is_higher s now other one))

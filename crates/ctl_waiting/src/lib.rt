@@ -16,5 +16,5 @@ mod usage;
 pub use factors::{Factors, measure};
 pub use priority::priority_of;
 pub use rank_keys::{RankKey, is_above, key_of};
-pub use ranking::{highest, highest_beside, rank};
+pub use ranking::{highest, highest_beside, is_highest, rank};
 pub use reasons::{hindrance, hindrance_beside, limit_reached};

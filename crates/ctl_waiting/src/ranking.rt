@@ -1,6 +1,6 @@
 //! The jobs that can be planned, by rank, and what they need.
 
-ghost use Rattle.std.specs.Prelude.{◌≡◌, ◌≤◌, ◌<◌, All, IfOk, IfSome, length, map, filter, filter_map, option_map, slice_get, None};
+ghost use Rattle.std.specs.Prelude.{◌≡◌, ◌≤◌, ◌<◌, ◌↔◌, All, Contains, IfOk, IfSome, IsTrue, length, map, filter, filter_map, option_map, slice_get, None, Some, true};
 ghost use Rattle.std.specs.Ordering.{is_lt};
 ghost use Rattle.backfill_planner.specs.declared.job.PlanJob.{PlanJob};
 ghost use Rattle.job_table.specs.declared.record.JobRecord.{JobRecord};
@@ -330,4 +330,73 @@ pub fn highest_beside(
         }
     }
     Some(highest?.id)
+}
+
+// Whether a job comes before this candidate in rank.
+#[tactic(auto, unfolding(crate::specs::Rank::is_higher))]
+fn comes_before(
+    cluster: &Cluster,
+    factors: &Factors,
+    other: &JobRecord,
+    candidate: &Candidate,
+) -> bool
+    requires measured { IsMeasured (state_of cluster.now) factors.now }
+    requires key { candidate.now.key ≡ Rank.key_of (state_of cluster.now) factors.now.moment candidate.now.job.now }
+    ensures { result
+        ≡ Rank.comes_before (state_of cluster.now) factors.now.moment other.now candidate.now.job.now }
+{
+    let key = key_of(factors, cluster, other);
+    is_above(key, candidate.key) || other.id < candidate.job.id && !is_above(candidate.key, key)
+}
+
+// Whether a job is a candidate that comes before this one in rank.
+fn is_ahead(
+    cluster: &Cluster,
+    tally: &Tally,
+    behind: &Behind,
+    factors: &Factors,
+    other: &JobRecord,
+    candidate: &Candidate,
+) -> bool
+    requires together { AreTogether cluster.now.jobs.records }
+    requires counted { Shows cluster.now.assocs.records tally.now (holding cluster.now.jobs.records) }
+    requires behind { ShowsBehind behind.now cluster.now.jobs.records other.now }
+    requires measured { IsMeasured (state_of cluster.now) factors.now }
+    requires key { candidate.now.key ≡ Rank.key_of (state_of cluster.now) factors.now.moment candidate.now.job.now }
+    ensures { IsTrue result
+        ↔ ((Candidates.is_candidate (state_of cluster.now) factors.now.moment other.now ≡ true)
+        × (Rank.comes_before (state_of cluster.now) factors.now.moment other.now candidate.now.job.now ≡ true)) }
+{
+    is_pending(other)
+        && comes_before(cluster, factors, other, candidate)
+        && is_candidate(cluster, tally, behind, factors.moment, other)
+}
+
+/// Whether the job, which is a candidate, is the one that is highest in rank at the factors' moment. One walk over the
+/// jobs, up to the first candidate that comes before it: it looks at what each pending one is ranked by, and each that
+/// may come before the job costs its association's way up to root and the nodes that it must have besides.
+pub fn is_highest(
+    cluster: &Cluster,
+    tally: &Tally,
+    behind: &Behind,
+    factors: &Factors,
+    job: &JobRecord,
+) -> bool
+    requires together { AreTogether cluster.now.jobs.records }
+    requires counted { Shows cluster.now.assocs.records tally.now (holding cluster.now.jobs.records) }
+    requires behind { All (ShowsBehind behind.now cluster.now.jobs.records) cluster.now.jobs.records }
+    requires measured { IsMeasured (state_of cluster.now) factors.now }
+    requires there { Contains cluster.now.jobs.records job.now }
+    requires candidate { Candidates.is_candidate (state_of cluster.now) factors.now.moment job.now ≡ true }
+    ensures { IsTrue result ↔ (option_map (λ (job : JobRecord). job.id)
+        (slice_get (Candidates.candidates (state_of cluster.now) factors.now.moment) 0) ≡ Some job.now.id) }
+{
+    let key = key_of(factors, cluster, job);
+    let candidate = Candidate { job, key };
+    for other in cluster.jobs.records() {
+        if is_ahead(cluster, tally, behind, factors, other, &candidate) {
+            return false;
+        }
+    }
+    true
 }

@@ -47,5 +47,5 @@ pub fn barred_list(alloc: Global, text: &[u8]) -> Result<BarredList, Unanswered>
             times.push(barred(alloc, part)?)?;
         }
     }
-    Ok(BarredList::from_vec(times)?)
+    Ok(BarredList::by_node(times)?)
 }

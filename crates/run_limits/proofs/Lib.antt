@@ -4,4 +4,5 @@ pub mod Submits
 pub mod Telling
 pub mod Meanings
 pub mod Numbers
+pub mod SpanLemmas
 pub mod Way

@@ -3,3 +3,4 @@ pub mod Limits
 pub mod Tallies
 pub mod Submitting
 pub mod Accounts
+pub mod Spans

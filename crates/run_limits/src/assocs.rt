@@ -1,11 +1,13 @@
 //! The accounts and the qualities of service, found by name.
 
-ghost use Rattle.std.specs.Prelude.{◌≡◌, ◌<◌, ◌^◌, ℕ, List, length, map, position, bytes_eq, slice_get, vec_len, IfOk};
+ghost use Rattle.std.specs.Prelude.{◌≡◌, ◌<◌, ◌^◌, ℕ, List, length, map, bytes_eq, slice_get, vec_len, IfOk};
 ghost use Rattle.std.specs.HashMap.{get};
 ghost use Rattle.run_limits.specs.Accounts as spec;
+ghost use Rattle.run_limits.specs.Spans.{IsSpanIfAny};
 
 use crate::meant;
 use crate::record::{AssocRecord, QosRecord};
+use crate::spans::{Span, spans_of};
 use crate::way_up::way_up;
 use arrayvec::ArrayVec;
 use plain_data::assoc::{AssocConf, AssocFile, AssocLimits, QosConf, QosLimits};
@@ -40,10 +42,14 @@ pub struct Assocs {
     qos: Vec<QosRecord>,
     // The number of the user of each association.
     users: Vec<u32>,
+    // Where the associations of each name stand.
+    spans: HashMap<Name, Span>,
 }
 
 impl Model for Assocs {
-    ghost use Rattle.std.specs.Prelude.{◌≡◌, ◌<◌, ◌^◌, length, map};
+    ghost use Rattle.std.specs.Prelude.{◌≡◌, ◌<◌, ◌^◌, ℕ, List, length, map, bytes_eq};
+    ghost use Rattle.std.specs.HashMap.{get};
+    ghost use Rattle.run_limits.specs.Spans.{IsSpanIfAny};
     ghost use Rattle.run_limits.specs.Accounts.{AssocsView, AreFew, AreRooted, number_in};
 
     ghost Value = { AssocsView };
@@ -53,7 +59,8 @@ impl Model for Assocs {
     ghost invariant = { λ assocs. AreRooted assocs.records.items
         × (length assocs.records.items < 2 ^ 32) × (length assocs.qos.items < 2 ^ 32)
         × (assocs.users.items ≡ map (number_in assocs.records.items) assocs.records.items)
-        × AreFew assocs.records.items };
+        × AreFew assocs.records.items
+        × ((name : List ℕ) → IsSpanIfAny assocs.records.items name (get bytes_eq assocs.spans name)) };
 }
 
 fn opened(conf: AssocConf) -> AssocRecord
@@ -80,32 +87,22 @@ fn qos_of(alloc: Global, confs: Vec<QosConf>) -> Result<Vec<QosRecord>, Memory>
     Ok(confs.into_iter().map(opened_qos).collect(alloc)?)
 }
 
-// The place of the first association with each name.
-fn firsts_of(alloc: Global, records: &[AssocRecord]) -> Result<HashMap<Name, u32>, Memory>
-    requires { length records.now < 2 ^ 32 }
-    ensures { IfOk result (λ firsts. (name : List ℕ)
-        → get bytes_eq firsts name ≡ position (spec.is_named name) records.now) }
-{
-    let mut firsts = HashMap::with_capacity(alloc, records.len())?;
-    for (place, assoc) in records.iter().enumerate() {
-        let first = firsts
-            .get(&assoc.conf.name)
-            .copied()
-            .unwrap_or(place as u32);
-        firsts.insert(assoc.conf.name.copy()?, first)?;
-    }
-    Ok(firsts)
-}
-
 // The number of the user of each association.
-fn users_of(alloc: Global, records: &[AssocRecord]) -> Result<Vec<u32>, Memory>
-    requires { length records.now < 2 ^ 32 }
+fn users_of(
+    alloc: Global,
+    records: &[AssocRecord],
+    spans: &HashMap<Name, Span>,
+) -> Result<Vec<u32>, Memory>
+    requires { (name : List ℕ) → IsSpanIfAny records.now name (get bytes_eq spans.now name) }
     ensures { IfOk result (λ users. users.items ≡ map (spec.number_in records.now) records.now) }
 {
-    let firsts = firsts_of(alloc, records)?;
     let mut users = Vec::with_capacity(alloc, records.len())?;
     for assoc in records {
-        users.push(firsts.get(&assoc.conf.name).copied().unwrap_or(0))?;
+        let first = match spans.get(&assoc.conf.name) {
+            Some(span) => span.first,
+            None => 0,
+        };
+        users.push(first)?;
     }
     Ok(users)
 }
@@ -124,11 +121,13 @@ impl Assocs {
         if records.len() > u32::MAX as usize || qos.len() > u32::MAX as usize {
             return Err(Memory);
         }
-        let users = users_of(alloc, records.as_slice())?;
+        let spans = spans_of(alloc, records.as_slice())?;
+        let users = users_of(alloc, records.as_slice(), &spans)?;
         Ok(Assocs {
             records,
             qos,
             users,
+            spans,
         })
     }
 
@@ -149,14 +148,18 @@ impl Assocs {
         self.qos.as_slice()
     }
 
-    /// The place of the association that a user means who names this account, or none: then his default account. Linear
-    /// in the associations, for each default account of his that he has no part in once more; it takes no memory.
+    /// The place of the association that a user means who names this account, or none: then his default account. In
+    /// constant time where at most one association has his name; else linear in the associations from the first to the
+    /// last that has it, for each default account of his that he has no part in once more. It takes no memory.
     /// sacctmgr(1), DefaultAccount.
     pub fn find(&self, user: &Name, account: Option<&Name>) -> Option<u32>
         ensures value { result ≡ spec.place_meant self.now.records user.now (option_copied account.entry) }
         ensures there { IfSome result (λ place. place < length self.now.records) }
     {
-        meant::place_meant(self.records.as_slice(), user, account).map(|place| place as u32)
+        let Some(span) = self.spans.get(user) else {
+            return None;
+        };
+        meant::place_meant(self.records.as_slice(), *span, user, account).map(|place| place as u32)
     }
 
     /// The place of the quality of service with this name, or of `normal` where none is named. Linear in them.

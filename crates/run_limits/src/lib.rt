@@ -11,6 +11,7 @@ mod limit;
 mod meant;
 pub mod reasons;
 pub mod record;
+mod spans;
 pub mod submitting;
 pub mod tally;
 mod way_up;

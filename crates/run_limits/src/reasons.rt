@@ -4,12 +4,12 @@ ghost use Rattle.std.specs.Prelude.{◌≡◌, ◌+◌, ℕ, List, map};
 ghost use Rattle.std.specs.List.{list_any};
 ghost use Rattle.run_limits.specs.Accounts.{limits_at};
 ghost use Rattle.run_limits.specs.declared.counted.Counted.{Counted as CountedJob};
-ghost use Rattle.run_limits.specs.declared.counted.Group.TheVariants.{Below};
+ghost use Rattle.run_limits.specs.declared.counted.Group.TheVariants.{Below, InQos, OfUser};
 ghost use Rattle.run_limits.specs.Limits.{assoc_limits_reached, first_reason, is_above, is_full, limits_reached, nearest, qos_limits_reached};
 ghost use Rattle.run_limits.specs.Tallies.{Shows, told};
 
 use crate::assocs::Assocs;
-use crate::counted::{Counted, Counts, Group};
+use crate::counted::{Counted, Group};
 use crate::limit::{Limit, is_above};
 use crate::tally::Tally;
 use plain_data::assoc::QosLimits;
@@ -28,14 +28,34 @@ fn is_full(assocs: &Assocs, tally: &Tally, array: Option<u32>, most: Option<u64>
     }
 }
 
+// Whether one job more is above the limit, beside those of a group. Without a limit they aren't looked up.
+fn is_job_too_many(limit: Option<Limit>, assocs: &Assocs, tally: &Tally, group: Group) -> bool
+    ensures { result ≡ is_above limit ((told assocs.now.records tally.now group).jobs + 1) }
+{
+    limit.is_some() && is_above(limit, tally.counts(assocs, group).jobs, 1)
+}
+
+// Whether so many processors more are above the limit, beside those of a group. Without a limit they aren't looked up.
+fn are_cpus_too_many(
+    limit: Option<Limit>,
+    assocs: &Assocs,
+    tally: &Tally,
+    group: Group,
+    cpus: u64,
+) -> bool
+    ensures { result ≡ is_above limit ((told assocs.now.records tally.now group).cpus + cpus) }
+{
+    limit.is_some() && is_above(limit, tally.counts(assocs, group).cpus, cpus)
+}
+
 // Whether the job would be one too many at one of these places.
 fn has_jobs_too_many(assocs: &Assocs, tally: &Tally, places: &[u32]) -> bool
     ensures { result ≡ list_any (λ place. is_above (limits_at assocs.now.records place).grp_jobs
         ((told assocs.now.records tally.now (Below place)).jobs + 1)) places.now }
 {
     places.iter().any(|place| {
-        let counts = tally.counts(assocs, Group::Below(*place));
-        is_above(assocs.limits(*place).grp_jobs, counts.jobs, 1)
+        let limit = assocs.limits(*place).grp_jobs;
+        is_job_too_many(limit, assocs, tally, Group::Below(*place))
     })
 }
 
@@ -45,8 +65,8 @@ fn has_cpus_too_many(assocs: &Assocs, tally: &Tally, places: &[u32], cpus: u64) 
         ((told assocs.now.records tally.now (Below place)).cpus + cpus)) places.now }
 {
     places.iter().any(|place| {
-        let counts = tally.counts(assocs, Group::Below(*place));
-        is_above(assocs.limits(*place).grp_cpus, counts.cpus, cpus)
+        let limit = assocs.limits(*place).grp_cpus;
+        are_cpus_too_many(limit, assocs, tally, Group::Below(*place), cpus)
     })
 }
 
@@ -71,30 +91,41 @@ fn assoc_limit_reached(assocs: &Assocs, tally: &Tally, job: &Counted) -> Option<
 {
     let places = assocs.above(job.assoc);
     let places = places.as_slice();
-    let own = tally.counts(assocs, Group::Below(job.assoc));
+    let own = Group::Below(job.assoc);
     if has_jobs_too_many(assocs, tally, places) {
         Some(Reason::AssocGrpJobsLimit)
     } else if has_cpus_too_many(assocs, tally, places, job.cpus) {
         Some(Reason::AssocGrpCpuLimit)
-    } else if is_above(most_jobs(assocs, places), own.jobs, 1) {
+    } else if is_job_too_many(most_jobs(assocs, places), assocs, tally, own) {
         Some(Reason::AssocMaxJobsLimit)
     } else {
         None
     }
 }
 
-// The first limit of its quality of service that a job reaches, where those in it, and those of its user in it, count
-// so much.
-fn qos_limit_reached(limits: &QosLimits, all: Counts, users: Counts, cpus: u64) -> Option<Reason>
-    ensures { result ≡ first_reason (qos_limits_reached limits.now all users cpus) }
+// The first of these limits, those of its quality of service, that the job reaches.
+fn qos_limit_reached(
+    limits: &QosLimits,
+    assocs: &Assocs,
+    tally: &Tally,
+    job: &Counted,
+) -> Option<Reason>
+    ensures { result ≡ first_reason (qos_limits_reached limits.now
+        (told assocs.now.records tally.now (InQos job.now.qos))
+        (told assocs.now.records tally.now (OfUser job.now.assoc job.now.qos)) job.now.cpus) }
 {
-    if is_above(limits.grp_jobs, all.jobs, 1) {
+    let all = Group::InQos(job.qos);
+    let users = Group::OfUser {
+        assoc: job.assoc,
+        qos: job.qos,
+    };
+    if is_job_too_many(limits.grp_jobs, assocs, tally, all) {
         Some(Reason::QosGrpJobsLimit)
-    } else if is_above(limits.grp_cpus, all.cpus, cpus) {
+    } else if are_cpus_too_many(limits.grp_cpus, assocs, tally, all, job.cpus) {
         Some(Reason::QosGrpCpuLimit)
-    } else if is_above(limits.user_jobs, users.jobs, 1) {
+    } else if is_job_too_many(limits.user_jobs, assocs, tally, users) {
         Some(Reason::QosMaxJobsPerUserLimit)
-    } else if is_above(limits.user_cpus, users.cpus, cpus) {
+    } else if are_cpus_too_many(limits.user_cpus, assocs, tally, users, job.cpus) {
         Some(Reason::QosMaxCpuPerUserLimit)
     } else {
         None
@@ -102,7 +133,8 @@ fn qos_limit_reached(limits: &QosLimits, all: Counts, users: Counts, cpus: u64) 
 }
 
 /// The first limit that the job reaches beside the jobs that are counted, of whose array so many tasks may hold
-/// processors at once; None where it reaches none. Linear in its way up to root. "Resource limits" in slurm.conf(5).
+/// processors at once; None where it reaches none. Linear in its way up to root; what jobs count is looked up only
+/// where a limit stands. "Resource limits" in slurm.conf(5).
 pub fn limit_reached(
     assocs: &Assocs,
     tally: &Tally,
@@ -119,13 +151,5 @@ pub fn limit_reached(
     if let Some(reason) = assoc_limit_reached(assocs, tally, job) {
         return Some(reason);
     }
-    let all = tally.counts(assocs, Group::InQos(job.qos));
-    let users = tally.counts(
-        assocs,
-        Group::OfUser {
-            assoc: job.assoc,
-            qos: job.qos,
-        },
-    );
-    qos_limit_reached(&assocs.qos_limits(job.qos), all, users, job.cpus)
+    qos_limit_reached(&assocs.qos_limits(job.qos), assocs, tally, job)
 }

@@ -1,9 +1,9 @@
 //! What running jobs hold is followed over an entry.
 
-ghost use Rattle.std.specs.Prelude.{◌≡◌, ◌≤◌, ◌<◌, ℕ, true, List, [], OnOk, OnErr, Option, Some, map, slice_index, vec_len};
+ghost use Rattle.std.specs.Prelude.{◌≡◌, ◌≤◌, ◌<◌, ℕ, true, List, [], IfOk, OnOk, OnErr, Option, Some, map, slice_index, vec_len};
 ghost use Rattle.request_data.specs.declared.target.Target.{Target};
 ghost use Rattle.ctl_state.specs.Soundness.{IsSound};
-ghost use Rattle.ctl_core.specs.Step.{state_after};
+ghost use Rattle.ctl_core.specs.Step.{reply_of, state_after};
 ghost use Rattle.sacct_book.specs.Keeping.{AllGoOn, TellsHeld};
 ghost use Rattle.sacct_book.specs.Naming.{Tells, changed_by, run_by_named};
 ghost use Rattle.sacct_book.specs.Requests.{is_still};
@@ -15,23 +15,13 @@ use crate::running::{Way, count_running};
 use crate::timeline::Timeline;
 use crate::timelines::{go_on, make_room};
 use ctl_core::controller::Ctl;
-use ctl_desk::entry::Entry;
+use ctl_core::reply::Decided;
+use ctl_desk::entry::{Answer, Entry};
 use reply_data::reply::Reply;
 use request_data::request::Request;
 use request_data::target::Target;
 use small_texts::memory_error::Memory;
 use std::alloc::Global;
-
-// Has the controller decide an entry once more.
-fn decide(ctl: &mut Ctl, entry: &Entry) -> Result<(), Memory>
-    ensures after { OnOk result (ctl.new.state
-        ≡ state_after ctl.old.state entry.now.moment entry.now.user entry.now.request) }
-    ensures sound { IsSound ctl.new.state }
-    ensures err { OnErr result (ctl.new ≡ ctl.old) }
-{
-    let _ = ctl.ask(entry.moment, &entry.user, &entry.request)?;
-    Ok(())
-}
 
 // Whether it is a pass that took no job out of Running and started none.
 fn is_still(request: &Request, reply: &Reply) -> bool
@@ -46,6 +36,42 @@ fn is_still(request: &Request, reply: &Reply) -> bool
     }
 }
 
+// Lets go of what was decided, part by part.
+fn let_go(decided: Decided) {
+    let Decided { reply, entered, .. } = decided;
+    Answer { reply, place: 0 }.let_go();
+    if let Some(reply) = entered {
+        Answer { reply, place: 0 }.let_go();
+    }
+}
+
+// Has the controller decide an entry once more, and tells whether it is a pass that took no job out of Running and
+// started none.
+fn decide_still(ctl: &mut Ctl, entry: &Entry) -> Result<bool, Memory>
+    ensures still { IfOk result (λ still. still ≡ is_still entry.now.request
+        (reply_of ctl.old.state entry.now.moment entry.now.user entry.now.request)) }
+    ensures after { OnOk result (ctl.new.state
+        ≡ state_after ctl.old.state entry.now.moment entry.now.user entry.now.request) }
+    ensures sound { IsSound ctl.new.state }
+    ensures err { OnErr result (ctl.new ≡ ctl.old) }
+{
+    let decided = ctl.ask(entry.moment, &entry.user, &entry.request)?;
+    let still = is_still(&entry.request, &decided.reply);
+    let_go(decided);
+    Ok(still)
+}
+
+// Has the controller decide an entry once more.
+fn decide(ctl: &mut Ctl, entry: &Entry) -> Result<(), Memory>
+    ensures after { OnOk result (ctl.new.state
+        ≡ state_after ctl.old.state entry.now.moment entry.now.user entry.now.request) }
+    ensures sound { IsSound ctl.new.state }
+    ensures err { OnErr result (ctl.new ≡ ctl.old) }
+{
+    let _ = decide_still(ctl, entry)?;
+    Ok(())
+}
+
 // Has the controller decide an entry once more, and counts what all running jobs hold then.
 fn decide_all(ctl: &mut Ctl, held: &mut Vec<u64>, entry: &Entry) -> Result<(), Memory>
     requires counts { AreCounted ctl.old.state.jobs held.old.items }
@@ -56,8 +82,8 @@ fn decide_all(ctl: &mut Ctl, held: &mut Vec<u64>, entry: &Entry) -> Result<(), M
     ensures sound { IsSound ctl.new.state }
     ensures err { OnErr result (ctl.new ≡ ctl.old) }
 {
-    let decided = ctl.ask(entry.moment, &entry.user, &entry.request)?;
-    if is_still(&entry.request, &decided.reply) {
+    let still = decide_still(ctl, entry)?;
+    if still {
         return Ok(());
     }
     count_running(held, ctl.cluster().jobs.records());

@@ -1,8 +1,13 @@
 //! The sums of what users have used.
 
-ghost use Rattle.std.specs.Prelude.{◌≡◌, ◌≤◌, ◌<◌, ◌++◌, ◌∷◌, [], IfOk, OnOk, OnErr, length, vec_len, vec_capacity};
+ghost use Rattle.std.specs.Prelude.{◌≡◌, ◌≤◌, ◌<◌, ◌++◌, ◌∷◌, [], IfOk, OnOk, OnErr, length, map, vec_len, vec_capacity};
+ghost use Rattle.ctl_core.specs.Step.{state_after};
+ghost use Rattle.ctl_state.specs.Soundness.{IsSound};
 ghost use Rattle.ctl_state.specs.State.{last_moment};
 ghost use Rattle.ctl_desk.specs.History.{IsLegal, present};
+ghost use Rattle.sacct_book.specs.Keeping.{AllGoOn, KeepsUse, TellsHeld};
+ghost use Rattle.sacct_book.specs.Running.{AreCounted};
+ghost use Rattle.sacct_book.specs.Times.{times_of};
 ghost use Rattle.sacct_book.specs.Used as spec;
 
 use crate::following::follow;
@@ -11,7 +16,7 @@ use crate::timeline::Timeline;
 use crate::timelines::begin;
 use crate::window::Window;
 use ctl_core::controller::Ctl;
-use ctl_desk::entry::Entry;
+use ctl_desk::entry::{Answer, Entry, let_all_go};
 use run_limits::assocs::Assocs;
 use small_texts::memory_error::Memory;
 use small_texts::name::Name;
@@ -19,7 +24,6 @@ use std::alloc::Global;
 use std::marker::Model;
 
 /// What users have used, kept along a history. A contract sees the opening and the entries.
-#[derive(Drop)]
 pub struct Sums {
     opening: Ctl,
     entries: Vec<Entry>,
@@ -49,6 +53,56 @@ impl Model for Sums {
         × AreCounted sums.ctl.state.jobs sums.held.items };
 }
 
+// What the running jobs of each association hold at the controller, and timelines that begin with it.
+fn begin_all(alloc: Global, ctl: &Ctl) -> Result<(Vec<u64>, Vec<Timeline>), Memory>
+    ensures counts { IfOk result (λ made. AreCounted ctl.now.state.jobs made.0.items) }
+    ensures keeps { IfOk result (λ made.
+        KeepsUse (record { opening = ctl.now.state; entries = [] }) (map times_of made.1.items)) }
+    ensures len { IfOk result (λ made. vec_len made.0 ≡ vec_len made.1) }
+{
+    let cluster = ctl.cluster();
+    let mut held = vec![in alloc; 0; cluster.assocs.records().len()]?;
+    count_running(&mut held, cluster.jobs.records());
+    let timelines = begin(alloc, held.as_slice(), cluster.moment)?;
+    Ok((held, timelines))
+}
+
+// Makes room for one entry more, has the controller decide this one once more, and the counts and the timelines follow it.
+fn prepare(
+    entries: &mut Vec<Entry>,
+    ctl: &mut Ctl,
+    timelines: &mut Vec<Timeline>,
+    held: &mut Vec<u64>,
+    entry: &Entry,
+) -> Result<(), Memory>
+    requires len { vec_len held.old ≡ vec_len timelines.old }
+    requires counts { AreCounted ctl.old.state.jobs held.old.items }
+    requires tells { TellsHeld ctl.old.state (map times_of timelines.old.items) }
+    requires later { ctl.old.state.moment ≤ entry.now.moment }
+    ensures items { entries.new.items ≡ entries.old.items }
+    ensures spare { OnOk result (vec_len entries.new < vec_capacity entries.new) }
+    ensures len { vec_len held.new ≡ vec_len timelines.new }
+    ensures counts { AreCounted ctl.new.state.jobs held.new.items }
+    ensures sound { OnOk result (IsSound ctl.new.state) }
+    ensures after { OnOk result (ctl.new.state
+        ≡ state_after ctl.old.state entry.now.moment entry.now.user entry.now.request) }
+    ensures goes { OnOk result (AllGoOn entry.now.moment ctl.new.state.jobs (map times_of timelines.old.items)
+        (map times_of timelines.new.items)) }
+    ensures ctl_err { OnErr result (ctl.new ≡ ctl.old) }
+    ensures times_err { OnErr result (map times_of timelines.new.items ≡ map times_of timelines.old.items) }
+{
+    let alloc = *entries.allocator();
+    entries.reserve(1)?;
+    follow(alloc, ctl, timelines, held, entry)
+}
+
+// Lets go of an entry, part by part.
+fn let_go(entry: Entry) {
+    let Entry { request, reply, .. } = entry;
+    request.let_go();
+    Answer { reply, place: 0 }.let_go();
+}
+
 // Puts an entry behind the others, which have room for it.
 fn push(entries: &mut Vec<Entry>, entry: Entry)
     requires { vec_len entries.old < vec_capacity entries.old }
@@ -65,17 +119,20 @@ impl Sums {
         ensures opening { IfOk result (λ sums. sums.opening ≡ opening.state) }
         ensures entries { IfOk result (λ sums. sums.entries ≡ []) }
     {
-        let cluster = opening.cluster();
-        let mut held = vec![in alloc; 0; cluster.assocs.records().len()]?;
-        count_running(&mut held, cluster.jobs.records());
-        let timelines = begin(alloc, held.as_slice(), cluster.moment)?;
-        Ok(Sums {
-            opening,
-            entries: Vec::new(alloc),
-            ctl: current,
-            timelines,
-            held,
-        })
+        match begin_all(alloc, &opening) {
+            Ok((held, timelines)) => Ok(Sums {
+                opening,
+                entries: Vec::new(alloc),
+                ctl: current,
+                timelines,
+                held,
+            }),
+            Err(Memory) => {
+                opening.let_go();
+                current.let_go();
+                Err(Memory)
+            }
+        }
     }
 
     /// Goes on by an entry. The controller decides it once more, at its cost. Beside that an entry that can't change which
@@ -90,21 +147,37 @@ impl Sums {
         ensures entries { OnOk result (self.new.entries ≡ self.old.entries ++ entry ∷ []) }
         ensures err { OnErr result (self.new ≡ self.old) }
     {
-        let alloc = *self.entries.allocator();
-        self.entries.reserve(1)?;
-        follow(
-            alloc,
+        match prepare(
+            &mut self.entries,
             &mut self.ctl,
             &mut self.timelines,
             &mut self.held,
             &entry,
-        )?;
-        push(&mut self.entries, entry);
-        Ok(())
+        ) {
+            Ok(()) => {
+                push(&mut self.entries, entry);
+                Ok(())
+            }
+            Err(Memory) => {
+                let_go(entry);
+                Err(Memory)
+            }
+        }
     }
 
     /// Lets them go.
-    pub fn let_go(self) {}
+    pub fn let_go(self) {
+        let Sums {
+            opening,
+            entries,
+            ctl,
+            timelines: _timelines,
+            held: _held,
+        } = self;
+        opening.let_go();
+        let_all_go(entries);
+        ctl.let_go();
+    }
 
     /// The controller after the entries. It takes no memory.
     pub fn ctl(&self) -> &Ctl

@@ -1,6 +1,5 @@
 -- Desks that go on, each in its turn.
-use Rattle.std.proofs.Common.{◌≡◌, ℕ, zero, suc, ◌+◌, ◌<◌, ◌≤◌, ◌==◌, Bool, true, false, cond, List, [], ◌∷◌, ◌++◌, length, map, set, take, filter, refl, sym, ap, ◌∙◌, subst, arith, length-append, Contains}
-use Rattle.std.specs.List.{AllZip}
+use Rattle.std.proofs.Common.{◌≡◌, ℕ, zero, suc, ◌<◌, ◌≤◌, ◌==◌, Bool, true, false, cond, List, [], ◌∷◌, ◌++◌, length, map, set, take, filter, refl, sym, ap, ◌∙◌, arith, length-append, Contains}
 use Rattle.std.proofs.Math.ListN.{get_or}
 use Rattle.std.proofs.lemmas.List.{append-nil, append_assoc, append_cancel_left, get_or-set_same, length-map, length-set, map-set, take_at}
 use Rattle.std.proofs.lemmas.List.Elements.{filter-append}

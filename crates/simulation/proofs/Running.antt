@@ -5,7 +5,7 @@ use Rattle.ctl_desk.specs.Desk.{Sight}
 use Rattle.node_daemon.specs.Daemon.{Daemon}
 use Rattle.generator.specs.Generated.{generated}
 use Rattle.simulation.specs.Run.{AllGoOn, IfOneAlone, last_moment}
-use Rattle.simulation.specs.Simulation.{Simulated, Standing, behind, behind_script, daemons_of, most_rounds, nodes_asked, nothing_counted, rounds, simulated, summary, told, with_daemons}
+use Rattle.simulation.specs.Simulation.{Simulated, Standing, behind, behind_script, most_rounds, nodes_asked, nothing_counted, rounds, simulated, summary, with_daemons}
 use Rattle.simulation.specs.declared.tally.Tally.{Tally}
 use Rattle.simulation.proofs.Desks.{all_go_further, alone_further}
 use Rattle.simulation.proofs.Rounds.{AreStarted, EndSo, ended}

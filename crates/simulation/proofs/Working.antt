@@ -1,5 +1,5 @@
 -- The blocks of a script, one after the other.
-use Rattle.std.proofs.Common.{◌≡◌, ℕ, ◌+◌, ◌<◌, List, [], ◌∷◌, ◌++◌, length, map, refl, sym, ap, ◌∙◌, subst, arith, length-append, inl, inr, All}
+use Rattle.std.proofs.Common.{◌≡◌, ℕ, ◌<◌, List, [], ◌∷◌, ◌++◌, length, map, refl, sym, ap, ◌∙◌, subst, arith, length-append, inl, inr, All}
 use Rattle.std.specs.Prelude.{◌⊎◌, fold}
 use Rattle.std.proofs.lemmas.List.{append-nil}
 use Rattle.std.proofs.lemmas.List.Elements.{All-nil, All-cons}
@@ -112,15 +112,19 @@ pub works : (asked : Asked) (reply : Reply) (tally tally' : Tally) → tally' �
 works asked reply tally tally' counts s s' follows =
     (follows.1, counts ∙ ap (λ (r : Reply). tallied asked.moment r tally) follows.0)
 
+-- what a block means was worked
+abbrev pub IsWorkedMeaning : Meaning → Tally → Tally → State → State → Type 0
+IsWorkedMeaning meaning tally tally' s s' =
+    record { state = s'; tally = tally' } ≡ behind_block (record { state = s; tally = tally }) meaning
+
 -- a block was answered
 abbrev pub IsAnsweredBlock : Block → Tally → Tally → State → State → Type 0
-IsAnsweredBlock block tally tally' s s' =
-    record { state = s'; tally = tally' } ≡ behind_block (record { state = s; tally = tally }) (meaning_of block)
+IsAnsweredBlock block tally tally' s s' = IsWorkedMeaning (meaning_of block) tally tally' s s'
 
-pub block_worked : (block : Block) (asked : Asked) (tally tally' : Tally) → meaning_of block ≡ Asks asked
-    → (s s' : State) → IsWork asked tally tally' s s' → IsAnsweredBlock block tally tally' s s'
+pub meaning_worked : (meaning : Meaning) (asked : Asked) (tally tally' : Tally) → meaning ≡ Asks asked
+    → (s s' : State) → IsWork asked tally tally' s s' → IsWorkedMeaning meaning tally tally' s s'
 unfolding behind_block
-block_worked block asked tally tally' means s s' work =
+meaning_worked meaning asked tally tally' means s s' work =
     let at : State → Tally → Standing = λ state counts. record { state = state; tally = counts } in
     ap (λ state. at state tally') work.0
     ∙ ap (λ counts. at (state_behind s (Asks asked)) counts) work.1

@@ -41,8 +41,35 @@ fn work<D: Desk>(
     Ok(())
 }
 
+// Works what a block means.
+fn work_meaning<D: Desk>(
+    desks: &mut [D],
+    rota: &mut Rota,
+    steps: &mut Steps<Plain>,
+    tally: &mut Tally,
+    meaning: &Meaning,
+) -> Result<(), Memory>
+    requires { 0 < length desks.old }
+    ensures go_on { AllGoOn (map D.sight desks.old) (map D.sight desks.new) }
+    ensures moment { OnOk result (tally.new.moment ≡ moment_behind tally.old.moment meaning.now) }
+    ensures alone { OnOk result (IfOneAlone (map D.sight desks.old) (map D.sight desks.new)
+        (λ s s'. record { state = s'; tally = tally.new }
+        ≡ behind_block (record { state = s; tally = tally.old }) meaning.now)) }
+{
+    match meaning {
+        Meaning::Asks(asked) => work(desks, rota, steps, tally, asked),
+        _ => Ok(()),
+    }
+}
+
+// Lets go of what a block means.
+fn let_go(meaning: Meaning) {
+    if let Meaning::Asks(asked) = meaning {
+        asked.request.let_go();
+    }
+}
+
 // Works a block.
-#[tactic(auto, unfolding(crate::specs::Simulation::behind_block))]
 fn answer<D: Desk>(
     alloc: Global,
     desks: &mut [D],
@@ -58,9 +85,13 @@ fn answer<D: Desk>(
         (λ s s'. record { state = s'; tally = tally.new }
         ≡ behind_block (record { state = s; tally = tally.old }) (meaning_of block.now))) }
 {
-    match read_meaning(alloc, block)? {
-        Meaning::Asks(asked) => work(desks, rota, steps, tally, &asked),
-        _ => Ok(()),
+    match read_meaning(alloc, block) {
+        Ok(meaning) => {
+            let worked = work_meaning(desks, rota, steps, tally, &meaning);
+            let_go(meaning);
+            worked
+        }
+        Err(Memory) => Err(Memory),
     }
 }
 

@@ -10,12 +10,12 @@ pub returns-in-Some-clause-gives : goal.returns-in-Some-clause-gives
 returns-in-Some-clause-gives c =
     let job = c.args.job.now in
     let found : option_map (λ (time : Barred). time.until) (find (bars c.args.node c.args.second (window_end job c.args.second)) job.barred) ≡ Some c.in-Some.until =
-    rw (← c.window_end-end.ensures.end, ← c.as_slice.ensures) (sym c.barred_until.ensures ∙ c.in-Some.is) in
+    rw (← c.window_end-end.ensures.end) (sym c.barred_until.ensures ∙ c.in-Some.is) in
     gives-none c.args.rooms.now c.args.profile.now.holds job c.args.second c.args.node c.in-Some.until found
 
 pub given_from_free-requires-clause-clear : goal.given_from_free-requires-clause-clear
 given_from_free-requires-clause-clear c =
     let job = c.args.job.now in
     let nothing : option_map (λ (time : Barred). time.until) (find (bars c.args.node c.args.second (window_end job c.args.second)) job.barred) ≡ None =
-    rw (← c.window_end-end.ensures.end, ← c.as_slice.ensures) (sym c.barred_until.ensures ∙ c.in_default.is) in
+    rw (← c.window_end-end.ensures.end) (sym c.barred_until.ensures ∙ c.in_default.is) in
     found-none (bars c.args.node c.args.second (window_end job c.args.second)) job.barred nothing

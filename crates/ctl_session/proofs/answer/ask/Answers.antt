@@ -13,7 +13,7 @@ returns-in-Ok-clause-ok g c =
     c.in_ok-answer.ensures.answered c.in-Ok.ensures c.status_by-status.ensures refl
 
 -- the request was worked, and its text wants memory
-pub returns-clause-err : goal.returns-clause-err
-returns-clause-err g c =
+pub returns-in-Err-clause-err : goal.returns-in-Err-clause-err
+returns-in-Err-clause-err g c =
     inr (asked_works _ _ c.args.asked.now c.in_ok-answer.answer c.decide.ensures.goes_on
     c.in_ok-answer.ensures.answered).0

@@ -15,7 +15,7 @@ returns c =
     c.in_ok-partition_name.ensures c.in_ok-copy-4.ensures
     c.elapsed_of.ensures c.nodes_of.ensures c.in_ok-node_names.ensures
     c.reason_shown.ensures
-    (c.start_shown.ensures s c.args.moment c.requires.outlook)
+    (c.start_shown.ensures c.args.moment c.requires.outlook)
     (ap (λ (parts : PriorityParts). parts.sum) c.priority_of.ensures ∙ ap (λ now. priority_of s now job) moment)
     c.cpus_of.ensures c.get.ensures.value c.in_ok-copy-5.ensures c.saturating_sub.ensures
     c.new.ensures c.new-2.ensures c.end_shown.ensures

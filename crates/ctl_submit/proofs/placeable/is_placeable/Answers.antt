@@ -9,9 +9,9 @@ plan_job-requires c =
     (c.jobs_get_nodes_that_are_there.ensures.places c.args.cluster.now.nodes.records c.args.cluster.now.reservations
     c.args.partition.now c.terms.result.now.reservation c.requires.there)
 
-pub place-requires-clause-nodes : goal.place-requires-clause-nodes
-place-requires-clause-nodes c =
-    let rooms : length c.from_vec-2.result ≡ length c.records-nodes.result.now =
-    ap length (c.from_vec-2.ensures ∙ c.in_ok-open_rooms_of.ensures)
+pub fits_empty_nodes-requires : goal.fits_empty_nodes-requires
+fits_empty_nodes-requires c =
+    let rooms : length c.deref.result.now ≡ length c.records-nodes.result.now =
+    ap length (c.deref.ensures.value ∙ c.in_ok-rooms.ensures)
     ∙ length-map c.records-nodes.result.now open_room in
     λ k d below. omega (arith, c.in_ok-job.ensures.nodes k d below, rooms)

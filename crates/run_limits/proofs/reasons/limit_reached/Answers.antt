@@ -2,6 +2,7 @@ use Rattle.std.proofs.Common.{true, false, Some, None, refl, ap, sym, ◌∙◌}
 use Rattle.run_limits.specs.Accounts.{qos_limits_at}
 use Rattle.run_limits.specs.declared.counted.Group.TheVariants.{InQos, OfUser}
 use Rattle.run_limits.specs.Limits.{Beside, counts_in, first_reason, qos_limits_reached}
+use Rattle.run_limits.specs.Tallies.{told}
 use Rattle.run_limits.proofs.Reached.{all_first}
 use Rattle.run_limits.proofs.Telling.{group_told}
 use Rattle.run_limits.proofs.reasons.limit_reached.Goals as goal
@@ -35,12 +36,13 @@ returns c = λ holding shows.
     let job = c.args.job.now in
     let beside : Beside = record { assocs = assocs; qos = c.args.assocs.now.qos; holding = holding } in
     let limits = qos_limits_at c.args.assocs.now.qos job.qos in
-    let all = c.counts-all.ensures ∙ group_told assocs c.args.tally.now holding (InQos job.qos) shows in
-    let users = c.counts-users.ensures ∙ group_told assocs c.args.tally.now holding (OfUser job.assoc job.qos) shows in
+    let all = group_told assocs c.args.tally.now holding (InQos job.qos) shows in
+    let users = group_told assocs c.args.tally.now holding (OfUser job.assoc job.qos) shows in
     c.qos_limit_reached.ensures
-    ∙ ap (λ limits. first_reason
-    (qos_limits_reached limits c.counts-all.result c.counts-users.result job.cpus)) c.qos_limits.ensures
-    ∙ ap (λ counts. first_reason (qos_limits_reached limits counts c.counts-users.result job.cpus)) all
+    ∙ ap (λ limits. first_reason (qos_limits_reached limits (told assocs c.args.tally.now (InQos job.qos))
+    (told assocs c.args.tally.now (OfUser job.assoc job.qos)) job.cpus)) c.qos_limits.ensures
+    ∙ ap (λ counts. first_reason (qos_limits_reached limits counts (told assocs c.args.tally.now
+    (OfUser job.assoc job.qos)) job.cpus)) all
     ∙ ap (λ counts. first_reason (qos_limits_reached limits (counts_in beside (InQos job.qos)) counts job.cpus)) users
     ∙ sym (all_first beside job c.args.most false None (sym (c.is_full.ensures holding shows) ∙ c.if-is_full.false)
     (sym (c.assoc_limit_reached.ensures holding shows) ∙ c.in_default.is))

@@ -1,4 +1,3 @@
-use Rattle.std.proofs.Common.{◌∙◌, ap, map}
 use Rattle.simulation.specs.Simulation.{jobs_asked}
 use Rattle.simulation.proofs.Desks.{all_stay, alone_so}
 use Rattle.simulation.proofs.Following.{IsTold}

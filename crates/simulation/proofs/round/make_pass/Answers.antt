@@ -1,4 +1,4 @@
-use Rattle.std.proofs.Common.{◌∙◌, ap, map}
+use Rattle.std.proofs.Common.{◌∙◌, ap}
 use Rattle.simulation.specs.declared.tally.Tally.{Tally}
 use Rattle.request_data.specs.declared.request.Request.TheVariants.{Pass}
 use Rattle.simulation.proofs.Desks.{all_stay, alone_so}

@@ -1,5 +1,4 @@
 use Rattle.std.proofs.Common.{◌≡◌, ◌∙◌, ◌++◌, ap}
-use Rattle.block_frame.specs.declared.form.Form.TheVariants.{Plain}
 use Rattle.block_frame.specs.State.{BlocksState}
 use Rattle.simulation.specs.Run.{last_moment}
 use Rattle.simulation.proofs.Desks.{all_go_further, all_stay, alone_further, alone_so, alone_stays}

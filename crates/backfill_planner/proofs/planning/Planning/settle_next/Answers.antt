@@ -4,6 +4,7 @@ use Rattle.std.proofs.lemmas.List.Sorted.{IsPermutation-refl}
 use Rattle.backfill_planner.specs.declared.job.PlanJob.{PlanJob}
 use Rattle.backfill_planner.specs.Bases.{BaseView}
 use Rattle.backfill_planner.specs.Plans.{PlanningView, placement_of}
+use Rattle.backfill_planner.specs.Lesser.{NoneBefore}
 use Rattle.backfill_planner.specs.Searches.{IsSeen, bound_of}
 use Rattle.backfill_planner.proofs.Settling.{next-free, next-planned}
 use Rattle.backfill_planner.proofs.planning.Planning.settle_next.Goals as goal
@@ -57,8 +58,8 @@ invariant_of-result c =
     let counts_are : c.push-2.new.self.items ≡ inside.counts.items ++ length c.match-placed-2.placements.items ∷ [] = search rules in
     let horizon_is : c.base.inside.horizon ≡ inside.base.horizon = ap (λ (b : BaseView). b.horizon) c.base.view_is in
     let bound_is : c.bound_of-bound.result ≡ bound_of c.args.placed inside.base.horizon = c.bound_of-bound.ensures ∙ ap (λ horizon. bound_of c.args.placed horizon) horizon_is in
-    let seen : IsSeen inside.base.rooms inside.profile.holds ranked inside.moment (record { place = inside.done; bound = bound_of c.args.placed inside.base.horizon }) → All (IsSeen inside.base.rooms inside.profile.holds ranked inside.moment) c.add.new.self.seen.items = λ one.
-    c.add.ensures inside.base.rooms inside.profile.holds ranked inside.moment c.self.invariant.seen (rw bound_is one) in
+    let seen : ((d : PlanJob) → NoneBefore inside.base.rooms inside.profile.holds (get_or ranked inside.done d) inside.moment (bound_of c.args.placed inside.base.horizon)) → All (IsSeen inside.base.rooms inside.profile.holds ranked inside.moment) c.add.new.self.seen.items = λ none.
+    rw c.as_slice.ensures.value at (c.add.ensures inside.base.rooms inside.profile.holds (rw c.as_slice.ensures.value c.self.invariant.seen) (rw (c.as_slice.ensures.value, bound_is) none)) in
     elim c.match-placed-2.branch [
       | in-Some+in_ok-hold+in_ok-push w ↦
           next-planned c.lower_laws.ensures inside.base ranked inside.moment inside.done inside.placements.items inside.counts.items inside.profile inside.searches.seen.items job c.args.placed

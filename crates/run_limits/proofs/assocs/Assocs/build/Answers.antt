@@ -7,7 +7,8 @@ invariant_of-result c = (
   rw (c.in_ok-records.ensures, c.into_vec.ensures) (rooted_opened c.file.inside.assocs c.file.invariant.under),
   omega (arith, c.if-len.false, c.len.ensures),
   omega (arith, c.if-len-2.false, c.len-else-len.ensures),
-  rw (← c.as_slice.ensures.value) c.in_ok-users.ensures,
+  rw (← c.as_slice-2.ensures.value) c.in_ok-users.ensures,
   rw (c.in_ok-records.ensures, c.into_vec.ensures)
       (few_opened c.file.inside.assocs c.file.invariant.few_users c.file.invariant.few_children),
+  λ name. rw (← c.as_slice.ensures.value) (c.in_ok-spans.ensures name),
 )

@@ -8,8 +8,8 @@ use Rattle.sacct_book.specs.Times.{times_of}
 use Rattle.sacct_book.proofs.Keeps.{keeps-add, last-step}
 use Rattle.sacct_book.proofs.sums.Sums.add.Goals as goal
 
-pub follow-requires-clause-later : goal.follow-requires-clause-later
-follow-requires-clause-later c =
+pub prepare-requires-clause-later : goal.prepare-requires-clause-later
+prepare-requires-clause-later c =
     let opening = c.self.inside.opening.state in
     let entries = c.self.inside.entries.items in
     let legal : IsLegal opening (entries ++ c.args.entry ∷ []) =
@@ -20,25 +20,25 @@ follow-requires-clause-later c =
       (last-step opening entries c.args.entry legal).moment,
     )
 
-pub invariant_of-self-2 : goal.invariant_of-self-2
-invariant_of-self-2 c =
+pub invariant_of-self : goal.invariant_of-self
+invariant_of-self c =
     let opening = c.self.inside.opening.state in
     let entries = c.self.inside.entries.items in
     let e = c.args.entry in
-    let t = c.follow.new.ctl.state in
-    let told = map times_of c.follow.new.timelines.items in
+    let t = c.prepare.new.ctl.state in
+    let told = map times_of c.prepare.new.timelines.items in
     let legal : IsLegal opening (entries ++ e ∷ []) =
     subst (λ (h : History). IsLegal h.opening (h.entries ++ e ∷ [])) (sym c.self.view_is) c.requires.legal in
     let made : t ≡ state_after (after_all opening entries) e.moment e.user e.request =
-    c.in_ok-follow.ensures.after
+    c.in-Ok.ensures.after
     ∙ ap (λ (s : State). state_after s e.moment e.user e.request) c.self.invariant.0 in
     let kept = keeps-add (record { opening = opening; entries = entries }) e t
-    (map times_of c.self.inside.timelines.items) told c.self.invariant.1 legal made c.in_ok-follow.ensures.sound
-    c.in_ok-follow.ensures.goes in
+    (map times_of c.self.inside.timelines.items) told c.self.invariant.1 legal made c.in-Ok.ensures.sound
+    c.in-Ok.ensures.goes in
     let pushed : c.push.new.entries.items ≡ entries ++ e ∷ [] =
-    c.push.ensures ∙ ap (λ (l : List Entry). l ++ e ∷ []) c.reserve.ensures.items in (
+    c.push.ensures ∙ ap (λ (l : List Entry). l ++ e ∷ []) c.prepare.ensures.items in (
       kept.0 ∙ ap (after_all opening) (sym pushed),
       subst (λ (l : List Entry). KeepsUse (record { opening = opening; entries = l }) told) (sym pushed) kept.1,
-      omega (arith, c.follow.ensures.len, c.follow.new.held.ok.0, c.follow.new.timelines.ok.0),
-      c.follow.ensures.counts,
+      omega (arith, c.prepare.ensures.len, c.prepare.new.held.ok.0, c.prepare.new.timelines.ok.0),
+      c.prepare.ensures.counts,
     )

@@ -3,7 +3,7 @@ use Rattle.resource_profile.specs.declared.NodeRoom.{NodeRoom}
 use Rattle.resource_profile.specs.declared.Hold.{Hold}
 use Rattle.backfill_planner.specs.Lesser.{NoneBefore}
 use Rattle.backfill_planner.specs.Searches.{IsSeen}
-use Rattle.backfill_planner.proofs.seen.Searches.bound.Given as goal
+use Rattle.backfill_planner.proofs.seen.Searches.bound_among.Given as goal
 
 -- no set of the job fits before the bound
 abbrev pub invariant-loop-one : goal.invariant-loop-one
