@@ -1,7 +1,7 @@
 -- What the line of a quality of service says has only names that are known.
 use Rattle.std.proofs.Common.{ℕ, ◌≡◌, Bool, true, false, if◌then◌else◌, List, [], ◌∷◌, option_and_then, ok_or, Option, Some, None, IfSome, IfOk, refl}
 use Rattle.std.specs.List.{list_all}
-use Rattle.slurm_num.specs.Limits.{limit_of}
+use Rattle.plain_data.specs.Limits.{limit_of}
 use Rattle.text_values.specs.Names.{names_in}
 use Rattle.text_values.specs.Numbers.{u32_in}
 use Rattle.plain_data.specs.declared.limit.Limit.{Limit}

@@ -2,7 +2,7 @@
 use Rattle.std.specs.Prelude.{ℕ, Bool, if◌then◌else◌, List, [], ◌∷◌, bytes_eq, codes, Option, Some, None, option_map, option_and_then, Result}
 use Rattle.std.specs.List.{list_all}
 use Rattle.std.specs.Str.{byte}
-use Rattle.slurm_num.specs.Limits.{limit_of}
+use Rattle.plain_data.specs.Limits.{limit_of}
 use Rattle.small_texts.specs.Fields.{fields}
 use Rattle.text_values.specs.Names.{name_in, names_in}
 use Rattle.text_values.specs.Numbers.{number_in, u32_in}

@@ -7,8 +7,8 @@ use Rattle.resource_profile.specs.declared.NodeRoom.{NodeRoom}
 use Rattle.resource_profile.specs.declared.Hold.{Hold}
 use Rattle.resource_profile.specs.Free.{room_at, free_cpus, free_mem, least_over}
 use Rattle.resource_profile.specs.Profiles.{HasFree}
-use Rattle.node_pick.specs.declared.Dealt.{Dealt}
-use Rattle.node_pick.specs.Sets.{capacity, dealt, places, IsRisingFrom, IsChosen}
+use Rattle.resource_profile.specs.declared.picking.Dealt.{Dealt}
+use Rattle.resource_profile.specs.Sets.{capacity, dealt, places, IsRisingFrom, IsChosen}
 use Rattle.backfill_planner.specs.declared.Share.{Share}
 use Rattle.backfill_planner.specs.declared.job.PlanJob.{PlanJob}
 use Rattle.backfill_planner.specs.Giving.{window_end, is_barred, tasks_given, give, capacities}

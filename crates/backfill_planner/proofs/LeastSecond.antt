@@ -4,7 +4,7 @@ use Rattle.std.specs.Prelude.{find, option_map, option_and_then, MatchOption}
 use Rattle.std.proofs.lemmas.Bool.{cases_lt}
 use Rattle.resource_profile.specs.declared.NodeRoom.{NodeRoom}
 use Rattle.resource_profile.specs.declared.Hold.{Hold}
-use Rattle.node_pick.specs.Choosing.{numbers_from, chosen}
+use Rattle.resource_profile.specs.Choosing.{numbers_from, chosen}
 use Rattle.backfill_planner.specs.LowerLaws.{LowerLaws}
 use Rattle.backfill_planner.specs.declared.Placed.{Placed}
 use Rattle.backfill_planner.specs.declared.job.PlanJob.{PlanJob}

@@ -13,9 +13,9 @@ use Rattle.resource_profile.specs.declared.Hold.{Hold}
 use Rattle.resource_profile.specs.Free.{room_at, covers, free_cpus, free_mem, least_after, least_over}
 use Rattle.backfill_planner.proofs.Windows.{over_lower, over_reached}
 use Rattle.backfill_planner.proofs.Barring.{barred-longer, unless-less}
-use Rattle.node_pick.specs.declared.Need.{Need}
-use Rattle.node_pick.specs.Sets.{capacity, Fits}
-use Rattle.node_pick.specs.Choosing.{numbers_from, chosen}
+use Rattle.resource_profile.specs.declared.picking.Need.{Need}
+use Rattle.resource_profile.specs.Sets.{capacity, Fits}
+use Rattle.resource_profile.specs.Choosing.{numbers_from, chosen}
 use Rattle.plain_data.specs.declared.mem_ask.MemAsk.{MemAsk}
 use Rattle.plain_data.specs.declared.mem_ask.MemAsk.TheVariants.{All as AllMem, PerNode, PerCpu}
 use Rattle.backfill_planner.specs.LowerLaws.{LowerLaws}
@@ -99,7 +99,7 @@ least-longer free from until later window order =
     let at = over_reached free from until window in
     omega (arith, at.3, over_lower free from later at.0 at.1 (omega (arith, at.2, order)))
 
-least_after-less : (free more : ℕ → ℕ) (from count : ℕ) → ((moment : ℕ) → free moment ≤ more moment) → least_after free from count ≤ least_after more from count
+pub least_after-less : (free more : ℕ → ℕ) (from count : ℕ) → ((moment : ℕ) → free moment ≤ more moment) → least_after free from count ≤ least_after more from count
 unfolding least_after
 least_after-less free more from zero less = less from
 least_after-less free more from (suc count) less = omega (arith, less from, least_after-less free more (from + 1) count less)

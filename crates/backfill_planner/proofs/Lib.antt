@@ -20,3 +20,10 @@ pub mod Staying
 pub mod NoFreer
 pub mod Settling
 pub mod NothingHeld
+pub mod Freer
+pub mod Places
+pub mod GivingBack
+pub mod Rooms
+pub mod Dropping
+pub mod Walks
+pub mod Needs

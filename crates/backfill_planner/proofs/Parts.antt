@@ -1,5 +1,5 @@
 -- What the placements of a plan are: of which jobs, when, and with which parts.
-use Rattle.std.proofs.Common.{◌≡◌, ◌≢◌, ℕ, ◌+◌, ◌≤◌, ◌<◌, suc, false, List, [], ◌∷◌, ◌++◌, length, map, All, Contains, arith, refl, get_or, slice_index, Option, Some, None}
+use Rattle.std.proofs.Common.{◌≡◌, ◌≢◌, ℕ, ◌+◌, ◌≤◌, ◌<◌, false, List, [], ◌∷◌, ◌++◌, length, map, All, Contains, arith, refl, get_or, slice_index, Option, Some, None}
 use Rattle.std.specs.Prelude.{AllPairs, IfSome, option_map, option_to_list, unwrap_or}
 use Rattle.std.proofs.lemmas.List.{length-map, get_or-map}
 use Rattle.std.proofs.lemmas.List.Elements.{All-head, All-tail, All-cons, All-nil, All-weaker, All-map, All-contains_itself}
@@ -7,8 +7,8 @@ use Rattle.std.proofs.lemmas.List.Kept.{AllPairs-cons}
 use Rattle.resource_profile.specs.declared.NodeRoom.{NodeRoom}
 use Rattle.resource_profile.specs.declared.Hold.{Hold}
 use Rattle.resource_profile.specs.Free.{room_at, free_cpus, free_mem, least_over}
-use Rattle.node_pick.specs.declared.Dealt.{Dealt}
-use Rattle.node_pick.specs.Sets.{dealt, places, tasks_given}
+use Rattle.resource_profile.specs.declared.picking.Dealt.{Dealt}
+use Rattle.resource_profile.specs.Sets.{dealt, places, tasks_given}
 use Rattle.backfill_planner.proofs.Windows.{dealt_places}
 use Rattle.backfill_planner.specs.LowerLaws.{LowerLaws}
 use Rattle.backfill_planner.specs.declared.Share.{Share}
@@ -24,12 +24,7 @@ use Rattle.backfill_planner.proofs.Dealing.{IsGiven, dealt-given, dealt-some, le
 use Rattle.backfill_planner.proofs.Holding.{HoldsFree, capacity-give, placement-holds}
 use Rattle.backfill_planner.proofs.LeastSecond.{placed-is}
 use Rattle.plain_data.specs.declared.seconds.TheConstants.{FOREVER, LAST_START}
-
-pub pairs-head : {X : Type 0} (R : X → X → Type 0) (x : X) (xs : List X) → AllPairs R (x ∷ xs) → All (R x) xs
-pairs-head R x xs pairs k d below = pairs 0 (suc k) d (omega arith) (omega (arith, below))
-
-pub pairs-tail : {X : Type 0} (R : X → X → Type 0) (x : X) (xs : List X) → AllPairs R (x ∷ xs) → AllPairs R xs
-pairs-tail R x xs pairs i j d low high = pairs (suc i) (suc j) d (omega (arith, low)) (omega (arith, high))
+use Rattle.list_lemmas.proofs.Pairs.{pairs-head, pairs-tail}
 
 pairs-unmap : {X Y : Type 0} (R : Y → Y → Type 0) (f : X → Y) (xs : List X) → AllPairs R (map f xs) → AllPairs (λ one other. R (f one) (f other)) xs
 pairs-unmap R f xs pairs i j d low high =

@@ -12,9 +12,9 @@ use Rattle.resource_profile.specs.Free.{room_at, covers, free_cpus, free_mem, le
 use Rattle.backfill_planner.proofs.Windows.{over_lower, over_reached}
 use Rattle.backfill_planner.proofs.Windows.{what_covers, covers_at}
 use Rattle.backfill_planner.proofs.Barring.{window-order, barred-next, unless-less}
-use Rattle.node_pick.specs.declared.Need.{Need}
-use Rattle.node_pick.specs.Sets.{capacity, Fits}
-use Rattle.node_pick.specs.Choosing.{chosen}
+use Rattle.resource_profile.specs.declared.picking.Need.{Need}
+use Rattle.resource_profile.specs.Sets.{capacity, Fits}
+use Rattle.resource_profile.specs.Choosing.{chosen}
 use Rattle.backfill_planner.specs.LowerLaws.{LowerLaws}
 use Rattle.backfill_planner.specs.declared.Placed.{Placed}
 use Rattle.plain_data.specs.declared.mem_ask.MemAsk.{MemAsk}

@@ -8,7 +8,7 @@ use Rattle.backfill_planner.specs.LowerLaws.{LowerLaws}
 use Rattle.backfill_planner.specs.Giving.{window_end}
 use Rattle.backfill_planner.specs.Sweeps.{NoneEnds}
 use Rattle.backfill_planner.proofs.Rises.{none-until}
-use Rattle.node_pick.specs.Choosing.{numbers_from}
+use Rattle.resource_profile.specs.Choosing.{numbers_from}
 use Rattle.backfill_planner.specs.declared.Placed.{Placed}
 use Rattle.backfill_planner.specs.declared.job.PlanJob.{PlanJob}
 use Rattle.backfill_planner.specs.Plans.{placement_at, first_second, placed_of}

@@ -1,13 +1,13 @@
 -- Where nothing has changed on the nodes that a job may have, it is placed as before.
-use Rattle.std.proofs.Common.{◌≡◌, ℕ, ◌+◌, ◌-◌, ◌≤◌, ◌<◌, zero, suc, min, cond, List, [], ◌∷◌, map, All, arith, refl, ap, sym, ◌∙◌, slice_index, Option, Some, None}
+use Rattle.std.proofs.Common.{◌≡◌, ℕ, ◌+◌, ◌-◌, ◌≤◌, ◌<◌, zero, suc, min, cond, List, map, All, arith, refl, ap, sym, ◌∙◌, slice_index, Option, Some, None}
 use Rattle.std.specs.Prelude.{option_map, option_and_then}
-use Rattle.std.proofs.lemmas.List.Elements.{All-head, All-tail, All-weaker}
+use Rattle.std.proofs.lemmas.List.Elements.{All-weaker}
 use Rattle.resource_profile.specs.declared.NodeRoom.{NodeRoom}
 use Rattle.resource_profile.specs.declared.Hold.{Hold}
 use Rattle.resource_profile.specs.Free.{room_at, free_cpus, free_mem, least_after, least_over}
-use Rattle.node_pick.specs.declared.Dealt.{Dealt}
-use Rattle.node_pick.specs.Sets.{dealt}
-use Rattle.node_pick.specs.Choosing.{chosen}
+use Rattle.resource_profile.specs.declared.picking.Dealt.{Dealt}
+use Rattle.resource_profile.specs.Sets.{dealt}
+use Rattle.resource_profile.specs.Choosing.{chosen}
 use Rattle.backfill_planner.specs.LowerLaws.{LowerLaws}
 use Rattle.backfill_planner.specs.declared.Placed.{Placed}
 use Rattle.backfill_planner.specs.declared.job.PlanJob.{PlanJob}
@@ -20,6 +20,7 @@ use Rattle.backfill_planner.proofs.Dealing.{IsGiven, dealt-given, length-capacit
 use Rattle.backfill_planner.proofs.Lessening.{some-placed, none-placed}
 use Rattle.backfill_planner.proofs.Seconds.{placed-some, placed-none}
 use Rattle.plain_data.specs.declared.seconds.TheConstants.{FOREVER, LAST_START}
+use Rattle.list_lemmas.proofs.Maps.{map-same}
 
 least_after-same : (one other : ℕ → ℕ) (from more : ℕ) → ((moment : ℕ) → from ≤ moment → moment ≤ from + more → one moment ≡ other moment) → least_after one from more ≡ least_after other from more
 unfolding least_after
@@ -42,16 +43,10 @@ give-stays rooms holds new_rooms new_holds job now last start node later low wit
     ∙ ap (λ least. given (room_at rooms node) least (least_over (λ second. free_mem new_rooms new_holds node second) start end)) cpus
     ∙ ap (λ least. given (room_at rooms node) (least_over (λ second. free_cpus rooms holds node second) start end) least) mem
 
-map-all : {X Y : Type 0} (f g : X → Y) (xs : List X) → All (λ x. f x ≡ g x) xs → map f xs ≡ map g xs
-map-all f g [] same = refl
-map-all f g (x ∷ xs) same =
-    ap (λ y. y ∷ map f xs) (All-head (λ x. f x ≡ g x) x xs same)
-    ∙ ap (λ ys. g x ∷ ys) (map-all f g xs (All-tail (λ x. f x ≡ g x) x xs same))
-
 capacities-stay : (rooms : List NodeRoom) (holds : List Hold) (new_rooms : List NodeRoom) (new_holds : List Hold) (job : PlanJob) (now last start : ℕ) → now ≤ start → start < last → window_end job start ≤ last → All (StaysBefore rooms holds new_rooms new_holds now last) job.nodes → capacities new_rooms new_holds job start ≡ capacities rooms holds job start
 unfolding capacities
 capacities-stay rooms holds new_rooms new_holds job now last start later low within stay =
-    map-all (λ node. give new_rooms new_holds job start node) (λ node. give rooms holds job start node) job.nodes
+    map-same (λ node. give new_rooms new_holds job start node) (λ node. give rooms holds job start node) job.nodes
     (All-weaker (StaysBefore rooms holds new_rooms new_holds now last) (λ node. give new_rooms new_holds job start node ≡ give rooms holds job start node)
     (λ node stays. give-stays rooms holds new_rooms new_holds job now last start node later low within stays) job.nodes stay)
 
@@ -64,7 +59,7 @@ shares-stay laws rooms holds new_rooms new_holds job now last start set stay sam
     let parts = dealt caps job.need.tasks set in
     let given = dealt-given caps job.need.tasks set (laws.some caps job.need set is).fits.giving in
     ap (λ given. map (λ part. share_of new_rooms job part) (dealt given job.need.tasks set)) same
-    ∙ map-all (λ part. share_of new_rooms job part) (λ part. share_of rooms job part) parts
+    ∙ map-same (λ part. share_of new_rooms job part) (λ part. share_of rooms job part) parts
     (All-weaker (IsGiven caps) (λ part. share_of new_rooms job part ≡ share_of rooms job part)
     (λ part one. share-stays rooms new_rooms job part (stay part.place 0 (omega (arith, one.place, length-capacities rooms holds job start))).room) parts given)
 

@@ -13,7 +13,7 @@ use Rattle.resource_profile.specs.declared.Hold.{Hold}
 use Rattle.resource_profile.specs.declared.levels.Window.{Window}
 use Rattle.resource_profile.specs.Free.{room_at, free_mem, least_over}
 use Rattle.resource_profile.specs.Windows.{free_of, IsSteady}
-use Rattle.cpu_ids.specs.Rows.{has_id}
+use Rattle.plain_data.specs.Rows.{has_id}
 use Rattle.backfill_planner.specs.declared.job.Barred.{Barred}
 use Rattle.backfill_planner.specs.declared.job.PlanJob.{PlanJob}
 use Rattle.backfill_planner.proofs.Barring.{clear-later, barred-until}

@@ -1,13 +1,17 @@
 -- What a job takes of a node for its tasks is free there.
 use Rattle.std.proofs.Common.{◌≡◌, ℕ, ◌*◌, ◌/◌, ◌≤◌, ◌<◌, min, true, ◌&&◌, ◌||◌, not, eqb, leb, arith, ap, sym, ◌∙◌, inl, inr}
 use Rattle.std.proofs.Math.Nat.{div-mul-le_self, mul_comm, mul_assoc}
-use Rattle.std.proofs.lemmas.Nat.{mul-le}
+use Rattle.std.proofs.lemmas.Nat.{mul-le, div_below}
 use Rattle.std.proofs.lemmas.Bool.{cases_Bool, and_parts, eqb-true, leb-true}
 use Rattle.resource_profile.specs.declared.NodeRoom.{NodeRoom}
 use Rattle.plain_data.specs.declared.mem_ask.MemAsk.{MemAsk}
 use Rattle.plain_data.specs.declared.mem_ask.MemAsk.TheVariants.{All, PerNode, PerCpu}
 use Rattle.backfill_planner.specs.declared.job.PlanJob.{PlanJob}
 use Rattle.backfill_planner.specs.Giving.{tasks_by_mem, may_have, tasks_given, taken_cpus, asked_mem, taken_mem}
+
+-- a part that is larger is in it not once
+pub no_quotient : (whole part : ℕ) → 0 < part → whole < part → whole / part ≡ 0
+no_quotient whole part some less = omega (arith, div_below whole part 1 some (omega (arith, less)))
 
 -- as many as a quotient are at most what was divided
 pub within_quotient : (tasks whole part : ℕ) → tasks ≤ whole / part → tasks * part ≤ whole

@@ -3,7 +3,7 @@ use Rattle.std.proofs.Common.{◌≡◌, ℕ, ◌+◌, ◌-◌, ◌≤◌, ◌<�
 use Rattle.std.proofs.lemmas.Bool.{cases_lt, cases_eq, and_parts, and_from, eqb-true, eq-eqb, leb-true, le-leb, ltb-true, lt-ltb}
 use Rattle.resource_profile.specs.declared.Hold.{Hold}
 use Rattle.resource_profile.specs.Free.{covers, least_after, least_over}
-use Rattle.node_pick.specs.Sets.{capacity, dealt, places}
+use Rattle.resource_profile.specs.Sets.{capacity, dealt, places}
 
 -- what is the least from a second on, for so many seconds more
 after_is : (free : ℕ → ℕ) (from more : ℕ) → ((moment : ℕ) → from ≤ moment → moment ≤ from + more → least_after free from more ≤ free moment)

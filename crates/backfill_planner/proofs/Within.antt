@@ -17,7 +17,8 @@ use Rattle.backfill_planner.specs.Placements.{IsPlannable, IsOnRooms}
 use Rattle.backfill_planner.proofs.Beside.{free-beside}
 use Rattle.backfill_planner.proofs.Holding.{HoldsFree}
 use Rattle.backfill_planner.proofs.LeastSecond.{placed-is}
-use Rattle.backfill_planner.proofs.Parts.{if_placed, pairs-head, pairs-tail, placed-holds}
+use Rattle.backfill_planner.proofs.Parts.{if_placed, placed-holds}
+use Rattle.list_lemmas.proofs.Pairs.{pairs-head, pairs-tail}
 use Rattle.plain_data.specs.declared.seconds.TheConstants.{LAST_START}
 
 -- what is free on nodes that differ can be held

@@ -9,3 +9,6 @@ pub mod Making
 pub mod Staying
 pub mod LowerLaws
 pub mod Stretches
+pub mod Going
+pub mod Sufficing
+pub mod Walking

@@ -3,9 +3,9 @@ use Rattle.std.specs.Prelude.{◌≡◌, ℕ, ◌≤◌, List, [], ◌∷◌, �
 use Rattle.resource_profile.specs.declared.NodeRoom.{NodeRoom}
 use Rattle.resource_profile.specs.declared.Hold.{Hold}
 use Rattle.resource_profile.specs.Profiles.{AreWithin, HasFree}
-use Rattle.node_pick.specs.declared.Need.{Need}
-use Rattle.node_pick.specs.Sets.{capacity, Fits, IsChosen, AsksNoMore}
-use Rattle.node_pick.specs.Choosing.{chosen}
+use Rattle.resource_profile.specs.declared.picking.Need.{Need}
+use Rattle.resource_profile.specs.Sets.{capacity, Fits, IsChosen, AsksNoMore}
+use Rattle.resource_profile.specs.Choosing.{chosen}
 
 pub record LowerLaws : Type 0 where
   -- the chosen set is the first that fits

@@ -3,9 +3,9 @@ use Rattle.std.specs.Prelude.{ℕ, ◌+◌, ◌-◌, nat_eq, if◌then◌else◌
 use Rattle.resource_profile.specs.declared.NodeRoom.{NodeRoom}
 use Rattle.resource_profile.specs.declared.Hold.{Hold}
 use Rattle.resource_profile.specs.Free.{room_at}
-use Rattle.node_pick.specs.declared.Dealt.{Dealt}
-use Rattle.node_pick.specs.Sets.{dealt}
-use Rattle.node_pick.specs.Choosing.{numbers_from, chosen}
+use Rattle.resource_profile.specs.declared.picking.Dealt.{Dealt}
+use Rattle.resource_profile.specs.Sets.{dealt}
+use Rattle.resource_profile.specs.Choosing.{numbers_from, chosen}
 use Rattle.backfill_planner.specs.declared.Share.{Share}
 use Rattle.backfill_planner.specs.declared.Placed.{Placed}
 use Rattle.backfill_planner.specs.declared.job.PlanJob.{PlanJob}

@@ -1,6 +1,6 @@
 -- The seconds at which a job may not have a node, node by node.
 use Rattle.std.specs.Prelude.{◌≡◌, ℕ, Bool, ◌&&◌, nat_lt, List, [], map, filter, slice_get, unwrap_or}
-use Rattle.cpu_ids.specs.Rows.{has_id}
+use Rattle.plain_data.specs.Rows.{has_id}
 use Rattle.backfill_planner.specs.declared.job.Barred.{Barred}
 use Rattle.backfill_planner.specs.declared.stretches.Stretch.{Stretch}
 

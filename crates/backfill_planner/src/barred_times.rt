@@ -1,6 +1,6 @@
 // Which of a job's barred times cross a window, and when the next of them begins or is over.
 ghost use Rattle.std.specs.Prelude.{◌≡◌, ◌≤◌, ◌<◌, true, find, option_map, All};
-ghost use Rattle.cpu_ids.specs.Rows.{has_id};
+ghost use Rattle.plain_data.specs.Rows.{has_id};
 ghost use Rattle.backfill_planner.specs.Giving;
 ghost use Rattle.backfill_planner.specs.declared.job.Barred.{Barred as Time};
 ghost use Rattle.backfill_planner.specs.declared.stretches.Stretch.{Stretch as Seconds};

@@ -7,9 +7,8 @@ use crate::barred_times::barred_until;
 use crate::job::PlanJob;
 use crate::laws::lower_laws;
 use crate::placing::{tasks_given, window_end};
-use node_pick::laws::fitting_sets_are_within;
-use node_pick::pick;
-use resource_profile::NodeRoom;
+use resource_profile::pick_laws::fitting_sets_are_within;
+use resource_profile::{NodeRoom, pick};
 use small_texts::memory_error::Memory;
 use std::alloc::Global;
 

@@ -2,10 +2,10 @@ ghost use Rattle.std.specs.Prelude.{◌≡◌, ◌≢◌, IfOk, AllPairs};
 ghost use Rattle.backfill_planner.specs.Placements.{IsPlannable};
 
 use crate::barred_list::BarredList;
-use cpu_ids::CpuIds;
-use node_pick::Need;
+use plain_data::NodePlaces;
 use plain_data::mem_ask::MemAsk;
 use plain_data::ranged::Ranged;
+use resource_profile::Need;
 use small_texts::memory_error::Memory;
 use std::marker::Model;
 use std::sync::ArcSlice;
@@ -63,7 +63,7 @@ impl NodeList {
 #[derive(Drop, PartialEq)]
 pub struct Barred {
     /// By their places among the rooms.
-    pub nodes: CpuIds,
+    pub nodes: NodePlaces,
     /// In seconds since 1970, as is `until`.
     pub from: u64,
     pub until: u64,

@@ -14,9 +14,9 @@ ghost use Rattle.backfill_planner.specs.Lesser.{NoneBefore};
 ghost use Rattle.backfill_planner.specs.Staying.{EndsInTime, IsNoFreer, StaysBefore, StaysFrom};
 ghost use Rattle.backfill_planner.specs.LowerLaws.{LowerLaws};
 
-use node_pick::laws::{chosen_is_first, lesser_needs_fit};
 use plain_data::seconds::{FOREVER, LAST_START};
 use resource_profile::laws::free_amounts_fit;
+use resource_profile::pick_laws::{chosen_is_first, lesser_needs_fit};
 
 // What the crates below promise.
 pub(crate) fn lower_laws()

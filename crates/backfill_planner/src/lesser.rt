@@ -1,12 +1,12 @@
 ghost use Rattle.std.specs.Prelude.{◌≡◌, ◌≤◌, IfSome, unwrap_or};
 ghost use Rattle.std.specs.Bool.{OnTrue};
-ghost use Rattle.node_pick.specs.Sets.{AsksNoMore};
+ghost use Rattle.resource_profile.specs.Sets.{AsksNoMore};
 ghost use Rattle.backfill_planner.specs.Lesser.{HaveSameNodes, IsNoMoreMem, IsLesser};
 
 use crate::job::{Barred, PlanJob};
-use node_pick::Need;
 use plain_data::mem_ask::MemAsk;
 use plain_data::seconds::FOREVER;
+use resource_profile::Need;
 
 // Whether one need asks no more than the other.
 fn asks_no_more(lesser: &Need, need: &Need) -> bool

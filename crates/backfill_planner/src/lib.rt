@@ -12,15 +12,19 @@ mod barred_list;
 mod barred_times;
 mod base;
 mod empty_nodes;
+mod fitting;
 mod job;
 pub mod laws;
 mod lesser;
 mod placing;
 mod planned;
 mod planning;
+mod preempting;
 mod seen;
 mod stretches;
 mod sweep;
+pub mod victim_laws;
+mod walk;
 
 pub use barred_list::BarredList;
 pub use base::Base;
@@ -30,6 +34,7 @@ pub use placing::place;
 pub use plain_data::mem_ask::MemAsk;
 pub use planned::{Planned, plan};
 pub use planning::Planning;
+pub use preempting::victims;
 
 /// A job's part on one node.
 #[derive(Clone, Copy, Debug, PartialEq, Eq)]

@@ -1,8 +1,8 @@
-ghost use Rattle.std.specs.Prelude.{◌≡◌, ◌≢◌, AllPairs, ◌+◌, ◌*◌, ◌^◌, ◌≤◌, ◌<◌, length, map, IfOk, OnOk, IfSome, All};
+ghost use Rattle.std.specs.Prelude.{◌≡◌, ◌≢◌, AllPairs, ◌+◌, ◌*◌, ◌/◌, ◌^◌, ◌≤◌, ◌<◌, length, map, IfOk, OnOk, IfSome, All};
 ghost use Rattle.resource_profile.specs.Counts.{ticked};
 ghost use Rattle.resource_profile.specs.Profiles.{HasFree};
 ghost use Rattle.resource_profile.specs.declared.Hold.{Hold};
-ghost use Rattle.node_pick.specs.declared.Dealt.{Dealt};
+ghost use Rattle.resource_profile.specs.declared.picking.Dealt.{Dealt};
 ghost use Rattle.backfill_planner.specs.Giving;
 ghost use Rattle.backfill_planner.specs.Plans;
 ghost use Rattle.backfill_planner.specs.Sweeps.{IsSwept, NoneEnds};
@@ -13,12 +13,11 @@ use crate::job::PlanJob;
 use crate::laws::lower_laws;
 use crate::sweep::Sweep;
 use crate::{Placed, Share};
-use node_pick::laws::fitting_sets_are_within;
-use node_pick::{Dealt, pick};
 use plain_data::items::Items;
 use plain_data::mem_ask::MemAsk;
 use plain_data::seconds::{FOREVER, LAST_START};
-use resource_profile::{NodeRoom, Profile, Steps};
+use resource_profile::pick_laws::fitting_sets_are_within;
+use resource_profile::{Dealt, NodeRoom, Profile, Steps, pick};
 use small_texts::memory_error::Memory;
 use std::alloc::Global;
 
@@ -34,6 +33,15 @@ pub(crate) fn window_end(job: &PlanJob, start: u64) -> u64
     }
 }
 
+// How often the part is in the whole. Where it is larger nothing is divided.
+#[tactic(auto, using(crate::proofs::Takes::no_quotient))]
+fn quotient(whole: u64, part: u64) -> u64
+    requires { 0 < part }
+    ensures { result ≡ whole / part }
+{
+    if whole < part { 0 } else { whole / part }
+}
+
 // How many tasks of the job a node with this room can give where so much of it is free.
 #[tactic(auto, using(crate::proofs::Takes::tasks_fit))]
 pub(crate) fn tasks_given(job: &PlanJob, room: &NodeRoom, cpus: u32, mem: u64) -> u32
@@ -44,11 +52,17 @@ pub(crate) fn tasks_given(job: &PlanJob, room: &NodeRoom, cpus: u32, mem: u64) -
         return 0;
     }
     let per_task = job.cpus_per_task.get();
-    let most = u64::from(job.per_node).min(u64::from(cpus) / per_task);
+    let most = u64::from(job.per_node).min(quotient(u64::from(cpus), per_task));
     let tasks = match job.mem_ask {
         MemAsk::All => { if mem == room.mem { most } else { 0 } }
         MemAsk::PerNode(asked) => { if asked.get() <= mem { most } else { 0 } }
-        MemAsk::PerCpu(asked) => most.min(mem / (asked.get() * per_task)),
+        MemAsk::PerCpu(asked) => {
+            if most == 0 {
+                0
+            } else {
+                most.min(mem / (asked.get() * per_task))
+            }
+        }
     };
     tasks as u32
 }

@@ -2,12 +2,12 @@
 
 ghost use Rattle.std.specs.Prelude.{◌≡◌, ℕ, [], map, slice_get, unwrap_or, IfOk};
 ghost use Rattle.std.specs.List.{list_any};
-ghost use Rattle.cpu_ids.specs.Rows.{has_id};
+ghost use Rattle.plain_data.specs.Rows.{has_id};
 ghost use Rattle.backfill_planner.specs.declared.job.Barred.{Barred as Time};
 ghost use Rattle.backfill_planner.specs.Stretches.{stretches_of, HoldsStretches};
 
 use crate::job::Barred;
-use cpu_ids::CpuIds;
+use plain_data::NodePlaces;
 use small_texts::memory_error::Memory;
 use std::alloc::Global;
 
@@ -22,10 +22,10 @@ pub(crate) struct Stretch {
 }
 
 // The nodes that are in one of the times.
-fn nodes_in(times: &[Barred]) -> CpuIds
+fn nodes_in(times: &[Barred]) -> NodePlaces
     ensures { (node : ℕ) → has_id result node ≡ list_any (λ (time : Time). has_id time.nodes node) times.now }
 {
-    let mut nodes = CpuIds::none();
+    let mut nodes = NodePlaces::none();
     for time in times {
         nodes.insert_all(&time.nodes);
     }
@@ -49,7 +49,12 @@ fn stretches_at(alloc: Global, times: &[Barred], node: u32) -> Result<Vec<Stretc
 }
 
 // The node's row, where `nodes` are those that are in one of the times.
-fn row(alloc: Global, nodes: &CpuIds, times: &[Barred], node: u32) -> Result<Vec<Stretch>, Memory>
+fn row(
+    alloc: Global,
+    nodes: &NodePlaces,
+    times: &[Barred],
+    node: u32,
+) -> Result<Vec<Stretch>, Memory>
     requires { has_id nodes.now node ≡ list_any (λ (time : Time). has_id time.nodes node) times.now }
     ensures { IfOk result (λ stretches. stretches.items ≡ stretches_of node times.now) }
 {

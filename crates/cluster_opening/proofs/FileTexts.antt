@@ -12,9 +12,10 @@ use Rattle.ctl_state.specs.State.{State}
 use Rattle.cluster_opening.specs.Cluster.{cluster_in}
 use Rattle.cluster_opening.specs.Files.{IsFrontIf, IsFrontOf, IsTextIf, IsTextOf, Opens}
 use Rattle.cluster_opening.specs.Restoring.{AreOpenedBy, Begins, Restores}
-use Rattle.program_words.specs.Asked.{Named}
+use Rattle.plain_data.specs.Files.{Named}
+use Rattle.cluster_opening.specs.declared.refusal.BadFile.TheVariants as bad_file
 use Rattle.cluster_opening.specs.declared.refusal.ClusterRefusal.{ClusterRefusal}
-use Rattle.cluster_opening.specs.declared.refusal.ClusterRefusal.TheVariants.{BadConf, BadAssocs, BadState, Memory}
+use Rattle.cluster_opening.specs.declared.refusal.ClusterRefusal.TheVariants.{Bad, Memory}
 
 -- files that are too long say the same
 long_confs : (file other : List ℕ) → 1048576 < length file → 1048576 < length other → conf_in file ≡ conf_in other
@@ -51,12 +52,12 @@ long_states : (conf : ConfView) (assocs : AssocView) (front file : List ℕ) (op
     → Restores conf assocs front opened → Restores conf assocs file opened
 long_states conf assocs front file (Ok s) long long' (saved, is_text, restored) =
     absurd (omega (arith, long, is_text.short))
-long_states conf assocs front file (Err (BadState line)) long long' (inl bad) =
+long_states conf assocs front file (Err (Bad (bad_file.State line))) long long' (inl bad) =
     inl (record { long = λ tall. bad.long long; short = λ few. absurd (omega (arith, long', few)) })
-long_states conf assocs front file (Err (BadState line)) long long' (inr (zero_line, (saved, is_text, misfit))) =
+long_states conf assocs front file (Err (Bad (bad_file.State line))) long long' (inr (zero_line, (saved, is_text, misfit))) =
     absurd (omega (arith, long, is_text.short))
-long_states conf assocs front file (Err (BadConf line kind)) long long' restores = absurd restores
-long_states conf assocs front file (Err (BadAssocs line kind)) long long' restores = absurd restores
+long_states conf assocs front file (Err (Bad (bad_file.Conf line kind))) long long' restores = absurd restores
+long_states conf assocs front file (Err (Bad (bad_file.Assocs line kind))) long long' restores = absurd restores
 long_states conf assocs front file (Err Memory) long long' restores = absurd restores
 
 longest_is : longest_text ≡ 268435456

@@ -1,7 +1,5 @@
 -- Texts that were judged.
 use Rattle.std.proofs.Common.{◌≡◌, ℕ, List, Option, None, Some, Vec, IsSomeAnd, Ok, Err, inl, inr, refl, sym, ap, ◌∙◌, subst}
-use Rattle.assoc_reader.specs.declared.refusal.AssocKind.{AssocKind}
-use Rattle.conf_values.specs.declared.refusal.ConfKind.{ConfKind}
 use Rattle.plain_data.specs.Assocs.{AssocView}
 use Rattle.plain_data.specs.Confs.{ConfView}
 use Rattle.saved_data.specs.declared.saved.Saved.{Saved}
@@ -9,20 +7,22 @@ use Rattle.slurm_io.specs.Shelf.{ShelfFile}
 use Rattle.ctl_restore.specs.Restored.{restored}
 use Rattle.ctl_state.specs.State.{State, opening}
 use Rattle.ctl_desk.specs.Desk.{Seat}
-use Rattle.program_words.specs.Asked.{Named}
+use Rattle.plain_data.specs.Files.{Named}
 use Rattle.cluster_opening.specs.Cluster.{cluster_in}
-use Rattle.cluster_opening.specs.Files.{IsOpening, IsSeating, Opens, fresh}
-use Rattle.cluster_opening.specs.Judging.{AreOpened, IsJudged, IsTextRead, bytes_read}
+use Rattle.cluster_opening.specs.Files.{IsOpening, IsSeating, IsUnopened, Opens, fresh, of_cluster}
+use Rattle.cluster_opening.specs.Judging.{AreOpened, IsJudged, IsOfState, IsTextRead, bytes_read}
 use Rattle.cluster_opening.specs.Restoring.{AreOpenedBy, IsBadAt, IsBegun, OpensIn}
 use Rattle.cluster_opening.specs.declared.cluster_files.ClusterFiles.{ClusterFiles}
 use Rattle.cluster_opening.specs.declared.files.Files.{Files}
+use Rattle.cluster_opening.specs.declared.opening.OpenRefusal.{OpenRefusal}
+use Rattle.cluster_opening.specs.declared.refusal.BadFile.TheVariants as bad_file
 use Rattle.cluster_opening.specs.declared.refusal.ClusterRefusal.{ClusterRefusal}
-use Rattle.cluster_opening.specs.declared.refusal.ClusterRefusal.TheVariants.{BadConf, BadAssocs, BadState, Memory}
+use Rattle.cluster_opening.specs.declared.refusal.ClusterRefusal.TheVariants.{Bad, Memory}
 
 -- good files with a bad text of a saved state
 pub bad_text : {Z : Type 0} (conf assocs : List ℕ) (state : Option (Vec ℕ Z)) (both : ConfView × AssocView) (line : ℕ)
     → cluster_in conf assocs ≡ Ok both → IsSomeAnd state (λ bytes. IsBadAt bytes.items line)
-    → AreOpenedBy conf assocs (bytes_read state) (Err (BadState line))
+    → AreOpenedBy conf assocs (bytes_read state) (Err (Bad (bad_file.State line)))
 bad_text conf assocs None both line says bad = absurd bad
 bad_text conf assocs (Some bytes) both line says bad = rw says (inl bad)
 
@@ -30,7 +30,7 @@ bad_text conf assocs (Some bytes) both line says bad = rw says (inl bad)
 pub unfit_text : {Z : Type 0} (conf assocs : List ℕ) (state : Option (Vec ℕ Z)) (saved : Option Saved)
     (both : ConfView × AssocView) (line : ℕ) → cluster_in conf assocs ≡ Ok both → IsTextRead state saved
     → (line ≡ 0) × ((s : State) → IsBegun both.0 both.1 saved s → ⊥)
-    → AreOpenedBy conf assocs (bytes_read state) (Err (BadState line))
+    → AreOpenedBy conf assocs (bytes_read state) (Err (Bad (bad_file.State line)))
 unfit_text conf assocs None saved both line says is misfit =
     absurd (misfit.1 (opening both.0 both.1)
     (subst (λ (one : Option Saved). IsBegun both.0 both.1 one (opening both.0 both.1)) (sym is) refl))
@@ -41,18 +41,23 @@ unfit_text conf assocs (Some bytes) (Some saved) both line says is misfit =
       (saved, is, λ fits. misfit.1 (restored both.0 both.1 saved) (record { fits = fits; state = refl })),
     ))
 
-pub judged_bad : (files : Files) (refusal : ClusterRefusal)
-    → ((line : ℕ) → refusal ≡ BadState line → AreOpened files (Err (BadState line)))
-    → ((line : ℕ) (kind : ConfKind) → refusal ≡ BadConf line kind → ⊥)
-    → ((line : ℕ) (kind : AssocKind) → refusal ≡ BadAssocs line kind → ⊥) → IsJudged files (Err refusal)
-judged_bad files (BadConf line kind) state conf assocs = absurd (conf line kind refl)
-judged_bad files (BadAssocs line kind) state conf assocs = absurd (assocs line kind refl)
-judged_bad files (BadState line) state conf assocs = state line refl
-judged_bad files Memory state conf assocs = tt
+-- the refusal of a saved state is that of the files
+pub judged_bad : (files : Files) (refusal : ClusterRefusal) (holds : ℕ → Type 0) → IsOfState refusal holds
+    → ((line : ℕ) → holds line → AreOpened files (Err (Bad (bad_file.State line)))) → IsJudged files (Err refusal)
+judged_bad files (Bad (bad_file.Conf line kind)) holds bad refused = absurd bad
+judged_bad files (Bad (bad_file.Assocs line kind)) holds bad refused = absurd bad
+judged_bad files (Bad (bad_file.State line)) holds bad refused = refused line bad
+judged_bad files Memory holds bad refused = tt
 
-pub judged_so : (files : Files) (refusal other : ClusterRefusal) → refusal ≡ other → IsJudged files (Err refusal)
-    → IsJudged files (Err other)
-judged_so files refusal other is judged = subst (λ (r : ClusterRefusal). IsJudged files (Err r)) is judged
+-- no cluster was opened, where the texts that were read are judged so
+pub unopened : (told : Option (List ShelfFile)) (named : Named) (before after : ℕ) (files : Files)
+    (refusal : ClusterRefusal) (why : OpenRefusal) → why ≡ of_cluster refusal → IsJudged files (Err refusal)
+    → (AreOpened files (Err refusal) → Opens told named (Err refusal)) → after ≡ before
+    → IsUnopened told named before after why
+unopened told named before after files (Bad bad) why is judged opens same =
+    subst (IsUnopened told named before after) (sym is) (opens judged, same)
+unopened told named before after files Memory why is judged opens same =
+    subst (IsUnopened told named before after) (sym is) same
 
 pub same_files : (files other : ClusterFiles) (s : State) → files ≡ other → OpensIn other s → OpensIn files s
 same_files files other s is opens = subst (λ (f : ClusterFiles). OpensIn f s) (sym is) opens

@@ -12,12 +12,13 @@ use Rattle.state_save.specs.Saved.{saved_text}
 use Rattle.ctl_restore.specs.Fits.{Fits}
 use Rattle.ctl_restore.specs.Restored.{restored}
 use Rattle.ctl_state.specs.State.{State}
-use Rattle.program_words.specs.Asked.{Named}
+use Rattle.plain_data.specs.Files.{Named}
 use Rattle.cluster_opening.specs.Cluster.{cluster_in}
 use Rattle.cluster_opening.specs.Files.{IsTextIf, Opens}
 use Rattle.cluster_opening.specs.Restoring.{AreOpenedBy, Begins, IsBadAt, IsSavedText, Restores}
+use Rattle.cluster_opening.specs.declared.refusal.BadFile.TheVariants as bad_file
 use Rattle.cluster_opening.specs.declared.refusal.ClusterRefusal.{ClusterRefusal}
-use Rattle.cluster_opening.specs.declared.refusal.ClusterRefusal.TheVariants.{BadConf, BadAssocs, BadState, Memory}
+use Rattle.cluster_opening.specs.declared.refusal.ClusterRefusal.TheVariants.{Bad, Memory}
 
 -- one text is that of one saved state at the most
 abbrev pub AreApart : Type 0
@@ -59,30 +60,32 @@ restores_once : (conf : ConfView) (assocs : AssocView) (text : List ℕ) (one ot
     → Restores conf assocs text one → Restores conf assocs text other → one ≡ other
 restores_once conf assocs text (Ok s) (Ok t) apart (saved, is, to) (saved', is', to') =
     ap Ok (to.state ∙ ap (restored conf assocs) (one_saved text saved saved' apart is is') ∙ sym to'.state)
-restores_once conf assocs text (Ok s) (Err (BadState line)) apart (saved, is, to) (inl bad) =
+restores_once conf assocs text (Ok s) (Err (Bad (bad_file.State line))) apart (saved, is, to) (inl bad) =
     absurd (none_bad text saved line is bad)
-restores_once conf assocs text (Ok s) (Err (BadState line)) apart (saved, is, to) (inr (zero_line, (saved', is', misfit))) =
+restores_once conf assocs text (Ok s) (Err (Bad (bad_file.State line))) apart (saved, is, to) (inr (zero_line, (saved', is', misfit))) =
     absurd (misfit (subst (Fits conf assocs) (one_saved text saved saved' apart is is') to.fits))
-restores_once conf assocs text (Ok s) (Err (BadConf line kind)) apart first second = absurd second
-restores_once conf assocs text (Ok s) (Err (BadAssocs line kind)) apart first second = absurd second
+restores_once conf assocs text (Ok s) (Err (Bad (bad_file.Conf line kind))) apart first second = absurd second
+restores_once conf assocs text (Ok s) (Err (Bad (bad_file.Assocs line kind))) apart first second = absurd second
 restores_once conf assocs text (Ok s) (Err Memory) apart first second = absurd second
-restores_once conf assocs text (Err (BadState line)) (Ok t) apart (inl bad) (saved, is, to) =
+restores_once conf assocs text (Err (Bad (bad_file.State line))) (Ok t) apart (inl bad) (saved, is, to) =
     absurd (none_bad text saved line is bad)
-restores_once conf assocs text (Err (BadState line)) (Ok t) apart (inr (zero_line, (saved', is', misfit))) (saved, is, to) =
+restores_once conf assocs text (Err (Bad (bad_file.State line))) (Ok t) apart (inr (zero_line, (saved', is', misfit))) (saved, is, to) =
     absurd (misfit (subst (Fits conf assocs) (one_saved text saved saved' apart is is') to.fits))
-restores_once conf assocs text (Err (BadState line)) (Err (BadState line')) apart (inl bad) (inl bad') =
-    ap (λ l. Err (BadState l)) (one_bad_line text line line' bad bad')
-restores_once conf assocs text (Err (BadState line)) (Err (BadState line')) apart (inl bad) (inr (zero_line, (saved, is, misfit))) =
+restores_once conf assocs text (Err (Bad (bad_file.State line))) (Err (Bad (bad_file.State line'))) apart (inl bad) (inl bad') =
+    ap (λ l. Err (Bad (bad_file.State l))) (one_bad_line text line line' bad bad')
+restores_once conf assocs text (Err (Bad (bad_file.State line))) (Err (Bad (bad_file.State line'))) apart (inl bad) (inr (zero_line, (saved, is, misfit))) =
     absurd (none_bad text saved line is bad)
-restores_once conf assocs text (Err (BadState line)) (Err (BadState line')) apart (inr (zero_line, (saved, is, misfit))) (inl bad) =
+restores_once conf assocs text (Err (Bad (bad_file.State line))) (Err (Bad (bad_file.State line'))) apart (inr (zero_line, (saved, is, misfit))) (inl bad) =
     absurd (none_bad text saved line' is bad)
-restores_once conf assocs text (Err (BadState line)) (Err (BadState line')) apart (inr one) (inr other) =
-    ap (λ l. Err (BadState l)) (one.0 ∙ sym other.0)
-restores_once conf assocs text (Err (BadState line)) (Err (BadConf line' kind)) apart first second = absurd second
-restores_once conf assocs text (Err (BadState line)) (Err (BadAssocs line' kind)) apart first second = absurd second
-restores_once conf assocs text (Err (BadState line)) (Err Memory) apart first second = absurd second
-restores_once conf assocs text (Err (BadConf line kind)) other apart first second = absurd first
-restores_once conf assocs text (Err (BadAssocs line kind)) other apart first second = absurd first
+restores_once conf assocs text (Err (Bad (bad_file.State line))) (Err (Bad (bad_file.State line'))) apart (inr one) (inr other) =
+    ap (λ l. Err (Bad (bad_file.State l))) (one.0 ∙ sym other.0)
+restores_once conf assocs text (Err (Bad (bad_file.State line))) (Err (Bad (bad_file.Conf line' kind))) apart first second =
+    absurd second
+restores_once conf assocs text (Err (Bad (bad_file.State line))) (Err (Bad (bad_file.Assocs line' kind))) apart first second =
+    absurd second
+restores_once conf assocs text (Err (Bad (bad_file.State line))) (Err Memory) apart first second = absurd second
+restores_once conf assocs text (Err (Bad (bad_file.Conf line kind))) other apart first second = absurd first
+restores_once conf assocs text (Err (Bad (bad_file.Assocs line kind))) other apart first second = absurd first
 restores_once conf assocs text (Err Memory) other apart first second = absurd first
 
 begins_once : (both : Result (ConfView × AssocView) ClusterRefusal) (state : Option (List ℕ))

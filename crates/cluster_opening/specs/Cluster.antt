@@ -7,20 +7,21 @@ use Rattle.assoc_reader.specs.declared.refusal.AssocRefusal.{AssocRefusal}
 use Rattle.assoc_reader.specs.declared.refusal.AssocRefusal.TheVariants as assoc_fault
 use Rattle.conf_reader.specs.Reader.{conf_in}
 use Rattle.text_values.specs.Steps.{◌>>=◌}
-use Rattle.conf_values.specs.declared.refusal.ConfRefusal.{ConfRefusal}
-use Rattle.conf_values.specs.declared.refusal.ConfRefusal.TheVariants as conf_fault
+use Rattle.text_values.specs.declared.conf_refusal.ConfRefusal.{ConfRefusal}
+use Rattle.text_values.specs.declared.conf_refusal.ConfRefusal.TheVariants as conf_fault
 use Rattle.ctl_state.specs.State.{State, opening}
 use Rattle.cluster_opening.specs.declared.refusal.ClusterRefusal.{ClusterRefusal}
-use Rattle.cluster_opening.specs.declared.refusal.ClusterRefusal.TheVariants.{BadConf, BadAssocs, Memory}
+use Rattle.cluster_opening.specs.declared.refusal.BadFile.TheVariants as bad_file
+use Rattle.cluster_opening.specs.declared.refusal.ClusterRefusal.TheVariants.{Bad, Memory}
 
 -- why slurm.conf gives no cluster
 abbrev pub of_conf : ConfRefusal → ClusterRefusal
-of_conf (conf_fault.At line kind) = BadConf line kind
+of_conf (conf_fault.At line kind) = Bad (bad_file.Conf line kind)
 of_conf conf_fault.Memory = Memory
 
 -- why the association file gives none
 abbrev pub of_assocs : AssocRefusal → ClusterRefusal
-of_assocs (assoc_fault.At line kind) = BadAssocs line kind
+of_assocs (assoc_fault.At line kind) = Bad (bad_file.Assocs line kind)
 of_assocs assoc_fault.Memory = Memory
 
 -- what slurm.conf says

@@ -4,13 +4,13 @@ use Rattle.slurm_io.specs.Faults.{CountsOne}
 use Rattle.slurm_io.specs.Shelf.{ShelfFile, bytes_named}
 use Rattle.ctl_state.specs.State.{State}
 use Rattle.ctl_desk.specs.Desk.{Seat}
-use Rattle.program_words.specs.Asked.{Named}
+use Rattle.plain_data.specs.Files.{Named}
 use Rattle.cluster_opening.specs.Restoring.{AreOpenedBy, OpensIn}
 use Rattle.cluster_opening.specs.declared.cluster_files.ClusterFiles.{ClusterFiles}
 use Rattle.cluster_opening.specs.declared.refusal.ClusterRefusal.{ClusterRefusal}
 use Rattle.cluster_opening.specs.declared.refusal.ClusterRefusal.TheVariants as cluster
 use Rattle.cluster_opening.specs.declared.opening.OpenRefusal.{OpenRefusal}
-use Rattle.cluster_opening.specs.declared.opening.OpenRefusal.TheVariants.{NoFile, BadConf, BadAssocs, BadState, Memory}
+use Rattle.cluster_opening.specs.declared.opening.OpenRefusal.TheVariants.{NoFile, Bad, Memory}
 
 -- where the files are told, there is one of this name, and these are its first bytes, so many at the most
 abbrev pub IsFrontOf : Option (List ShelfFile) → List ℕ → ℕ → List ℕ → Type 0
@@ -41,15 +41,16 @@ pub record Opens (told : Option (List ShelfFile)) (named : Named) (opened : Resu
   pub is_state : IsTextIf told named.state state
   pub is_opened : AreOpenedBy conf assocs state opened
 
+-- why no cluster was opened, where its files were read
+abbrev pub of_cluster : ClusterRefusal → OpenRefusal
+of_cluster (cluster.Bad bad) = Bad bad
+of_cluster cluster.Memory = Memory
+
 -- Why the files of these names open no cluster, where the shelf tells these files, by its count of faults before and
 -- after: a read of one of them failed; or one of them is refused; or memory was wanting.
 abbrev pub IsUnopened : Option (List ShelfFile) → Named → ℕ → ℕ → OpenRefusal → Type 0
 IsUnopened told named before after NoFile = CountsOne before after
-IsUnopened told named before after (BadConf line kind) =
-    Opens told named (Err (cluster.BadConf line kind)) × (after ≡ before)
-IsUnopened told named before after (BadAssocs line kind) =
-    Opens told named (Err (cluster.BadAssocs line kind)) × (after ≡ before)
-IsUnopened told named before after (BadState line) = Opens told named (Err (cluster.BadState line)) × (after ≡ before)
+IsUnopened told named before after (Bad bad) = Opens told named (Err (cluster.Bad bad)) × (after ≡ before)
 IsUnopened told named before after Memory = after ≡ before
 
 -- what becomes of opening the cluster of the files of these names: the state that they open it in is that of the files

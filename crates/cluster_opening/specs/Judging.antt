@@ -4,8 +4,9 @@ use Rattle.saved_data.specs.declared.saved.Saved.{Saved}
 use Rattle.ctl_state.specs.State.{State}
 use Rattle.cluster_opening.specs.Restoring.{AreOpenedBy, IsSavedText, OpensIn}
 use Rattle.cluster_opening.specs.declared.files.Files.{Files}
+use Rattle.cluster_opening.specs.declared.refusal.BadFile.TheVariants as bad_file
 use Rattle.cluster_opening.specs.declared.refusal.ClusterRefusal.{ClusterRefusal}
-use Rattle.cluster_opening.specs.declared.refusal.ClusterRefusal.TheVariants.{Memory}
+use Rattle.cluster_opening.specs.declared.refusal.ClusterRefusal.TheVariants.{Bad, Memory}
 
 -- the bytes that were read, if any
 abbrev pub bytes_read : {Z : Type 0} → Option (Vec ℕ Z) → Option (List ℕ)
@@ -17,6 +18,12 @@ abbrev pub IsTextRead : {Z : Type 0} → Option (Vec ℕ Z) → Option Saved →
 IsTextRead None saved = saved ≡ None
 IsTextRead (Some bytes) saved = IsSomeAnd saved (λ one. IsSavedText bytes.items one)
 
+-- the refusal is that of a line of the saved state of which this holds, or want of memory
+abbrev pub IsOfState : ClusterRefusal → (ℕ → Type 0) → Type 0
+IsOfState (Bad (bad_file.State line)) holds = holds line
+IsOfState Memory holds = Unit {0}
+IsOfState refusal holds = ⊥
+
 -- what the texts open
 abbrev pub AreOpened : Files → Result State ClusterRefusal → Type 0
 AreOpened files opened = AreOpenedBy files.conf.items files.assocs.items (bytes_read files.state) opened
@@ -27,4 +34,4 @@ abbrev pub IsJudged : Files → Result (Option Saved) ClusterRefusal → Type 0
 IsJudged files (Ok saved) =
     (s : State) × AreOpened files (Ok s) × OpensIn (record { conf = files.conf; assocs = files.assocs; saved = saved }) s
 IsJudged files (Err Memory) = Unit {0}
-IsJudged files (Err refusal) = AreOpened files (Err refusal)
+IsJudged files (Err (Bad bad)) = AreOpened files (Err (Bad bad))

@@ -11,8 +11,9 @@ use Rattle.ctl_restore.specs.Fits.{Fits, IsRestored}
 use Rattle.ctl_state.specs.State.{State, opening}
 use Rattle.cluster_opening.specs.Cluster.{cluster_in}
 use Rattle.cluster_opening.specs.declared.cluster_files.ClusterFiles.{ClusterFiles}
+use Rattle.cluster_opening.specs.declared.refusal.BadFile.TheVariants as bad_file
 use Rattle.cluster_opening.specs.declared.refusal.ClusterRefusal.{ClusterRefusal}
-use Rattle.cluster_opening.specs.declared.refusal.ClusterRefusal.TheVariants.{BadState}
+use Rattle.cluster_opening.specs.declared.refusal.ClusterRefusal.TheVariants.{Bad}
 
 -- This is the text of a saved state, and no longer than one may be.
 pub record IsSavedText (text : List ℕ) (saved : Saved) : Type 0 where
@@ -33,7 +34,7 @@ IsUnfit conf assocs text line =
 -- What comes of a text of a saved state, over what both files say: the state restored of it, or the line of its refusal.
 abbrev pub Restores : ConfView → AssocView → List ℕ → Result State ClusterRefusal → Type 0
 Restores conf assocs text (Ok s) = (saved : Saved) × IsSavedText text saved × IsRestored conf assocs saved s
-Restores conf assocs text (Err (BadState line)) = IsBadAt text line ⊎ IsUnfit conf assocs text line
+Restores conf assocs text (Err (Bad (bad_file.State line))) = IsBadAt text line ⊎ IsUnfit conf assocs text line
 Restores conf assocs text (Err refusal) = ⊥
 
 -- what comes of what both files say, and of the text of a saved state, where there is one

@@ -1,17 +1,14 @@
 //! The cluster of the two files, before any request.
 
 ghost use Rattle.std.specs.Prelude.{◌≡◌, ℕ, [], IfOk, IsErrOf, Ok, Err};
-ghost use Rattle.assoc_reader.specs.declared.refusal.AssocKind.{AssocKind};
-ghost use Rattle.conf_values.specs.declared.refusal.ConfKind.{ConfKind};
 ghost use Rattle.ctl_state.specs.State.{State};
 ghost use Rattle.ctl_state.specs.Soundness.{IsSound};
 ghost use Rattle.cluster_opening.specs.Cluster.{cluster_in, opening_in};
+ghost use Rattle.cluster_opening.specs.declared.refusal.BadFile.{BadFile};
 
 use crate::refusal::ClusterRefusal;
 use assoc_reader::read_assocs;
-use assoc_reader::refusal::AssocKind;
 use conf_reader::read_conf;
-use conf_reader::refusal::ConfKind;
 use ctl_core::controller::Ctl;
 use ctl_desk::book::Book;
 use ctl_desk::own_desk::{OwnDesk, own_desk};
@@ -27,11 +24,9 @@ pub(crate) fn read_both(
     assocs: &[u8],
 ) -> Result<(Conf, AssocFile), ClusterRefusal>
     ensures says { IfOk result (λ both. cluster_in conf.now assocs.now ≡ Ok (both.0, both.1)) }
-    ensures bad_conf { (line : ℕ) → (kind : ConfKind) → IsErrOf result (ClusterRefusal.BadConf line kind)
-        → cluster_in conf.now assocs.now ≡ Err (ClusterRefusal.BadConf line kind) }
-    ensures bad_assocs { (line : ℕ) → (kind : AssocKind) → IsErrOf result (ClusterRefusal.BadAssocs line kind)
-        → cluster_in conf.now assocs.now ≡ Err (ClusterRefusal.BadAssocs line kind) }
-    ensures no_state { (line : ℕ) → IsErrOf result (ClusterRefusal.BadState line) → ⊥ }
+    ensures bad { (bad : BadFile) → IsErrOf result (ClusterRefusal.Bad bad)
+        → cluster_in conf.now assocs.now ≡ Err (ClusterRefusal.Bad bad) }
+    ensures no_state { (line : ℕ) → IsErrOf result (ClusterRefusal.Bad (BadFile.State line)) → ⊥ }
 {
     let conf = read_conf(alloc, conf)?;
     let assocs = read_assocs(alloc, assocs)?;
@@ -43,11 +38,9 @@ pub(crate) fn read_both(
 fn new_controller(alloc: Global, conf: &[u8], assocs: &[u8]) -> Result<Ctl, ClusterRefusal>
     ensures opening { IfOk result (λ ctl. opening_in conf.now assocs.now ≡ Ok ctl.state) }
     ensures sound { IfOk result (λ ctl. IsSound ctl.state) }
-    ensures bad_conf { (line : ℕ) → (kind : ConfKind) → IsErrOf result (ClusterRefusal.BadConf line kind)
-        → opening_in conf.now assocs.now ≡ Err (ClusterRefusal.BadConf line kind) }
-    ensures bad_assocs { (line : ℕ) → (kind : AssocKind) → IsErrOf result (ClusterRefusal.BadAssocs line kind)
-        → opening_in conf.now assocs.now ≡ Err (ClusterRefusal.BadAssocs line kind) }
-    ensures no_state { (line : ℕ) → IsErrOf result (ClusterRefusal.BadState line) → ⊥ }
+    ensures bad { (bad : BadFile) → IsErrOf result (ClusterRefusal.Bad bad)
+        → opening_in conf.now assocs.now ≡ Err (ClusterRefusal.Bad bad) }
+    ensures no_state { (line : ℕ) → IsErrOf result (ClusterRefusal.Bad (BadFile.State line)) → ⊥ }
 {
     let (conf, assocs) = read_both(alloc, conf, assocs)?;
     let ctl = Ctl::new(alloc, conf, assocs)?;
@@ -59,11 +52,9 @@ fn new_controller(alloc: Global, conf: &[u8], assocs: &[u8]) -> Result<Ctl, Clus
 pub fn open_desk(alloc: Global, conf: &[u8], assocs: &[u8]) -> Result<OwnDesk, ClusterRefusal>
     ensures fresh { IfOk result (λ desk. (s : State) × (opening_in conf.now assocs.now ≡ Ok s)
         × (desk ≡ record { opening = s; before = []; since = [] })) }
-    ensures bad_conf { (line : ℕ) → (kind : ConfKind) → IsErrOf result (ClusterRefusal.BadConf line kind)
-        → opening_in conf.now assocs.now ≡ Err (ClusterRefusal.BadConf line kind) }
-    ensures bad_assocs { (line : ℕ) → (kind : AssocKind) → IsErrOf result (ClusterRefusal.BadAssocs line kind)
-        → opening_in conf.now assocs.now ≡ Err (ClusterRefusal.BadAssocs line kind) }
-    ensures no_state { (line : ℕ) → IsErrOf result (ClusterRefusal.BadState line) → ⊥ }
+    ensures bad { (bad : BadFile) → IsErrOf result (ClusterRefusal.Bad bad)
+        → opening_in conf.now assocs.now ≡ Err (ClusterRefusal.Bad bad) }
+    ensures no_state { (line : ℕ) → IsErrOf result (ClusterRefusal.Bad (BadFile.State line)) → ⊥ }
 {
     let ctl = new_controller(alloc, conf, assocs)?;
     match new_controller(alloc, conf, assocs) {

@@ -1,8 +1,6 @@
 //! Good files of a cluster, and the controllers that they open.
 
 ghost use Rattle.std.specs.Prelude.{◌≡◌, ℕ, [], IfOk, IsErrOf, None, Ok, Err};
-ghost use Rattle.assoc_reader.specs.declared.refusal.AssocKind.{AssocKind};
-ghost use Rattle.conf_values.specs.declared.refusal.ConfKind.{ConfKind};
 ghost use Rattle.ctl_restore.specs.declared.refusal.RestoreRefusal.{RestoreRefusal as OneRefusal};
 ghost use Rattle.ctl_state.specs.State.{State};
 ghost use Rattle.cluster_opening.specs.Files.{fresh};
@@ -58,7 +56,7 @@ pub fn controller(alloc: Global, files: &ClusterFiles) -> Result<Ctl, Memory>
     let (conf, assocs) = match read_both(alloc, files.conf.as_slice(), files.assocs.as_slice()) {
         Ok(both) => both,
         Err(ClusterRefusal::Memory) => return Err(Memory),
-        Err(_) => unreachable!(),
+        Err(ClusterRefusal::Bad(_bad)) => unreachable!(),
     };
     match begin(alloc, conf, assocs, &files.saved) {
         Ok(ctl) => Ok(ctl),

@@ -2,11 +2,11 @@
 
 ghost use Rattle.std.specs.Prelude.{◌≡◌, IfOk};
 ghost use Rattle.slurm_io.specs.ShelfRefusal.{CountsReading};
-ghost use Rattle.program_words.specs.Words.{text_of};
+ghost use Rattle.plain_data.specs.Files.{text_of};
 ghost use Rattle.cluster_opening.specs.Files.{IsFrontIf, IsFrontOf};
 ghost use Rattle.cluster_opening.specs.Judging.{bytes_read};
 
-use program_words::FileNames;
+use plain_data::files::FileNames;
 use slurm_io::{Shelf, ShelfRefusal, read_file};
 use std::alloc::Global;
 

@@ -1,18 +1,16 @@
 //! Whether files open a cluster.
 
-ghost use Rattle.std.specs.Prelude.{◌≡◌, ℕ, List, Option, None, Some, IfOk, IfErr, IsErrOf, IsSomeAnd, OnOk, Ok, Err};
-ghost use Rattle.assoc_reader.specs.declared.refusal.AssocKind.{AssocKind};
-ghost use Rattle.conf_values.specs.declared.refusal.ConfKind.{ConfKind};
+ghost use Rattle.std.specs.Prelude.{◌≡◌, ℕ, List, Option, None, Some, IfOk, IfErr, IsSomeAnd, OnOk, Ok, Err};
 ghost use Rattle.plain_data.specs.Assocs.{AssocView};
 ghost use Rattle.plain_data.specs.Confs.{ConfView};
 ghost use Rattle.ctl_state.specs.State.{State};
 ghost use Rattle.cluster_opening.specs.Restoring.{IsBadAt, IsBegun, IsSavedText};
-ghost use Rattle.cluster_opening.specs.Judging.{IsJudged, IsTextRead};
+ghost use Rattle.cluster_opening.specs.Judging.{IsJudged, IsOfState, IsTextRead};
 
 use crate::cluster::read_both;
 use crate::cluster_files::begin;
 use crate::files::Files;
-use crate::refusal::ClusterRefusal;
+use crate::refusal::{BadFile, ClusterRefusal};
 use ctl_restore::RestoreRefusal;
 use plain_data::assoc::AssocFile;
 use plain_data::conf::Conf;
@@ -23,13 +21,11 @@ use std::alloc::Global;
 // The saved state of a text.
 fn read_text(alloc: Global, text: &[u8]) -> Result<Saved, ClusterRefusal>
     ensures text { IfOk result (IsSavedText text.now) }
-    ensures bad { (line : ℕ) → IsErrOf result (ClusterRefusal.BadState line) → IsBadAt text.now line }
-    ensures no_conf { (line : ℕ) → (kind : ConfKind) → IsErrOf result (ClusterRefusal.BadConf line kind) → ⊥ }
-    ensures no_assocs { (line : ℕ) → (kind : AssocKind) → IsErrOf result (ClusterRefusal.BadAssocs line kind) → ⊥ }
+    ensures bad { IfErr result (λ refusal. IsOfState refusal (λ line. IsBadAt text.now line)) }
 {
     match read_saved(alloc, text) {
         Ok(saved) => Ok(saved),
-        Err(SavedRefusal::BadSaved { line }) => Err(ClusterRefusal::BadState { line }),
+        Err(SavedRefusal::BadSaved { line }) => Err(ClusterRefusal::Bad(BadFile::State { line })),
         Err(SavedRefusal::Memory) => Err(ClusterRefusal::Memory),
     }
 }
@@ -37,10 +33,8 @@ fn read_text(alloc: Global, text: &[u8]) -> Result<Saved, ClusterRefusal>
 // The saved state of a text, where there is one.
 fn read_state(alloc: Global, text: &Option<Vec<u8>>) -> Result<Option<Saved>, ClusterRefusal>
     ensures text { IfOk result (IsTextRead text.now) }
-    ensures bad { (line : ℕ) → IsErrOf result (ClusterRefusal.BadState line)
-        → IsSomeAnd text.now (λ bytes. IsBadAt bytes.items line) }
-    ensures no_conf { (line : ℕ) → (kind : ConfKind) → IsErrOf result (ClusterRefusal.BadConf line kind) → ⊥ }
-    ensures no_assocs { (line : ℕ) → (kind : AssocKind) → IsErrOf result (ClusterRefusal.BadAssocs line kind) → ⊥ }
+    ensures bad { IfErr result (λ refusal.
+        IsOfState refusal (λ line. IsSomeAnd text.now (λ bytes. IsBadAt bytes.items line))) }
 {
     match text {
         Some(text) => match read_text(alloc, text.as_slice()) {
@@ -59,17 +53,15 @@ fn fits(
     saved: &Option<Saved>,
 ) -> Result<(), ClusterRefusal>
     ensures fits { OnOk result ((s : State) × IsBegun conf assocs saved.now s) }
-    ensures unfit { (line : ℕ) → IsErrOf result (ClusterRefusal.BadState line)
-        → (line ≡ 0) × ((s : State) → IsBegun conf assocs saved.now s → ⊥) }
-    ensures no_conf { (line : ℕ) → (kind : ConfKind) → IsErrOf result (ClusterRefusal.BadConf line kind) → ⊥ }
-    ensures no_assocs { (line : ℕ) → (kind : AssocKind) → IsErrOf result (ClusterRefusal.BadAssocs line kind) → ⊥ }
+    ensures unfit { IfErr result (λ refusal.
+        IsOfState refusal (λ line. (line ≡ 0) × ((s : State) → IsBegun conf assocs saved.now s → ⊥))) }
 {
     match begin(alloc, conf, assocs, saved) {
         Ok(ctl) => {
             ctl.let_go();
             Ok(())
         }
-        Err(RestoreRefusal::Unfit) => Err(ClusterRefusal::BadState { line: 0 }),
+        Err(RestoreRefusal::Unfit) => Err(ClusterRefusal::Bad(BadFile::State { line: 0 })),
         Err(RestoreRefusal::Memory) => Err(ClusterRefusal::Memory),
     }
 }

@@ -2,7 +2,7 @@
 
 ghost use Rattle.std.specs.Prelude.{◌≡◌, List, Some, Result};
 ghost use Rattle.ctl_state.specs.State.{State};
-ghost use Rattle.program_words.specs.Asked.{Named};
+ghost use Rattle.plain_data.specs.Files.{Named};
 ghost use Rattle.slurm_io.specs.Shelf.{ShelfFile};
 ghost use Rattle.cluster_opening.specs.Files.{Opens};
 ghost use Rattle.cluster_opening.specs.declared.refusal.ClusterRefusal.{ClusterRefusal as OneRefusal};

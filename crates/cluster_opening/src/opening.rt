@@ -2,16 +2,14 @@
 
 ghost use Rattle.std.specs.Prelude.{◌≡◌};
 ghost use Rattle.cluster_opening.specs.Files.{IsOpening, IsSeating};
-ghost use Rattle.program_words.specs.Words.{named_by};
+ghost use Rattle.plain_data.specs.Files.{named_by};
 
 use crate::cluster_files::{ClusterFiles, desk};
 use crate::files::{Files, read_files};
 use crate::judging::judge;
-use crate::refusal::ClusterRefusal;
-use assoc_reader::refusal::AssocKind;
-use conf_reader::refusal::ConfKind;
+use crate::refusal::{BadFile, ClusterRefusal};
 use ctl_desk::own_desk::OwnDesk;
-use program_words::FileNames;
+use plain_data::files::FileNames;
 use saved_data::saved::Saved;
 use slurm_io::{Shelf, ShelfRefusal};
 use small_texts::memory_error::Memory;
@@ -22,13 +20,22 @@ use std::alloc::Global;
 pub enum OpenRefusal {
     /// A read of one of the files failed.
     NoFile,
-    /// A line of slurm.conf(5) is bad; 0 is the file as a whole.
-    BadConf { line: u32, kind: ConfKind },
-    /// A line of the association file is bad, sacctmgr(1); 0 is the file as a whole.
-    BadAssocs { line: u32, kind: AssocKind },
-    /// A line of the saved state is bad; 0 is that it is too long, or isn't that of this cluster.
-    BadState { line: u32 },
+    Bad(BadFile),
     Memory,
+}
+
+impl From<ClusterRefusal> for OpenRefusal {
+    ghost use Rattle.std.specs.Prelude.{◌≡◌};
+    ghost use Rattle.cluster_opening.specs.Files.{of_cluster};
+
+    ghost from_gives = { λ refusal e. e ≡ of_cluster refusal };
+
+    fn from(refusal: ClusterRefusal) -> OpenRefusal {
+        match refusal {
+            ClusterRefusal::Bad(bad) => OpenRefusal::Bad(bad),
+            ClusterRefusal::Memory => OpenRefusal::Memory,
+        }
+    }
 }
 
 // The files of a cluster, of which the saved state was read.
@@ -64,10 +71,7 @@ pub fn open_files<Q: Shelf>(
     };
     match judge(alloc, &files) {
         Ok(saved) => Ok(with_state(files, saved)),
-        Err(ClusterRefusal::BadConf { line, kind }) => Err(OpenRefusal::BadConf { line, kind }),
-        Err(ClusterRefusal::BadAssocs { line, kind }) => Err(OpenRefusal::BadAssocs { line, kind }),
-        Err(ClusterRefusal::BadState { line }) => Err(OpenRefusal::BadState { line }),
-        Err(ClusterRefusal::Memory) => Err(OpenRefusal::Memory),
+        Err(refusal) => Err(OpenRefusal::from(refusal)),
     }
 }
 

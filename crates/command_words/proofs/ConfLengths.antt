@@ -2,9 +2,9 @@
 use Rattle.std.proofs.Common.{◌≡◌, ◌<◌, ◌^◌, ℕ, Bool, true, false, nat_lt, if◌then◌else◌, List, length, Result, Ok, Err, refl, arith}
 use Rattle.std.proofs.lemmas.Bool.Decides.{nat_tests}
 use Rattle.plain_data.specs.Confs.{ConfView}
-use Rattle.conf_values.specs.declared.refusal.ConfKind.TheVariants.{OverLimit}
-use Rattle.conf_values.specs.declared.refusal.ConfRefusal.{ConfRefusal}
-use Rattle.conf_values.specs.declared.refusal.ConfRefusal.TheVariants.{At}
+use Rattle.text_values.specs.declared.conf_refusal.ConfKind.TheVariants.{OverLimit}
+use Rattle.text_values.specs.declared.conf_refusal.ConfRefusal.{ConfRefusal}
+use Rattle.text_values.specs.declared.conf_refusal.ConfRefusal.TheVariants.{At}
 use Rattle.conf_reader.specs.Reader.{conf_in}
 
 -- a longer text than 1 MiB says none

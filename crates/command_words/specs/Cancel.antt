@@ -6,8 +6,8 @@ use Rattle.operands.specs.BadWord.{bad, at_word, good, given}
 use Rattle.text_values.specs.Names.{name_in}
 use Rattle.operands.specs.Targets.{target_by}
 use Rattle.operands.specs.declared.bad_word.BadWord.{BadWord}
-use Rattle.option_words.specs.Arguments.{Part, Table, plain, bad as off, flag, valued, lacking, parts_left}
-use Rattle.option_words.specs.declared.refusal.WordKind.TheVariants.{MissingValue, MissingWord, StrayWord}
+use Rattle.text_values.specs.Arguments.{Part, Table, plain, bad as off, flag, valued, lacking, parts_left}
+use Rattle.text_values.specs.declared.word_refusal.WordKind.TheVariants.{MissingValue, MissingWord, StrayWord}
 use Rattle.request_data.specs.declared.target.Target.{Target}
 use Rattle.request_data.specs.declared.target.Targets.{Targets}
 use Rattle.request_data.specs.declared.target.Targets.TheVariants.{List as Listed, User}

@@ -5,15 +5,15 @@ use Rattle.operands.specs.BadWord.{bad, at_word, good, given}
 use Rattle.text_values.specs.Names.{name_in}
 use Rattle.operands.specs.Targets.{states_by, targets_by}
 use Rattle.operands.specs.declared.bad_word.BadWord.{BadWord}
-use Rattle.option_words.specs.Arguments.{Part, Table, plain, bad as off, flag, valued, lacking, parts_left}
-use Rattle.option_words.specs.declared.refusal.WordKind.{WordKind}
-use Rattle.option_words.specs.declared.refusal.WordKind.TheVariants.{MissingValue, BadValue, StrayWord, TooLong}
+use Rattle.text_values.specs.Arguments.{Part, Table, plain, bad as off, flag, valued, lacking, parts_left}
+use Rattle.text_values.specs.declared.word_refusal.WordKind.{WordKind}
+use Rattle.text_values.specs.declared.word_refusal.WordKind.TheVariants.{MissingValue, BadValue, StrayWord, TooLong}
 use Rattle.request_data.specs.declared.query.JobQuery.{JobQuery}
 use Rattle.request_data.specs.declared.query.Piece.{Piece}
 use Rattle.request_data.specs.declared.query.Query.{Query}
 use Rattle.request_data.specs.declared.query.Query.TheVariants.{Squeue, Sinfo, Sprio}
 use Rattle.request_data.specs.declared.query.Who.TheVariants.{Anyone, Asker, User}
-use Rattle.squeue_format.specs.Format.{format_in}
+use Rattle.operands.specs.Format.{format_in}
 use Rattle.command_words.specs.declared.queries.TheConstants.{SQUEUE_OPTIONS, SINFO_OPTIONS, SPRIO_OPTIONS}
 use Rattle.command_words.specs.declared.queries.QueryFlag.{QueryFlag}
 use Rattle.command_words.specs.declared.queries.QueryFlag.TheVariants.{NoHeader, Start, Me}

@@ -2,12 +2,12 @@
 use Rattle.std.specs.Prelude.{ℕ, Bool, false, List, length, slice_get, codes, bytes_eq, Result, Ok, Err}
 use Rattle.std.specs.Option.{option_map_or}
 use Rattle.plain_data.specs.Confs.{ConfView}
-use Rattle.conf_values.specs.declared.refusal.ConfRefusal.{ConfRefusal}
-use Rattle.conf_values.specs.declared.refusal.ConfRefusal.TheVariants.{At, Memory}
+use Rattle.text_values.specs.declared.conf_refusal.ConfRefusal.{ConfRefusal}
+use Rattle.text_values.specs.declared.conf_refusal.ConfRefusal.TheVariants.{At, Memory}
 use Rattle.conf_reader.specs.Reader.{conf_in}
 use Rattle.operands.specs.Operands.{closed_at}
 use Rattle.operands.specs.declared.bad_word.BadWord.{BadWord}
-use Rattle.option_words.specs.declared.refusal.WordKind.TheVariants.{MissingWord}
+use Rattle.text_values.specs.declared.word_refusal.WordKind.TheVariants.{MissingWord}
 use Rattle.request_data.specs.declared.request.Request.{Request}
 use Rattle.request_data.specs.declared.request.Request.TheVariants.{Reconfigure}
 use Rattle.command_words.specs.declared.fault.WordFault.{WordFault}

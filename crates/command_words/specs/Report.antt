@@ -7,8 +7,8 @@ use Rattle.text_values.specs.Names.{name_in}
 use Rattle.operands.specs.Operands.{value_at}
 use Rattle.operands.specs.Pairs.{pairs_say}
 use Rattle.operands.specs.declared.bad_word.BadWord.{BadWord}
-use Rattle.option_words.specs.declared.refusal.WordKind.{WordKind}
-use Rattle.option_words.specs.declared.refusal.WordKind.TheVariants.{UnknownOption}
+use Rattle.text_values.specs.declared.word_refusal.WordKind.{WordKind}
+use Rattle.text_values.specs.declared.word_refusal.WordKind.TheVariants.{UnknownOption}
 use Rattle.request_data.specs.declared.report.Report.{Report}
 use Rattle.operands.specs.Starts.{starts_by, dones_by}
 use Rattle.command_words.specs.declared.report.Named.{Named}

@@ -6,7 +6,7 @@ use Rattle.sbatch_reader.specs.declared.refusal.JobRefusal.TheVariants.{BadWord,
 use Rattle.plain_data.specs.declared.job.JobDesc.{JobDesc}
 use Rattle.request_data.specs.declared.request.Request.{Request}
 use Rattle.request_data.specs.declared.request.Request.TheVariants.{Submit}
-use Rattle.option_words.specs.declared.refusal.WordKind.TheVariants.{MissingWord}
+use Rattle.text_values.specs.declared.word_refusal.WordKind.TheVariants.{MissingWord}
 use Rattle.command_words.specs.declared.fault.WordFault.{WordFault}
 use Rattle.command_words.specs.declared.fault.WordFault.TheVariants.{Word, Line}
 

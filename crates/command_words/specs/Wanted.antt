@@ -3,7 +3,7 @@ use Rattle.std.specs.Prelude.{ℕ, if◌then◌else◌, List, Option, Some, None
 use Rattle.operands.specs.BadWord.{bad, given}
 use Rattle.operands.specs.Operands.{closed_at}
 use Rattle.operands.specs.declared.bad_word.BadWord.{BadWord}
-use Rattle.option_words.specs.declared.refusal.WordKind.TheVariants.{StrayWord}
+use Rattle.text_values.specs.declared.word_refusal.WordKind.TheVariants.{StrayWord}
 use Rattle.scontrol_words.specs.Scontrol.{scontrol_by}
 use Rattle.request_data.specs.declared.request.Request.{Request}
 use Rattle.request_data.specs.declared.request.Request.TheVariants.{Cancel, Report, Pass, Show}

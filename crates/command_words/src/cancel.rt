@@ -1,20 +1,20 @@
 //! The words of scancel(1).
 
 ghost use Rattle.std.specs.Prelude.{◌≡◌, IfOk};
-ghost use Rattle.option_words.specs.Arguments.{part_of, rows};
+ghost use Rattle.text_values.specs.Arguments.{part_of, rows};
 ghost use Rattle.command_words.specs.Cancel.{cancel_parts, cancel_words, is_user, names_user, said_by, nothing_said, scancel_by, scancel_options};
 
 use line_words::words::Words;
 use operands::bad_word::{BadWord, WordKind, fault_at, fault_of};
 use operands::names::read_name;
 use operands::targets::read_target;
-use option_words::arguments::Takes::{self, Value};
-use option_words::arguments::{Argument, Cursor, next_argument};
 use plain_data::items::Items;
 use request_data::target::{Target, Targets};
 use small_texts::memory_error::Memory;
 use small_texts::name::Name;
 use std::alloc::Global;
+use text_values::arguments::Takes::{self, Value};
+use text_values::arguments::{Argument, Cursor, next_argument};
 
 /// There is no option that stands without a value.
 #[derive(Clone, Copy)]
@@ -42,7 +42,7 @@ pub(crate) struct CancelWords {
 
 impl CancelWords {
     ghost use Rattle.std.specs.Prelude.{◌≡◌, ◌+◌, [], ◌∷◌, ◌++◌, IfOk};
-    ghost use Rattle.option_words.specs.Arguments.{part_of};
+    ghost use Rattle.text_values.specs.Arguments.{part_of};
     ghost use Rattle.command_words.specs.Cancel.{targets_of, with_part, with_target, with_user};
 
     // With what an argument says on top, or what is wrong with it. Where a user is named, no target may be.

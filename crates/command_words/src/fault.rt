@@ -1,7 +1,7 @@
 //! What is wrong with a command.
 
-use conf_values::refusal::ConfKind;
-pub use option_words::refusal::WordKind;
+use text_values::conf_refusal::ConfKind;
+pub use text_values::word_refusal::WordKind;
 
 /// The first bad place of a command or of what is attached to it, and what is wrong there. All count from 1; word 1 is
 /// the command's name.

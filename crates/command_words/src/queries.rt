@@ -1,23 +1,24 @@
 //! The options of squeue(1), sinfo(1) and sprio(1).
 
 ghost use Rattle.std.specs.Prelude.{◌≡◌, Some, IfOk};
-ghost use Rattle.option_words.specs.Arguments.{part_of, rows};
+ghost use Rattle.text_values.specs.Arguments.{part_of, rows};
 ghost use Rattle.command_words.specs.declared.queries.QueryOption.TheVariants as option;
 ghost use Rattle.command_words.specs.Queries.{entry_of, flag_entry, format_by, unless_long, nothing_said, query_words, squeue_options, sinfo_options, sprio_options, squeue_by, sinfo_by, sprio_by, value_of, with_entry};
 
 use line_words::words::Words;
 use operands::bad_word::{BadWord, WordKind, at_word, fault_at, fault_of};
+use operands::format::{FormatRefusal, read_format};
 use operands::names::read_name;
 use operands::targets::{read_states, read_targets};
-use option_words::arguments::Takes::{self, Nothing, Value};
-use option_words::arguments::{Argument, Cursor, next_argument};
 use plain_data::items::Items;
+use request_data::boxed::Boxed;
 use request_data::query::{JobQuery, Piece, Query, StateCode, Who};
 use request_data::target::Target;
 use small_texts::memory_error::Memory;
 use small_texts::name::Name;
-use squeue_format::format::{FormatRefusal, read_format};
 use std::alloc::Global;
+use text_values::arguments::Takes::{self, Nothing, Value};
+use text_values::arguments::{Argument, Cursor, next_argument};
 
 // A longer format isn't taken.
 const LONGEST_FORMAT: usize = 1024;
@@ -261,7 +262,7 @@ pub(crate) fn read_squeue(alloc: Global, words: &Words) -> Result<Result<Query, 
     ensures { IfOk result (λ query. query ≡ squeue_by words.now) }
 {
     match squeue_words(alloc, words)? {
-        Ok(said) => Ok(Ok(Query::Squeue(said))),
+        Ok(said) => Ok(Ok(Query::Squeue(Boxed::new(alloc, said)?))),
         Err(fault) => Ok(Err(fault)),
     }
 }

@@ -5,14 +5,15 @@ ghost use Rattle.command_words.specs.Reconfigure.{by_words, is_reconfigure, reco
 
 use crate::fault::WordFault;
 use conf_reader::read_conf;
-use conf_values::refusal::ConfRefusal;
 use line_words::words::Words;
 use operands::bad_word::BadWord;
 use operands::operand::closed_at;
 use plain_data::conf::Conf;
+use request_data::boxed::Boxed;
 use request_data::request::Request;
 use small_texts::memory_error::Memory;
 use std::alloc::Global;
+use text_values::conf_refusal::ConfRefusal;
 
 /// Whether the second word is `reconfigure`.
 pub fn is_reconfigure(words: &Words) -> bool
@@ -42,10 +43,16 @@ fn bytes_of(text: &[u8]) -> u32
     text.len() as u32
 }
 
-fn with_conf(words: &Words, bytes: u32, conf: Conf) -> Result<Request, WordFault>
-    ensures { result ≡ reconfiguring words.now bytes (Ok conf) }
+fn with_conf(
+    alloc: Global,
+    words: &Words,
+    bytes: u32,
+    conf: Conf,
+) -> Result<Result<Request, WordFault>, Memory>
+    ensures { IfOk result (λ asked. asked ≡ reconfiguring words.now bytes (Ok conf)) }
 {
-    by_words(closed_at(words, 2, Request::Reconfigure { conf, bytes }))
+    let conf = Boxed::new(alloc, conf)?;
+    Ok(by_words(closed_at(words, 2, Request::Reconfigure { conf, bytes })))
 }
 
 /// What these words, of which the second is `reconfigure`, want with the text of a configuration. Its cost is that of
@@ -59,7 +66,7 @@ pub(crate) fn read_reconfigure(
     ensures { IfOk result (λ asked. asked ≡ reconfigure_by words.now text.now) }
 {
     match read_conf(alloc, text) {
-        Ok(conf) => Ok(with_conf(words, bytes_of(text), conf)),
+        Ok(conf) => with_conf(alloc, words, bytes_of(text), conf),
         Err(ConfRefusal::At { line, kind }) => Ok(Err(WordFault::Conf { line, kind })),
         Err(ConfRefusal::Memory) => Err(Memory),
     }

@@ -5,6 +5,7 @@ ghost use Rattle.command_words.specs.Sbatch.{sbatch_by};
 
 use crate::fault::WordFault;
 use line_words::words::Words;
+use request_data::boxed::Boxed;
 use request_data::request::Request;
 use sbatch_reader::reader::read_job;
 use sbatch_reader::refusal::JobRefusal;
@@ -22,7 +23,7 @@ pub(crate) fn read_sbatch(
     ensures { IfOk result (λ asked. asked ≡ sbatch_by now words.now (option_copied script.entry)) }
 {
     match read_job(alloc, words, script, now) {
-        Ok(job) => Ok(Ok(Request::Submit(job))),
+        Ok(job) => Ok(Ok(Request::Submit(Boxed::new(alloc, job)?))),
         Err(JobRefusal::BadWord { word, kind }) => Ok(Err(WordFault::Word { word, kind })),
         Err(JobRefusal::BadLine { line, kind }) => Ok(Err(WordFault::Line { line, kind })),
         Err(JobRefusal::Memory) => Err(Memory),

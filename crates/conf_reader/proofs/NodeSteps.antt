@@ -8,11 +8,11 @@ use Rattle.std.specs.List.{list_any}
 use Rattle.plain_data.specs.Confs.{node_names}
 use Rattle.host_lists.specs.Hosts.{has}
 use Rattle.plain_data.specs.declared.conf.NodeConf.{NodeConf}
-use Rattle.conf_values.specs.Keys.{node_key}
+use Rattle.text_values.specs.Keys.{node_key}
 use Rattle.text_values.specs.Nodes.{nodes_in}
-use Rattle.conf_values.specs.declared.keys.NodeKey.{NodeKey}
-use Rattle.conf_values.specs.declared.keys.NodeKey.TheVariants as key
-use Rattle.conf_values.specs.declared.refusal.ConfKind.TheVariants.{TwiceNamed, OverLimit}
+use Rattle.text_values.specs.declared.keys.NodeKey.{NodeKey}
+use Rattle.text_values.specs.declared.keys.NodeKey.TheVariants as key
+use Rattle.text_values.specs.declared.conf_refusal.ConfKind.TheVariants.{TwiceNamed, OverLimit}
 use Rattle.conf_reader.specs.NodeLines.{node_name, node_entry, names_fault, entry_fault, node_word, with_entry}
 use Rattle.conf_reader.specs.NodeLines.{no_node_words, node_line, over, processors, node_conf, is_for_nodes, listed}
 use Rattle.conf_reader.specs.Reader.{with_nodes, after_node_line}

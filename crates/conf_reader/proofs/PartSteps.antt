@@ -5,12 +5,12 @@ use Rattle.std.proofs.lemmas.Bool.Decides.{nat_tests}
 use Rattle.std.proofs.lemmas.List.{map-append, length-append, length-map}
 use Rattle.std.proofs.lemmas.List.Elements.{All-push}
 use Rattle.host_lists.specs.Hosts.{has}
-use Rattle.conf_values.specs.Keys.{partition_key}
+use Rattle.text_values.specs.Keys.{partition_key}
 use Rattle.text_values.specs.Nodes.{nodes_in}
 use Rattle.text_values.specs.Tables.{is_word}
-use Rattle.conf_values.specs.declared.keys.PartitionKey.{PartitionKey}
-use Rattle.conf_values.specs.declared.keys.PartitionKey.TheVariants as key
-use Rattle.conf_values.specs.declared.refusal.ConfKind.TheVariants.{TwiceNamed, OverLimit}
+use Rattle.text_values.specs.declared.keys.PartitionKey.{PartitionKey}
+use Rattle.text_values.specs.declared.keys.PartitionKey.TheVariants as key
+use Rattle.text_values.specs.declared.conf_refusal.ConfKind.TheVariants.{TwiceNamed, OverLimit}
 use Rattle.conf_reader.specs.PartitionLines.{part_nodes, part_entry, partition_names, part_fault, part_word, with_part}
 use Rattle.conf_reader.specs.PartitionLines.{no_part_words, part_line, over, part_conf, line_by, line_of}
 use Rattle.conf_reader.specs.PartitionLines.{is_for_partitions}

@@ -5,8 +5,8 @@ use Rattle.std.proofs.lemmas.Str.{IsUtf8-from_is_utf8, is_utf8-from_IsUtf8}
 use Rattle.conf_reader.specs.Lines.{NumberedLine, lines_of_rest}
 use Rattle.conf_reader.specs.Reader.{after_line, after_lines}
 use Rattle.conf_reader.specs.declared.draft.Draft.{Draft}
-use Rattle.conf_values.specs.declared.refusal.ConfKind.{ConfKind}
-use Rattle.conf_values.specs.declared.refusal.ConfRefusal.TheVariants.{At}
+use Rattle.text_values.specs.declared.conf_refusal.ConfKind.{ConfKind}
+use Rattle.text_values.specs.declared.conf_refusal.ConfRefusal.TheVariants.{At}
 
 pub line_more : (draft next : Draft) (number : ℕ) (text : List ℕ) (here lines : List NumberedLine) → here ≡ record { number = number; text = text } ∷ lines → after_line draft number text ≡ Ok next → after_lines draft here ≡ after_lines next lines
 line_more draft next number text here lines cut good = rw (cut, good) refl

@@ -3,7 +3,7 @@ use Rattle.std.proofs.Common.{ℕ, ◌≡◌, List, [], ◌∷◌, map, fold, Re
 use Rattle.conf_reader.specs.LineWords.{words_in}
 use Rattle.text_values.specs.Steps.{◌>>=◌}
 use Rattle.conf_reader.specs.Words.{all_ok, said_by}
-use Rattle.conf_values.specs.declared.refusal.ConfKind.{ConfKind}
+use Rattle.text_values.specs.declared.conf_refusal.ConfKind.{ConfKind}
 
 module _ {K E : Type 0} (with_entry : K → E → K) (entry_of : List ℕ → Result E ConfKind) where
   pub said_more : (before : K) (line word behind : List ℕ) (entry : E) → words_in line ≡ word ∷ words_in behind → entry_of word ≡ Ok entry → said_by with_entry entry_of before line ≡ said_by with_entry entry_of (with_entry before entry) behind

@@ -4,8 +4,8 @@ use Rattle.std.proofs.lemmas.List.Elements.{All-nil}
 use Rattle.std.specs.Str.{is_utf8}
 use Rattle.conf_reader.specs.Lines.{NumberedLine}
 use Rattle.plain_data.specs.Confs.{node_names}
-use Rattle.conf_values.specs.declared.refusal.ConfKind.{ConfKind}
-use Rattle.conf_values.specs.declared.refusal.ConfKind.TheVariants.{NotUtf8}
+use Rattle.text_values.specs.declared.conf_refusal.ConfKind.{ConfKind}
+use Rattle.text_values.specs.declared.conf_refusal.ConfKind.TheVariants.{NotUtf8}
 use Rattle.conf_reader.specs.NodeLines.{node_line}
 use Rattle.conf_reader.specs.PartitionLines.{no_part_words, partition_names, part_line}
 use Rattle.conf_reader.specs.SettingLines.{setting_line}

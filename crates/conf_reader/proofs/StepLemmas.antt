@@ -7,8 +7,8 @@ use Rattle.conf_reader.specs.Pairs.{Pair, pair_in}
 use Rattle.conf_reader.specs.LineWords.{words_in}
 use Rattle.text_values.specs.Steps.{◌>>=◌}
 use Rattle.conf_reader.specs.Words.{entry_in, unless, all_ok, said_by}
-use Rattle.conf_values.specs.declared.refusal.ConfKind.{ConfKind}
-use Rattle.conf_values.specs.declared.refusal.ConfKind.TheVariants.{BadPair, UnknownKey, BadValue}
+use Rattle.text_values.specs.declared.conf_refusal.ConfKind.{ConfKind}
+use Rattle.text_values.specs.declared.conf_refusal.ConfKind.TheVariants.{BadPair, UnknownKey, BadValue}
 
 pub ok-then : {X Y E : Type 0} (r : Result X E) (f : X → Result Y E) (P : X → Type 0) (Q : Y → Type 0) → IfOk r P → ((x : X) → P x → IfOk (f x) Q) → IfOk (r >>= f) Q
 ok-then (Ok x) f P Q h so = so x h

@@ -20,8 +20,8 @@ use Rattle.conf_reader.specs.declared.draft.Draft.{Draft}
 use Rattle.conf_reader.specs.declared.partition_lines.PartLine.{PartLine}
 use Rattle.conf_reader.specs.declared.partition_lines.PartNodes.{PartNodes}
 use Rattle.conf_reader.specs.declared.partition_lines.PartNodes.TheVariants.{All as EachNode, Listed}
-use Rattle.conf_values.specs.declared.refusal.ConfKind.TheVariants.{NoPartition}
-use Rattle.conf_values.specs.declared.refusal.ConfRefusal.TheVariants.{At}
+use Rattle.text_values.specs.declared.conf_refusal.ConfKind.TheVariants.{NoPartition}
+use Rattle.text_values.specs.declared.conf_refusal.ConfRefusal.TheVariants.{At}
 use Rattle.conf_reader.proofs.OnceLemmas.{fails_at, pairs-unmapped}
 
 -- a name that is among names

@@ -4,25 +4,25 @@ use Rattle.std.specs.Prelude.{codes, Option, Some, None, option_map, unwrap_or, 
 use Rattle.std.specs.List.{list_any}
 use Rattle.std.specs.Option.{option_or}
 use Rattle.host_lists.specs.Hosts.{has}
-use Rattle.conf_values.specs.Keys.{node_key}
+use Rattle.text_values.specs.Keys.{node_key}
 use Rattle.text_values.specs.Steps.{◌>>=◌}
-use Rattle.conf_values.specs.Values.{node_start}
+use Rattle.text_values.specs.Values.{node_start}
 use Rattle.text_values.specs.Names.{names_in}
 use Rattle.text_values.specs.Nodes.{nodes_in}
 use Rattle.text_values.specs.Numbers.{number_in}
 use Rattle.conf_reader.specs.Words.{entry_in, unless, said_by}
 use Rattle.plain_data.specs.declared.conf.NodeConf.{NodeConf}
 use Rattle.plain_data.specs.declared.conf.NodeStart.TheVariants.{Unknown}
-use Rattle.conf_values.specs.declared.keys.NodeKey.{NodeKey}
-use Rattle.conf_values.specs.declared.keys.NodeKey.TheVariants as key
+use Rattle.text_values.specs.declared.keys.NodeKey.{NodeKey}
+use Rattle.text_values.specs.declared.keys.NodeKey.TheVariants as key
 use Rattle.conf_reader.specs.declared.node_lines.NodeNames.{NodeNames}
 use Rattle.conf_reader.specs.declared.node_lines.NodeNames.TheVariants.{Default, Hosts}
 use Rattle.conf_reader.specs.declared.node_lines.NodeEntry.{NodeEntry}
 use Rattle.conf_reader.specs.declared.node_lines.NodeEntry.TheVariants.{Names, Cpus, Boards, Sockets, Cores, Threads}
 use Rattle.conf_reader.specs.declared.node_lines.NodeEntry.TheVariants.{Mem, Weight, Features, State, WithoutEffect}
 use Rattle.conf_reader.specs.declared.node_lines.NodeWords.{NodeWords}
-use Rattle.conf_values.specs.declared.refusal.ConfKind.{ConfKind}
-use Rattle.conf_values.specs.declared.refusal.ConfKind.TheVariants.{TwiceNamed, OverLimit}
+use Rattle.text_values.specs.declared.conf_refusal.ConfKind.{ConfKind}
+use Rattle.text_values.specs.declared.conf_refusal.ConfKind.TheVariants.{TwiceNamed, OverLimit}
 
 -- whom a line speaks of: the lines after it, or nodes
 unfoldable pub node_name : List ℕ → Option NodeNames

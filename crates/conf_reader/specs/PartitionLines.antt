@@ -2,23 +2,23 @@
 use Rattle.std.specs.Prelude.{ℕ, nat_le, Bool, true, false, if◌then◌else◌, List, [], length, map, bytes_eq, codes}
 use Rattle.std.specs.Prelude.{Option, Some, None, option_map, unwrap_or, Result}
 use Rattle.std.specs.Option.{option_or}
-use Rattle.slurm_num.specs.Limits.{limit_of}
+use Rattle.plain_data.specs.Limits.{limit_of}
 use Rattle.plain_data.specs.declared.limit.Limit.TheVariants.{Unlimited}
-use Rattle.conf_values.specs.Keys.{partition_key}
+use Rattle.text_values.specs.Keys.{partition_key}
 use Rattle.text_values.specs.Steps.{◌>>=◌}
 use Rattle.host_lists.specs.Hosts.{has}
-use Rattle.conf_values.specs.Values.{yes_or_no, exclusive_in}
+use Rattle.text_values.specs.Values.{yes_or_no, exclusive_in}
 use Rattle.text_values.specs.Names.{name_in}
 use Rattle.text_values.specs.Nodes.{nodes_in}
 use Rattle.text_values.specs.Numbers.{number_in, u32_in}
 use Rattle.text_values.specs.States.{part_state}
 use Rattle.text_values.specs.Tables.{is_word}
-use Rattle.conf_values.specs.Values.{allowed_in, most_nodes, mem_per_node, mem_per_cpu}
+use Rattle.text_values.specs.Values.{allowed_in, most_nodes, mem_per_node, mem_per_cpu}
 use Rattle.conf_reader.specs.Words.{entry_in, unless, said_by}
 use Rattle.plain_data.specs.declared.conf.PartConf.{PartConf}
 use Rattle.plain_data.specs.declared.conf.PartState.TheVariants.{Up}
-use Rattle.conf_values.specs.declared.keys.PartitionKey.{PartitionKey}
-use Rattle.conf_values.specs.declared.keys.PartitionKey.TheVariants as key
+use Rattle.text_values.specs.declared.keys.PartitionKey.{PartitionKey}
+use Rattle.text_values.specs.declared.keys.PartitionKey.TheVariants as key
 use Rattle.conf_reader.specs.declared.partition_lines.PartName.{PartName}
 use Rattle.conf_reader.specs.declared.partition_lines.PartName.TheVariants.{Default, Named}
 use Rattle.conf_reader.specs.declared.partition_lines.PartNodes.{PartNodes}
@@ -30,8 +30,8 @@ use Rattle.conf_reader.specs.declared.partition_lines.PartEntry.TheVariants.{Min
 use Rattle.conf_reader.specs.declared.partition_lines.PartEntry.TheVariants.{Exclusive, Mem, WithoutEffect}
 use Rattle.conf_reader.specs.declared.partition_lines.PartWords.{PartWords}
 use Rattle.conf_reader.specs.declared.partition_lines.PartLine.{PartLine}
-use Rattle.conf_values.specs.declared.refusal.ConfKind.{ConfKind}
-use Rattle.conf_values.specs.declared.refusal.ConfKind.TheVariants.{TwiceNamed, OverLimit}
+use Rattle.text_values.specs.declared.conf_refusal.ConfKind.{ConfKind}
+use Rattle.text_values.specs.declared.conf_refusal.ConfKind.TheVariants.{TwiceNamed, OverLimit}
 
 -- whom a line speaks of: the lines after it, or a partition
 unfoldable pub part_name : List ℕ → Option PartName

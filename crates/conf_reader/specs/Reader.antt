@@ -24,11 +24,11 @@ use Rattle.conf_reader.specs.declared.partition_lines.PartNodes.{PartNodes}
 use Rattle.conf_reader.specs.declared.partition_lines.PartNodes.TheVariants.{All, Listed}
 use Rattle.conf_reader.specs.declared.partition_lines.PartWords.{PartWords}
 use Rattle.conf_reader.specs.declared.partition_lines.PartLine.{PartLine}
-use Rattle.conf_values.specs.declared.refusal.ConfKind.{ConfKind}
-use Rattle.conf_values.specs.declared.refusal.ConfKind.TheVariants.{NotUtf8, BadValue, UnknownNode, NoPartition}
-use Rattle.conf_values.specs.declared.refusal.ConfKind.TheVariants.{OverLimit}
-use Rattle.conf_values.specs.declared.refusal.ConfRefusal.{ConfRefusal}
-use Rattle.conf_values.specs.declared.refusal.ConfRefusal.TheVariants.{At}
+use Rattle.text_values.specs.declared.conf_refusal.ConfKind.{ConfKind}
+use Rattle.text_values.specs.declared.conf_refusal.ConfKind.TheVariants.{NotUtf8, BadValue, UnknownNode, NoPartition}
+use Rattle.text_values.specs.declared.conf_refusal.ConfKind.TheVariants.{OverLimit}
+use Rattle.text_values.specs.declared.conf_refusal.ConfRefusal.{ConfRefusal}
+use Rattle.text_values.specs.declared.conf_refusal.ConfRefusal.TheVariants.{At}
 
 -- the kind of a line, by the key of its first word
 abbrev pub kind_by_key : List ℕ → LineKind

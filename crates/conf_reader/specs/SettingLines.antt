@@ -2,19 +2,19 @@
 use Rattle.std.specs.Prelude.{ℕ, ◌==◌, Bool, true, false, ◌&&◌, if◌then◌else◌, List, [], ◌∷◌, bytes_eq, codes, Option, Some, None}
 use Rattle.std.specs.Prelude.{option_map, unwrap_or, Result}
 use Rattle.std.specs.List.{list_any}
-use Rattle.slurm_num.specs.Limits.{limit_of}
+use Rattle.plain_data.specs.Limits.{limit_of}
 use Rattle.small_texts.specs.Options.{◌>>=◌}
 use Rattle.plain_data.specs.declared.limit.Limit.{Limit}
 use Rattle.plain_data.specs.declared.limit.Limit.TheVariants.{Minutes, Unlimited}
-use Rattle.conf_values.specs.Keys.{setting_key}
-use Rattle.conf_values.specs.Values.{mem_per_node, mem_per_cpu}
+use Rattle.text_values.specs.Keys.{setting_key}
+use Rattle.text_values.specs.Values.{mem_per_node, mem_per_cpu}
 use Rattle.text_values.specs.Names.{name_in}
 use Rattle.text_values.specs.Numbers.{number_in, u32_in}
-use Rattle.conf_values.specs.Scheduler.{scheduler_in, no_items}
+use Rattle.text_values.specs.Scheduler.{scheduler_in, no_items}
 use Rattle.conf_reader.specs.Words.{entry_in, said_by}
 use Rattle.plain_data.specs.declared.conf.Settings.{Settings}
-use Rattle.conf_values.specs.declared.keys.SettingKey.{SettingKey}
-use Rattle.conf_values.specs.declared.keys.SettingKey.TheVariants as key
+use Rattle.text_values.specs.declared.keys.SettingKey.{SettingKey}
+use Rattle.text_values.specs.declared.keys.SettingKey.TheVariants as key
 use Rattle.conf_reader.specs.declared.setting_lines.SettingEntry.{SettingEntry}
 use Rattle.conf_reader.specs.declared.setting_lines.SettingEntry.TheVariants.{FirstJobId, MaxJobCount, MaxArraySize}
 use Rattle.conf_reader.specs.declared.setting_lines.SettingEntry.TheVariants.{MinJobAge, SlurmdTimeout, JobRequeue}
@@ -23,7 +23,7 @@ use Rattle.conf_reader.specs.declared.setting_lines.SettingEntry.TheVariants.{We
 use Rattle.conf_reader.specs.declared.setting_lines.SettingEntry.TheVariants.{WeightPartition, WeightQos, Plans, Mem}
 use Rattle.conf_reader.specs.declared.setting_lines.SettingEntry.TheVariants.{ByQos, Requeues, WithoutEffect}
 use Rattle.conf_reader.specs.declared.setting_lines.SettingWords.{SettingWords}
-use Rattle.conf_values.specs.declared.refusal.ConfKind.{ConfKind}
+use Rattle.text_values.specs.declared.conf_refusal.ConfKind.{ConfKind}
 
 -- a time of at least a minute, with an end
 abbrev pub minutes_of : Limit → Option ℕ

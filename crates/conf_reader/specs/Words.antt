@@ -3,8 +3,8 @@ use Rattle.std.specs.Prelude.{ℕ, List, [], ◌∷◌, map, fold, Option, Some,
 use Rattle.conf_reader.specs.LineWords.{words_in}
 use Rattle.conf_reader.specs.Pairs.{pair_in}
 use Rattle.text_values.specs.Steps.{◌>>=◌}
-use Rattle.conf_values.specs.declared.refusal.ConfKind.{ConfKind}
-use Rattle.conf_values.specs.declared.refusal.ConfKind.TheVariants.{BadPair, UnknownKey, BadValue}
+use Rattle.text_values.specs.declared.conf_refusal.ConfKind.{ConfKind}
+use Rattle.text_values.specs.declared.conf_refusal.ConfKind.TheVariants.{BadPair, UnknownKey, BadValue}
 
 -- what a word says, by the keys of its line's kind and by how their values are read
 unfoldable pub entry_in : {K E : Type 0} → (List ℕ → Option K) → (K → List ℕ → Option E) → List ℕ → Result E ConfKind

@@ -4,7 +4,7 @@ ghost use Rattle.std.specs.Prelude.{ℕ, ◌≡◌, ◌≤◌, ◌<◌, ◌^◌,
 ghost use Rattle.std.specs.Str.{is_utf8};
 ghost use Rattle.conf_reader.specs.Reader.{kind_by_key, kind_of, after_node_line, after_part_line, after_kind};
 ghost use Rattle.conf_reader.specs.Reader.{after_line, nothing_said};
-ghost use Rattle.conf_values.specs.declared.refusal.ConfKind.{ConfKind};
+ghost use Rattle.text_values.specs.declared.conf_refusal.ConfKind.{ConfKind};
 
 use crate::node_lines::{NodeWords, read_node_line};
 use crate::pairs::read_pair;
@@ -12,12 +12,12 @@ use crate::part_table::PartTable;
 use crate::partition_lines::{PartLine, PartWords, read_part_line};
 use crate::setting_lines::SettingWords;
 use crate::words::first_word;
-use conf_values::node_table::NodeTable;
-use conf_values::refusal::{ConfKind, Fault};
 use plain_data::conf::NodeConf;
 use plain_data::items::Items;
 use small_texts::keywords::is_keyword;
 use std::alloc::Global;
+use text_values::conf_refusal::{ConfKind, Fault};
+use text_values::node_table::NodeTable;
 
 /// What lines say.
 #[derive(Drop)]
@@ -80,7 +80,7 @@ impl Draft {
     ghost use Rattle.conf_reader.specs.Reader.{nothing_said, after_node_line, after_part_line, after_kind, after_line};
     ghost use Rattle.conf_reader.specs.Reader.{with_nodes, with_partition};
     ghost use Rattle.conf_reader.specs.PartitionLines.{line_of};
-    ghost use Rattle.conf_values.specs.declared.refusal.ConfKind.{ConfKind};
+    ghost use Rattle.text_values.specs.declared.conf_refusal.ConfKind.{ConfKind};
     ghost use Rattle.conf_reader.specs.declared.draft.LineKind.TheVariants.{Settings, Node, Partition};
 
     #[tactic(auto, unfolding(crate::specs::Reader::nothing_said))]

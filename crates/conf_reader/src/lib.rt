@@ -12,5 +12,5 @@ mod reader;
 mod setting_lines;
 mod words;
 
-pub use conf_values::{keys, refusal};
 pub use reader::read_conf;
+pub use text_values::{conf_refusal, keys};

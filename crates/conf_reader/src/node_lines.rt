@@ -2,7 +2,7 @@
 
 ghost use Rattle.std.specs.Prelude.{ℕ, ◌≡◌, ◌≢◌, ◌≤◌, ◌<◌, ◌^◌, ◌*◌, [], ◌++◌, unwrap_or, length, map, IfOk, IfSome};
 ghost use Rattle.std.specs.Prelude.{OnOk, IsErrOf, Some, None, Ok, Err};
-ghost use Rattle.conf_values.specs.Keys.{node_key};
+ghost use Rattle.text_values.specs.Keys.{node_key};
 ghost use Rattle.conf_reader.specs.NodeLines.{node_name, node_entry, names_fault, entry_fault, node_word, with_entry};
 ghost use Rattle.conf_reader.specs.NodeLines.{no_node_words, node_line, few, few_times, processors, node_conf};
 ghost use Rattle.plain_data.specs.Confs.{node_names};
@@ -10,25 +10,25 @@ ghost use Rattle.std.specs.Option.{option_or};
 ghost use Rattle.host_lists.specs.Hosts.{has};
 ghost use Rattle.conf_reader.specs.Words.{entry_in};
 ghost use Rattle.std.specs.List.{list_any};
-ghost use Rattle.conf_values.specs.declared.refusal.ConfKind.{ConfKind};
+ghost use Rattle.text_values.specs.declared.conf_refusal.ConfKind.{ConfKind};
 
 use crate::pairs::read_pair;
 use crate::words::first_word;
-use conf_values::keys::{NodeKey, node_key};
-use conf_values::lists::{copy_or_none, or_copy};
-use conf_values::node_table::NodeTable;
-use conf_values::refusal::{ConfKind, Fault};
-use conf_values::values::read_node_start;
 use plain_data::conf::{NodeConf, NodeStart};
 use plain_data::items::Items;
 use plain_data::ranged::Ranged;
 use small_texts::memory_error::Memory;
 use small_texts::name::Name;
 use std::alloc::Global;
+use text_values::conf_lists::{copy_or_none, or_copy};
+use text_values::conf_refusal::{ConfKind, Fault};
+use text_values::keys::{NodeKey, node_key};
 use text_values::names::read_names;
+use text_values::node_table::NodeTable;
 use text_values::nodes::read_nodes;
 use text_values::numbers::read_number;
 use text_values::refusal::ValueRefusal;
+use text_values::values::read_node_start;
 
 const MOST_NODES: usize = 1024;
 

@@ -3,23 +3,16 @@
 ghost use Rattle.std.specs.Prelude.{ℕ, ◌≡◌, ◌≢◌, ◌≤◌, ◌<◌, ◌^◌, if◌then◌else◌, codes, length, map, IfOk, IfSome, OnOk};
 ghost use Rattle.std.specs.Prelude.{IsErrOf, Some, None, Ok, Err};
 ghost use Rattle.std.specs.Option.{option_or};
-ghost use Rattle.conf_values.specs.Keys.{partition_key};
+ghost use Rattle.text_values.specs.Keys.{partition_key};
 ghost use Rattle.text_values.specs.Tables.{is_word};
 ghost use Rattle.conf_reader.specs.PartitionLines.{part_name, part_nodes, part_entry, partition_names, part_fault};
 ghost use Rattle.conf_reader.specs.PartitionLines.{part_word, part_line};
 ghost use Rattle.host_lists.specs.Hosts.{has};
 ghost use Rattle.conf_reader.specs.Words.{entry_in};
-ghost use Rattle.conf_values.specs.declared.refusal.ConfKind.{ConfKind};
+ghost use Rattle.text_values.specs.declared.conf_refusal.ConfKind.{ConfKind};
 
 use crate::pairs::read_pair;
 use crate::words::first_word;
-use conf_values::keys::{PartitionKey, partition_key};
-use conf_values::lists::or_copy;
-use conf_values::refusal::{ConfKind, Fault};
-use conf_values::values::{
-    read_allowed, read_exclusive, read_mem_per_cpu, read_mem_per_node, read_most_nodes,
-    read_yes_or_no,
-};
 use plain_data::conf::{PartConf, PartState};
 use plain_data::items::Items;
 use plain_data::limit::Limit;
@@ -29,12 +22,19 @@ use small_texts::keywords::is_keyword;
 use small_texts::memory_error::Memory;
 use small_texts::name::Name;
 use std::alloc::Global;
+use text_values::conf_lists::or_copy;
+use text_values::conf_refusal::{ConfKind, Fault};
+use text_values::keys::{PartitionKey, partition_key};
 use text_values::names::read_name;
 use text_values::nodes::read_nodes;
 use text_values::numbers::{read_number, read_u32};
 use text_values::refusal::ValueRefusal;
 use text_values::states::read_part_state;
 use text_values::times::read_limit;
+use text_values::values::{
+    read_allowed, read_exclusive, read_mem_per_cpu, read_mem_per_node, read_most_nodes,
+    read_yes_or_no,
+};
 
 const MOST_PARTITIONS: usize = 64;
 

@@ -10,19 +10,19 @@ ghost use Rattle.conf_reader.specs.Reader.{partitions_by, conf_of_lines, whole_f
 ghost use Rattle.conf_reader.specs.SettingLines.{settings_of};
 ghost use Rattle.conf_reader.specs.Sound.{IsSound};
 ghost use Rattle.host_lists.specs.Hosts.{has};
-ghost use Rattle.conf_values.specs.declared.refusal.ConfKind.{ConfKind};
+ghost use Rattle.text_values.specs.declared.conf_refusal.ConfKind.{ConfKind};
 
 use crate::draft::Draft;
 use crate::lines::first_line;
 use crate::partition_lines::{PartLine, PartNodes};
 use crate::setting_lines::SettingWords;
-use conf_values::node_table::NodeTable;
-use conf_values::refusal::{ConfKind, ConfRefusal, Fault};
 use plain_data::conf::{Conf, NodeConf, PartConf};
 use plain_data::items::Items;
 use small_texts::memory_error::Memory;
 use small_texts::name::Name;
 use std::alloc::Global;
+use text_values::conf_refusal::{ConfKind, ConfRefusal, Fault};
+use text_values::node_table::NodeTable;
 
 const LONGEST_FILE: usize = 1_048_576;
 

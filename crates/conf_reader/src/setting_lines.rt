@@ -3,18 +3,14 @@
 ghost use Rattle.std.specs.Prelude.{ℕ, ◌≡◌, ◌≢◌, ◌==◌, ◌≤◌, ◌<◌, ◌^◌, ◌∷◌, [], length, map, option_map, unwrap_or};
 ghost use Rattle.std.specs.Prelude.{codes, bytes_eq, IfOk, IfSome, OnOk, IsErrOf, Some, None, Ok, Err};
 ghost use Rattle.std.specs.List.{list_any};
-ghost use Rattle.conf_values.specs.Keys.{setting_key};
+ghost use Rattle.text_values.specs.Keys.{setting_key};
 ghost use Rattle.conf_reader.specs.SettingLines.{minutes_in, only, select_parameters, choice_in, setting_entry, setting_word};
 ghost use Rattle.conf_reader.specs.SettingLines.{setting_line};
 ghost use Rattle.text_values.specs.Numbers.{number_in};
-ghost use Rattle.conf_values.specs.declared.refusal.ConfKind.{ConfKind};
+ghost use Rattle.text_values.specs.declared.conf_refusal.ConfKind.{ConfKind};
 
 use crate::pairs::read_pair;
 use crate::words::first_word;
-use conf_values::keys::{SettingKey, setting_key};
-use conf_values::refusal::{ConfKind, Fault};
-use conf_values::scheduler::{Scheduler, read_scheduler};
-use conf_values::values::{read_mem_per_cpu, read_mem_per_node};
 use plain_data::conf::Settings;
 use plain_data::limit::Limit;
 use plain_data::mem_ask::MemAsk;
@@ -22,10 +18,14 @@ use plain_data::ranged::Ranged;
 use small_texts::memory_error::Memory;
 use small_texts::name::Name;
 use std::alloc::Global;
+use text_values::conf_refusal::{ConfKind, Fault};
+use text_values::keys::{SettingKey, setting_key};
 use text_values::names::read_name;
 use text_values::numbers::{read_number, read_u32};
 use text_values::refusal::ValueRefusal;
+use text_values::scheduler::{Scheduler, read_scheduler};
 use text_values::times::read_limit;
+use text_values::values::{read_mem_per_cpu, read_mem_per_node};
 
 /// What one word of a line says.
 #[derive(Drop)]
@@ -222,7 +222,7 @@ fn read_setting_word(alloc: Global, word: &[u8]) -> Result<SettingEntry, Fault>
 impl SettingWords {
     ghost use Rattle.std.specs.Prelude.{ℕ, ◌≡◌, IfOk, OnOk, IsErrOf, Ok, Err};
     ghost use Rattle.conf_reader.specs.SettingLines.{with_setting, no_settings, setting_line, is_preempting, settings_of};
-    ghost use Rattle.conf_values.specs.declared.refusal.ConfKind.{ConfKind};
+    ghost use Rattle.text_values.specs.declared.conf_refusal.ConfKind.{ConfKind};
 
     /// A file without lines of settings.
     #[tactic(auto, unfolding(crate::specs::SettingLines::no_settings))]

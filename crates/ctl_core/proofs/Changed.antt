@@ -29,7 +29,7 @@ use Rattle.ctl_node_side.specs.Reporting.{heard_of, heard_nodes}
 use Rattle.ctl_node_side.specs.Answering.{is_restarted, node_of, last_heard, staleness}
 use Rattle.ctl_node_side.specs.Passes.{after_pass, made_by_pass, pass_is_idle}
 use Rattle.ctl_node_side.specs.Restarting.{made_by_report, met}
-use Rattle.ctl_submit.specs.Submission.{made_under, submit_made, basis_of}
+use Rattle.ctl_jobs.specs.Submission.{made_under, submit_made, basis_of}
 use Rattle.ctl_jobs.specs.declared.action.Action.{Action}
 use Rattle.ctl_jobs.specs.declared.action.Action.TheVariants as act
 use Rattle.ctl_jobs.specs.Changing.{are_meant, are_naming, change_after, change_made, goes}

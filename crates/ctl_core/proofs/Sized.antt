@@ -14,7 +14,7 @@ use Rattle.ctl_node_side.specs.Answering.{is_restarted, node_of}
 use Rattle.ctl_node_side.specs.Passes.{pass_is_idle}
 use Rattle.ctl_node_side.specs.Restarting.{made_by_report, met}
 use Rattle.ctl_node_side.specs.Silence.{any_silent, silenced}
-use Rattle.ctl_submit.specs.Submission.{made_under, basis_of}
+use Rattle.ctl_jobs.specs.Submission.{made_under, basis_of}
 use Rattle.ctl_jobs.specs.declared.action.Action.{Action}
 use Rattle.ctl_jobs.specs.declared.action.Action.TheVariants as act
 use Rattle.ctl_jobs.specs.Changing.{are_meant, are_naming, change_made, goes}

@@ -25,7 +25,7 @@ use Rattle.ctl_node_side.specs.Reporting.{report_after}
 use Rattle.ctl_node_side.specs.Answering.{node_of}
 use Rattle.ctl_node_side.specs.Passes.{after_pass, pass_is_idle}
 use Rattle.ctl_node_side.specs.Restarting.{made_by_report, met}
-use Rattle.ctl_submit.specs.Submission.{submit_refusals, submit_made}
+use Rattle.ctl_jobs.specs.Submission.{submit_refusals, submit_made}
 use Rattle.ctl_jobs.specs.declared.action.Action.{Action}
 use Rattle.ctl_jobs.specs.declared.action.Action.TheVariants as act
 use Rattle.ctl_jobs.specs.Changing.{IsAction, are_meant, are_naming, change_after, change_made, goes}

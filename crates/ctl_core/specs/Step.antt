@@ -16,7 +16,7 @@ use Rattle.ctl_pass.specs.Passing.{pass_refusals}
 use Rattle.ctl_node_side.specs.Answering.{report_refusals}
 use Rattle.ctl_node_side.specs.Passes.{IsPassedOver, after_pass, made_by_pass, pass_input, planned_by_pass}
 use Rattle.ctl_node_side.specs.Restarting.{report_made}
-use Rattle.ctl_submit.specs.Submission.{submit_refusals, submit_made}
+use Rattle.ctl_jobs.specs.Submission.{submit_refusals, submit_made}
 use Rattle.ctl_jobs.specs.declared.action.Action.TheVariants as act
 use Rattle.ctl_nodes.specs.Updating.{update_after, update_made, update_refusals}
 use Rattle.ctl_nodes.specs.Reserving.{create_made, create_refusals, delete_made, delete_refusals}

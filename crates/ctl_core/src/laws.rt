@@ -24,6 +24,7 @@ ghost use Rattle.ctl_core.specs.Operating.{partition_after, partition_made};
 ghost use Rattle.ctl_core.specs.Step.{verdict_of, reply_of, state_after, kept_after, steps_of, raised, input_at, ChangesNothing, IsHinted, IsInRange};
 
 use ctl_jobs::laws::{what_users_do_keeps_all_sound, where_no_job_changes_nothing_does};
+use ctl_jobs::submission_laws::{a_submission_changes_the_state, a_submission_keeps_all_sound};
 use ctl_node_side::laws::{
     a_report_met_keeps_all_sound, a_whole_pass_keeps_all_sound,
     a_whole_pass_over_its_own_plan_counts_nothing, an_idle_whole_pass_changes_nothing,
@@ -40,7 +41,6 @@ use ctl_state::laws::{
     a_shutdown_keeps_all_sound, sizes_keep_all_sound, states_of_partitions_keep_all_sound,
     time_keeps_all_sound,
 };
-use ctl_submit::laws::{a_submission_changes_the_state, a_submission_keeps_all_sound};
 
 /// Whatever is asked, what is sound stays sound.
 pub fn a_step_keeps_all_sound()

@@ -5,14 +5,14 @@ ghost use Rattle.ctl_state.specs.State.{state_of};
 ghost use Rattle.ctl_state.specs.Index.{IsIndexed};
 ghost use Rattle.ctl_state.specs.Soundness.{IsSound};
 ghost use Rattle.ctl_state.specs.Refusals.{first_refusal, unless_refused};
-ghost use Rattle.ctl_submit.specs.Submission.{submit_refusals, submit_made};
+ghost use Rattle.ctl_jobs.specs.Submission.{submit_refusals, submit_made};
 ghost use Rattle.ctl_core.specs.Answering.{Answers};
 ghost use Rattle.ctl_core.specs.Step.{unless_full};
 
 use crate::answering::refused;
 use crate::reply::Answered;
+use ctl_jobs::submit::{accept, decide};
 use ctl_state::cluster::Cluster;
-use ctl_submit::{accept, decide};
 use plain_data::job::JobDesc;
 use reply_data::refusal::Refusal;
 use reply_data::reply::Reply;

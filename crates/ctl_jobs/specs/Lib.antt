@@ -1,2 +1,5 @@
 pub mod Actions
 pub mod Changing
+pub mod Submission
+pub mod Drafts
+pub mod Tallied

@@ -4,7 +4,7 @@ use Rattle.std.specs.List.{list_any}
 use Rattle.std.proofs.lemmas.Bool.{both_ways, eq-eqb, ne_eqb, or_left, or_from, or_right}
 use Rattle.std.proofs.lemmas.Bool.Decides.{nat_tests}
 use Rattle.node_state.specs.declared.record.NodeRecord.{NodeRecord}
-use Rattle.cpu_ids.specs.Rows.{has_id}
+use Rattle.plain_data.specs.Rows.{has_id}
 use Rattle.ctl_state.specs.Planning.{is_at}
 
 -- before the first node nothing is found

@@ -1,7 +1,7 @@
 //! What a whole pass plans, once it has seen to silent nodes.
 
 ghost use Rattle.std.specs.Prelude.{◌≡◌, ◌≤◌, ℕ, true, false, IfOk, option_copied};
-ghost use Rattle.cpu_ids.specs.Rows.{has_id};
+ghost use Rattle.plain_data.specs.Rows.{has_id};
 ghost use Rattle.ctl_state.specs.Index.{IsIndexed};
 ghost use Rattle.ctl_state.specs.Soundness.{IsSound};
 ghost use Rattle.ctl_state.specs.State.{state_of, last_moment};
@@ -12,9 +12,9 @@ use crate::kept::{keep, put_back};
 use crate::laws::{kept_jobs_are_put_back, silence_keeps_all_sound};
 use crate::silence::{fall_silent, silent_places};
 use backfill_planner::Planned;
-use cpu_ids::CpuIds;
 use ctl_pass::{PlanInput, plan_input};
 use ctl_state::cluster::Cluster;
+use plain_data::NodePlaces;
 use small_texts::memory_error::Memory;
 use std::alloc::Global;
 
@@ -41,7 +41,7 @@ fn input_silenced(
     cluster: &mut Cluster,
     kept: Option<&Planned>,
     moment: u64,
-    silent: &CpuIds,
+    silent: &NodePlaces,
 ) -> Result<PlanInput, Memory>
     requires sound { IsSound (state_of cluster.old) }
     requires raised { cluster.old.moment ≤ moment }

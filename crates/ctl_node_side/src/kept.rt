@@ -1,16 +1,16 @@
 //! What is kept of a cluster while nodes fall silent, so that it can be put back where memory is wanting later on.
 
 ghost use Rattle.std.specs.Prelude.{◌≡◌, IfOk, filter};
-ghost use Rattle.cpu_ids.specs.Rows.{has_id};
+ghost use Rattle.plain_data.specs.Rows.{has_id};
 ghost use Rattle.ctl_nodes.specs.Failing;
 ghost use Rattle.ctl_node_side.specs.Keeping;
 
-use cpu_ids::CpuIds;
 use ctl_nodes::loses;
 use ctl_state::cluster::Cluster;
 use job_table::jobs::Jobs;
 use job_table::record::JobRecord;
 use node_state::nodes::Nodes;
+use plain_data::NodePlaces;
 use small_texts::memory_error::Memory;
 use std::alloc::Global;
 
@@ -26,7 +26,11 @@ pub(crate) struct Kept {
 }
 
 // Copies of the jobs that hold something of these nodes.
-fn copy_losing(alloc: Global, silent: &CpuIds, jobs: &[JobRecord]) -> Result<Vec<JobRecord>, Memory>
+fn copy_losing(
+    alloc: Global,
+    silent: &NodePlaces,
+    jobs: &[JobRecord],
+) -> Result<Vec<JobRecord>, Memory>
     ensures { IfOk result (λ copies. copies.items ≡ filter (Failing.loses (has_id silent.now)) jobs.now) }
 {
     let mut copies = Vec::new(alloc);
@@ -40,7 +44,7 @@ fn copy_losing(alloc: Global, silent: &CpuIds, jobs: &[JobRecord]) -> Result<Vec
 
 /// Keeps what falls with these nodes. Linear in the jobs, the associations and the nodes; it copies those jobs alone that
 /// hold something of these nodes.
-pub(crate) fn keep(alloc: Global, cluster: &Cluster, silent: &CpuIds) -> Result<Kept, Memory>
+pub(crate) fn keep(alloc: Global, cluster: &Cluster, silent: &NodePlaces) -> Result<Kept, Memory>
     ensures { IfOk result (Keeping.Keeps (has_id silent.now) cluster.now) }
 {
     let jobs = copy_losing(alloc, silent, cluster.jobs.records())?;

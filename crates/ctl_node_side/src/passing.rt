@@ -1,7 +1,7 @@
 //! A whole pass: it sees to the nodes that fall silent, and then plans and starts.
 
 ghost use Rattle.std.specs.Prelude.{◌≡◌, ◌≢◌, ◌≤◌, ◌+◌, ◌<◌, ◌^◌, ℕ, true, false, IfOk, IfSome, OnErr, Some, length, option_copied};
-ghost use Rattle.cpu_ids.specs.Rows.{has_id};
+ghost use Rattle.plain_data.specs.Rows.{has_id};
 ghost use Rattle.resource_profile.specs.Counts.{IsTickedUpTo};
 ghost use Rattle.ctl_state.specs.Index.{IsIndexed};
 ghost use Rattle.ctl_state.specs.Soundness.{IsSound};
@@ -16,10 +16,10 @@ use crate::kept::{keep, put_back};
 use crate::laws::{kept_jobs_are_put_back, silence_keeps_all_sound};
 use crate::silence::{count_failing, fall_silent, silent_places};
 use backfill_planner::Planned;
-use cpu_ids::CpuIds;
 use ctl_pass::laws::{few_end, few_start_or_stay, there_are_few_jobs};
 use ctl_pass::{Decided, act, decide, is_idle};
 use ctl_state::cluster::Cluster;
+use plain_data::NodePlaces;
 use resource_profile::Steps;
 use small_texts::memory_error::Memory;
 use std::alloc::Global;
@@ -124,7 +124,7 @@ fn pass_silenced<L>(
     cluster: &mut Cluster,
     older: Option<&Planned>,
     moment: u64,
-    silent: &CpuIds,
+    silent: &NodePlaces,
     room: bool,
     steps: &mut Steps<L>,
 ) -> Result<PassMade, Memory>

@@ -13,11 +13,11 @@ ghost use Rattle.ctl_node_side.specs.Restarting.{met};
 use crate::at_node::jobs_at;
 use crate::report::{is_restarted, orders_by};
 use crate::report_laws::a_node_without_jobs_is_ordered_alike;
-use cpu_ids::CpuIds;
 use ctl_nodes::laws::{lost_nodes_keep_all_sound, the_same_nodes_are_lost_alike};
 use ctl_nodes::lose;
 use ctl_state::cluster::Cluster;
 use job_table::record::JobRecord;
+use plain_data::NodePlaces;
 use reply_data::orders::Orders;
 use request_data::report::Report;
 use small_texts::memory_error::Memory;
@@ -76,7 +76,7 @@ fn lose_restarted(cluster: &mut Cluster, moment: u64, node: u32, report: &Report
     lost_nodes_keep_all_sound();
     the_same_nodes_are_lost_alike();
     if is_restarted(cluster, report) {
-        let mut lost = CpuIds::none();
+        let mut lost = NodePlaces::none();
         lost.insert(node);
         lose(cluster, moment, &lost);
         cluster.moment = moment;

@@ -1,7 +1,7 @@
 //! Nodes that fall silent: which they are, and that they are lost. SlurmdTimeout in slurm.conf(5).
 
 ghost use Rattle.std.specs.Prelude.{◌≡◌, ◌≤◌, ℕ, true, false, not, count_by, ◌&&◌};
-ghost use Rattle.cpu_ids.specs.Rows.{has_id};
+ghost use Rattle.plain_data.specs.Rows.{has_id};
 ghost use Rattle.job_table.specs.declared.record.JobRecord.{JobRecord as OneJob};
 ghost use Rattle.job_table.specs.JobStates.{is_running};
 ghost use Rattle.ctl_state.specs.Index.{IsIndexed};
@@ -10,12 +10,12 @@ ghost use Rattle.ctl_state.specs.State.{state_of, last_moment};
 ghost use Rattle.ctl_nodes.specs.Failing;
 ghost use Rattle.ctl_node_side.specs.Silence;
 
-use cpu_ids::CpuIds;
 use ctl_nodes::laws::the_same_nodes_are_lost_alike;
 use ctl_nodes::{change_places, lose, loses};
 use ctl_state::cluster::Cluster;
 use job_table::record::JobRecord;
 use node_state::record::{DownBy, NodeChange, NodeRecord};
+use plain_data::NodePlaces;
 use request_data::report::Heard;
 use request_data::state::JobState;
 
@@ -39,12 +39,12 @@ fn falls_silent(timeout: u64, now: u64, node: &NodeRecord) -> bool
 }
 
 /// The places of the nodes that fall silent. Linear in the nodes; it takes no memory.
-pub(crate) fn silent_places(cluster: &Cluster, now: u64) -> CpuIds
+pub(crate) fn silent_places(cluster: &Cluster, now: u64) -> NodePlaces
     requires sound { IsSound (state_of cluster.now) }
     ensures { (place : ℕ) → has_id result place ≡ Silence.silent_at (state_of cluster.now) now place }
 {
     let timeout = cluster.settings.slurmd_timeout.get();
-    let mut places = CpuIds::none();
+    let mut places = NodePlaces::none();
     for (place, node) in cluster.nodes.records().iter().enumerate() {
         if falls_silent(timeout, now, node) {
             places.insert(place as u32);
@@ -54,7 +54,7 @@ pub(crate) fn silent_places(cluster: &Cluster, now: u64) -> CpuIds
 }
 
 /// How many jobs run that hold something of these nodes. Linear in the jobs and their parts.
-pub(crate) fn count_failing(silent: &CpuIds, jobs: &[JobRecord]) -> usize
+pub(crate) fn count_failing(silent: &NodePlaces, jobs: &[JobRecord]) -> usize
     ensures { result ≡ count_by (λ (job : OneJob). is_running job.state && Failing.loses (has_id silent.now) job)
         jobs.now }
 {
@@ -65,7 +65,7 @@ pub(crate) fn count_failing(silent: &CpuIds, jobs: &[JobRecord]) -> usize
 
 /// These nodes, which fall silent, are down, and what they held is lost. The index goes on showing what is held. One walk
 /// over the jobs and one over the nodes; it takes no memory.
-pub(crate) fn fall_silent(cluster: &mut Cluster, now: u64, silent: &CpuIds)
+pub(crate) fn fall_silent(cluster: &mut Cluster, now: u64, silent: &NodePlaces)
     requires sound { IsSound (state_of cluster.old) }
     requires indexed { IsIndexed cluster.old }
     requires places { (place : ℕ) → has_id silent.now place ≡ Silence.silent_at (state_of cluster.old) now place }

@@ -9,7 +9,7 @@ use Rattle.std.proofs.lemmas.List.Concat.{get_or-flat_map}
 use Rattle.std.proofs.lemmas.List.Elements.{All-filter, All-head, All-tail, All-weaker, filter_more}
 use Rattle.std.proofs.lemmas.List.Folds.{length-flat_map-take, list_any-append, list_any_none}
 use Rattle.std.proofs.lemmas.List.Sums.{sum_by-cons, sum_by_push}
-use Rattle.cpu_ids.specs.Rows.{has_id}
+use Rattle.plain_data.specs.Rows.{has_id}
 use Rattle.node_state.specs.declared.record.Held.{Held}
 use Rattle.node_state.specs.Held.{GivesBack, held_mem, holds_cpu}
 use Rattle.job_table.specs.declared.record.Part.{Part}

@@ -5,7 +5,7 @@ use Rattle.std.specs.List.{list_any}
 use Rattle.std.specs.Option.{unwrap_or}
 use Rattle.std.proofs.lemmas.Bool.{and_right}
 use Rattle.std.proofs.lemmas.Option.{slice_get_past}
-use Rattle.cpu_ids.specs.Rows.{has_id}
+use Rattle.plain_data.specs.Rows.{has_id}
 use Rattle.node_state.specs.declared.record.NodeRecord.{NodeRecord}
 use Rattle.job_table.specs.declared.record.Part.{Part}
 use Rattle.job_table.specs.declared.record.JobRecord.{JobRecord}

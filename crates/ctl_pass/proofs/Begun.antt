@@ -7,7 +7,7 @@ use Rattle.std.proofs.lemmas.List.{get_or-map, get_or-take, get_or_default, leng
 use Rattle.std.proofs.lemmas.List.Elements.{All-head, All-map, All-tail, filter_agree}
 use Rattle.std.proofs.lemmas.List.Folds.{list_any-append, list_any_none}
 use Rattle.std.proofs.lemmas.List.Sums.{sum_by_push}
-use Rattle.cpu_ids.specs.Rows.{has_id, others_below}
+use Rattle.plain_data.specs.Rows.{has_id, others_below}
 use Rattle.resource_profile.specs.declared.NodeRoom.{NodeRoom}
 use Rattle.resource_profile.specs.Free.{room_at}
 use Rattle.backfill_planner.specs.declared.Placed.{Placed}

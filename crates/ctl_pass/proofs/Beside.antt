@@ -18,7 +18,7 @@ use Rattle.plain_data.specs.declared.limit.Limit.TheVariants.{Minutes, Unlimited
 use Rattle.job_table.specs.declared.record.JobRecord.{JobRecord}
 use Rattle.job_table.specs.declared.record.Part.{Part}
 use Rattle.job_table.specs.Table.{job_with}
-use Rattle.preemption.specs.Going.{held_without, kept_holds, victims_of}
+use Rattle.backfill_planner.specs.Going.{held_without, kept_holds, victims_of}
 use Rattle.ctl_state.specs.Laws.{OrderMoves}
 use Rattle.ctl_state.specs.Holding.{IsPartOf, cpus_of, free_ids, mem_held, mem_of, parts_of}
 use Rattle.ctl_state.specs.Ordered.{ordered_by, put}

@@ -26,7 +26,7 @@ use Rattle.ctl_pass.proofs.Lists.{at-place, length-rising}
 use Rattle.ctl_pass.proofs.Planned.{few-jobs}
 use Rattle.ctl_pass.proofs.Ranks.{filter_map-all, filter_map-less}
 use Rattle.list_lemmas.proofs.Filters.{filter-less}
-use Rattle.preemption.specs.Going.{victims_of}
+use Rattle.backfill_planner.specs.Going.{victims_of}
 use Rattle.resource_profile.specs.declared.Hold.{Hold}
 use Rattle.resource_profile.specs.declared.NodeRoom.{NodeRoom}
 use Rattle.std.proofs.lemmas.List.Sums.{count_by-le-length}

@@ -20,7 +20,7 @@ use Rattle.backfill_planner.specs.Bases.{BaseView}
 use Rattle.backfill_planner.specs.Giving.{bars, is_barred, window_end}
 use Rattle.backfill_planner.specs.Placements.{IsPlacement}
 use Rattle.backfill_planner.specs.Plans.{holds_of, placed_of, plan_beside, plan_of}
-use Rattle.cpu_ids.specs.Rows.{has_id}
+use Rattle.plain_data.specs.Rows.{has_id}
 use Rattle.node_state.specs.declared.partition_record.PartRecord.{PartRecord}
 use Rattle.job_table.specs.declared.record.JobRecord.{JobRecord}
 use Rattle.job_table.specs.JobStates.{is_pending}

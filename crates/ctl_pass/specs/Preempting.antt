@@ -14,7 +14,7 @@ use Rattle.job_table.specs.Changes.{changed}
 use Rattle.job_table.specs.JobStates.{is_running}
 use Rattle.job_table.specs.Table.{has_id, job_with}
 use Rattle.run_limits.specs.declared.record.QosRecord.{QosRecord}
-use Rattle.preemption.specs.Going.{suffices, victims_of}
+use Rattle.backfill_planner.specs.Going.{suffices, victims_of}
 use Rattle.ctl_state.specs.Ordered.{ordered_by}
 use Rattle.ctl_state.specs.Planning.{room_of}
 use Rattle.ctl_state.specs.State.{State}

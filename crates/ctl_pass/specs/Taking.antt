@@ -4,7 +4,7 @@ use Rattle.backfill_planner.specs.declared.Placed.{Placed}
 use Rattle.backfill_planner.specs.declared.Share.{Share}
 use Rattle.backfill_planner.specs.Placements.{AreParts}
 use Rattle.backfill_planner.specs.Plans.{cpus_on, mem_on, starts_at}
-use Rattle.cpu_ids.specs.Rows.{others_below}
+use Rattle.plain_data.specs.Rows.{others_below}
 use Rattle.job_table.specs.declared.record.Part.{Part}
 use Rattle.node_state.specs.declared.record.Held.{Held}
 use Rattle.node_state.specs.declared.record.NodeRecord.{NodeRecord}

@@ -11,7 +11,6 @@ ghost use Rattle.ctl_pass.specs.Readiness;
 
 use crate::laws::what_a_pass_plans_is_sound;
 use backfill_planner::Base;
-use cpu_ids::CpuIds;
 use ctl_state::cluster::Cluster;
 use ctl_state::holds::hold_end;
 use ctl_state::planning::rooms_of;
@@ -19,6 +18,7 @@ use job_table::awaited::Awaited;
 use job_table::jobs::has_gone;
 use job_table::laws::who_is_awaited_stays;
 use job_table::record::JobRecord;
+use plain_data::CpuIds;
 use plain_data::items::Items;
 use resource_profile::Hold;
 use small_texts::memory_error::Memory;

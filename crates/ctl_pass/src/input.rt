@@ -165,7 +165,7 @@ pub fn plan_input(
     ensures kept { IfOk result (λ input. input.kept ≡ option_copied kept.entry) }
 {
     let awaited = Awaited::of(alloc, &cluster.jobs)?;
-    let tally = count_holding(alloc, &cluster.assocs, cluster.jobs.records())?;
+    let tally = count_holding(alloc, &cluster.assocs, &cluster.jobs)?;
     let input = find_input(alloc, cluster, now, &awaited, &tally)?;
     let copy = copy_of(alloc, kept)?;
     Ok(with_kept(input, copy))

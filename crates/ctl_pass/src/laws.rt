@@ -16,7 +16,7 @@ ghost use Rattle.ctl_pass.specs.Reserved.{PlansKeepToReservations};
 ghost use Rattle.ctl_pass.specs.Freedom.{StartsAreFree};
 ghost use Rattle.ctl_pass.specs.Taking.{CanStart, unplanned};
 ghost use Rattle.ctl_pass.specs.Inputs.{IsSteppedOver, input_of};
-ghost use Rattle.preemption.specs.Going.{held_without, without};
+ghost use Rattle.backfill_planner.specs.Going.{held_without, without};
 ghost use Rattle.resource_profile.specs.Profiles.{AreWithin};
 ghost use Rattle.ctl_state.specs.Planning.{room_of};
 ghost use Rattle.ctl_pass.specs.Limits.{holds_of_job};
@@ -27,6 +27,9 @@ ghost use Rattle.ctl_pass.specs.Passing.{begun_in, jobs_ended, outcome, pass_aft
 use backfill_planner::laws::{
     parts_are_apart, placements_are_first, placements_are_of_ranked_jobs,
     placements_keep_out_of_barred_times, starts_fit,
+};
+use backfill_planner::victim_laws::{
+    nobody_goes_without_need as needed_of_any, victims_are_in_order,
 };
 use ctl_state::laws::{
     a_stable_sort_makes_the_order, changing_keeps_all_sound, charging_keeps_all_sound,
@@ -39,7 +42,6 @@ use job_table::dependency_laws::passes_leave_standings;
 use job_table::laws::{jobs_run_on, who_is_awaited_stays, who_leaves_is_charged};
 use job_table::record::JobRecord;
 use node_state::reservation_laws::reservations_stay_apart;
-use preemption::laws::{nobody_goes_without_need as needed_of_any, victims_are_in_order};
 
 /// A pass keeps all sound.
 pub fn a_pass_keeps_all_sound()

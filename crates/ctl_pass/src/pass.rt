@@ -85,15 +85,14 @@ fn copy_all(alloc: Global, placements: &[Placed]) -> Result<Vec<Placed>, Memory>
     Ok(copies)
 }
 
-/// What a pass at its raised moment does. Its plan is made over an older one, if any; whichever that is, the pass does the
-/// same. Linear in jobs, parts and
-/// nodes, and for each candidate in the nodes that it may have, beside what its plan costs; the nodes of each partition
-/// are sorted, and so are the users by what they have used and the candidates by rank, each once. What priorities rest on
-/// is found once. The jobs that hold processors are counted once, in one walk over all; each of them, each pending job
-/// and each placement that begins now costs its association's way up to root besides.
-/// Where preemption is on and a candidate doesn't start, it costs what `find_victims` says besides.
-/// It counts a step for each job that it searches for: at most one for each that it plans, and over an older plan none
-/// for those which stand as they stood in it.
+/// What a pass at its raised moment does. Its plan is made over an older one, if any; whichever that is, the pass does
+/// the same. Linear in jobs, parts and nodes, and for each candidate in the nodes that it may have, beside what its
+/// plan costs; the nodes of each partition are sorted, and so are the users by what they have used and the candidates
+/// by rank, each once. What priorities rest on is found once. The jobs that hold processors are counted once; each of
+/// them, each pending job and each placement that begins now costs its association's way up to root besides. Where
+/// preemption is on and a candidate doesn't start, it costs what `find_victims` says besides. It counts a step for each
+/// job that it searches for: at most one for each that it plans, and over an older plan none for those which stand as
+/// they stood in it.
 pub fn decide<L>(
     alloc: Global,
     cluster: &Cluster,
@@ -111,7 +110,7 @@ pub fn decide<L>(
 {
     who_is_awaited_stays();
     let awaited = Awaited::of(alloc, &cluster.jobs)?;
-    let tally = count_holding(alloc, &cluster.assocs, cluster.jobs.records())?;
+    let tally = count_holding(alloc, &cluster.assocs, &cluster.jobs)?;
     let input = find_input(alloc, cluster, now, &awaited, &tally)?;
     let planned = plan_over(alloc, older, input, steps)?;
     let plan = copy_all(alloc, planned.placements())?;

@@ -26,7 +26,7 @@ use crate::naming::preempts_at_all;
 use crate::preemptable::{Preemptable, is_preemptable, lowest_first, runs_on};
 use crate::split::may_start;
 use crate::starts::DueStart;
-use backfill_planner::{Base, Placed, PlanJob, Planned};
+use backfill_planner::{Base, Placed, PlanJob, Planned, victims};
 use ctl_state::cluster::Cluster;
 use ctl_state::laws::a_stable_sort_makes_the_order;
 use ctl_state::planning::rooms_of;
@@ -36,7 +36,6 @@ use job_table::record::JobRecord;
 use plain_data::items::Items;
 use plain_data::limit::Limit;
 use plain_data::seconds::FOREVER;
-use preemption::victims;
 use resource_profile::Hold;
 use run_limits::tally::Tally;
 use small_texts::memory_error::Memory;
@@ -263,7 +262,7 @@ fn preemptor<'a>(
 /// The numbers of the jobs that go for the highest of the candidates that don't start, the lowest in rank first, where the
 /// jobs that hold processors once the others have started are counted. Where preemption is on and a candidate doesn't
 /// start, it finds once more what priorities rest on, walks over the jobs and sorts those that might go by rank; then it
-/// costs what `preemption::victims` does.
+/// costs what `backfill_planner::victims` does.
 #[tactic(auto, unfolding(crate::specs::Preempting::victims_in))]
 pub(crate) fn find_victims(
     alloc: Global,

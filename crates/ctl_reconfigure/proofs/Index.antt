@@ -11,7 +11,7 @@ use Rattle.std.proofs.lemmas.List.Quantifiers.{position-Some}
 use Rattle.std.proofs.lemmas.Option.{get_or_from_slice_get, slice_get-get_or, slice_get_within}
 use Rattle.list_lemmas.proofs.Elements.{any-none}
 use Rattle.list_lemmas.proofs.Sums.{count-cons}
-use Rattle.cpu_ids.specs.Rows.{has_id}
+use Rattle.plain_data.specs.Rows.{has_id}
 use Rattle.plain_data.specs.Confs.{ConfView, IsConf}
 use Rattle.plain_data.specs.declared.conf.NodeConf.{NodeConf}
 use Rattle.node_state.specs.declared.record.Held.{Held}

@@ -2,7 +2,7 @@
 use Rattle.std.specs.Prelude.{ℕ, Bool, false, ◌&&◌, ◌||◌, not, nat_eq, nat_le, nat_lt, bytes_eq, unwrap_or, List, length, find, Option, slice_get, option_map}
 use Rattle.std.specs.Option.{option_and_then, option_or}
 use Rattle.std.specs.List.{list_any, range_with_len}
-use Rattle.cpu_ids.specs.Rows.{has_id}
+use Rattle.plain_data.specs.Rows.{has_id}
 use Rattle.plain_data.specs.Confs.{ConfView}
 use Rattle.plain_data.specs.declared.conf.NodeConf.{NodeConf}
 use Rattle.plain_data.specs.declared.conf.PartConf.{PartConf}

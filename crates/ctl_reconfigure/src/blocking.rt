@@ -3,7 +3,7 @@
 ghost use Rattle.std.specs.Prelude.{◌≡◌, ◌-◌, ◌<◌, ◌≤◌, ◌&&◌, ◌||◌, ℕ, bytes_eq, find, length, nat_eq, nat_le, option_copied, option_map, slice_get, All, IfSome};
 ghost use Rattle.std.specs.List.{list_any, range_with_len};
 ghost use Rattle.std.specs.Option.{option_to_list};
-ghost use Rattle.cpu_ids.specs.Rows.{has_id};
+ghost use Rattle.plain_data.specs.Rows.{has_id};
 ghost use Rattle.plain_data.specs.declared.conf.PartConf.{PartConf as OneLine};
 ghost use Rattle.node_state.specs.declared.reservation_record.Reservation.{Reservation as OneReservation};
 ghost use Rattle.node_state.specs.Nodes.{place_named};
@@ -16,17 +16,17 @@ ghost use Rattle.ctl_state.specs.Soundness.{IsSound};
 ghost use Rattle.ctl_state.specs.State.{state_of};
 ghost use Rattle.ctl_reconfigure.specs.Blocking;
 
-use cpu_ids::CpuIds;
 use ctl_state::cluster::Cluster;
 use job_table::record::{JobRecord, Part};
 use node_state::laws::names_lead_to_places;
 use node_state::nodes::Nodes;
 use node_state::reservation_record::Reservation;
+use plain_data::NodePlaces;
 use plain_data::conf::{Conf, NodeConf, PartConf};
 use small_texts::name::Name;
 
 // Adds the places of the nodes of these parts.
-fn insert_parts(places: &mut CpuIds, parts: &[Part])
+fn insert_parts(places: &mut NodePlaces, parts: &[Part])
     requires { All (λ part. part.node < 1024) parts.now }
     ensures { (place : ℕ) → has_id places.new place
         ≡ (has_id places.old place || list_any (is_on place) parts.now) }
@@ -37,11 +37,11 @@ fn insert_parts(places: &mut CpuIds, parts: &[Part])
 }
 
 // The places of the nodes on which jobs have parts.
-fn places_of_parts(jobs: &[JobRecord]) -> CpuIds
+fn places_of_parts(jobs: &[JobRecord]) -> NodePlaces
     requires { All (λ part. part.node < 1024) (parts_of jobs.now) }
     ensures { (place : ℕ) → has_id result place ≡ list_any (is_on place) (parts_of jobs.now) }
 {
-    let mut places = CpuIds::none();
+    let mut places = NodePlaces::none();
     for job in jobs {
         insert_parts(&mut places, job.parts.as_slice());
     }
@@ -49,11 +49,11 @@ fn places_of_parts(jobs: &[JobRecord]) -> CpuIds
 }
 
 // The places of the nodes that reservations have.
-fn places_of_reservations(reservations: &[Reservation]) -> CpuIds
+fn places_of_reservations(reservations: &[Reservation]) -> NodePlaces
     ensures { (place : ℕ) → has_id result place
         ≡ list_any (λ (one : OneReservation). has_id one.nodes place) reservations.now }
 {
-    let mut places = CpuIds::none();
+    let mut places = NodePlaces::none();
     for reservation in reservations {
         places.insert_all(&reservation.nodes);
     }
@@ -61,7 +61,7 @@ fn places_of_reservations(reservations: &[Reservation]) -> CpuIds
 }
 
 // The places of the nodes that are needed.
-fn needed(cluster: &Cluster) -> CpuIds
+fn needed(cluster: &Cluster) -> NodePlaces
     requires { IsSound (state_of cluster.now) }
     ensures { (place : ℕ) → has_id result place ≡ Blocking.is_needed (state_of cluster.now) place }
 {
@@ -70,7 +70,7 @@ fn needed(cluster: &Cluster) -> CpuIds
     places
 }
 
-fn any_from(numbers: &CpuIds, bound: u32) -> bool
+fn any_from(numbers: &NodePlaces, bound: u32) -> bool
     requires { bound ≤ 1024 }
     ensures { result ≡ list_any (has_id numbers.now) (range_with_len bound (1024 - bound)) }
 {
@@ -78,7 +78,7 @@ fn any_from(numbers: &CpuIds, bound: u32) -> bool
 }
 
 // Whether one of the numbers is the bound or above it.
-fn reaches(numbers: &CpuIds, bound: u32) -> bool
+fn reaches(numbers: &NodePlaces, bound: u32) -> bool
     requires { bound ≤ 1024 }
     ensures { result ≡ list_any (λ number. nat_le bound number) numbers.now }
 {
@@ -97,7 +97,7 @@ fn is_too_small(cluster: &Cluster, place: u32, conf: &NodeConf) -> bool
 }
 
 // Adds the place that was found, if one was.
-fn insert_found(places: &mut CpuIds, found: Option<u32>)
+fn insert_found(places: &mut NodePlaces, found: Option<u32>)
     requires { IfSome found (λ place. place < 1024) }
     ensures { (place : ℕ) → has_id places.new place
         ≡ (has_id places.old place || has_id (option_to_list found) place) }
@@ -108,13 +108,13 @@ fn insert_found(places: &mut CpuIds, found: Option<u32>)
 }
 
 // The places of the nodes of these lines.
-fn places_of_lines(nodes: &Nodes, confs: &[NodeConf]) -> CpuIds
+fn places_of_lines(nodes: &Nodes, confs: &[NodeConf]) -> NodePlaces
     ensures { (place : ℕ) → has_id result place
         ≡ is_at (λ node. list_any (Blocking.is_of node) confs.now) nodes.now.records place }
 {
     names_lead_to_places();
     let _records = nodes.records();
-    let mut places = CpuIds::none();
+    let mut places = NodePlaces::none();
     for conf in confs {
         insert_found(&mut places, nodes.find(&conf.name));
     }
@@ -138,7 +138,7 @@ fn found_too_small(cluster: &Cluster, conf: &NodeConf) -> Option<u32>
 }
 
 // The places of the nodes whose new lines are too small.
-fn places_of_too_small(cluster: &Cluster, confs: &[NodeConf]) -> CpuIds
+fn places_of_too_small(cluster: &Cluster, confs: &[NodeConf]) -> NodePlaces
     requires { IsIndexed cluster.now }
     ensures { (place : ℕ) → has_id result place ≡ is_at (λ node. list_any (λ conf. Blocking.is_of node conf
         && Blocking.is_too_small (parts_of cluster.now.jobs.records) place conf) confs.now)
@@ -146,7 +146,7 @@ fn places_of_too_small(cluster: &Cluster, confs: &[NodeConf]) -> CpuIds
 {
     names_lead_to_places();
     let _records = cluster.nodes.records();
-    let mut places = CpuIds::none();
+    let mut places = NodePlaces::none();
     for conf in confs {
         insert_found(&mut places, found_too_small(cluster, conf));
     }
@@ -154,7 +154,7 @@ fn places_of_too_small(cluster: &Cluster, confs: &[NodeConf]) -> CpuIds
 }
 
 // The places of the nodes that stand against the lines.
-fn places_blocking(cluster: &Cluster, confs: &[NodeConf]) -> CpuIds
+fn places_blocking(cluster: &Cluster, confs: &[NodeConf]) -> NodePlaces
     requires sound { IsSound (state_of cluster.now) }
     requires indexed { IsIndexed cluster.now }
     ensures { (place : ℕ) → place < length cluster.now.nodes.records → has_id result place
@@ -167,7 +167,7 @@ fn places_blocking(cluster: &Cluster, confs: &[NodeConf]) -> CpuIds
 }
 
 // The first of the places that is below this count.
-fn first_below(places: &CpuIds, count: u32) -> Option<u32>
+fn first_below(places: &NodePlaces, count: u32) -> Option<u32>
     ensures { result ≡ find (has_id places.now) (range_with_len 0 count) }
 {
     (0..count).find(|place| places.contains(*place))
@@ -207,11 +207,11 @@ fn blocking_node<'a>(cluster: &'a Cluster, conf: &Conf) -> Option<&'a Name>
 }
 
 // The places of the partitions that have jobs.
-fn places_of_jobs(jobs: &[JobRecord]) -> CpuIds
+fn places_of_jobs(jobs: &[JobRecord]) -> NodePlaces
     requires { All (λ job. job.partition < 1024) jobs.now }
     ensures { (place : ℕ) → has_id result place ≡ list_any (λ (job : OneJob). nat_eq job.partition place) jobs.now }
 {
-    let mut places = CpuIds::none();
+    let mut places = NodePlaces::none();
     for job in jobs {
         places.insert(job.partition);
     }
@@ -226,7 +226,7 @@ fn has_line(confs: &[PartConf], name: &Name) -> bool
 }
 
 // Whether the partition at a place, which has jobs where these places have, has none of the lines.
-fn is_left_out(cluster: &Cluster, with_jobs: &CpuIds, confs: &[PartConf], place: u32) -> bool
+fn is_left_out(cluster: &Cluster, with_jobs: &NodePlaces, confs: &[PartConf], place: u32) -> bool
     requires { (place : ℕ) → has_id with_jobs.now place
         ≡ list_any (λ (job : OneJob). nat_eq job.partition place) cluster.now.jobs.records }
     ensures { result ≡ Blocking.is_left_out_at (state_of cluster.now) confs.now place }

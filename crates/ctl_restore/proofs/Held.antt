@@ -11,7 +11,7 @@ use Rattle.std.proofs.lemmas.List.FromFn.{length-range_with_len}
 use Rattle.std.proofs.lemmas.Option.{get_or_from_slice_get, slice_get_within}
 use Rattle.std.proofs.lemmas.List.Folds.{list_any_at}
 use Rattle.std.proofs.lemmas.List.Sums.{sum_by-append}
-use Rattle.cpu_ids.specs.Rows.{has_id, others_below}
+use Rattle.plain_data.specs.Rows.{has_id, others_below}
 use Rattle.resource_profile.specs.declared.NodeRoom.{NodeRoom}
 use Rattle.node_state.specs.declared.record.Held.{Held}
 use Rattle.node_state.specs.declared.record.NodeRecord.{NodeRecord}

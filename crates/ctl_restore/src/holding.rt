@@ -2,15 +2,15 @@
 
 ghost use Rattle.std.specs.Prelude.{◌≡◌, ◌+◌, ◌<◌, ◌≤◌, ◌↔◌, IsTrue, IsSome, IfSome, All, length, map, true, [], ◌∷◌};
 ghost use Rattle.std.specs.List.{HoldsAt};
-ghost use Rattle.cpu_ids.specs.Rows.{has_id};
+ghost use Rattle.plain_data.specs.Rows.{has_id};
 ghost use Rattle.node_state.specs.Held.{Takes, free_cpus, held_at, held_mem};
 ghost use Rattle.ctl_state.specs.Holding.{parts_of};
 ghost use Rattle.ctl_state.specs.Planning.{room_of};
 ghost use Rattle.ctl_restore.specs.Steps.{Holds, IsFree};
 
-use cpu_ids::CpuIds;
 use job_table::record::{JobRecord, Part};
 use node_state::nodes::Nodes;
+use plain_data::CpuIds;
 
 // Whether each of the numbers is among the others.
 fn are_among(ids: &CpuIds, others: &CpuIds) -> bool

@@ -8,12 +8,12 @@ ghost use Rattle.ctl_state.specs.Holding.{OnNodesApart};
 ghost use Rattle.ctl_restore.specs.Steps.{IsOnUp};
 ghost use Rattle.ctl_state.specs.Soundness.{AreUp, HasItsParts, IsKept, IsLimit, IsSettled, IsWellRun, is_up_at};
 
-use cpu_ids::CpuIds;
 use ctl_state::jobs::is_holding;
 use job_table::record::{JobRecord, Part};
 use job_table::terms::Terms;
 use node_state::nodes::Nodes;
 use node_state::standing;
+use plain_data::CpuIds;
 use plain_data::limit::Limit;
 use request_data::state::{Final, JobState};
 

@@ -6,11 +6,11 @@ ghost use Rattle.ctl_nodes.specs.Reserving.{places_among};
 ghost use Rattle.ctl_restore.specs.Fits.{HasSeconds};
 ghost use Rattle.ctl_restore.specs.Restored as spec;
 
-use cpu_ids::CpuIds;
 use ctl_nodes::places_of;
 use node_state::nodes::Nodes;
 use node_state::reservation_record::Reservation;
 use node_state::reservations::Reservations;
+use plain_data::NodePlaces;
 use plain_data::ranged::Ranged;
 use saved_data::parts::SavedReservation;
 use small_texts::memory_error::Memory;
@@ -18,7 +18,7 @@ use small_texts::name::Name;
 use std::alloc::Global;
 
 // The places of the nodes with these names.
-fn places_among(nodes: &Nodes, names: &[Name]) -> CpuIds
+fn places_among(nodes: &Nodes, names: &[Name]) -> NodePlaces
     ensures { result ≡ places_among nodes.now.records names.now }
 {
     let _records = nodes.records();

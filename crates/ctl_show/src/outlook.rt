@@ -74,7 +74,7 @@ fn waiting_for_many(alloc: Global, cluster: &Cluster, factors: &Factors) -> Resu
     requires measured { IsMeasured (state_of cluster.now) factors.now }
     ensures { IfOk result (ShowsWaiting (state_of cluster.now) factors.now.moment) }
 {
-    let tally = count_holding(alloc, &cluster.assocs, cluster.jobs.records())?;
+    let tally = count_holding(alloc, &cluster.assocs, &cluster.jobs)?;
     let behind = Behind::of(alloc, &cluster.jobs)?;
     let shared = Shared {
         highest: highest_beside(cluster, &tally, &behind, factors),
@@ -93,7 +93,7 @@ fn waiting_for_few(alloc: Global, cluster: &Cluster) -> Result<Waiting, Memory>
     requires { IsSound (state_of cluster.now) }
     ensures { IfOk result (λ waiting. (now : ℕ) → ShowsWaiting (state_of cluster.now) now waiting) }
 {
-    let tally = count_holding(alloc, &cluster.assocs, cluster.jobs.records())?;
+    let tally = count_holding(alloc, &cluster.assocs, &cluster.jobs)?;
     let behind = Behind::of(alloc, &cluster.jobs)?;
     Ok(Waiting {
         tally,
@@ -167,10 +167,11 @@ fn find_waiting(
 }
 
 /// Finds what the job's row needs, as far as it isn't found yet. The first time it measures what the priorities rest
-/// on: linear in nodes, partitions, associations, jobs and the parts of those that run, beside a sort of the users by
-/// what they have used. At the first pending job it is linear in the jobs, and each that holds processors costs its
-/// association's way up to root besides; where many are shown it is linear in the plan then, and each pending one that
-/// is higher in rank than the candidates before it costs such a way too. Else it takes constant time.
+/// on: linear in nodes, partitions, associations, the jobs that hold something and their parts, with one look for each
+/// 64 others, beside a sort of the users by what they have used. At the first pending job it is linear in the jobs, and
+/// each that holds processors costs its association's way up to root besides; where many are shown it is linear in the
+/// plan then, and each pending one that is higher in rank than the candidates before it costs such a way too. Else it
+/// takes constant time.
 pub(crate) fn look(
     alloc: Global,
     cluster: &Cluster,

@@ -1,7 +1,8 @@
 -- Those that hold processors: a waiting job that starts is one more of them.
-use Rattle.std.proofs.Common.{◌≡◌, ℕ, ◌+◌, ◌<◌, Bool, true, false, cond, eqb, List, [], ◌∷◌, ◌++◌, length, take, map, filter, get_or, sum_by, unwrap_or, Option, Some, None, refl, ap, ◌∙◌, sym, arith, inl, inr}
+use Rattle.std.proofs.Common.{◌≡◌, ℕ, zero, suc, ◌+◌, ◌<◌, ◌≤◌, Bool, true, false, cond, eqb, List, [], ◌∷◌, ◌++◌, length, take, map, filter, get_or, sum_by, unwrap_or, Option, Some, refl, ap, ◌∙◌, sym, arith, inl, inr}
 use Rattle.std.proofs.lemmas.Bool.{cases_Bool, eqb-true, ne_eqb}
-use Rattle.std.proofs.lemmas.List.{map-append, take_more}
+use Rattle.std.specs.List.{AllWithin}
+use Rattle.std.proofs.lemmas.List.{map-append, take_all, take_more}
 use Rattle.std.proofs.lemmas.List.Elements.{filter-append}
 use Rattle.std.proofs.lemmas.List.Folds.{map_fixed}
 use Rattle.std.proofs.lemmas.List.Sums.{sum_by-append, sum_by-cons}
@@ -78,13 +79,56 @@ counts-taken jobs now id parts names job rising found waits amount = omega (
   sum_by-cons amount (counted_of job) [],
 )
 
+-- one job alone
+pub holding-one : (job : JobRecord) → is_holding job.state ≡ true → holding (job ∷ []) ≡ counted_of job ∷ []
+unfolding holding
+holding-one job holds = rw holds refl
+
+pub holding-idle : (job : JobRecord) → is_holding job.state ≡ false → holding (job ∷ []) ≡ []
+unfolding holding
+holding-idle job idle = rw idle refl
+
 -- one job more of a list that is looked at
-pub holding-more : (jobs : List JobRecord) (i : ℕ) (job : JobRecord) → i < length jobs → job ≡ get_or jobs i job
-    → holding (take (i + 1) jobs) ≡ holding (take i jobs) ++ cond (is_holding job.state) (counted_of job ∷ []) []
+holding-more : (jobs : List JobRecord) (i : ℕ) (job : JobRecord) → i < length jobs → job ≡ get_or jobs i job
+    → holding (take (i + 1) jobs) ≡ holding (take i jobs) ++ holding (job ∷ [])
 unfolding holding
 holding-more jobs i job within is =
-    rw (take_more jobs i job within, ← is, filter-append (λ (one : JobRecord). is_holding one.state) (take i jobs) (job ∷ []))
-    (elim (cases_Bool (is_holding job.state)) [
-      | inl holds ↦ rw holds (map-append counted_of (filter (λ (one : JobRecord). is_holding one.state) (take i jobs)) (job ∷ []))
-      | inr idle ↦ rw idle (map-append counted_of (filter (λ (one : JobRecord). is_holding one.state) (take i jobs)) [])
-    ])
+    let holds : JobRecord → Bool = λ one. is_holding one.state in
+    rw (take_more jobs i job within, ← is, filter-append holds (take i jobs) (job ∷ []))
+    (map-append counted_of (filter holds (take i jobs)) (filter holds (job ∷ [])))
+
+-- those that hold processors, where some that don't are left out
+abbrev AreIdle : List JobRecord → ℕ → ℕ → Type 0
+AreIdle jobs from next = AllWithin (λ (job : JobRecord). is_holding job.state ≡ false) jobs from next
+
+holding-gap : (from next : ℕ) (jobs : List JobRecord) → from ≤ next → AreIdle jobs from next
+    → holding (take next jobs) ≡ holding (take from jobs)
+unfolding holding
+holding-gap zero zero jobs less idle = refl
+holding-gap zero (suc next) [] less idle = refl
+holding-gap zero (suc next) (job ∷ jobs) less idle =
+    let off : is_holding job.state ≡ false = idle 0 job (omega arith) (omega arith) in
+    let rest = holding-gap zero next jobs (omega arith)
+    (λ k d low below. idle (suc k) d (omega arith) (omega (arith, below))) in
+    rw off rest
+holding-gap (suc from) zero jobs less idle = absurd (omega (arith, less))
+holding-gap (suc from) (suc next) [] less idle = refl
+holding-gap (suc from) (suc next) (job ∷ jobs) less idle =
+    let rest = holding-gap from next jobs (omega (arith, less))
+    (λ k d low below. idle (suc k) d (omega (arith, low)) (omega (arith, below))) in
+    elim (cases_Bool (is_holding job.state)) [
+      | inl holds ↦ rw holds (ap (λ more. counted_of job ∷ more) rest)
+      | inr off ↦ rw off rest
+    ]
+
+pub holding-next : (from next : ℕ) (job : JobRecord) (jobs : List JobRecord) → from ≤ next → next < length jobs
+    → job ≡ get_or jobs next job → AreIdle jobs from next
+    → holding (take (next + 1) jobs) ≡ holding (take from jobs) ++ holding (job ∷ [])
+holding-next from next job jobs less inside is idle =
+    holding-more jobs next job inside is
+    ∙ ap (λ front. front ++ holding (job ∷ [])) (holding-gap from next jobs less idle)
+
+pub holding-rest : (from : ℕ) (jobs : List JobRecord) → from ≤ length jobs → AreIdle jobs from (length jobs)
+    → holding (take from jobs) ≡ holding jobs
+holding-rest from jobs within idle =
+    sym (holding-gap from (length jobs) jobs within idle) ∙ ap holding (take_all (length jobs) jobs (omega arith))

@@ -9,7 +9,7 @@ use Rattle.backfill_planner.specs.declared.job.Barred.{Barred}
 use Rattle.backfill_planner.specs.declared.job.PlanJob.{PlanJob}
 use Rattle.node_state.specs.declared.reservation_record.Reservation.{Reservation}
 use Rattle.node_state.specs.Reservations.{has, is_named as has_name, reservation_named}
-use Rattle.cpu_ids.specs.Rows.{has_id}
+use Rattle.plain_data.specs.Rows.{has_id}
 use Rattle.node_state.specs.declared.record.NodeRecord.{NodeRecord}
 use Rattle.node_state.specs.Nodes.{is_available, is_named, has_features}
 use Rattle.node_state.specs.declared.partition_record.PartRecord.{PartRecord}

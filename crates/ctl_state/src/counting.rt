@@ -1,10 +1,12 @@
 //! What jobs count towards limits.
 
-ghost use Rattle.std.specs.Prelude.{◌≡◌, IfOk};
+ghost use Rattle.std.specs.Prelude.{◌≡◌, ◌++◌, ◌∷◌, [], List, IfOk, OnOk};
+ghost use Rattle.run_limits.specs.declared.counted.Counted.{Counted};
 ghost use Rattle.run_limits.specs.Tallies.{Shows};
 ghost use Rattle.ctl_state.specs.Counted as spec;
 
 use crate::jobs::is_holding;
+use job_table::jobs::Jobs;
 use job_table::record::JobRecord;
 use run_limits::assocs::Assocs;
 use run_limits::counted::Counted;
@@ -24,16 +26,28 @@ pub fn counted_of(job: &JobRecord) -> Counted
     }
 }
 
-/// What those of the jobs count that hold processors. One walk over the jobs; each that holds processors costs its way
-/// up to root.
-pub fn count_holding(alloc: Global, assocs: &Assocs, jobs: &[JobRecord]) -> Result<Tally, Memory>
-    ensures { IfOk result (λ tally. Shows assocs.now.records tally (spec.holding jobs.now)) }
+// Counts the job besides, where it holds processors.
+fn add(tally: &mut Tally, assocs: &Assocs, job: &JobRecord) -> Result<(), Memory>
+    ensures { OnOk result ((jobs : List Counted) → Shows assocs.now.records tally.old jobs
+        → Shows assocs.now.records tally.new (jobs ++ spec.holding (job.now ∷ []))) }
 {
+    if is_holding(job) {
+        tally.add(assocs, &counted_of(job))?;
+    }
+    Ok(())
+}
+
+/// What the jobs count that hold processors. One look for each 64 jobs of which none does; each that does costs its way
+/// up to root.
+pub fn count_holding(alloc: Global, assocs: &Assocs, jobs: &Jobs) -> Result<Tally, Memory>
+    ensures { IfOk result (λ tally. Shows assocs.now.records tally (spec.holding jobs.now.records)) }
+{
+    let records = jobs.records();
     let mut tally = Tally::new(alloc)?;
-    for job in jobs {
-        if is_holding(job) {
-            tally.add(assocs, &counted_of(job))?;
-        }
+    let mut from = 0;
+    while let Some(place) = jobs.next_holding(from) {
+        add(&mut tally, assocs, &records[place])?;
+        from = place + 1;
     }
     Ok(tally)
 }

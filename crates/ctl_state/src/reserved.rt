@@ -1,7 +1,7 @@
 //! What reservations leave to a job.
 
 ghost use Rattle.std.specs.Prelude.{◌≡◌, ◌++◌, ◌&&◌, IfOk, OnOk, filter, find, nat_lt, option_copied};
-ghost use Rattle.cpu_ids.specs.Rows.{has_id};
+ghost use Rattle.plain_data.specs.Rows.{has_id};
 ghost use Rattle.node_state.specs.declared.reservation_record.Reservation.{Reservation as OneReservation};
 ghost use Rattle.node_state.specs.Reservations.{is_named, lasting, reservation_named};
 ghost use Rattle.ctl_state.specs.Planning;

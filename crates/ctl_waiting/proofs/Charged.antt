@@ -1,14 +1,16 @@
 -- What associations have used stays while jobs leave Running and are gone.
 use Rattle.std.proofs.Common.{◌≡◌, ℕ, zero, suc, ◌+◌, ◌-◌, ◌^◌, ◌<◌, ◌≤◌, Bool, true, false, ◌&&◌, not, cond, min, List, [], ◌∷◌, length, map, filter, take, get_or, nat_eq, slice_get, inl, inr, Option, None, Some, refl, sym, ap, ◌∙◌, arith, true≢false}
 use Rattle.std.specs.Prelude.{All, option_map, unwrap_or}
-use Rattle.std.specs.List.{AllZip, enumerate_from, zip}
+use Rattle.std.specs.List.{AllWithin, AllZip, enumerate_from, zip}
 use Rattle.std.proofs.lemmas.Bool.Decides.{nat_tests}
-use Rattle.std.proofs.lemmas.List.{length-map, get_or-map, get_or_past}
+use Rattle.std.proofs.lemmas.List.{length-map, get_or-map, get_or_past, take_all}
 use Rattle.std.proofs.lemmas.List.Elements.{All-head, All-tail}
 use Rattle.std.proofs.lemmas.Option.{slice_get_cases}
 use Rattle.std.proofs.lemmas.List.Sums.{sum_by-cons, sum_by_more}
 use Rattle.job_table.specs.declared.record.JobRecord.{JobRecord}
-use Rattle.job_table.specs.JobStates.{is_running}
+use Rattle.request_data.specs.declared.state.JobState.{JobState}
+use Rattle.request_data.specs.declared.state.JobState.TheVariants.{Pending, Running, Completing, Ended}
+use Rattle.job_table.specs.JobStates.{is_holding, is_running}
 use Rattle.job_table.specs.Usage.{RunsOn, charged, grown, greatest_usage, used_by, used_of, used_when_left}
 use Rattle.ctl_waiting.specs.Usage.{running_usage, used_running}
 
@@ -127,6 +129,55 @@ used_in-stays now place goes jobs after totals on idle =
 
 pub running-none : (now place : ℕ) → running_usage now [] place ≡ 0
 running-none now place = refl
+
+-- who holds no processors doesn't run, and uses nothing
+idle-rests : (state : JobState) → is_holding state ≡ false → is_running state ≡ false
+idle-rests Pending idle = refl
+idle-rests Running idle = absurd (true≢false idle)
+idle-rests (Completing final) idle = refl
+idle-rests (Ended final) idle = refl
+
+idle-uses : (now place : ℕ) (job : JobRecord) → is_holding job.state ≡ false → uses now place job ≡ 0
+unfolding used_running
+idle-uses now place job idle =
+    nothing (nat_eq job.assoc place) (is_running job.state) (used_by now job) (idle-rests job.state idle)
+  where
+    nothing : (same runs : Bool) (used : ℕ) → runs ≡ false → cond same (cond runs used zero) zero ≡ zero
+    nothing false runs used rests = refl
+    nothing true false used rests = refl
+    nothing true true used rests = absurd (true≢false rests)
+
+-- so jobs may be left out that hold none
+pub running-gap : (now place from next : ℕ) (jobs : List JobRecord) → from ≤ next
+    → AllWithin (λ (job : JobRecord). is_holding job.state ≡ false) jobs from next
+    → running_usage now (take next jobs) place ≡ running_usage now (take from jobs) place
+running-gap now place zero zero jobs less none = refl
+running-gap now place zero (suc next) [] less none = refl
+running-gap now place zero (suc next) (job ∷ jobs) less none =
+    omega (
+      arith,
+      sum_by-cons (uses now place) job (take next jobs),
+      idle-uses now place job (none 0 job (omega arith) (omega arith)),
+      running-gap now place zero next jobs (omega arith)
+          (λ k d low below. none (suc k) d (omega arith) (omega (arith, below))),
+    )
+running-gap now place (suc from) zero jobs less none = absurd (omega (arith, less))
+running-gap now place (suc from) (suc next) [] less none = refl
+running-gap now place (suc from) (suc next) (job ∷ jobs) less none =
+    omega (
+      arith,
+      sum_by-cons (uses now place) job (take next jobs),
+      sum_by-cons (uses now place) job (take from jobs),
+      running-gap now place from next jobs (omega (arith, less))
+          (λ k d low below. none (suc k) d (omega (arith, low)) (omega (arith, below))),
+    )
+
+pub running-rest : (now place from : ℕ) (jobs : List JobRecord) → from ≤ length jobs
+    → AllWithin (λ (job : JobRecord). is_holding job.state ≡ false) jobs from (length jobs)
+    → running_usage now (take from jobs) place ≡ running_usage now jobs place
+running-rest now place from jobs within none =
+    sym (running-gap now place from (length jobs) jobs within none)
+    ∙ ap (λ some. running_usage now some place) (take_all (length jobs) jobs (omega arith))
 
 -- one more job, where sums are cut at the greatest usage
 pub running-more : (now place : ℕ) (jobs : List JobRecord) (i : ℕ) (job : JobRecord) → i < length jobs

@@ -5,10 +5,10 @@ use Rattle.std.proofs.lemmas.Bool.{cases_lt}
 use Rattle.std.proofs.lemmas.List.{length-map, get_or_past}
 use Rattle.std.proofs.lemmas.List.Elements.{All-map}
 use Rattle.std.proofs.lemmas.Option.{unwrap_or-slice_get}
-use Rattle.multifactor.specs.declared.tree.TreeNode.{TreeNode}
-use Rattle.multifactor.specs.Levels.{Level}
-use Rattle.multifactor.specs.Tree.{users}
-use Rattle.multifactor.specs.Ranks.{rank_among, paths_of, ranks_of}
+use Rattle.run_limits.specs.declared.tree.TreeNode.{TreeNode}
+use Rattle.run_limits.specs.Levels.{Level}
+use Rattle.run_limits.specs.Tree.{users}
+use Rattle.run_limits.specs.Ranks.{rank_among, paths_of, ranks_of}
 use Rattle.ctl_state.specs.State.{State}
 use Rattle.ctl_waiting.specs.declared.factors.Factors.{Factors}
 use Rattle.ctl_waiting.specs.Measured.{IsMeasured}

@@ -5,8 +5,8 @@ use Rattle.std.specs.List.{AllZip}
 use Rattle.job_table.specs.declared.record.JobRecord.{JobRecord}
 use Rattle.job_table.specs.JobStates.{is_running}
 use Rattle.job_table.specs.Usage.{RunsOn}
-use Rattle.multifactor.specs.Tree.{users}
-use Rattle.multifactor.specs.Ranks.{ranks_of}
+use Rattle.run_limits.specs.Tree.{users}
+use Rattle.run_limits.specs.Ranks.{ranks_of}
 use Rattle.node_state.specs.declared.reservation_record.Reservation.{Reservation}
 use Rattle.ctl_state.specs.declared.record.ArrayRecord.{ArrayRecord}
 use Rattle.ctl_state.specs.State.{State}

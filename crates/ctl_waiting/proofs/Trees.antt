@@ -8,8 +8,8 @@ use Rattle.std.proofs.lemmas.Option.{slice_get-map}
 use Rattle.plain_data.specs.Assocs.{is_same_place as is_same_parent}
 use Rattle.run_limits.specs.declared.record.AssocRecord.{AssocRecord}
 use Rattle.run_limits.specs.Accounts.{AreFew, AreRooted}
-use Rattle.multifactor.specs.declared.tree.TreeNode.{TreeNode}
-use Rattle.multifactor.specs.Tree.{IsTree, is_same_place}
+use Rattle.run_limits.specs.declared.tree.TreeNode.{TreeNode}
+use Rattle.run_limits.specs.Tree.{IsTree, is_same_place}
 use Rattle.ctl_waiting.specs.FairShare.{node_of}
 use Rattle.list_lemmas.proofs.Numbers.{same-test as nat_eq-turned}
 

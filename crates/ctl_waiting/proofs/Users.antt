@@ -8,8 +8,8 @@ use Rattle.std.proofs.lemmas.List.Elements.{All-nil, All-cons, All-filter, All-m
 use Rattle.std.proofs.lemmas.List.Sums.{sum_by-cons}
 use Rattle.std.proofs.lemmas.Option.{unwrap_or-slice_get}
 use Rattle.run_limits.specs.declared.record.AssocRecord.{AssocRecord}
-use Rattle.multifactor.specs.declared.tree.TreeNode.{TreeNode}
-use Rattle.multifactor.specs.Tree.{users}
+use Rattle.run_limits.specs.declared.tree.TreeNode.{TreeNode}
+use Rattle.run_limits.specs.Tree.{users}
 use Rattle.ctl_waiting.specs.FairShare.{node_of, tree_of}
 use Rattle.ctl_waiting.proofs.Places.{position-none, position-push_other, position-push_new}
 

@@ -1,9 +1,9 @@
 -- The ranks of users by what they have used of their shares.
 use Rattle.std.specs.Prelude.{ℕ, nat_eq, unwrap_or, List, length, map, position, slice_get, option_and_then}
 use Rattle.run_limits.specs.declared.record.AssocRecord.{AssocRecord}
-use Rattle.multifactor.specs.declared.tree.TreeNode.{TreeNode}
-use Rattle.multifactor.specs.Tree.{users}
-use Rattle.multifactor.specs.Ranks.{ranks_of}
+use Rattle.run_limits.specs.declared.tree.TreeNode.{TreeNode}
+use Rattle.run_limits.specs.Tree.{users}
+use Rattle.run_limits.specs.Ranks.{ranks_of}
 use Rattle.ctl_state.specs.State.{State}
 use Rattle.ctl_waiting.specs.Usage.{usage_at}
 

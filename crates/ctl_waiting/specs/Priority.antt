@@ -1,8 +1,8 @@
 -- The priority of a job: Slurm's multifactor priority.
 use Rattle.std.specs.Prelude.{ℕ, ◌-◌, ◌*◌, min, max, unwrap_or, List, [], ◌∷◌, map, fold, sum, sum_by, slice_get, option_map}
-use Rattle.slurm_num.specs.Ratios.{share_of}
+use Rattle.plain_data.specs.Ratios.{share_of}
 use Rattle.reply_data.specs.declared.priority.PriorityParts.{PriorityParts}
-use Rattle.multifactor.specs.Priority.{priority_of}
+use Rattle.run_limits.specs.Priority.{priority_of}
 use Rattle.node_state.specs.declared.record.NodeRecord.{NodeRecord}
 use Rattle.node_state.specs.declared.partition_record.PartRecord.{PartRecord}
 use Rattle.run_limits.specs.declared.record.QosRecord.{QosRecord}

@@ -27,8 +27,9 @@ pub struct Factors {
     pub(crate) greatest_qos: u32,
 }
 
-/// What the priorities at a moment rest on. Linear in nodes, partitions, qualities of service, associations, jobs and
-/// the parts of those that run; and it ranks the users by Fair Tree, in the time of a sort.
+/// What the priorities at a moment rest on. Linear in nodes, partitions, qualities of service, associations, the jobs
+/// that hold something and their parts, with one look for each 64 others; and it ranks the users by Fair Tree, in the
+/// time of a sort.
 pub fn measure(alloc: Global, cluster: &Cluster, now: u64) -> Result<Factors, Memory>
     ensures measured { IfOk result (IsMeasured (state_of cluster.now)) }
     ensures moment { IfOk result (λ factors. factors.moment ≡ now) }

@@ -2,7 +2,7 @@
 
 ghost use Rattle.std.specs.Prelude.{◌≡◌, ◌≤◌, option_map, slice_get, unwrap_or};
 ghost use Rattle.run_limits.specs.declared.record.QosRecord.{QosRecord};
-ghost use Rattle.multifactor.specs.Priority.{value_of};
+ghost use Rattle.run_limits.specs.Priority.{value_of};
 ghost use Rattle.ctl_state.specs.State.{state_of};
 ghost use Rattle.ctl_waiting.specs.FairShare.{rank_at};
 ghost use Rattle.ctl_waiting.specs.Priority as spec;
@@ -12,9 +12,9 @@ use crate::factors::Factors;
 use crate::ranks::rank_at_place;
 use ctl_state::cluster::Cluster;
 use job_table::record::JobRecord;
-use multifactor::{PriorityInput, Term, priority};
 use reply_data::priority::PriorityParts;
 use run_limits::record::QosRecord;
+use run_limits::{PriorityInput, Term, priority};
 
 // How long the job has waited at a moment, as far as that counts.
 fn age_term(cluster: &Cluster, moment: u64, job: &JobRecord) -> Term

@@ -2,14 +2,14 @@
 
 ghost use Rattle.std.specs.Prelude.{◌≡◌, ◌≤◌, ◌<◌, ℕ, IfOk, All, count_by, length, map, nat_eq, option_and_then, position, slice_get, slice_index, unwrap_or, vec_len};
 ghost use Rattle.run_limits.specs.declared.record.AssocRecord.{AssocRecord};
-ghost use Rattle.multifactor.specs.Tree.{users};
+ghost use Rattle.run_limits.specs.Tree.{users};
 ghost use Rattle.ctl_state.specs.State.{state_of};
 ghost use Rattle.ctl_waiting.specs.FairShare.{rank_at, tree_of as shares_of, user_count};
 
 use crate::tree::tree_of;
 use crate::usage::usage_of;
 use ctl_state::cluster::Cluster;
-use multifactor::fair_tree::ranks;
+use run_limits::fair_tree::ranks;
 use run_limits::record::AssocRecord;
 use small_texts::memory_error::Memory;
 use std::alloc::Global;
@@ -78,8 +78,9 @@ pub(crate) fn count_users(cluster: &Cluster) -> u64
     users_among(cluster.assocs.records()) as u64
 }
 
-/// The rank of the user of each association, in the order of these; 0 of an account. Linear in associations, jobs and
-/// the parts of those that run; and it ranks the users by Fair Tree, in the time of a sort.
+/// The rank of the user of each association, in the order of these; 0 of an account. Linear in associations, the jobs
+/// that hold something and their parts, with one look for each 64 others; and it ranks the users by Fair Tree, in the
+/// time of a sort.
 pub(crate) fn ranks_at(alloc: Global, cluster: &Cluster, now: u64) -> Result<Vec<u32>, Memory>
     ensures len { IfOk result (λ ranks. vec_len ranks ≡ length cluster.now.assocs.records) }
     ensures each { IfOk result (λ ranks. (place : ℕ) → place < length cluster.now.assocs.records

@@ -2,11 +2,11 @@
 
 ghost use Rattle.std.specs.Prelude.{◌≡◌, ◌≤◌, ◌<◌, ◌^◌, IfOk, length};
 ghost use Rattle.run_limits.specs.Accounts.{AreFew, AreRooted};
-ghost use Rattle.multifactor.specs.Tree.{IsTree};
+ghost use Rattle.run_limits.specs.Tree.{IsTree};
 ghost use Rattle.ctl_waiting.specs.FairShare as spec;
 
-use multifactor::tree::TreeNode;
 use run_limits::record::AssocRecord;
+use run_limits::tree::TreeNode;
 use small_texts::memory_error::Memory;
 use std::alloc::Global;
 

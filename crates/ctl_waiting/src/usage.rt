@@ -5,6 +5,7 @@ ghost use Rattle.ctl_state.specs.State.{state_of};
 ghost use Rattle.ctl_waiting.specs.Usage as spec;
 
 use ctl_state::cluster::Cluster;
+use job_table::jobs::Jobs;
 use job_table::record::JobRecord;
 use job_table::usage::{GREATEST_USAGE, used_by};
 use request_data::state::JobState;
@@ -46,25 +47,30 @@ fn grow(usage: &mut Vec<u64>, place: u32, more: u64)
     }
 }
 
-// Adds to each what those of the jobs have used that run and are its own. One walk over the jobs.
-fn add_running(usage: &mut Vec<u64>, jobs: &[JobRecord], now: u64)
+// Adds to each what those of the jobs have used that run and are its own. One look for each 64 jobs of which none holds
+// anything.
+fn add_running(usage: &mut Vec<u64>, jobs: &Jobs, now: u64)
     requires small { (at : ℕ) → slice_index usage.old.items at ≤ GREATEST_USAGE }
     ensures len { vec_len usage.new ≡ vec_len usage.old }
     ensures each { (at : ℕ) → at < vec_len usage.old → slice_index usage.new.items at
-        ≡ min (slice_index usage.old.items at + spec.running_usage now jobs.now at) GREATEST_USAGE }
+        ≡ min (slice_index usage.old.items at + spec.running_usage now jobs.now.records at) GREATEST_USAGE }
 {
-    for job in jobs {
+    let records = jobs.records();
+    let mut from = 0;
+    while let Some(place) = jobs.next_holding(from) {
+        let job = &records[place];
         grow(usage, job.assoc, used_running(now, job));
+        from = place + 1;
     }
 }
 
 /// What each association has used at a moment, in seconds of one processor and in their order. Linear in associations,
-/// jobs and the parts of those that run.
+/// the jobs that hold something and their parts; one look for each 64 jobs of which none does.
 pub(crate) fn usage_of(alloc: Global, cluster: &Cluster, now: u64) -> Result<Vec<u64>, Memory>
     ensures { IfOk result (λ usage. (place : ℕ)
         → slice_index usage.items place ≡ spec.usage_at (state_of cluster.now) now place) }
 {
     let mut usage = capped(alloc, cluster.jobs.usage())?;
-    add_running(&mut usage, cluster.jobs.records(), now);
+    add_running(&mut usage, &cluster.jobs, now);
     Ok(usage)
 }

@@ -40,7 +40,7 @@ use Rattle.ctl_node_side.specs.Reporting.{report_after, reported}
 use Rattle.ctl_node_side.specs.Passes.{after_pass, pass_is_idle}
 use Rattle.ctl_node_side.specs.Restarting.{made_by_report, met}
 use Rattle.ctl_node_side.specs.Silence.{any_silent, silent_at, silenced, without_silent}
-use Rattle.ctl_submit.specs.Submission.{Basis, made_under, new_arrays, new_jobs, submit_after, task, basis_of}
+use Rattle.ctl_jobs.specs.Submission.{Basis, made_under, new_arrays, new_jobs, submit_after, task, basis_of}
 use Rattle.ctl_reconfigure.specs.Reconfiguring.{job_after, reconfigured}
 use Rattle.ctl_reconfigure.specs.Same.{is_same}
 use Rattle.ctl_core.specs.Operating.{is_in_state, partition_after, partition_made}

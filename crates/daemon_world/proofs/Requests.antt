@@ -47,7 +47,7 @@ use Rattle.ctl_pass.specs.Readiness.{goes as gone, jobs_left, placements, ready}
 use Rattle.ctl_node_side.specs.Reporting.{heard_of}
 use Rattle.ctl_node_side.specs.Passes.{after_pass, pass_is_idle}
 use Rattle.ctl_node_side.specs.Silence.{any_silent, falls_silent, silent_at, silenced, without_silent}
-use Rattle.ctl_submit.specs.Submission.{made_under, new_arrays, new_jobs, submit_after, basis_of, Basis}
+use Rattle.ctl_jobs.specs.Submission.{made_under, new_arrays, new_jobs, submit_after, basis_of, Basis}
 use Rattle.ctl_reconfigure.specs.Same.{is_same}
 use Rattle.ctl_core.specs.Operating.{is_in_state, partition_made}
 use Rattle.ctl_core.specs.Sizes.{has_room, size_of}

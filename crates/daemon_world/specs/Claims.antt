@@ -1,6 +1,6 @@
 -- What a daemon runs or may launch, and what the controller holds for it.
 use Rattle.std.specs.Prelude.{◌≡◌, ◌≤◌, ℕ, true, List, map, count_by, All, Any, Some}
-use Rattle.cpu_ids.specs.Rows.{has_id}
+use Rattle.plain_data.specs.Rows.{has_id}
 use Rattle.request_data.specs.declared.report.Start.{Start}
 use Rattle.request_data.specs.declared.report.Done.{Done}
 use Rattle.reply_data.specs.declared.orders.Launch.{Launch}

@@ -1,16 +1,41 @@
-//! A table of files slurm.conf(5) and of association files: for each what it says, or its first fault. In the input a
-//! line `== conf NAME` or `== assoc NAME` begins a file; in one that begins with `=~` the last line has no line feed.
-//! A line `@ FROM TO TEXT` of an association file stands for as many lines as there are numbers.
+//! A table of files of several kinds: for each what it says, or its first fault. In the input a line `== KIND NAME` begins a
+//! file: `conf` a slurm.conf, `assoc` an association file, `state` a saved state, `swf` and `sacct` a trace, `picture`
+//! what a picture shows. In one that begins with `=~` the last line has no line feed.
 #![tactic(auto)]
 
 mod assoc;
 mod conf;
+mod drawing;
 mod repeats;
+mod scene;
 mod shown;
+mod state;
+mod trace;
+mod trace_jobs;
 
+use std::alloc::Global;
 use std::io;
 use std::io::Read;
 use table_lines::cases::next_case;
+use trace_text::TraceKind;
+
+// What a file says, by the line that begins it.
+fn answer(rt: &impl Print, alloc: Global, name: &[u8], file: &[u8]) -> io::Result<()> {
+    match kind_of(name) {
+        b"conf" => conf::answer(rt, alloc, file),
+        b"assoc" => assoc::answer(rt, alloc, file),
+        b"state" => state::answer(rt, alloc, file),
+        b"swf" => trace::answer(rt, alloc, TraceKind::Swf, file),
+        b"sacct" => trace::answer(rt, alloc, TraceKind::Sacct, file),
+        b"picture" => drawing::answer(rt, alloc, file),
+        _ => rt.println("no such kind"),
+    }
+}
+
+// The word behind the sign that begins a file.
+fn kind_of(name: &[u8]) -> &[u8] {
+    name.split(|b| *b == b' ').nth(1).unwrap_or(b"")
+}
 
 fn main(rt: HostRuntime) -> io::Result<()> {
     let mut text = Vec::new(rt.alloc());
@@ -18,20 +43,8 @@ fn main(rt: HostRuntime) -> io::Result<()> {
     let mut rest = text.as_slice();
     while let Some(case) = next_case(rest) {
         rt.write_all(case.name)?;
-        if has_kind(case.name, b" conf ") {
-            conf::answer(&rt, rt.alloc(), case.file)?;
-        } else if has_kind(case.name, b" assoc ") {
-            assoc::answer(&rt, rt.alloc(), case.file)?;
-        } else {
-            rt.write_all(b"no such kind\n")?;
-        }
+        answer(&rt, rt.alloc(), case.name, case.file)?;
         rest = case.rest;
     }
     Ok(())
-}
-
-// Whether the line that begins a file says that it is of this kind.
-fn has_kind(name: &[u8], kind: &[u8]) -> bool {
-    name.split_at_checked(2)
-        .is_some_and(|(_, rest)| rest.starts_with(kind))
 }

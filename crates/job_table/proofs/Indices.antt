@@ -10,6 +10,7 @@ use Rattle.std.proofs.lemmas.List.{get_or-drop, get_or-map, get_or-take, get_or_
 use Rattle.job_table.specs.declared.record.JobRecord.{JobRecord}
 use Rattle.job_table.specs.Table.{HaveRisingIds, IsJobTable, IsTable, entry_of}
 use Rattle.job_table.specs.Blocks.{AreMarked}
+use Rattle.job_table.specs.declared.blocks.Block.{Block}
 use Rattle.job_table.specs.Tallies.{IsTallied}
 use Rattle.job_table.specs.declared.unended.Tallies.{Tallies}
 use Rattle.job_table.specs.Walks.{map_at}
@@ -247,7 +248,7 @@ found-alike one other same array index = cc
 
 -- A table whose records are found by the same as those of another.
 pub table-found : (entries : List (ℕ × JobRecord)) (jobs were : List JobRecord) (by_index : Bool)
-    (blocks : List (List ℕ)) (tallies : Tallies)
+    (blocks : List Block) (tallies : Tallies)
     → IsTable entries
     → entries ≡ map entry_of jobs → map found_by jobs ≡ map found_by were
     → (by_index ≡ true → HaveRisingIndices were)

@@ -1,17 +1,18 @@
 -- What is marked in the blocks of the table.
-use Rattle.std.proofs.Common.{◌≡◌, ◌≢◌, ℕ, zero, suc, ◌+◌, ◌*◌, ◌/◌, ◌<◌, ◌≤◌, Bool, true, false, ◌||◌, nat_eq, List, [], ◌∷◌, ◌++◌, length, map, take, set, get_or, slice_get, unwrap_or, All, IfSome, Option, None, Some, inl, inr, refl, sym, ap, ◌∙◌, arith, true≢false}
-use Rattle.std.specs.List.{AllWithin, HoldsAt, list_any}
-use Rattle.std.proofs.lemmas.Bool.{cases_eq, cases_lt}
+use Rattle.std.proofs.Common.{◌≡◌, ◌≢◌, ℕ, zero, suc, ◌+◌, ◌/◌, ◌<◌, ◌≤◌, Bool, true, false, ◌||◌, nat_eq, List, [], ◌∷◌, ◌++◌, length, map, take, set, get_or, slice_get, unwrap_or, All, IfSome, Option, None, Some, inl, inr, refl, sym, ap, ◌∙◌, arith, true≢false}
+use Rattle.std.specs.List.{AllWithin, list_any}
+use Rattle.std.proofs.lemmas.Bool.{cases_Bool, cases_eq, cases_lt}
 use Rattle.std.proofs.lemmas.Bool.Decides.{nat_tests}
 use Rattle.std.specs.Prelude.{option_map}
-use Rattle.std.proofs.lemmas.Option.{slice_get-get_or, slice_get-map, slice_get_past, slice_get_within, none-some}
-use Rattle.std.proofs.lemmas.List.{length-append, length-take}
+use Rattle.std.proofs.lemmas.Option.{slice_get-get_or, slice_get-map, slice_get_past, none-some}
 use Rattle.std.proofs.lemmas.List.Elements.{AllWithin-more, All-head, All-tail, at_read}
-use Rattle.cpu_ids.specs.Rows.{has_id}
+use Rattle.plain_data.specs.Rows.{has_id}
+use Rattle.job_table.specs.declared.blocks.Block.{Block}
 use Rattle.job_table.specs.declared.record.Part.{Part}
 use Rattle.job_table.specs.declared.record.JobRecord.{JobRecord}
-use Rattle.job_table.specs.Blocks.{AreMarked, AreMarkedBefore, AreMarkedBut, HasMark, IsMarked, holds_on, mark_of, may_hold}
+use Rattle.job_table.specs.Blocks.{AreMarked, AreMarkedBefore, AreMarkedBut, HasMark, IsMarked, Shows, holds_on, mark_of, may_be_holding, may_hold}
 use Rattle.job_table.specs.Changes.{is_on}
+use Rattle.job_table.specs.JobStates.{is_holding}
 use Rattle.job_table.specs.Walks.{map_at}
 
 pub same-one : {X : Type 0} {x y : X} → Some x ≡ Some y → x ≡ y
@@ -91,27 +92,59 @@ mark-next parts i part old new inside is added before =
     (λ k d low below. mark-kept (mark_of part.node) old new added (mark_of (get_or parts k d).node) (before k d low below))
     (at_read parts (HasMark new) i part inside is (mark-there (mark_of part.node) old new added))
 
--- the jobs from one place on and before another are marked
-abbrev pub MarksWithin : List ℕ → List JobRecord → ℕ → ℕ → Type 0
-MarksWithin marks jobs first end = (place : ℕ) (job : JobRecord) → first ≤ place → place < end
-    → slice_get jobs place ≡ Some job → All (HasMark marks) job.parts
+-- a block that has these marks as well, and says so where the job holds processors
+pub shows-more : (old new : Block) (holds : Bool)
+    → ((number : ℕ) → has_id old.nodes number ≡ true → has_id new.nodes number ≡ true)
+    → new.holding ≡ (old.holding || holds) → (job : JobRecord) → Shows old job → Shows new job
+shows-more old new holds stays is job shown = record {
+  nodes = λ k d below. stays (mark_of (get_or job.parts k d).node) (shown.nodes k d below);
+  holding = λ state. is ∙ ap (λ b. b || holds) (shown.holding state);
+}
 
--- what is marked in a block that is kept, and in one that isn't
-marked-in : (blocks : List (List ℕ)) (place : ℕ) (job : JobRecord) (marks : List ℕ)
-    → slice_get blocks (place / 64) ≡ Some marks → All (HasMark marks) job.parts → IsMarked blocks place job
-marked-in blocks place job marks is has = λ k d below. rw is (has k d below)
+pub shows-job : (old new : Block) (holds : Bool) (job : JobRecord) → All (HasMark new.nodes) job.parts
+    → new.holding ≡ (old.holding || holds) → holds ≡ is_holding job.state → Shows new job
+shows-job old new holds job marked is same = record {
+  nodes = marked;
+  holding = λ state. is ∙ by old.holding (same ∙ state);
+}
+  where
+    by : (b : Bool) → holds ≡ true → (b || holds) ≡ true
+    by true so = refl
+    by false so = so
 
-marked-none : (blocks : List (List ℕ)) (place : ℕ) (job : JobRecord) → slice_get blocks (place / 64) ≡ None
+-- the jobs from one place on and before another are shown
+abbrev pub ShowsWithin : Block → List JobRecord → ℕ → ℕ → Type 0
+ShowsWithin block jobs first end =
+    (place : ℕ) (job : JobRecord) → first ≤ place → place < end → slice_get jobs place ≡ Some job → Shows block job
+
+pub shows-next : (old new : Block) (jobs : List JobRecord) (first i : ℕ) (job : JobRecord) → i < length jobs
+    → job ≡ get_or jobs i job → Shows new job → ((other : JobRecord) → Shows old other → Shows new other)
+    → ShowsWithin old jobs first i → ShowsWithin new jobs first (i + 1)
+shows-next old new jobs first i job inside is shown stays before = λ place one low below there. elim (cases_lt place i) [
+  | inl early ↦ stays one (before place one low early there)
+  | inr late ↦
+      let here : i ≡ place = omega (arith, late, below) in
+      let found : slice_get jobs i ≡ Some job = slice_get-get_or jobs i job inside ∙ ap Some (sym is) in
+      let same : job ≡ one = same-one (sym found ∙ ap (slice_get jobs) here ∙ there) in
+      rw (sym same) shown
+]
+
+-- what is shown by a block that is kept, and by one that isn't
+marked-in : (blocks : List Block) (place : ℕ) (job : JobRecord) (block : Block)
+    → slice_get blocks (place / 64) ≡ Some block → Shows block job → IsMarked blocks place job
+marked-in blocks place job block is shown = rw is shown
+
+marked-none : (blocks : List Block) (place : ℕ) (job : JobRecord) → slice_get blocks (place / 64) ≡ None
     → IsMarked blocks place job
-marked-none blocks place job none = λ k d below. rw none refl
+marked-none blocks place job none = rw none tt
 
-marked-same : (blocks others : List (List ℕ)) (place : ℕ) (job : JobRecord)
+marked-same : (blocks others : List Block) (place : ℕ) (job : JobRecord)
     → slice_get others (place / 64) ≡ slice_get blocks (place / 64) → IsMarked blocks place job
     → IsMarked others place job
-marked-same blocks others place job same marked = λ k d below. rw same (marked k d below)
+marked-same blocks others place job same marked = rw same marked
 
--- one job has changed, whose block isn't kept, or has the marks that the job needs
-pub marked-missing : (blocks : List (List ℕ)) (jobs : List JobRecord) (at : ℕ) → length blocks ≤ at / 64
+-- one job has changed, whose block isn't kept, or shows the job
+pub marked-missing : (blocks : List Block) (jobs : List JobRecord) (at : ℕ) → length blocks ≤ at / 64
     → AreMarkedBut at blocks jobs → AreMarked blocks jobs
 marked-missing blocks jobs at past others = λ place job there. elim (cases_eq place at) [
   | inl here ↦
@@ -120,51 +153,55 @@ marked-missing blocks jobs at past others = λ place job there. elim (cases_eq p
   | inr other ↦ others place job other there
 ]
 
-pub marked-more : (blocks : List (List ℕ)) (jobs : List JobRecord) (at : ℕ) (old new : List ℕ) (job : JobRecord)
-    (parts : List Part)
+pub marked-more : (blocks : List Block) (jobs : List JobRecord) (at : ℕ) (old new : Block) (job : JobRecord)
     → at / 64 < length blocks → old ≡ get_or blocks (at / 64) old → at < length jobs → job ≡ get_or jobs at job
-    → parts ≡ (get_or jobs at job).parts → All (HasMark new) parts
-    → ((number : ℕ) → has_id old number ≡ true → has_id new number ≡ true) → AreMarkedBut at blocks jobs
+    → Shows new job → ((other : JobRecord) → Shows old other → Shows new other) → AreMarkedBut at blocks jobs
     → AreMarked (set blocks (at / 64) new) jobs
-marked-more blocks jobs at old new job parts inside old_is below job_is held all stays others = λ place one there.
+marked-more blocks jobs at old new job inside old_is below job_is shown stays others = λ place one there.
     let after = set blocks (at / 64) new in
     let was : slice_get blocks (at / 64) ≡ Some old =
     slice_get-get_or blocks (at / 64) old inside ∙ ap Some (sym old_is) in
     let is : slice_get jobs at ≡ Some job = slice_get-get_or jobs at job below ∙ ap Some (sym job_is) in
-    let same : parts ≡ job.parts = held ∙ ap (λ (each : JobRecord). each.parts) (sym job_is) in
-    let marked : All (HasMark new) job.parts = rw same at all in
     let put : slice_get after (at / 64) ≡ Some new = get-set blocks (at / 64) new inside in
     elim (cases_eq place at) [
       | inl here ↦
           let same : job ≡ one = same-one (sym is ∙ ap (slice_get jobs) (sym here) ∙ there) in
-          marked-in after place one new (ap (λ n. slice_get after (n / 64)) here ∙ put) (rw (sym same) marked)
+          marked-in after place one new (ap (λ n. slice_get after (n / 64)) here ∙ put) (rw (sym same) shown)
       | inr other ↦ elim (cases_eq (place / 64) (at / 64)) [
         | inl beside ↦
             let before : slice_get blocks (place / 64) ≡ Some old = ap (slice_get blocks) beside ∙ was in
             marked-in after place one new (ap (slice_get after) beside ∙ put)
-            (λ k d below. stays (mark_of (get_or one.parts k d).node)
-            (sym (ap (λ marks. may_hold marks (get_or one.parts k d).node) before) ∙ others place one other there k d below))
+            (stays one (rw before at (others place one other there)))
         | inr apart ↦
             marked-same blocks after place one (get-set_other blocks (at / 64) (place / 64) new apart)
             (others place one other there)
       ]
     ]
 
--- jobs that come behind, change at a place, or keep their parts
-pub marked-front : (blocks : List (List ℕ)) (old more : List JobRecord) (count : ℕ) → count ≡ length old
+-- jobs that come behind, change at a place, or keep their parts and their state
+pub marked-front : (blocks : List Block) (old more : List JobRecord) (count : ℕ) → count ≡ length old
     → AreMarked blocks old → AreMarkedBefore (count / 64) blocks (old ++ more)
 marked-front blocks old more count long marked = λ place job below there.
     let inside : place < length old = omega (arith, below, long) in
     marked place job (sym (get-append old more place inside) ∙ there)
 
-pub marked-but : (blocks : List (List ℕ)) (jobs : List JobRecord) (at : ℕ) (f : JobRecord → JobRecord)
+pub marked-but : (blocks : List Block) (jobs : List JobRecord) (at : ℕ) (f : JobRecord → JobRecord)
     → AreMarked blocks jobs → AreMarkedBut at blocks (map_at at f jobs)
 marked-but blocks jobs at f marked = λ place job other there.
     marked place job (sym (get-map_at_other f at place jobs other) ∙ there)
 
-pub marked-kept : (blocks : List (List ℕ)) (jobs : List JobRecord) (f : JobRecord → JobRecord)
-    → ((job : JobRecord) → (f job).parts ≡ job.parts) → AreMarked blocks jobs → AreMarked blocks (map f jobs)
-marked-kept blocks jobs f keeps marked = λ place job there.
+shown-same : (found : Option Block) (one job : JobRecord) → one.parts ≡ job.parts → one.state ≡ job.state
+    → IfSome found (λ block. Shows block one) → IfSome found (λ block. Shows block job)
+shown-same None one job parts state shown = tt
+shown-same (Some block) one job parts state shown = record {
+  nodes = rw parts at shown.nodes;
+  holding = λ holds. shown.holding (ap is_holding state ∙ holds);
+}
+
+pub marked-kept : (blocks : List Block) (jobs : List JobRecord) (f : JobRecord → JobRecord)
+    → ((job : JobRecord) → (f job).parts ≡ job.parts) → ((job : JobRecord) → (f job).state ≡ job.state)
+    → AreMarked blocks jobs → AreMarked blocks (map f jobs)
+marked-kept blocks jobs f keeps stays marked = λ place job there.
     by place job (slice_get jobs place) refl (sym (slice_get-map f jobs place) ∙ there)
   where
     by : (place : ℕ) (job : JobRecord) (found : Option JobRecord) → slice_get jobs place ≡ found
@@ -172,28 +209,35 @@ marked-kept blocks jobs f keeps marked = λ place job there.
     by place job None is there = absurd (none-some job there)
     by place job (Some one) is there =
         let same : f one ≡ job = same-one there in
-        let parts : one.parts ≡ job.parts = sym (keeps one) ∙ ap (λ (each : JobRecord). each.parts) same in
-        rw (sym parts) (marked place one is)
+        shown-same (slice_get blocks (place / 64)) one job
+        (sym (keeps one) ∙ ap (λ (each : JobRecord). each.parts) same)
+        (sym (stays one) ∙ ap (λ (each : JobRecord). each.state) same) (marked place one is)
 
 -- where nothing on the node is marked no job holds something of it
-unmarked-off : (marks : Option (List ℕ)) (node : ℕ) (parts : List Part) → may_hold marks node ≡ false
-    → All (λ (part : Part). may_hold marks part.node ≡ true) parts → list_any (is_on node) parts ≡ false
-unmarked-off marks node [] none marked = refl
-unmarked-off marks node (part ∷ parts) none marked =
-    let rest = unmarked-off marks node parts none
-    (All-tail (λ (one : Part). may_hold marks one.node ≡ true) part parts marked) in
+unmarked-off : (found : Option Block) (node : ℕ) (parts : List Part) → may_hold found node ≡ false
+    → All (λ (part : Part). may_hold found part.node ≡ true) parts → list_any (is_on node) parts ≡ false
+unmarked-off found node [] none marked = refl
+unmarked-off found node (part ∷ parts) none marked =
+    let rest = unmarked-off found node parts none
+    (All-tail (λ (one : Part). may_hold found one.node ≡ true) part parts marked) in
     elim (cases_eq part.node node) [
       | inl same ↦
-          let has : may_hold marks part.node ≡ true =
-          All-head (λ (one : Part). may_hold marks one.node ≡ true) part parts marked in
-          absurd (true≢false (sym has ∙ ap (may_hold marks) same ∙ none))
+          let has : may_hold found part.node ≡ true =
+          All-head (λ (one : Part). may_hold found one.node ≡ true) part parts marked in
+          absurd (true≢false (sym has ∙ ap (may_hold found) same ∙ none))
       | inr apart ↦
           let off : nat_eq part.node node ≡ false = grind (arith, nat_tests) in
           ap (λ b. b || list_any (is_on node) parts) off ∙ rest
     ]
 
+-- each node of which a job holds something is marked in what is kept of its block
+marks-shown : (found : Option Block) (job : JobRecord) → IfSome found (λ block. Shows block job)
+    → All (λ (part : Part). may_hold found part.node ≡ true) job.parts
+marks-shown None job shown = λ k d below. refl
+marks-shown (Some block) job shown = shown.nodes
+
 -- from one place on and before another the node isn't marked
-abbrev pub NoneWithin : List (List ℕ) → ℕ → ℕ → ℕ → Type 0
+abbrev pub NoneWithin : List Block → ℕ → ℕ → ℕ → Type 0
 NoneWithin blocks node from end = (place : ℕ) → from ≤ place → place < end
     → may_hold (slice_get blocks (place / 64)) node ≡ false
 
@@ -202,11 +246,35 @@ within-end : (found : Option ℕ) (from end : ℕ) → IfSome found (λ place. (
 within-end None from end there = omega arith
 within-end (Some place) from end there = omega (arith, there.1)
 
-pub none-on : (blocks : List (List ℕ)) (jobs : List JobRecord) (node from : ℕ) (found : Option ℕ)
+pub none-on : (blocks : List Block) (jobs : List JobRecord) (node from : ℕ) (found : Option ℕ)
     → AreMarked blocks jobs → IfSome found (λ place. (from ≤ place) × (place < length jobs))
     → NoneWithin blocks node from (unwrap_or found (length jobs))
     → AllWithin (λ job. holds_on node job ≡ false) jobs from (unwrap_or found (length jobs))
 none-on blocks jobs node from found marked there none = λ k d low below.
     let inside : k < length jobs = omega (arith, below, within-end found from (length jobs) there) in
-    unmarked-off (slice_get blocks (k / 64)) node (get_or jobs k d).parts (none k low below)
+    let job = get_or jobs k d in
+    unmarked-off (slice_get blocks (k / 64)) node job.parts (none k low below)
+    (marks-shown (slice_get blocks (k / 64)) job (marked k job (slice_get-get_or jobs k d inside)))
+
+-- where no job of a block may be in a state that holds processors none is
+idle-shown : (found : Option Block) (job : JobRecord) → may_be_holding found ≡ false
+    → IfSome found (λ block. Shows block job) → is_holding job.state ≡ false
+idle-shown None job none shown = absurd (true≢false none)
+idle-shown (Some block) job none shown = elim (cases_Bool (is_holding job.state)) [
+  | inl holds ↦ absurd (true≢false (sym (shown.holding holds) ∙ none))
+  | inr idle ↦ idle
+]
+
+-- from one place on and before another no job may be in such a state
+abbrev pub IdleWithin : List Block → ℕ → ℕ → Type 0
+IdleWithin blocks from end = (place : ℕ) → from ≤ place → place < end
+    → may_be_holding (slice_get blocks (place / 64)) ≡ false
+
+pub none-holding : (blocks : List Block) (jobs : List JobRecord) (from : ℕ) (found : Option ℕ)
+    → AreMarked blocks jobs → IfSome found (λ place. (from ≤ place) × (place < length jobs))
+    → IdleWithin blocks from (unwrap_or found (length jobs))
+    → AllWithin (λ job. is_holding job.state ≡ false) jobs from (unwrap_or found (length jobs))
+none-holding blocks jobs from found marked there none = λ k d low below.
+    let inside : k < length jobs = omega (arith, below, within-end found from (length jobs) there) in
+    idle-shown (slice_get blocks (k / 64)) (get_or jobs k d) (none k low below)
     (marked k (get_or jobs k d) (slice_get-get_or jobs k d inside))

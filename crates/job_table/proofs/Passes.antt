@@ -20,13 +20,7 @@ use Rattle.job_table.specs.declared.standing.Standing.{Standing}
 use Rattle.job_table.specs.declared.standing.Standing.TheVariants.{Satisfied, Waiting}
 use Rattle.job_table.specs.Laws.{IsDoneWith, PassesLeaveStandings, SameForOthers}
 use Rattle.job_table.specs.Standing.{all_of, at_end, by_failure, by_success, index_meant, is_before, once, one_of, standing, standing_by, standing_by_id, standing_for, standing_if, standing_in, standing_of}
-
-map-agree : {X Y : Type 0} (f g : X → Y) (xs : List X) → All (λ x. f x ≡ g x) xs → map f xs ≡ map g xs
-map-agree f g [] same = refl
-map-agree f g (x ∷ xs) same =
-    let one : f x ≡ g x = All-head (λ y. f y ≡ g y) x xs same in
-    let rest = map-agree f g xs (All-tail (λ y. f y ≡ g y) x xs same) in
-    cc
+use Rattle.list_lemmas.proofs.Maps.{map-same}
 
 -- What a list shows stays where its members change so that none is found anew, and none goes that was found.
 module _ {X : Type 0} (change : X → X) (goes : X → Bool) where
@@ -181,7 +175,7 @@ module _ (jobs : List JobRecord) (change : JobRecord → JobRecord) (goes : JobR
       → all_of (map (standing_by_id (left change goes jobs) own kind) ids)
       ≡ all_of (map (standing_by_id jobs own kind) ids)
   ids-same kind ids are_of =
-      ap all_of (map-agree (standing_by_id (left change goes jobs) own kind) (standing_by_id jobs own kind) ids
+      ap all_of (map-same (standing_by_id (left change goes jobs) own kind) (standing_by_id jobs own kind) ids
       (λ k d inside. by_id-same kind (get_or ids k d) (are_of k d inside)))
 
   before-same : list_any (is_before own) (left change goes jobs) ≡ list_any (is_before own) jobs
@@ -207,7 +201,7 @@ module _ (jobs : List JobRecord) (change : JobRecord → JobRecord) (goes : JobR
   pub for-same : standing_for (left change goes jobs) own spec ≡ standing_for jobs own spec
   for-same =
       ap (λ parts. if spec.any then one_of parts else all_of parts)
-      (map-agree (standing_by (left change goes jobs) own) (standing_by jobs own) spec.items by-same)
+      (map-same (standing_by (left change goes jobs) own) (standing_by jobs own) spec.items by-same)
 
 pub standings-left : PassesLeaveStandings
 unfolding standing

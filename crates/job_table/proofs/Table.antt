@@ -16,13 +16,7 @@ use Rattle.job_table.specs.JobStates.{is_pending, is_running}
 use Rattle.job_table.specs.Table.{HaveRisingIds, put_back_if}
 use Rattle.job_table.specs.Walks.{map_at}
 use Rattle.job_table.proofs.Walks.{map-same}
-
--- what holds of each two of a list's head and tail, and of two lists put together
-pairs-head : {X : Type 0} (R : X → X → Type 0) (x : X) (xs : List X) → AllPairs R (x ∷ xs) → All (R x) xs
-pairs-head R x xs pairs k d below = pairs 0 (suc k) d (omega arith) (omega (arith, below))
-
-pairs-tail : {X : Type 0} (R : X → X → Type 0) (x : X) (xs : List X) → AllPairs R (x ∷ xs) → AllPairs R xs
-pairs-tail R x xs pairs i j d before below = pairs (suc i) (suc j) d (omega (arith, before)) (omega (arith, below))
+use Rattle.list_lemmas.proofs.Pairs.{pairs-head, pairs-tail}
 
 pub pairs-append : {X : Type 0} (R : X → X → Type 0) (xs ys : List X) → AllPairs R xs → AllPairs R ys
     → All (λ x. All (R x) ys) xs → AllPairs R (xs ++ ys)

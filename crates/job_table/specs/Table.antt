@@ -7,6 +7,7 @@ use Rattle.job_table.specs.Changes.{changed}
 use Rattle.job_table.specs.JobStates.{is_ended}
 use Rattle.job_table.specs.Targets.{HaveRisingIndices}
 use Rattle.job_table.specs.Blocks.{AreMarked}
+use Rattle.job_table.specs.declared.blocks.Block.{Block}
 use Rattle.job_table.specs.Tallies.{IsTallied}
 use Rattle.job_table.specs.declared.unended.Tallies.{Tallies}
 
@@ -29,9 +30,9 @@ pub record IsTable (entries : List (ℕ × JobRecord)) : Type 0 where
   pub under_ids : entries ≡ map entry_of (values_of entries)
   pub rising : HaveRisingIds (values_of entries)
 
--- Entries that are a table, whether it is known that indices rise in it, what may lie on which node, and how many jobs
--- haven't ended.
-pub record IsJobTable (entries : List (ℕ × JobRecord)) (by_index : Bool) (blocks : List (List ℕ)) (tallies : Tallies) : Type 0 where
+-- Entries that are a table, whether it is known that indices rise in it, what may lie on which node or hold anything, and
+-- how many jobs haven't ended.
+pub record IsJobTable (entries : List (ℕ × JobRecord)) (by_index : Bool) (blocks : List Block) (tallies : Tallies) : Type 0 where
   pub table : IsTable entries
   pub indices : by_index ≡ true → HaveRisingIndices (values_of entries)
   pub marked : AreMarked blocks (values_of entries)

@@ -12,17 +12,17 @@ ghost use Rattle.job_table.specs.Usage.{Charges, IsNoStart, charged_by, is_start
 ghost use Rattle.job_table.specs.Moving.{partition_moved, parts_moved};
 ghost use Rattle.job_table.specs.Walks.{map_at};
 ghost use Rattle.job_table.specs.Blocks.{holds_on};
+ghost use Rattle.job_table.specs.JobStates.{is_holding};
 ghost use Rattle.job_table.specs.Tallies.{ShowsUnended};
 
 use crate::awaited::Awaited;
-use crate::blocks::{BLOCK, count_from, count_left, follow, next_marked};
+use crate::blocks::{BLOCK, Block, count_from, count_left, follow, next_in_holding, next_marked};
 use crate::change::{Change, apply};
 use crate::moving::{move_partition, move_parts};
 use crate::record::JobRecord;
 use crate::targets::{Places, place_of_task, places_of, rise_from};
 use crate::unended::{Tallies, Unended, pair_of};
 use crate::usage::charge;
-use cpu_ids::CpuIds;
 use indexmap::IndexMap;
 use request_data::state::JobState;
 use request_data::target::Target;
@@ -87,8 +87,8 @@ pub struct Jobs {
     // Whether it is known that the indices of each array's tasks rise with their numbers, as they do of all that are
     // handed in: then a search finds one.
     by_index: bool,
-    // For each 64 places the nodes of which a job there may hold something.
-    blocks: Vec<CpuIds>,
+    // For each 64 places what the jobs there may hold.
+    blocks: Vec<Block>,
     // How many jobs haven't ended, by association and quality of service.
     unended: Tallies,
 }
@@ -189,6 +189,16 @@ impl Jobs {
             (unwrap_or result (length self.now.records)) }
     {
         next_marked(self.blocks.as_slice(), self.len(), node, from)
+    }
+
+    /// The first place from one on at which a job may hold processors; none before it does. One look for each 64 places
+    /// that are left out.
+    pub fn next_holding(&self, from: usize) -> Option<usize>
+        ensures there { IfSome result (λ place. (from ≤ place) × (place < length self.now.records)) }
+        ensures before { AllWithin (λ job. is_holding job.state ≡ false) self.now.records from
+            (unwrap_or result (length self.now.records)) }
+    {
+        next_in_holding(self.blocks.as_slice(), self.len(), from)
     }
 
     /// How many jobs haven't ended, by association and quality of service, in constant time. It isn't known once a record

@@ -3,7 +3,7 @@
 ghost use Rattle.std.specs.Prelude.{◌≡◌, IfOk};
 
 use crate::terms::{SharedTerms, Terms};
-use cpu_ids::CpuIds;
+use plain_data::CpuIds;
 use plain_data::items::Items;
 use plain_data::limit::Limit;
 use plain_data::nice::Nice;

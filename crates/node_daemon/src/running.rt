@@ -4,7 +4,7 @@ ghost use Rattle.std.specs.Prelude.{◌≡◌, ◌≤◌, ◌+◌, ◌++◌, unw
 ghost use Rattle.node_daemon.specs.Daemon.{has_ended, is_over, launched, not_killed, script_begun, still_running, told_of, told_over};
 
 use crate::starts::is_among;
-use cpu_ids::CpuIds;
+use plain_data::CpuIds;
 use reply_data::orders::{Launch, Starts};
 use request_data::report::{Done, Start};
 use small_texts::memory_error::Memory;

@@ -1,7 +1,7 @@
 -- What is held of the nodes: their processors by numbers, and megabytes.
 use Rattle.std.specs.Prelude.{◌≡◌, ℕ, ◌+◌, ◌-◌, ◌<◌, ◌≤◌, Bool, false, ◌&&◌, ◌||◌, not, nat_eq, if◌then◌else◌, List, [], All, slice_index_or}
 use Rattle.std.specs.List.{AllZip}
-use Rattle.cpu_ids.specs.Rows.{has_id, others_below}
+use Rattle.plain_data.specs.Rows.{has_id, others_below}
 use Rattle.node_state.specs.declared.record.Held.{Held}
 use Rattle.node_state.specs.declared.record.NodeRecord.{NodeRecord}
 

@@ -1,7 +1,7 @@
 -- Reservations of nodes whose places are others now. For each new place the old one of its node is told, if it had one.
 use Rattle.std.specs.Prelude.{ℕ, Bool, false, List, length, filter, Option, Some, None, slice_index_or}
 use Rattle.std.specs.List.{range_with_len}
-use Rattle.cpu_ids.specs.Rows.{has_id}
+use Rattle.plain_data.specs.Rows.{has_id}
 use Rattle.node_state.specs.declared.reservation_record.Reservation.{Reservation}
 
 -- the old place, if there was one, is in the row

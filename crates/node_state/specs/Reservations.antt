@@ -1,7 +1,7 @@
 -- Reservations: nodes that are kept for some users from one second to before another.
 use Rattle.std.specs.Prelude.{◌≡◌, ◌≢◌, ℕ, ◌<◌, ◌≤◌, Bool, false, ◌&&◌, ◌||◌, is_some, nat_lt, nat_le, List, length, filter, find, bytes_eq, All, AllPairs, Option}
 use Rattle.std.specs.List.{list_any}
-use Rattle.cpu_ids.specs.Rows.{has_id}
+use Rattle.plain_data.specs.Rows.{has_id}
 use Rattle.node_state.specs.declared.reservation_record.Reservation.{Reservation}
 
 -- the name is among the names

@@ -10,7 +10,7 @@ use crate::change;
 use crate::record::{DroppedNode, Held, NodeChange, NodeRecord};
 use crate::renewing::{held_for, records_for};
 use crate::standing::{has_features, is_available, opened};
-use cpu_ids::CpuIds;
+use plain_data::CpuIds;
 use plain_data::conf::NodeConf;
 use plain_data::features::FeatureExpr;
 use small_texts::memory_error::Memory;

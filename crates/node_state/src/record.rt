@@ -2,7 +2,7 @@
 
 ghost use Rattle.std.specs.Prelude.{◌≡◌, IfOk};
 
-use cpu_ids::CpuIds;
+use plain_data::CpuIds;
 use plain_data::conf::NodeConf;
 use request_data::report::Heard;
 use small_texts::memory_error::Memory;

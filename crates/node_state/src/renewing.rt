@@ -8,7 +8,7 @@ use crate::names::first_places;
 use crate::nodes::Nodes;
 use crate::record::{DownBy, DroppedNode, Held, NodeRecord};
 use crate::standing::opened;
-use cpu_ids::CpuIds;
+use plain_data::CpuIds;
 use plain_data::conf::NodeConf;
 use request_data::report::Heard;
 use small_texts::memory_error::Memory;

@@ -3,7 +3,7 @@
 ghost use Rattle.std.specs.Prelude.{◌≡◌};
 ghost use Rattle.node_state.specs.Reservations;
 
-use cpu_ids::CpuIds;
+use plain_data::NodePlaces;
 use plain_data::items::Items;
 use plain_data::seconds::Second;
 use small_texts::name::Name;
@@ -17,7 +17,7 @@ pub struct Reservation {
     /// The second at which it is over. A duration, or a saved state, may lead past the last moment that can be handed in.
     pub end: Second,
     /// The places of its nodes in the list of nodes.
-    pub nodes: CpuIds,
+    pub nodes: NodePlaces,
     /// Its nodes again, in the order in which they were asked for.
     pub names: Items<Name>,
     /// Who may use it.

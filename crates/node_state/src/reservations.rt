@@ -7,7 +7,7 @@ ghost use Rattle.node_state.specs.Moving.{reservation_moved, row_moved, was_in};
 ghost use Rattle.node_state.specs.Reservations as spec;
 
 use crate::reservation_record::{Reservation, crosses};
-use cpu_ids::CpuIds;
+use plain_data::NodePlaces;
 use small_texts::memory_error::Memory;
 use small_texts::name::Name;
 use std::alloc::Global;
@@ -70,7 +70,7 @@ impl Reservations {
 
     /// Whether one of them has one of these nodes at this time. Linear in the reservations; nodes are compared word by
     /// word.
-    pub fn overlaps(&self, nodes: &CpuIds, start: u64, end: u64) -> bool
+    pub fn overlaps(&self, nodes: &NodePlaces, start: u64, end: u64) -> bool
         ensures { result ≡ list_any (spec.overlaps nodes.now start end) self.now }
     {
         self.records.iter().any(|one| crosses(one, start, end) && shares(&one.nodes, nodes))
@@ -112,7 +112,7 @@ impl Reservations {
 }
 
 // Whether the old place, if there was one, is in the row.
-fn was_in(row: &CpuIds, origin: Option<u32>) -> bool
+fn was_in(row: &NodePlaces, origin: Option<u32>) -> bool
     ensures { result ≡ was_in row.now origin }
 {
     match origin {
@@ -122,11 +122,11 @@ fn was_in(row: &CpuIds, origin: Option<u32>) -> bool
 }
 
 // The new places of the nodes of a row.
-fn row_moved(origins: &[Option<u32>], row: &CpuIds) -> CpuIds
+fn row_moved(origins: &[Option<u32>], row: &NodePlaces) -> NodePlaces
     requires { length origins.now ≤ 1024 }
     ensures { result ≡ row_moved origins.now row.now }
 {
-    let mut moved = CpuIds::none();
+    let mut moved = NodePlaces::none();
     for (place, origin) in origins.iter().enumerate() {
         if was_in(row, *origin) {
             moved.insert(place as u32);
@@ -145,7 +145,7 @@ fn move_all(reservations: &mut [Reservation], origins: &[Option<u32>])
 }
 
 // Whether two rows of nodes have one in common: something is left of the one without what it has apart from the other.
-fn shares(one: &CpuIds, other: &CpuIds) -> bool
+fn shares(one: &NodePlaces, other: &NodePlaces) -> bool
     ensures { result ≡ spec.shares one.now other.now }
 {
     let mut apart = one.copy();

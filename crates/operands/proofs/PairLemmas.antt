@@ -4,7 +4,7 @@ use Rattle.std.proofs.Math.Seq.{drop-cons}
 use Rattle.std.proofs.lemmas.Option.{slice_get_within, get_or_from_slice_get}
 use Rattle.operands.specs.BadWord.{bad, at_word}
 use Rattle.operands.specs.Pairs.{Adding, pair_of, pair_added, pairs_say}
-use Rattle.option_words.specs.declared.refusal.WordKind.{WordKind}
+use Rattle.text_values.specs.declared.word_refusal.WordKind.{WordKind}
 use Rattle.text_values.specs.Steps.{◌>>=◌}
 
 -- the word at a place and what follows it

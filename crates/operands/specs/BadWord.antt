@@ -1,8 +1,8 @@
 -- Bad words of a command, by their numbers.
 use Rattle.std.specs.Prelude.{ℕ, Option, ok_or, Result, Ok, Err}
-use Rattle.option_words.specs.Refusal.{told}
-use Rattle.option_words.specs.declared.refusal.WordKind.{WordKind}
-use Rattle.option_words.specs.declared.refusal.WordKind.TheVariants.{BadValue}
+use Rattle.text_values.specs.WordRefusal.{told}
+use Rattle.text_values.specs.declared.word_refusal.WordKind.{WordKind}
+use Rattle.text_values.specs.declared.word_refusal.WordKind.TheVariants.{BadValue}
 use Rattle.operands.specs.declared.bad_word.BadWord.{BadWord}
 
 abbrev pub bad : {A : Type 0} → ℕ → WordKind → Result A BadWord

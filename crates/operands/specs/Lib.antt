@@ -4,3 +4,5 @@ pub mod Operands
 pub mod Pairs
 pub mod Starts
 pub mod Targets
+pub mod Format
+pub mod Refusals

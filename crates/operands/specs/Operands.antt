@@ -2,7 +2,7 @@
 use Rattle.std.specs.Prelude.{ℕ, ◌+◌, nat_lt, if◌then◌else◌, List, length, slice_get, Option, Some, None, Result, Ok, Err}
 use Rattle.std.specs.Borrow.{Bor}
 use Rattle.text_values.specs.Steps.{◌>>=◌}
-use Rattle.option_words.specs.declared.refusal.WordKind.TheVariants.{MissingWord, StrayWord}
+use Rattle.text_values.specs.declared.word_refusal.WordKind.TheVariants.{MissingWord, StrayWord}
 use Rattle.operands.specs.BadWord.{bad, at_word, good, given}
 use Rattle.operands.specs.declared.bad_word.BadWord.{BadWord}
 

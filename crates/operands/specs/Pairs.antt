@@ -1,8 +1,8 @@
 -- What words of the form `KEY=VALUE` say together.
 use Rattle.std.specs.Prelude.{ℕ, ◌+◌, List, [], ◌∷◌, take, drop, Option, Some, None, option_map, Result, Ok, Err}
-use Rattle.option_words.specs.Arguments.{equals_place}
-use Rattle.option_words.specs.declared.refusal.WordKind.{WordKind}
-use Rattle.option_words.specs.declared.refusal.WordKind.TheVariants.{StrayWord}
+use Rattle.text_values.specs.Arguments.{equals_place}
+use Rattle.text_values.specs.declared.word_refusal.WordKind.{WordKind}
+use Rattle.text_values.specs.declared.word_refusal.WordKind.TheVariants.{StrayWord}
 use Rattle.operands.specs.BadWord.{at_word}
 use Rattle.text_values.specs.Steps.{◌>>=◌}
 use Rattle.operands.specs.declared.bad_word.BadWord.{BadWord}

@@ -2,10 +2,10 @@
 
 ghost use Rattle.std.specs.Prelude.{◌≡◌, ◌+◌};
 ghost use Rattle.operands.specs.BadWord.{at_word};
-ghost use Rattle.option_words.specs.Refusal.{told};
+ghost use Rattle.text_values.specs.WordRefusal.{told};
 
-pub use option_words::refusal::WordKind;
-use option_words::refusal::told;
+pub use text_values::word_refusal::WordKind;
+use text_values::word_refusal::told;
 
 /// The first bad word of a command. Words count from 1, which is the command's name; a word that is missing has the
 /// number after the last, and one that 32 bits don't hold is told as the greatest.

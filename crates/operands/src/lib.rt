@@ -2,6 +2,7 @@
 #![tactic(auto)]
 
 pub mod bad_word;
+pub mod format;
 pub mod names;
 pub mod operand;
 pub mod pairs;

@@ -6,15 +6,15 @@ ghost use Rattle.operands.specs.Pairs.{pair_of, pair_added, pairs_say, now_said}
 
 use crate::bad_word::{BadWord, WordKind, fault_at};
 use line_words::words::Words;
-use option_words::arguments::equals_place;
 use small_texts::memory_error::Memory;
 use std::alloc::Global;
+use text_values::arguments::equals_place;
 
 /// What pairs of keys and values say together.
 pub trait Pairs: Drop {
     ghost use Rattle.std.specs.Prelude.{◌≡◌, ℕ, List, Result, IfOk};
     ghost use Rattle.operands.specs.Pairs.{now_said};
-    ghost use Rattle.option_words.specs.declared.refusal.WordKind.{WordKind};
+    ghost use Rattle.text_values.specs.declared.word_refusal.WordKind.{WordKind};
 
     ghost adding: { Self → List ℕ → List ℕ → Result Self WordKind };
 

@@ -7,7 +7,7 @@ ghost use Rattle.table_texts.specs.Ranges.{ranges_text, run_text};
 ghost use Rattle.orders_text.specs.Fields.{AreCpus, IsCut, lacks};
 
 use crate::fields::{cut, read_number};
-use cpu_ids::CpuIds;
+use plain_data::CpuIds;
 use small_texts::memory_error::Memory;
 use std::alloc::Global;
 use table_texts::ranges::push_cpus;

@@ -10,7 +10,7 @@ ghost use Rattle.orders_text.specs.declared.order.Order.{Order};
 
 use crate::cpus::read_cpus;
 use crate::fields::{number_before, read_number, value_before};
-use cpu_ids::CpuIds;
+use plain_data::CpuIds;
 use reply_data::orders::Launch;
 use request_data::report::Start;
 use small_texts::memory_error::Memory;

@@ -10,14 +10,25 @@ pub mod array;
 pub mod assoc;
 pub mod conf;
 pub mod dependency;
+mod elapsed;
 pub mod features;
+pub mod files;
 pub mod items;
 pub mod job;
 pub mod limit;
+mod limits;
 pub mod mem_ask;
 pub mod nice;
+pub mod period;
 pub mod ranged;
+mod ratios;
+mod row;
 pub mod seconds;
+
+pub use elapsed::print_elapsed;
+pub use limits::{BadTime, parse_limit};
+pub use ratios::{Ratio, compare, scaled};
+pub use row::{CpuIds, NodePlaces};
 
 /// A value of which an equal one can be made, where there is memory.
 pub trait Plain: Drop {

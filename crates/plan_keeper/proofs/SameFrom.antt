@@ -4,12 +4,12 @@ use Rattle.std.specs.Prelude.{filter, find, is_some, option_map, option_and_then
 use Rattle.std.specs.List.{list_any}
 use Rattle.std.proofs.lemmas.Bool.{cases_Bool, and_parts, and_from, eqb-true, ltb-true, lt-ltb, false_from_ne_true}
 use Rattle.std.proofs.lemmas.List.Elements.{All-head, All-tail, All-weaker}
-use Rattle.cpu_ids.specs.Rows.{has_id}
+use Rattle.plain_data.specs.Rows.{has_id}
 use Rattle.resource_profile.specs.declared.NodeRoom.{NodeRoom}
 use Rattle.resource_profile.specs.declared.Hold.{Hold}
 use Rattle.resource_profile.specs.Free.{room_at, free_cpus, free_mem, least_over}
-use Rattle.node_pick.specs.Sets.{dealt}
-use Rattle.node_pick.specs.Choosing.{chosen, numbers_from}
+use Rattle.resource_profile.specs.Sets.{dealt}
+use Rattle.resource_profile.specs.Choosing.{chosen, numbers_from}
 use Rattle.backfill_planner.specs.declared.Placed.{Placed}
 use Rattle.backfill_planner.specs.declared.job.Barred.{Barred}
 use Rattle.backfill_planner.specs.declared.job.PlanJob.{PlanJob}

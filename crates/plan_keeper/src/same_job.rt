@@ -8,7 +8,7 @@ ghost use Rattle.plan_keeper.specs.Steady.{but_for_times, IsSameFrom};
 
 use crate::same_times::{are_same_ahead, are_same_times};
 use backfill_planner::{MemAsk, PlanJob};
-use node_pick::Need;
+use resource_profile::Need;
 
 // Whether the jobs ask for the same memory.
 fn is_same_mem(one: &MemAsk, other: &MemAsk) -> bool

@@ -2,12 +2,12 @@
 
 ghost use Rattle.std.specs.Prelude.{◌≡◌, ◌≤◌, ◌<◌, ◌↔◌, Bool, true, filter, length, drop, slice_index_or};
 ghost use Rattle.std.specs.List.{list_any};
-ghost use Rattle.cpu_ids.specs.Rows.{has_id};
+ghost use Rattle.plain_data.specs.Rows.{has_id};
 ghost use Rattle.backfill_planner.specs.declared.job.Barred.{Barred as Time};
 ghost use Rattle.plan_keeper.specs.Steady;
 
 use backfill_planner::Barred;
-use cpu_ids::CpuIds;
+use plain_data::NodePlaces;
 
 /// Whether these are the same times, in one order.
 pub fn are_same_times(one: &[Barred], other: &[Barred]) -> bool
@@ -24,7 +24,7 @@ fn is_same_time(one: &Barred, other: &Barred) -> bool
 }
 
 // Whether one of the nodes is among these.
-fn has_any(row: &CpuIds, nodes: &[u32]) -> bool
+fn has_any(row: &NodePlaces, nodes: &[u32]) -> bool
     ensures { result ≡ list_any (has_id row.now) nodes.now }
 {
     nodes.iter().any(|node| row.contains(*node))

@@ -1,14 +1,14 @@
 // Times at which a job may not have nodes.
 
 use backfill_planner::{Barred, BarredList};
-use cpu_ids::CpuIds;
+use plain_data::NodePlaces;
 use std::alloc::Global;
 use table_lines::answer::Unanswered;
 use table_lines::fields::{narrow_numbers, number, parts};
 
 // Some nodes, as `0+1`.
-fn node_row(alloc: Global, text: &[u8]) -> Result<CpuIds, Unanswered> {
-    let mut row = CpuIds::none();
+fn node_row(alloc: Global, text: &[u8]) -> Result<NodePlaces, Unanswered> {
+    let mut row = NodePlaces::none();
     for node in &narrow_numbers(alloc, text, b'+')? {
         if *node >= 1024 {
             return Err(Unanswered::Arguments);

@@ -1,7 +1,7 @@
 // The choice of nodes for a job's tasks.
 
 use crate::numbers::narrow_row;
-use node_pick::{Dealt, Need, pick as pick_places};
+use resource_profile::{Dealt, Need, pick as pick_places};
 use std::alloc::Global;
 use table_lines::answer::{Unanswered, push, taken};
 use table_lines::fields::narrow_numbers;

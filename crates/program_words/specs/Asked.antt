@@ -1,4 +1,5 @@
 -- What the program's words ask.
+use Rattle.plain_data.specs.Files.{Named}
 use Rattle.std.specs.Prelude.{ℕ, ◌==◌, Bool, not, ◌&&◌, ◌||◌, if◌then◌else◌, List, [], ◌∷◌, length, nat_le, codes, bytes_eq, Option, Some, None, is_some, is_none, option_map}
 use Rattle.small_texts.specs.Digits.{number_within}
 use Rattle.small_texts.specs.Options.{◌>>=◌}
@@ -8,17 +9,11 @@ use Rattle.command_words.specs.declared.command.Command.{Command}
 use Rattle.command_words.specs.declared.command.Command.TheVariants.{Report, Pass}
 use Rattle.generator.specs.Generated.{number_of}
 use Rattle.slurm_client.specs.Requests.{header_of}
-use Rattle.program_words.specs.declared.asked.Period.{Period}
+use Rattle.plain_data.specs.declared.period.Period.{Period}
 use Rattle.program_words.specs.declared.call.Call as call
 use Rattle.program_words.specs.Periods.{period_named}
 use Rattle.program_words.specs.Controller.{Said, said_in}
 use Rattle.program_words.specs.Server.{positive, server_in}
-
--- the files that words name: the two of a cluster, and that of a saved state where it goes on from one
-pub record Named : Type 0 where
-  pub conf : List ℕ
-  pub assocs : List ℕ
-  pub state : Option (List ℕ)
 
 -- What words ask: a script on the cluster of some files, with the sums of a period and the state saved behind it where
 -- they say so; a server of that cluster at a port, with so many workers, and the state saved behind it or not; the script

@@ -3,7 +3,7 @@ use Rattle.std.specs.Prelude.{ℕ, ◌+◌, ◌==◌, Bool, if◌then◌else◌,
 use Rattle.std.specs.Str.{byte}
 use Rattle.small_texts.specs.Digits.{number_within}
 use Rattle.small_texts.specs.Options.{◌>>=◌}
-use Rattle.program_words.specs.declared.asked.Period.{Period}
+use Rattle.plain_data.specs.declared.period.Period.{Period}
 
 abbrev pub is_comma : ℕ → Bool
 is_comma b = b == byte ","

@@ -1,17 +1,12 @@
 -- What the types of this crate say in the words of its definitions.
-use Rattle.std.specs.Prelude.{ℕ, ◌≤◌, List, Option, option_map}
-use Rattle.std.specs.Borrow.{Bor}
+use Rattle.std.specs.Prelude.{◌≤◌, None}
 use Rattle.slurm_client.specs.Requests.{FitsRequest}
-use Rattle.std.specs.Prelude.{None}
-use Rattle.program_words.specs.Asked.{Named, Asked, Script, Serve, Generate, Simulate, Call}
+use Rattle.plain_data.specs.Files.{named_by, text_of}
+use Rattle.program_words.specs.Asked.{Asked, Script, Serve, Generate, Simulate, Call}
 use Rattle.program_words.specs.Controller as spec
 use Rattle.program_words.specs.declared.asked.Asked as told
 use Rattle.program_words.specs.declared.asked.Asked.TheVariants as told_as
-use Rattle.program_words.specs.declared.asked.FileNames.{FileNames}
 use Rattle.program_words.specs.declared.said.Said as read
-
-abbrev pub text_of : Option (Bor (List ℕ)) → Option (List ℕ)
-text_of text = option_map (λ t. t.now) text
 
 -- what was read of the words
 abbrev pub said_of : read.Said → spec.Said
@@ -28,10 +23,6 @@ said_of said = record {
   sacct = text_of said.sacct;
   generate = text_of said.generate;
 }
-
--- the files that names name
-abbrev pub named_by : FileNames → Named
-named_by names = record { conf = names.conf.now; assocs = names.assocs.now; state = text_of names.state }
 
 -- what is asked
 abbrev pub asked_of : told.Asked → Asked

@@ -1,24 +1,8 @@
 //! What words ask.
 
 use crate::Call;
-
-/// The names of the files that a cluster is opened from.
-#[derive(Clone, Copy)]
-pub struct FileNames<'a> {
-    /// That of slurm.conf(5).
-    pub conf: &'a str,
-    /// That of the association file, sacctmgr(1).
-    pub assocs: &'a str,
-    /// That of a saved state, where the cluster goes on from one (own).
-    pub state: Option<&'a str>,
-}
-
-/// The seconds from one on and before another.
-#[derive(Clone, Copy, Debug, PartialEq, Eq)]
-pub struct Period {
-    pub from: u64,
-    pub until: u64,
-}
+use plain_data::files::FileNames;
+use plain_data::period::Period;
 
 /// What words of a script say (own).
 #[derive(Clone, Copy)]

@@ -6,7 +6,8 @@ ghost use Rattle.clap.specs.Matches.{found_of};
 ghost use Rattle.clap.specs.Simple.{app_of, with_rule};
 ghost use Rattle.program_words.specs.Controller.{flag_named, option_named, controller, is_accepted, found_in, value_found, is_found, said_by, said_in};
 ghost use Rattle.program_words.specs.Bare.{bare, with_flags, with_files, with_numbers};
-ghost use Rattle.program_words.specs.Words.{said_of, text_of};
+ghost use Rattle.plain_data.specs.Files.{text_of};
+ghost use Rattle.program_words.specs.Words.{said_of};
 
 use crate::said::Said;
 use clap::error::ErrorKind;

@@ -9,6 +9,6 @@ mod controller;
 mod period;
 mod said;
 
-pub use asked::{Asked, FileNames, Period, ScriptWords, ServeWords};
+pub use asked::{Asked, ScriptWords, ServeWords};
 pub use asking::asked_in;
 pub use call::Call;

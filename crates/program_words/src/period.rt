@@ -3,7 +3,7 @@
 ghost use Rattle.std.specs.Prelude.{◌≡◌, ◌<◌, IfSome, length, position};
 ghost use Rattle.program_words.specs.Periods.{is_comma, second_in, period_between, period_named};
 
-use crate::asked::Period;
+use plain_data::period::Period;
 use small_texts::digits::parse_number;
 
 /// The last second that a request can have (own).

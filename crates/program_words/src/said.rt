@@ -2,11 +2,14 @@
 
 ghost use Rattle.std.specs.Prelude.{◌≡◌, ◌≤◌, ◌&&◌, not, is_some, is_none, option_map, IfSome};
 ghost use Rattle.program_words.specs.Asked.{is_alone, has_one_task, has_its_files, has_its_numbers, has_its_run, has_its_state, has_its_sums, are_together, period_in, port_in, workers_in, files_of, script_of, serve_of, generate_of, task_of, asked_by};
-ghost use Rattle.program_words.specs.Words.{said_of, named_by, asked_of, text_of, Fits};
+ghost use Rattle.plain_data.specs.Files.{named_by, text_of};
+ghost use Rattle.program_words.specs.Words.{said_of, asked_of, Fits};
 
-use crate::asked::{Asked, FileNames, Period, ScriptWords, ServeWords};
+use crate::asked::{Asked, ScriptWords, ServeWords};
 use crate::period::read_period;
 use generator::read_number;
+use plain_data::files::FileNames;
+use plain_data::period::Period;
 use small_texts::digits::parse_number;
 
 /// The port of a server that names none, as of Slurm's own slurmctld(8).

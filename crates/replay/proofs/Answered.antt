@@ -4,7 +4,7 @@ use Rattle.ctl_state.specs.State.{State}
 use Rattle.std.proofs.Common.{◌≡◌, ℕ, zero, suc, ◌+◌, ◌-◌, ◌≤◌, Bool, true, false, ◌&&◌, not, nat_le, List, [], ◌∷◌, ◌++◌, length, drop, Option, None, Some, refl, sym, ap, ◌∙◌, subst, inl, inr, arith, length-append, length-drop}
 use Rattle.std.proofs.lemmas.Bool.{cases_Bool, leb-true}
 use Rattle.std.specs.List.{list_any}
-use Rattle.replay_plan.specs.declared.submission.Submission.{Submission}
+use Rattle.trace_text.specs.declared.submission.Submission.{Submission}
 use Rattle.replay.specs.declared.pace.Pace.{Pace}
 use Rattle.replay.specs.Laws.{EachIsAnswered, MomentsNeverFall}
 use Rattle.replay.specs.Replay.{Standing, begun, cleared, event, events, first_moment, due_round, is_over, is_running, launched, most_events, next_moment, replayed, with_due, with_one, with_round}

@@ -5,7 +5,7 @@ use Rattle.request_data.specs.declared.request.Request.TheVariants.{Pass}
 use Rattle.std.specs.List.{filter_map}
 use Rattle.ctl_state.specs.State.{State}
 use Rattle.node_daemon.specs.Turn.{root}
-use Rattle.replay_plan.specs.declared.submission.Submission.{Submission}
+use Rattle.trace_text.specs.declared.submission.Submission.{Submission}
 use Rattle.replay.specs.Replay.{Standing, begun, behind, called_by, cleared, ended_starts, event, event_at, events, due_round, first_moment, is_over, launched, leads_to, most_events, next_moment, nodes_asked, passed, played_behind_call, played_behind_round, played_of, replayed, round_behind, rows_of, standing, state_behind_call, state_behind_round, told, turned, with_due, with_round}
 use Rattle.replay.specs.declared.handing.Course.{Course}
 use Rattle.replay.specs.declared.pace.Pace.{Pace}

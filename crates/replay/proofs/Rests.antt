@@ -1,7 +1,7 @@
 -- A replay that stopped on the way.
 use Rattle.std.proofs.Common.{◌≡◌, ℕ, false, Option, Some, List, refl, subst, ◌∙◌}
 use Rattle.ctl_state.specs.State.{State}
-use Rattle.replay_plan.specs.declared.submission.Submission.{Submission}
+use Rattle.trace_text.specs.declared.submission.Submission.{Submission}
 use Rattle.replay.specs.Replay.{Progress, Standing, events, leads_to, standing}
 use Rattle.replay.specs.Resting.{Stopped, Stops, rested}
 use Rattle.replay.specs.declared.handing.Course.{Course}

@@ -1,7 +1,7 @@
 -- What holds of every replay.
 use Rattle.std.specs.Prelude.{◌≡◌, ℕ, ◌≤◌, List, length, Some}
 use Rattle.ctl_state.specs.State.{State}
-use Rattle.replay_plan.specs.declared.submission.Submission.{Submission}
+use Rattle.trace_text.specs.declared.submission.Submission.{Submission}
 use Rattle.replay.specs.declared.pace.Pace.{Pace}
 use Rattle.replay.specs.Replay.{Standing, event, replayed}
 

@@ -14,7 +14,7 @@ use Rattle.ctl_state.specs.State.{State}
 use Rattle.ctl_core.specs.Step.{reply_of, state_after}
 use Rattle.node_daemon.specs.Daemon.{is_among, polled, started}
 use Rattle.node_daemon.specs.Turn.{after_reply, report_at, root}
-use Rattle.replay_plan.specs.declared.submission.Submission.{Submission}
+use Rattle.trace_text.specs.declared.submission.Submission.{Submission}
 use Rattle.replay.specs.declared.handing.Course.{Course}
 use Rattle.replay.specs.declared.pace.Pace.{Pace}
 use Rattle.replay.specs.declared.played.Played.{Played}

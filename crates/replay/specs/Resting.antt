@@ -1,7 +1,7 @@
 -- Where events stop, for the proof alone.
 use Rattle.std.specs.Prelude.{◌≡◌, ◌≤◌, ◌-◌, ◌*◌, ◌||◌, ℕ, true, List, Option, Some, None}
 use Rattle.ctl_state.specs.State.{State}
-use Rattle.replay_plan.specs.declared.submission.Submission.{Submission}
+use Rattle.trace_text.specs.declared.submission.Submission.{Submission}
 use Rattle.replay.specs.declared.handing.Course.{Course}
 use Rattle.replay.specs.declared.played.Played.{Played}
 use Rattle.replay.specs.declared.replaying.Rest.{Rest}

@@ -18,11 +18,11 @@ use crate::pace::Pace;
 use crate::played::{Played, ended_starts, is_running, least};
 use crate::turns::{Round, turn_all};
 use ctl_desk::own_desk::OwnDesk;
-use replay_plan::Submission;
 use reply_data::reply::Reply;
 use resource_profile::{Plain, Steps};
 use small_texts::memory_error::Memory;
 use std::alloc::Global;
+use trace_text::Submission;
 
 fn is_busy(reply: &Reply) -> bool
     ensures { result ≡ is_busy reply.now }

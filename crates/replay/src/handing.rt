@@ -1,16 +1,19 @@
 //! What is due is handed in.
 
-ghost use Rattle.std.specs.Prelude.{◌≡◌, List, drop, OnOk};
+ghost use Rattle.std.specs.Prelude.{◌≡◌, List, drop, IfOk, OnOk};
+ghost use Rattle.request_data.specs.declared.request.Request.TheVariants.{Submit};
 ghost use Rattle.ctl_desk.specs.Desk.{state_of};
 ghost use Rattle.replay.specs.declared.played.Played.{Played};
 ghost use Rattle.replay.specs.Replay.{standing, with_due, with_one};
 
 use crate::asking::ask;
 use ctl_desk::own_desk::OwnDesk;
-use replay_plan::Submission;
 use reply_data::reply::Reply;
+use request_data::boxed::Boxed;
 use request_data::request::Request;
 use small_texts::memory_error::Memory;
+use std::alloc::Global;
+use trace_text::Submission;
 
 /// What is kept of a replay beside the desk and the daemons.
 #[derive(Drop)]
@@ -25,6 +28,14 @@ pub struct Course {
     pub round_at: u64,
 }
 
+// What is asked to hand a submission in.
+fn request_of(alloc: Global, submission: &Submission) -> Result<Request, Memory>
+    ensures { IfOk result (λ request. request ≡ Submit submission.now.desc) }
+{
+    let desc = submission.desc.copy()?;
+    Ok(Request::Submit(Boxed::new(alloc, desc)?))
+}
+
 // Hands one submission in.
 fn hand_in_one(
     desk: &mut OwnDesk,
@@ -35,8 +46,8 @@ fn hand_in_one(
     ensures { OnOk result ((played : List Played) → standing (state_of desk.new) played course.new
         ≡ with_one now (standing (state_of desk.old) played course.old) submission.now) }
 {
-    let desc = submission.desc.copy()?;
-    let reply = ask(desk, now, &submission.user, Request::Submit(desc))?;
+    let request = request_of(*course.replies.allocator(), submission)?;
+    let reply = ask(desk, now, &submission.user, request)?;
     course.replies.push(reply)?;
     Ok(())
 }

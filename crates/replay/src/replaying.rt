@@ -15,7 +15,6 @@ use crate::pace::Pace;
 use crate::played::Played;
 use ctl_desk::desk::Desk;
 use ctl_desk::own_desk::OwnDesk;
-use replay_plan::Submission;
 use reply_data::reply::Reply;
 use request_data::query::Query;
 use request_data::request::Request;
@@ -24,6 +23,7 @@ use small_texts::memory_error;
 use small_texts::memory_error::Memory;
 use std::alloc::Global;
 use std::marker::Model;
+use trace_text::Submission;
 
 // The most events of a replay.
 const MOST_EVENTS: u32 = 1_000_000_000;

@@ -7,7 +7,7 @@ use Rattle.std.proofs.lemmas.List.{append-nil, drop_all}
 use Rattle.reply_data.specs.declared.reply.Reply.{Reply}
 use Rattle.reply_data.specs.declared.view.Row.{Row}
 use Rattle.trace_text.specs.declared.job.TraceJob.{TraceJob}
-use Rattle.replay_plan.specs.declared.submission.Submission.{Submission}
+use Rattle.trace_text.specs.declared.submission.Submission.{Submission}
 use Rattle.replay_report.specs.Outcomes.{handed_told, outcomes_handed, rows_told}
 use Rattle.replay_report.specs.declared.outcome.JobOutcome.{JobOutcome}
 

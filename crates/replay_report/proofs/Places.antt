@@ -6,9 +6,9 @@ use Rattle.std.proofs.lemmas.List.Elements.{All-head, All-tail}
 use Rattle.reply_data.specs.declared.reply.Reply.{Reply}
 use Rattle.reply_data.specs.declared.view.Row.{Row}
 use Rattle.trace_text.specs.declared.job.TraceJob.{TraceJob}
-use Rattle.replay_plan.specs.Laws.{places_handed, places_left}
-use Rattle.replay_plan.specs.declared.submission.LeftOutJob.{LeftOutJob}
-use Rattle.replay_plan.specs.declared.submission.Submission.{Submission}
+use Rattle.trace_text.specs.Laws.{places_handed, places_left}
+use Rattle.trace_text.specs.declared.submission.LeftOutJob.{LeftOutJob}
+use Rattle.trace_text.specs.declared.submission.Submission.{Submission}
 use Rattle.replay_report.specs.Fates.{fate_of}
 use Rattle.replay_report.specs.Laws.{EachHasItsOutcome}
 use Rattle.replay_report.specs.Outcomes.{handed_told, handed_with, outcome_handed, outcome_left, outcomes_handed, outcomes_left, rows_of, rows_told}

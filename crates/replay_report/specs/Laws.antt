@@ -2,9 +2,9 @@
 use Rattle.std.specs.Prelude.{◌≡◌, ◌<◌, ◌≤◌, List, ◌++◌, length, map, All}
 use Rattle.reply_data.specs.declared.reply.Reply.{Reply}
 use Rattle.trace_text.specs.declared.job.TraceJob.{TraceJob}
-use Rattle.replay_plan.specs.Laws.{places_handed, places_left}
-use Rattle.replay_plan.specs.declared.submission.LeftOutJob.{LeftOutJob}
-use Rattle.replay_plan.specs.declared.submission.Submission.{Submission}
+use Rattle.trace_text.specs.Laws.{places_handed, places_left}
+use Rattle.trace_text.specs.declared.submission.LeftOutJob.{LeftOutJob}
+use Rattle.trace_text.specs.declared.submission.Submission.{Submission}
 use Rattle.replay_report.specs.Outcomes.{all_outcomes}
 use Rattle.replay_report.specs.declared.outcome.JobOutcome.{JobOutcome}
 

@@ -4,8 +4,8 @@ use Rattle.reply_data.specs.declared.reply.Reply.{Reply}
 use Rattle.reply_data.specs.declared.reply.Reply.TheVariants.{Shown}
 use Rattle.reply_data.specs.declared.view.Row.{Row}
 use Rattle.trace_text.specs.declared.job.TraceJob.{TraceJob}
-use Rattle.replay_plan.specs.declared.submission.LeftOutJob.{LeftOutJob}
-use Rattle.replay_plan.specs.declared.submission.Submission.{Submission}
+use Rattle.trace_text.specs.declared.submission.LeftOutJob.{LeftOutJob}
+use Rattle.trace_text.specs.declared.submission.Submission.{Submission}
 use Rattle.replay_report.specs.Fates.{fate_of, rows_behind}
 use Rattle.replay_report.specs.declared.outcome.Fate.{Fate}
 use Rattle.replay_report.specs.declared.outcome.Fate.TheVariants.{LeftOut}

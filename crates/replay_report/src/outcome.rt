@@ -5,14 +5,13 @@ ghost use Rattle.std.specs.Option.{option_copied};
 ghost use Rattle.replay_report.specs.Fates.{end_of, ended_of, fate_of, fate_of_row, job_numbered, record_of, rows_behind, rows_left, run_seen};
 
 use plain_data::items::Items;
-use replay_plan::LeftOut;
 use reply_data::refusal::Refusal;
 use reply_data::reply::Reply;
 use reply_data::view::{EndAt, JobRow, Row};
 use request_data::state::{Final, JobState};
 use small_texts::memory_error::Memory;
 use small_texts::name::Name;
-use trace_text::{TraceId, TraceNames, TraceTimes};
+use trace_text::{LeftOut, TraceId, TraceNames, TraceTimes};
 
 /// A run from its start to its end (own).
 #[derive(Debug, Drop)]

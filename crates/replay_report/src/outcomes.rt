@@ -7,12 +7,11 @@ ghost use Rattle.replay_report.specs.Outcomes.{all_outcomes, handed_found, hande
 
 use crate::outcome::{Fate, JobOutcome, fate_of, rows_behind};
 use plain_data::Plain;
-use replay_plan::{LeftOutJob, ReplayPlan, Submission};
 use reply_data::reply::Reply;
 use reply_data::view::Row;
 use small_texts::memory_error::Memory;
 use std::alloc::Global;
-use trace_text::{TraceJob, TraceNames};
+use trace_text::{LeftOutJob, ReplayPlan, Submission, TraceJob, TraceNames};
 
 fn copy_names(names: &TraceNames) -> Result<TraceNames, Memory>
     ensures { IfOk result (λ copy. copy ≡ names.now) }

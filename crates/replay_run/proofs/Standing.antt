@@ -5,11 +5,11 @@ use Rattle.ctl_saved.specs.Saving.{saved_of}
 use Rattle.ctl_state.specs.State.{State}
 use Rattle.cluster_opening.specs.Cluster.{opening_in}
 use Rattle.cluster_opening.specs.Files.{fresh}
-use Rattle.book_renewal.specs.Renewing.{IsReopened}
+use Rattle.cluster_opening.specs.Renewing.{IsReopened}
 use Rattle.trace_text.specs.declared.job.TraceJob.{TraceJob}
 use Rattle.reply_data.specs.declared.reply.Reply.{Reply}
-use Rattle.replay_plan.specs.declared.plan.ReplayPlan.{ReplayPlan}
-use Rattle.replay_plan.specs.declared.submission.Submission.{Submission}
+use Rattle.trace_text.specs.declared.plan.ReplayPlan.{ReplayPlan}
+use Rattle.trace_text.specs.declared.submission.Submission.{Submission}
 use Rattle.replay.specs.Replay.{Progress, leads_to, replayed}
 use Rattle.replay.specs.declared.pace.Pace.{Pace}
 use Rattle.replay_report.specs.Outcomes.{all_outcomes}

@@ -12,11 +12,11 @@ use Rattle.ctl_state.specs.State.{State}
 use Rattle.ctl_saved.specs.Saving.{saved_of}
 use Rattle.node_daemon.specs.Turn.{root}
 use Rattle.cluster_opening.specs.Cluster.{opening_in}
-use Rattle.book_renewal.specs.Renewing.{IsReopened}
-use Rattle.replay_plan.specs.Handing.{all_handed, all_left, goes_before}
-use Rattle.replay_plan.specs.declared.plan.ReplayPlan.{ReplayPlan}
-use Rattle.replay_plan.specs.declared.submission.Submission.{Submission}
-use Rattle.replay_plan.specs.declared.submission.TakenNames.{TakenNames}
+use Rattle.cluster_opening.specs.Renewing.{IsReopened}
+use Rattle.trace_text.specs.Handing.{all_handed, all_left, goes_before}
+use Rattle.trace_text.specs.declared.plan.ReplayPlan.{ReplayPlan}
+use Rattle.trace_text.specs.declared.submission.Submission.{Submission}
+use Rattle.trace_text.specs.declared.submission.TakenNames.{TakenNames}
 use Rattle.replay.specs.Replay.{Progress, behind, leads_to, replayed}
 use Rattle.replay.specs.declared.pace.Pace.{Pace}
 use Rattle.replay_report.specs.Outcomes.{all_outcomes}

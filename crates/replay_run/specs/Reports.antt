@@ -3,7 +3,7 @@ use Rattle.std.specs.Prelude.{◌≡◌, ℕ, Bool, true, false, ◌||◌, is_so
 use Rattle.std.specs.Borrow.{Bor}
 use Rattle.trace_text.specs.Traces.{trace_in}
 use Rattle.trace_text.specs.declared.job.TraceJob.{TraceJob}
-use Rattle.replay_plan.specs.declared.plan.ReplayPlan.{ReplayPlan}
+use Rattle.trace_text.specs.declared.plan.ReplayPlan.{ReplayPlan}
 use Rattle.replay_report.specs.Changes.{AreMostChanged, changes_in}
 use Rattle.replay_report.specs.Summaries.{IsSummary}
 use Rattle.replay_report.specs.declared.comparing.Change.{Change}
@@ -13,7 +13,7 @@ use Rattle.replay_texts.specs.Comparisons.{comparison_text}
 use Rattle.replay_texts.specs.Csv.{csv_text}
 use Rattle.replay_texts.specs.Summaries.{summary_text}
 use Rattle.replay_texts.specs.declared.summary.Worked.{Worked}
-use Rattle.replay_users.specs.Adding.{with_users}
+use Rattle.replay_texts.specs.Adding.{with_users}
 use Rattle.replay_run.specs.Replays.{CameTo, IsPlanned}
 use Rattle.replay_run.specs.declared.reporting.Texts.{Texts}
 use Rattle.replay_run.specs.declared.words.Wanted.{Wanted}

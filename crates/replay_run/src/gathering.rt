@@ -9,6 +9,7 @@ use plain_data::items::Items;
 use replay::{self, Replayed};
 use reply_data::reply::Reply;
 use reply_data::view::{JobRow, Row, View};
+use request_data::boxed::Boxed;
 use request_data::query::{JobQuery, Query, StateCode, Who};
 use small_texts::memory_error::Memory;
 use std::alloc::Global;
@@ -117,7 +118,7 @@ pub(crate) fn gather(
 ) -> Result<(), Memory>
     ensures { OnOk result (WasLookedAt (state_of desk.old) (state_of desk.new)) }
 {
-    let query = Query::Squeue(ended_jobs(alloc)?);
+    let query = Query::Squeue(Boxed::new(alloc, ended_jobs(alloc)?)?);
     let reply = look(alloc, desk, moment, query)?;
     records.take_shown(&reply)
 }

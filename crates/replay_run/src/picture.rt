@@ -7,7 +7,6 @@ use plain_data::items::Items;
 use plain_data::seconds::Second;
 use replay::{Played, Replayed, Run};
 use replay_picture::{NodePart, Period, Picture, PictureBar, PictureNode, WaitingStep, picture};
-use replay_plan::{ReplayPlan, Submission};
 use reply_data::reply::Reply;
 use reply_data::view::{EndAt, JobRow, NodeRow, Row};
 use request_data::query::Query;
@@ -16,7 +15,7 @@ use small_texts::memory_error::Memory;
 use small_texts::name::Name;
 use small_texts::pieces::{push_labelled, push_number, push_text};
 use std::alloc::Global;
-use trace_text::TraceId;
+use trace_text::{ReplayPlan, Submission, TraceId};
 
 /// How many groups have colours of their own; all others share the next one.
 const OWN_COLOURS: usize = 11;

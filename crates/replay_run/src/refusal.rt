@@ -64,16 +64,9 @@ impl fmt::Display for RunRefusal {
     fn fmt<W: fmt::Write>(&self, f: &mut fmt::Formatter<W>) -> fmt::Result {
         match self {
             RunRefusal::BadTrace(refusal) => write!(f, "{refusal}"),
-            RunRefusal::BadCluster(ClusterRefusal::BadConf { line, kind }) => {
-                let kind = kind.name();
-                write!(f, "conf line {line}: {kind}")
-            }
-            RunRefusal::BadCluster(ClusterRefusal::BadAssocs { line, kind }) => {
-                let kind = kind.name();
-                write!(f, "assoc line {line}: {kind}")
-            }
-            RunRefusal::BadCluster(ClusterRefusal::BadState { line }) => {
-                write!(f, "state line {line}")
+            RunRefusal::BadCluster(ClusterRefusal::Bad(bad)) => {
+                let text = bad.text();
+                f.write_str(text.as_str())
             }
             RunRefusal::Spent => f.write_str("the replay has no end"),
             RunRefusal::BadCluster(ClusterRefusal::Memory) | RunRefusal::Memory => {

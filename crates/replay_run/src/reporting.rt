@@ -14,13 +14,11 @@ use crate::refusal::{RunRefusal, WorkRefusal, of_work};
 use crate::watching::Watch;
 use crate::words::Wanted;
 use crate::working::{Trace, Worked, work};
-use replay_plan::plan_replay;
 use replay_report::{Change, Direction, changes, most_changed, summary_of};
-use replay_texts::{self, push_comparison, push_csv, push_summary};
-use replay_users::with_users;
+use replay_texts::{self, push_comparison, push_csv, push_summary, with_users};
 use small_texts::memory_error::Memory;
 use std::alloc::Global;
-use trace_text::{TraceJob, TraceRefusal, read_trace};
+use trace_text::{TraceJob, TraceRefusal, plan_replay, read_trace};
 
 /// What comes of a run.
 #[derive(Drop)]

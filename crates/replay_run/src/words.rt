@@ -1,9 +1,8 @@
 //! What the words of slurm_replay want.
 
-use replay_plan::TakenNames;
 use small_texts::digits::parse_number;
 use std::fmt;
-use trace_text::TraceKind;
+use trace_text::{TakenNames, TraceKind};
 
 /// What is told of the words behind an error in them.
 pub const USAGE: &str =

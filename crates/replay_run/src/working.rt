@@ -14,20 +14,18 @@ use crate::gathering::{Records, all_shown, gather};
 use crate::picture::picture_text;
 use crate::refusal::WorkRefusal;
 use crate::watching::{Progress, Watch};
-use book_renewal::renewed;
-use cluster_opening::{ClusterRefusal, open_desk};
+use cluster_opening::{ClusterRefusal, open_desk, renewed};
 use conf_reader::read_conf;
 use ctl_desk::desk::Desk;
 use ctl_desk::own_desk::OwnDesk;
 use plain_data::conf::{Conf, NodeConf};
 use replay::{Pace, ReplayRefusal, Replayed, Replaying, Rest, begin, finish, go_on};
-use replay_plan::{ReplayPlan, Submission};
 use replay_report::{JobOutcome, outcomes_of};
 use reply_data::reply::Reply;
 use resource_profile::{Plain, Steps, start};
 use small_texts::memory_error::Memory;
 use std::alloc::Global;
-use trace_text::TraceJob;
+use trace_text::{ReplayPlan, Submission, TraceJob};
 
 /// How many entries a book has at least before a replay goes on from a new one.
 const MOST_ENTRIES: u64 = 131_072;

@@ -1,2 +1,4 @@
 pub mod Blanks
 pub mod HourLines
+pub mod Added
+pub mod Found

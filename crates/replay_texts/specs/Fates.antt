@@ -6,8 +6,8 @@ use Rattle.request_data.specs.declared.state.JobState.{JobState}
 use Rattle.request_data.specs.declared.state.JobState.TheVariants.{Pending, Running, Completing, Ended}
 use Rattle.reply_data.specs.declared.refusal.Refusal.{Refusal}
 use Rattle.reply_data.specs.declared.refusal.Refusal.TheVariants.{PartitionClosed, InvalidAccount, InvalidPartition, InvalidQos, NodesNotAvailable, NotAllowedHere, SubmitLimit, JobTableFull, HistoryFull}
-use Rattle.replay_plan.specs.declared.submission.LeftOut.{LeftOut as Reason}
-use Rattle.replay_plan.specs.declared.submission.LeftOut.TheVariants.{NoSubmit, NoUser, NoRun, OutOfRange}
+use Rattle.trace_text.specs.declared.submission.LeftOut.{LeftOut as Reason}
+use Rattle.trace_text.specs.declared.submission.LeftOut.TheVariants.{NoSubmit, NoUser, NoRun, OutOfRange}
 use Rattle.replay_report.specs.declared.outcome.Fate.{Fate}
 use Rattle.replay_report.specs.declared.outcome.Fate.TheVariants.{Ran, Waits, Forgotten, Refused, LeftOut}
 use Rattle.replay_texts.specs.Values.{known, names_text, wait_known}

@@ -5,3 +5,6 @@ pub mod Fates
 pub mod Groups
 pub mod Summaries
 pub mod Values
+pub mod Adding
+pub mod Known
+pub mod Lines

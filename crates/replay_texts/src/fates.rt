@@ -4,13 +4,13 @@ ghost use Rattle.std.specs.Prelude.{◌≡◌, ◌++◌, OnOk};
 ghost use Rattle.replay_texts.specs.Fates.{fate_text, final_word, here_text, left_word, refused_word, state_word, word_text};
 
 use crate::values::{push_known, push_names, wait_known};
-use replay_plan::LeftOut;
 use replay_report::Fate;
 use reply_data::refusal::Refusal;
 use request_data::state::{Final, JobState};
 use small_texts::memory_error::Memory;
 use small_texts::name::Name;
 use small_texts::pieces::push_text;
+use trace_text::LeftOut;
 
 fn final_word(last: Final) -> &'static [u8]
     ensures { result.now ≡ final_word last }

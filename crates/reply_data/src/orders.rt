@@ -3,9 +3,8 @@
 ghost use Rattle.std.specs.Prelude.{◌≡◌, IfOk};
 ghost use Rattle.reply_data.specs.Starts.{InOrder, LaunchesInOrder};
 
-use cpu_ids::CpuIds;
-use plain_data::Plain;
 use plain_data::items::Items;
+use plain_data::{CpuIds, Plain};
 use request_data::report::Start;
 use small_texts::memory_error::Memory;
 use small_texts::name::Name;

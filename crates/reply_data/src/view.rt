@@ -3,8 +3,6 @@
 ghost use Rattle.std.specs.Prelude.{◌≡◌, IfOk};
 
 use crate::priority::PriorityRow;
-use cpu_ids::CpuIds;
-use plain_data::Plain;
 use plain_data::conf::PartState;
 use plain_data::dependency::DepSpec;
 use plain_data::items::Items;
@@ -12,6 +10,7 @@ use plain_data::limit::Limit;
 use plain_data::nice::Nice;
 use plain_data::ranged::Ranged;
 use plain_data::seconds::{FOREVER, Second};
+use plain_data::{CpuIds, Plain};
 use request_data::report::Heard;
 use request_data::state::{JobState, Reason};
 use small_texts::memory_error::Memory;

@@ -5,6 +5,7 @@ use crate::report::{Done, Start};
 use plain_data::Plain;
 use small_texts::memory_error::Memory;
 
+pub mod boxed;
 pub mod query;
 pub mod report;
 pub mod request;

@@ -2,6 +2,7 @@
 
 ghost use Rattle.std.specs.Prelude.{◌≡◌, IfOk};
 
+use crate::boxed::Boxed;
 use crate::target::Target;
 use plain_data::Plain;
 use plain_data::items::Items;
@@ -102,7 +103,7 @@ pub struct JobQuery {
 #[derive(PartialEq, Debug, Drop)]
 pub enum Query {
     /// Jobs. squeue(1).
-    Squeue(JobQuery),
+    Squeue(Boxed<JobQuery>),
     /// The partitions, and how their nodes stand. sinfo(1).
     Sinfo {
         /// The one partition that is shown; None shows all.
@@ -167,6 +168,12 @@ impl JobQuery {
             starts: self.starts,
             format: self.format.copy()?,
         })
+    }
+}
+
+impl Plain for Boxed<JobQuery> {
+    fn copy(&self) -> Result<Boxed<JobQuery>, Memory> {
+        Boxed::new(self.allocator(), self.value().copy()?)
     }
 }
 

@@ -2,10 +2,12 @@
 
 ghost use Rattle.std.specs.Prelude.{◌≡◌, IfOk};
 
+use crate::boxed::Boxed;
 use crate::query::Query;
 use crate::report::Report;
 use crate::reservation::ReservationDesc;
 use crate::target::{Target, Targets};
+use plain_data::Plain;
 use plain_data::conf::{Conf, PartState};
 use plain_data::items::Items;
 use plain_data::job::JobDesc;
@@ -29,7 +31,7 @@ pub enum NodeOrder {
 #[derive(PartialEq, Debug, Drop)]
 pub enum Request {
     /// Hands in a job. sbatch(1).
-    Submit(JobDesc),
+    Submit(Boxed<JobDesc>),
     /// Ends jobs. scancel(1).
     Cancel(Targets),
     /// Holds pending jobs back. "hold" and "uhold" in scontrol(1).
@@ -65,7 +67,7 @@ pub enum Request {
         state: PartState,
     },
     /// Keeps nodes for some for a time. "create" in scontrol(1).
-    CreateReservation(ReservationDesc),
+    CreateReservation(Boxed<ReservationDesc>),
     /// Takes a reservation back. "delete" in scontrol(1).
     DeleteReservation {
         name: Name,
@@ -76,7 +78,7 @@ pub enum Request {
     Pass,
     /// Puts another configuration in force. "reconfigure" in scontrol(1).
     Reconfigure {
-        conf: Conf,
+        conf: Boxed<Conf>,
         /// How many bytes its text had: it counts so much towards what is kept of the history.
         bytes: u32,
     },
@@ -84,6 +86,24 @@ pub enum Request {
     Shutdown,
     /// Asks for records. squeue(1), sinfo(1), sprio(1), "show" in scontrol(1).
     Show(Query),
+}
+
+impl Plain for Boxed<JobDesc> {
+    fn copy(&self) -> Result<Boxed<JobDesc>, Memory> {
+        Boxed::new(self.allocator(), self.value().copy()?)
+    }
+}
+
+impl Plain for Boxed<Conf> {
+    fn copy(&self) -> Result<Boxed<Conf>, Memory> {
+        Boxed::new(self.allocator(), self.value().copy()?)
+    }
+}
+
+impl Plain for Boxed<ReservationDesc> {
+    fn copy(&self) -> Result<Boxed<ReservationDesc>, Memory> {
+        Boxed::new(self.allocator(), self.value().copy()?)
+    }
 }
 
 impl Request {

@@ -7,3 +7,12 @@ pub mod LevelLeast
 pub mod EndEdits
 pub mod Keeping
 pub mod NextEnds
+pub mod Beginnings
+pub mod Sums
+pub mod Holding
+pub mod Ranking
+pub mod Filling
+pub mod Shares
+pub mod Walk
+pub mod Choosing
+pub mod Lesser

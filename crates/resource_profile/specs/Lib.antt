@@ -5,3 +5,8 @@ pub mod Levels
 pub mod Windows
 pub mod Ends
 pub mod Timelines
+pub mod Sets
+pub mod Chosen
+pub mod Beginnings
+pub mod Holding
+pub mod Choosing

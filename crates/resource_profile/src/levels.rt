@@ -1,4 +1,4 @@
-ghost use Rattle.std.specs.Prelude.{◌≡◌, ℕ, ◌+◌, ◌-◌, ◌^◌, ◌≤◌, ◌<◌, length, slice_index_or, vec_len, vec_capacity};
+ghost use Rattle.std.specs.Prelude.{◌≡◌, ℕ, ◌+◌, ◌-◌, ◌^◌, ◌≤◌, ◌<◌, min, nat_le, if◌then◌else◌, length, slice_index_or, vec_len, vec_capacity};
 ghost use Rattle.resource_profile.specs.Windows.{IsSteady};
 ghost use Rattle.resource_profile.specs.Levels.{HasLevels, IsLevelled, AreEnds, AreChanged, CanTake, CanGive, less, more, taken, given, amount_of};
 ghost use Rattle.resource_profile.specs.declared.levels.Amount.{Amount};
@@ -223,6 +223,65 @@ fn begin_of(levels: &[Level], place: usize) -> u64
     }
 }
 
+// The least that some levels say, and the places behind the last of them that say it.
+#[derive(Clone, Copy)]
+struct Lowest {
+    free: Amount,
+    behind_cpus: usize,
+    behind_mem: usize,
+}
+
+impl Lowest {
+    // With what the level at the place says too.
+    fn with(self, free: Amount, place: usize) -> Lowest
+        requires { place + 1 < 2 ^ 64 }
+        ensures cpus { result.free.cpus ≡ min self.free.cpus free.cpus }
+        ensures mem { result.free.mem ≡ min self.free.mem free.mem }
+        ensures behind_cpus { result.behind_cpus
+            ≡ (if nat_le free.cpus self.free.cpus then place + 1 else self.behind_cpus) }
+        ensures behind_mem { result.behind_mem
+            ≡ (if nat_le free.mem self.free.mem then place + 1 else self.behind_mem) }
+    {
+        Lowest {
+            free: Amount {
+                cpus: self.free.cpus.min(free.cpus),
+                mem: self.free.mem.min(free.mem),
+            },
+            behind_cpus: if free.cpus <= self.free.cpus {
+                place + 1
+            } else {
+                self.behind_cpus
+            },
+            behind_mem: if free.mem <= self.free.mem {
+                place + 1
+            } else {
+                self.behind_mem
+            },
+        }
+    }
+}
+
+// How far the levels from the place on say no less. It walks no further than to the limit.
+fn reach(levels: &[Level], place: usize, limit: u64, least: Amount) -> usize
+    requires { place ≤ length levels.now }
+    ensures low { place ≤ result }
+    ensures high { result ≤ length levels.now }
+    ensures cpus { (i : ℕ) (d : Level) → place ≤ i → i < result
+        → least.cpus ≤ (slice_index_or levels.now i d).free.cpus }
+    ensures mem { (i : ℕ) (d : Level) → place ≤ i → i < result
+        → least.mem ≤ (slice_index_or levels.now i d).free.mem }
+{
+    let mut end = place;
+    while end < levels.len()
+        && levels[end].from < limit
+        && least.cpus <= levels[end].free.cpus
+        && least.mem <= levels[end].free.mem
+    {
+        end += 1;
+    }
+    end
+}
+
 // The least that is free over the window, and how far it may move.
 pub(crate) fn least_free(levels: &[Level], from: u64, until: u64) -> Window
     requires levels { HasLevels levels.now }
@@ -230,16 +289,22 @@ pub(crate) fn least_free(levels: &[Level], from: u64, until: u64) -> Window
     ensures { (free : ℕ → Amount) → IsLevelled free levels.now → IsSteady free from until result }
 {
     let begun = begun(levels, from);
-    let Amount { mut cpus, mut mem } = levels[begun - 1].free;
+    let mut lowest = Lowest {
+        free: levels[begun - 1].free,
+        behind_cpus: begun,
+        behind_mem: begun,
+    };
     let mut place = begun;
     while place < levels.len() && levels[place].from < until {
-        cpus = cpus.min(levels[place].free.cpus);
-        mem = mem.min(levels[place].free.mem);
+        lowest = lowest.with(levels[place].free, place);
         place += 1;
     }
+    let begins_before = begin_of(levels, lowest.behind_cpus.min(lowest.behind_mem));
+    let limit = until.saturating_add(begins_before.saturating_sub(from));
+    let end = reach(levels, place, limit, lowest.free);
     Window {
-        free: Amount { cpus, mem },
-        begins_before: begin_of(levels, begun),
-        ends_up_to: begin_of(levels, place),
+        free: lowest.free,
+        begins_before,
+        ends_up_to: begin_of(levels, end),
     }
 }

@@ -1,14 +1,20 @@
 //! What the nodes have free over time: the rooms of the nodes, the holds on them, and a count of the planner's steps.
 #![tactic(auto)]
 
+mod choice;
+mod dealing;
 mod ends;
 pub mod laws;
 mod levels;
+pub mod pick_laws;
+mod picking;
 mod profile;
+mod reserve;
 mod steps;
 mod timeline;
 
 pub use levels::{Amount, Window};
+pub use picking::{Dealt, Need, pick};
 pub use profile::Profile;
 pub use steps::{Plain, Steps, start};
 

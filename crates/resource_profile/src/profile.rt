@@ -191,7 +191,8 @@ impl Profile {
     }
 
     /// What the node has free over the window, and how far the window may move with nothing changed. Logarithmic in the
-    /// holds of the node, and linear in those that begin or end within the window.
+    /// holds of the node, and linear in those that begin or end within the window, or behind it up to where the window
+    /// may end that has moved.
     pub fn free_over(&self, node: u32, from: u64, until: u64) -> Window
         requires node { node < length self.now.rooms }
         requires window { from < until }

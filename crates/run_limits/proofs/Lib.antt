@@ -6,3 +6,16 @@ pub mod Meanings
 pub mod Numbers
 pub mod SpanLemmas
 pub mod Way
+pub mod Parts
+pub mod Counting
+pub mod Fractions
+pub mod Ways
+pub mod LevelOrder
+pub mod Turned
+pub mod Nodes
+pub mod Users
+pub mod Bounds
+pub mod PathLemmas
+pub mod Slices
+pub mod Ranking
+pub mod UsersRanks

@@ -4,3 +4,9 @@ pub mod Tallies
 pub mod Submitting
 pub mod Accounts
 pub mod Spans
+pub mod Priority
+pub mod Levels
+pub mod Tree
+pub mod Ranks
+pub mod Paths
+pub mod Rows

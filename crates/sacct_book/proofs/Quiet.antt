@@ -24,7 +24,7 @@ use Rattle.job_table.specs.Usage.{cpus_held}
 use Rattle.ctl_state.specs.State.{State}
 use Rattle.ctl_state.specs.Refusals.{first_refusal, unless_refused}
 use Rattle.ctl_state.specs.Verdicts.{Verdict, Refuses, Tells, Stays, Makes, left_by}
-use Rattle.ctl_submit.specs.Submission.{Basis, basis_of, made_under, new_jobs, task}
+use Rattle.ctl_jobs.specs.Submission.{Basis, basis_of, made_under, new_jobs, task}
 use Rattle.ctl_jobs.specs.declared.action.Action.{Action}
 use Rattle.ctl_jobs.specs.declared.action.Action.TheVariants as act
 use Rattle.ctl_jobs.specs.Actions.{done_to, with_limit, with_nice}

@@ -27,7 +27,7 @@ use Rattle.ctl_state.specs.Holding.{IsPartOf}
 use Rattle.ctl_state.specs.Planning.{room_of}
 use Rattle.ctl_state.specs.Soundness.{IsOfAccounts, IsSound}
 use Rattle.ctl_state.specs.State.{State, opening}
-use Rattle.ctl_submit.specs.Submission.{account_at}
+use Rattle.ctl_jobs.specs.Submission.{account_at}
 use Rattle.ctl_saved.specs.Saving.{saved_array, saved_job, saved_node, saved_of, saved_partition, saved_placed, saved_reservation, saved_usages}
 use Rattle.ctl_restore.specs.Restored.{came_back, gone_names, is_gone, restored, restored_array, restored_job, restored_node, restored_over, restored_partition, restored_placed, restored_reservation, restored_usages}
 use Rattle.saved_data.specs.declared.parts.SavedNode.{SavedNode}

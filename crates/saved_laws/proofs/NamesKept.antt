@@ -20,7 +20,7 @@ use Rattle.job_table.specs.JobStates.{is_pending, is_running}
 use Rattle.run_limits.specs.declared.record.AssocRecord.{AssocRecord}
 use Rattle.run_limits.specs.Accounts.{qos_meant}
 use Rattle.ctl_state.specs.State.{State}
-use Rattle.ctl_submit.specs.Submission.{Basis, account_at, assoc_for, basis_by, basis_of, lone_job, new_jobs, partition_for, place_for, qos_for, task}
+use Rattle.ctl_jobs.specs.Submission.{Basis, account_at, assoc_for, basis_by, basis_of, lone_job, new_jobs, partition_for, place_for, qos_for, task}
 use Rattle.saved_laws.specs.Kept.{IsAsOpened, IsOfItsNames, Numbers, numbers_of}
 use Rattle.saved_laws.proofs.Walks.{StaysTrue}
 

@@ -23,7 +23,7 @@ use Rattle.ctl_state.specs.Refusals.{first_refusal, refused_if}
 use Rattle.ctl_state.specs.Soundness.{IsSound}
 use Rattle.ctl_state.specs.State.{State, last_job_id}
 use Rattle.ctl_state.specs.Verdicts.{Stays}
-use Rattle.ctl_submit.specs.Submission.{Basis, at_once_of, basis_of, beside_unended, count_of_jobs, lone_job, made_under, new_arrays, new_jobs, refusals_by, refusals_of_room, refusals_under, submit_refusals, task}
+use Rattle.ctl_jobs.specs.Submission.{Basis, at_once_of, basis_of, beside_unended, count_of_jobs, lone_job, made_under, new_arrays, new_jobs, refusals_by, refusals_of_room, refusals_under, submit_refusals, task}
 use Rattle.ctl_jobs.specs.declared.action.Action.{Action}
 use Rattle.ctl_jobs.specs.declared.action.Action.TheVariants as act
 use Rattle.ctl_jobs.specs.Changing.{are_meant, are_naming, change_made, done_if, goes}

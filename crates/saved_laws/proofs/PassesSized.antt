@@ -6,7 +6,7 @@ use Rattle.resource_profile.specs.declared.Hold.{Hold}
 use Rattle.reply_data.specs.declared.reply.Reply.TheVariants.{Passed}
 use Rattle.backfill_planner.specs.declared.Placed.{Placed}
 use Rattle.backfill_planner.specs.declared.job.PlanJob.{PlanJob}
-use Rattle.preemption.specs.Going.{victims_of}
+use Rattle.backfill_planner.specs.Going.{victims_of}
 use Rattle.job_table.specs.declared.record.JobRecord.{JobRecord}
 use Rattle.job_table.specs.Table.{job_with}
 use Rattle.ctl_state.specs.Events.{become}

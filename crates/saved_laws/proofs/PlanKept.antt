@@ -32,7 +32,7 @@ use Rattle.ctl_state.specs.State.{State, last_moment, partition_of}
 use Rattle.ctl_state.specs.Verdicts.{Stays}
 use Rattle.ctl_waiting.specs.Candidates.{candidates, is_candidate, need_in, needs_of, ranked}
 use Rattle.ctl_waiting.specs.Rank.{is_higher}
-use Rattle.ctl_submit.specs.Submission.{basis_of, made_under}
+use Rattle.ctl_jobs.specs.Submission.{basis_of, made_under}
 use Rattle.ctl_jobs.specs.declared.action.Action.{Action}
 use Rattle.ctl_jobs.specs.declared.action.Action.TheVariants as act
 use Rattle.ctl_jobs.specs.Changing.{are_meant, are_naming, change_made, done_if, goes}

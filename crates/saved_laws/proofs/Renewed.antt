@@ -20,7 +20,7 @@ use Rattle.request_data.specs.declared.report.Heard.{Heard}
 use Rattle.reply_data.specs.declared.refusal.Refusal.TheVariants.{AccessDenied, CannotShrink}
 use Rattle.backfill_planner.specs.declared.Placed.{Placed}
 use Rattle.backfill_planner.specs.declared.Share.{Share}
-use Rattle.cpu_ids.specs.Rows.{has_id}
+use Rattle.plain_data.specs.Rows.{has_id}
 use Rattle.node_state.specs.declared.record.DroppedNode.{DroppedNode}
 use Rattle.node_state.specs.declared.record.NodeRecord.{NodeRecord}
 use Rattle.node_state.specs.declared.partition_record.PartRecord.{PartRecord}
@@ -38,7 +38,7 @@ use Rattle.ctl_state.specs.Refusals.{first_refusal, is_privileged, refused_if}
 use Rattle.ctl_state.specs.Soundness.{IsSound}
 use Rattle.ctl_state.specs.State.{State, opening}
 use Rattle.run_limits.specs.Accounts.{qos_meant}
-use Rattle.ctl_submit.specs.Submission.{account_at}
+use Rattle.ctl_jobs.specs.Submission.{account_at}
 use Rattle.ctl_reconfigure.specs.Blocking.{blocked, is_needed}
 use Rattle.ctl_reconfigure.specs.Files.{IsFile}
 use Rattle.ctl_reconfigure.specs.Names.{conf_names, node_names, same_names}

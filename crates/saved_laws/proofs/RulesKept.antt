@@ -12,7 +12,7 @@ use Rattle.command_words.specs.declared.header.Meaning.{Meaning}
 use Rattle.command_words.specs.declared.header.Meaning.TheVariants.{Asks, Malformed, UnknownCommand, BadWords, BadHeader}
 use Rattle.job_table.specs.declared.record.JobRecord.{JobRecord}
 use Rattle.ctl_state.specs.State.{State, opening}
-use Rattle.ctl_submit.specs.Submission.{Basis, new_jobs, settled}
+use Rattle.ctl_jobs.specs.Submission.{Basis, new_jobs, settled}
 use Rattle.ctl_core.specs.Step.{raised, state_after}
 use Rattle.ctl_desk.specs.declared.entry.Entry.{Entry}
 use Rattle.ctl_desk.specs.History.{after_all}

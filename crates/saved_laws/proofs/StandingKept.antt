@@ -24,7 +24,7 @@ use Rattle.node_state.specs.Partitions.{place_meant}
 use Rattle.job_table.specs.declared.record.JobRecord.{JobRecord}
 use Rattle.ctl_state.specs.State.{State}
 use Rattle.ctl_state.specs.Verdicts.{Stays}
-use Rattle.ctl_submit.specs.Submission.{basis_of, made_under}
+use Rattle.ctl_jobs.specs.Submission.{basis_of, made_under}
 use Rattle.ctl_jobs.specs.declared.action.Action.{Action}
 use Rattle.ctl_jobs.specs.declared.action.Action.TheVariants as act
 use Rattle.ctl_jobs.specs.Changing.{are_meant, are_naming, change_made, goes}

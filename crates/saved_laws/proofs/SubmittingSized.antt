@@ -2,7 +2,7 @@
 use Rattle.std.proofs.Common.{ℕ, ◌≡◌, List, Option, Some, None, refl}
 use Rattle.plain_data.specs.declared.job.JobDesc.{JobDesc}
 use Rattle.ctl_state.specs.State.{State}
-use Rattle.ctl_submit.specs.Submission.{Basis, basis_of, is_placeable, made_under, new_jobs, refusals_by, submit_made, submit_refusals}
+use Rattle.ctl_jobs.specs.Submission.{Basis, basis_of, is_placeable, made_under, new_jobs, refusals_by, submit_made, submit_refusals}
 use Rattle.saved_laws.specs.Rooms.{sized}
 use Rattle.saved_laws.proofs.Resized.{sized_by}
 

@@ -14,7 +14,7 @@ use Rattle.job_table.specs.declared.change.Change.TheVariants.{Start, Leave, Can
 use Rattle.job_table.specs.Changes.{changed, end_of, not_again, off_node, parts_off, with_left}
 use Rattle.job_table.specs.JobStates.{is_completing, is_pending, is_running, left}
 use Rattle.ctl_state.specs.State.{State}
-use Rattle.ctl_submit.specs.Submission.{Basis, new_jobs}
+use Rattle.ctl_jobs.specs.Submission.{Basis, new_jobs}
 use Rattle.saved_laws.specs.Kept.{HasMoments, IsTimed}
 use Rattle.saved_laws.proofs.NamesKept.{new_true}
 use Rattle.saved_laws.proofs.Walks.{StaysTrue}

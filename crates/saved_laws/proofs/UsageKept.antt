@@ -16,7 +16,7 @@ use Rattle.run_limits.specs.Accounts.{is_of_user}
 use Rattle.ctl_state.specs.State.{State}
 use Rattle.ctl_state.specs.Soundness.{IsOfAccounts}
 use Rattle.ctl_state.specs.Verdicts.{Stays}
-use Rattle.ctl_submit.specs.Submission.{basis_of, made_under}
+use Rattle.ctl_jobs.specs.Submission.{basis_of, made_under}
 use Rattle.ctl_jobs.specs.declared.action.Action.{Action}
 use Rattle.ctl_jobs.specs.declared.action.Action.TheVariants as act
 use Rattle.ctl_jobs.specs.Changing.{are_meant, are_naming, change_made, done_if, goes}

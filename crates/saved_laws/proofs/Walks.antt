@@ -26,7 +26,7 @@ use Rattle.job_table.specs.Table.{has_id}
 use Rattle.ctl_state.specs.Events.{started_as}
 use Rattle.ctl_state.specs.State.{State}
 use Rattle.ctl_state.specs.Verdicts.{Stays}
-use Rattle.ctl_submit.specs.Submission.{Basis, basis_of, made_under, new_jobs}
+use Rattle.ctl_jobs.specs.Submission.{Basis, basis_of, made_under, new_jobs}
 use Rattle.ctl_jobs.specs.declared.action.Action.{Action}
 use Rattle.ctl_jobs.specs.declared.action.Action.TheVariants as act
 use Rattle.ctl_jobs.specs.Actions.{cancelled_in, done_to, held_after, with_limit, with_nice}

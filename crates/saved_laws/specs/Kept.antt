@@ -26,7 +26,7 @@ use Rattle.run_limits.specs.Accounts.{qos_meant}
 use Rattle.node_state.specs.declared.reservation_record.Reservation.{Reservation}
 use Rattle.ctl_state.specs.declared.record.ArrayRecord.{ArrayRecord}
 use Rattle.ctl_state.specs.State.{State, last_moment, last_second, opening}
-use Rattle.ctl_submit.specs.Submission.{account_at}
+use Rattle.ctl_jobs.specs.Submission.{account_at}
 use Rattle.ctl_nodes.specs.Reserving.{places_among}
 use Rattle.saved_data.specs.Order.{IsNotBehind}
 

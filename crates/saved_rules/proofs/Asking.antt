@@ -2,8 +2,8 @@
 use Rattle.std.proofs.Common.{◌≡◌, ℕ, ◌+◌, Bool, true, false, nat_lt, Option, Some, None, Result, Ok, Err, ok_or, List, bytes_eq, codes, drop, length, refl, arith}
 use Rattle.std.proofs.lemmas.Bool.{cond_both}
 use Rattle.conf_reader.specs.Reader.{conf_in}
-use Rattle.conf_values.specs.declared.refusal.ConfRefusal.{ConfRefusal}
-use Rattle.option_words.specs.declared.refusal.WordKind.TheVariants.{MissingWord, UnknownCommand}
+use Rattle.text_values.specs.declared.conf_refusal.ConfRefusal.{ConfRefusal}
+use Rattle.text_values.specs.declared.word_refusal.WordKind.TheVariants.{MissingWord, UnknownCommand}
 use Rattle.plain_data.specs.Confs.{ConfView}
 use Rattle.plain_data.specs.declared.conf.PartState.{PartState}
 use Rattle.plain_data.specs.declared.job.JobDesc.{JobDesc}

@@ -8,9 +8,9 @@ use Rattle.std.proofs.lemmas.List.Elements.{All-append, All-cons, All-head, All-
 use Rattle.small_texts.specs.Fields.{fields}
 use Rattle.small_texts.specs.Options.{◌>>=◌}
 use Rattle.line_words.specs.Words.{before_comment}
-use Rattle.option_words.specs.Arguments.{Part, plain, bad, flag, valued, lacking}
-use Rattle.option_words.specs.declared.refusal.WordKind.{WordKind}
-use Rattle.option_words.specs.declared.refusal.WordKind.TheVariants.{BadValue}
+use Rattle.text_values.specs.Arguments.{Part, plain, bad, flag, valued, lacking}
+use Rattle.text_values.specs.declared.word_refusal.WordKind.{WordKind}
+use Rattle.text_values.specs.declared.word_refusal.WordKind.TheVariants.{BadValue}
 use Rattle.plain_data.specs.declared.features.FeatureExpr.{FeatureExpr}
 use Rattle.plain_data.specs.declared.dependency.DepSpec.{DepSpec}
 use Rattle.plain_data.specs.declared.job.JobDesc.{JobDesc}

@@ -3,7 +3,7 @@
 ghost use Rattle.state_save.specs.Fitting.{AreCpus, HeardFits, PartFits, ShareFits};
 
 use crate::typed::Typed;
-use cpu_ids::CpuIds;
+use plain_data::CpuIds;
 use reply_data::view::NamedPart;
 use request_data::report::Heard;
 use saved_data::parts::SavedShare;

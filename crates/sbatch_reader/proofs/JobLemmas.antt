@@ -2,8 +2,8 @@
 use Rattle.std.proofs.Common.{ℕ, ◌≡◌, Bool, true, false, not, ◌&&◌, if◌then◌else◌, List, [], ◌∷◌, fold, Option, Some, None, Result, Ok, Err, refl, ap, ◌∙◌}
 use Rattle.std.specs.Option.{option_or, option_map, is_none}
 use Rattle.std.proofs.lemmas.List.Sums.{fold-append}
-use Rattle.option_words.specs.declared.refusal.WordKind.{WordKind}
-use Rattle.option_words.specs.declared.refusal.WordKind.TheVariants.{BadValue}
+use Rattle.text_values.specs.declared.word_refusal.WordKind.{WordKind}
+use Rattle.text_values.specs.declared.word_refusal.WordKind.TheVariants.{BadValue}
 use Rattle.sbatch_reader.specs.Entries.{with_entry, no_words}
 use Rattle.sbatch_reader.specs.declared.entries.Entry.{Entry}
 use Rattle.sbatch_reader.specs.declared.entries.JobWords.{JobWords}

@@ -4,10 +4,10 @@ use Rattle.std.specs.Str.{byte}
 use Rattle.small_texts.specs.Fields.{fields}
 use Rattle.small_texts.specs.Name.{is_job_name}
 use Rattle.plain_data.specs.declared.job.JobDesc.{JobDesc}
-use Rattle.option_words.specs.declared.refusal.WordKind.TheVariants.{BadValue}
+use Rattle.text_values.specs.declared.word_refusal.WordKind.TheVariants.{BadValue}
 use Rattle.sbatch_reader.specs.declared.entries.JobWords.{JobWords}
 use Rattle.sbatch_reader.specs.declared.values.NodeRange.{NodeRange}
-use Rattle.option_words.specs.Refusal.{told}
+use Rattle.text_values.specs.WordRefusal.{told}
 use Rattle.sbatch_reader.specs.Refusal.{refusal_at}
 use Rattle.sbatch_reader.specs.declared.refusal.JobRefusal.{JobRefusal}
 use Rattle.sbatch_reader.specs.declared.refusal.Place.TheVariants.{Word}

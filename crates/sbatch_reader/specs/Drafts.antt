@@ -1,8 +1,8 @@
 -- What the reader keeps as it goes over what is said. Of the proof alone.
 use Rattle.std.specs.Prelude.{ℕ, Bool, if◌then◌else◌, List, Option, Some, None, option_map, is_none, Result, Ok, Err}
 use Rattle.std.specs.Option.{option_or}
-use Rattle.option_words.specs.declared.refusal.WordKind.{WordKind}
-use Rattle.option_words.specs.declared.refusal.WordKind.TheVariants.{BadValue}
+use Rattle.text_values.specs.declared.word_refusal.WordKind.{WordKind}
+use Rattle.text_values.specs.declared.word_refusal.WordKind.TheVariants.{BadValue}
 use Rattle.sbatch_reader.specs.Entries.{with_entry, no_words}
 use Rattle.plain_data.specs.declared.job.JobDesc.{JobDesc}
 use Rattle.sbatch_reader.specs.declared.entries.Entry.{Entry}

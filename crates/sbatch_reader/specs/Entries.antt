@@ -3,7 +3,7 @@ use Rattle.std.specs.Prelude.{ℕ, Bool, true, false, ◌&&◌, nat_lt, if◌the
 use Rattle.sbatch_reader.specs.Array.{array_in}
 use Rattle.sbatch_reader.specs.Dependency.{dependency_in}
 use Rattle.sbatch_reader.specs.Features.{features_in}
-use Rattle.slurm_num.specs.Limits.{limit_of}
+use Rattle.plain_data.specs.Limits.{limit_of}
 use Rattle.small_texts.specs.Moment.{moment_of}
 use Rattle.text_values.specs.Names.{name_in}
 use Rattle.text_values.specs.Nice.{nice_in}
@@ -11,8 +11,8 @@ use Rattle.text_values.specs.Nodes.{few_nodes_in}
 use Rattle.text_values.specs.Numbers.{number_in}
 use Rattle.sbatch_reader.specs.Values.{job_name_in, node_range_in, mem_per_node, mem_per_cpu}
 use Rattle.plain_data.specs.declared.nice.Nice.TheVariants.{Lower}
-use Rattle.option_words.specs.declared.refusal.WordKind.{WordKind}
-use Rattle.option_words.specs.declared.refusal.WordKind.TheVariants.{BadValue, TooLong}
+use Rattle.text_values.specs.declared.word_refusal.WordKind.{WordKind}
+use Rattle.text_values.specs.declared.word_refusal.WordKind.TheVariants.{BadValue, TooLong}
 use Rattle.sbatch_reader.specs.declared.table.FlagOption.{FlagOption}
 use Rattle.sbatch_reader.specs.declared.table.FlagOption.TheVariants as flag
 use Rattle.sbatch_reader.specs.declared.table.ValueOption.{ValueOption}

@@ -3,8 +3,8 @@ use Rattle.std.specs.Prelude.{ℕ, Bool, true, false, not, ◌&&◌, ◌||◌, i
 use Rattle.std.specs.List.{list_any, filter_map}
 use Rattle.std.specs.Option.{option_or}
 use Rattle.std.specs.Result.{result_ok}
-use Rattle.option_words.specs.declared.refusal.WordKind.{WordKind}
-use Rattle.option_words.specs.declared.refusal.WordKind.TheVariants.{BadValue}
+use Rattle.text_values.specs.declared.word_refusal.WordKind.{WordKind}
+use Rattle.text_values.specs.declared.word_refusal.WordKind.TheVariants.{BadValue}
 use Rattle.plain_data.specs.declared.job.JobDesc.{JobDesc}
 use Rattle.sbatch_reader.specs.Entries.{with_entry, no_words}
 use Rattle.sbatch_reader.specs.declared.entries.Entry.{Entry}

@@ -5,11 +5,11 @@ use Rattle.std.specs.Str.{byte}
 use Rattle.small_texts.specs.Fields.{fields}
 use Rattle.small_texts.specs.Options.{◌>>=◌}
 use Rattle.line_words.specs.Words.{is_blank, before_comment, first_bad, words_in}
-use Rattle.option_words.specs.declared.refusal.WordKind.TheVariants.{BadValue, NoHashBang}
+use Rattle.text_values.specs.declared.word_refusal.WordKind.TheVariants.{BadValue, NoHashBang}
 use Rattle.text_values.specs.Numbers.{number_in}
 use Rattle.sbatch_reader.specs.declared.entries.Entry.{Entry}
 use Rattle.sbatch_reader.specs.declared.entries.Entry.TheVariants.{Run}
-use Rattle.option_words.specs.Refusal.{told}
+use Rattle.text_values.specs.WordRefusal.{told}
 use Rattle.sbatch_reader.specs.Said.{line_says}
 use Rattle.sbatch_reader.specs.declared.refusal.Place.TheVariants.{Line}
 use Rattle.sbatch_reader.specs.declared.said.Said.{Said}

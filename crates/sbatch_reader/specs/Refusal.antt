@@ -1,7 +1,7 @@
 -- Where a command or its script is wrong.
 use Rattle.std.specs.Prelude.{ℕ, List, ◌++◌, codes, decimal}
-use Rattle.option_words.specs.declared.refusal.WordKind.{WordKind}
-use Rattle.option_words.specs.Refusal.{kind_text}
+use Rattle.text_values.specs.declared.word_refusal.WordKind.{WordKind}
+use Rattle.text_values.specs.WordRefusal.{kind_text}
 use Rattle.sbatch_reader.specs.declared.refusal.Place.{Place}
 use Rattle.sbatch_reader.specs.declared.refusal.Place.TheVariants.{Word, Line}
 use Rattle.sbatch_reader.specs.declared.refusal.JobRefusal.{JobRefusal}

@@ -1,14 +1,14 @@
 -- What the words of a command say, one option after the other.
 use Rattle.std.specs.Prelude.{ℕ, ◌+◌, Bool, true, false, if◌then◌else◌, List, [], ◌∷◌, map, Option, Some, None, Ok, Err}
-use Rattle.option_words.specs.Arguments.{Part, plain, bad, flag, valued, lacking, parts_left}
-use Rattle.option_words.specs.declared.refusal.WordKind.{WordKind}
-use Rattle.option_words.specs.declared.refusal.WordKind.TheVariants.{MissingValue, StrayWord}
+use Rattle.text_values.specs.Arguments.{Part, plain, bad, flag, valued, lacking, parts_left}
+use Rattle.text_values.specs.declared.word_refusal.WordKind.{WordKind}
+use Rattle.text_values.specs.declared.word_refusal.WordKind.TheVariants.{MissingValue, StrayWord}
 use Rattle.sbatch_reader.specs.Entries.{flag_entry, entry_in}
 use Rattle.sbatch_reader.specs.Table.{options}
 use Rattle.sbatch_reader.specs.declared.table.FlagOption.{FlagOption}
 use Rattle.sbatch_reader.specs.declared.table.ValueOption.{ValueOption}
 use Rattle.sbatch_reader.specs.declared.table.ValueOption.TheVariants.{Wrap}
-use Rattle.option_words.specs.Refusal.{told}
+use Rattle.text_values.specs.WordRefusal.{told}
 use Rattle.sbatch_reader.specs.declared.refusal.Place.{Place}
 use Rattle.sbatch_reader.specs.declared.refusal.Place.TheVariants.{Word, Line}
 use Rattle.sbatch_reader.specs.declared.said.Source.{Source}

@@ -1,6 +1,6 @@
 -- The options of sbatch, as they stand in their table.
 use Rattle.std.specs.Prelude.{map}
-use Rattle.option_words.specs.Arguments.{Table}
+use Rattle.text_values.specs.Arguments.{Table}
 use Rattle.sbatch_reader.specs.declared.table.TheConstants.{OPTIONS}
 use Rattle.sbatch_reader.specs.declared.table.FlagOption.{FlagOption}
 use Rattle.sbatch_reader.specs.declared.table.ValueOption.{ValueOption}

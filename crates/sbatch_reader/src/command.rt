@@ -2,7 +2,7 @@
 
 ghost use Rattle.std.specs.Prelude.{◌≡◌, fold, option_map, OnOk};
 ghost use Rattle.sbatch_reader.specs.Drafts.{after};
-ghost use Rattle.option_words.specs.Refusal.{told};
+ghost use Rattle.text_values.specs.WordRefusal.{told};
 ghost use Rattle.sbatch_reader.specs.Said.{command_parts, script_in, command_says, line_says};
 
 use crate::draft::Draft;
@@ -10,9 +10,9 @@ use crate::refusal::told;
 use crate::said::{Reading, Source, read_argument};
 use crate::table::next_option;
 use line_words::words::Words;
-use option_words::arguments::{Argument, Cursor};
 use small_texts::memory_error::Memory;
 use std::alloc::Global;
+use text_values::arguments::{Argument, Cursor};
 
 /// The word that names the script, with its number.
 pub(crate) fn find_script(words: &Words) -> Option<(usize, &[u8])>

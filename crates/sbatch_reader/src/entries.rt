@@ -10,7 +10,6 @@ use crate::table::{FlagOption, ValueOption};
 use crate::values::{
     NodeRange, read_job_name, read_mem_per_cpu, read_mem_per_node, read_node_range,
 };
-use option_words::refusal::WordKind;
 use plain_data::array::ArraySpec;
 use plain_data::dependency::DepSpec;
 use plain_data::features::FeatureExpr;
@@ -29,6 +28,7 @@ use text_values::nodes::read_few_nodes;
 use text_values::numbers::read_number;
 use text_values::refusal::ValueRefusal;
 use text_values::times::{read_limit, read_moment};
+use text_values::word_refusal::WordKind;
 
 // How many bytes a text has at most.
 const LONGEST_TEXT: usize = 1024;

@@ -3,7 +3,7 @@
 ghost use Rattle.std.specs.Prelude.{ℕ, ◌≡◌, is_some, option_copied, option_map, fold, OnOk, IfOk, IsErrOf, Ok, Err};
 ghost use Rattle.sbatch_reader.specs.Drafts.{after, draft_job};
 ghost use Rattle.sbatch_reader.specs.Job.{script_word, says_script, all_said, job_in};
-ghost use Rattle.option_words.specs.declared.refusal.WordKind.{WordKind};
+ghost use Rattle.text_values.specs.declared.word_refusal.WordKind.{WordKind};
 
 pub use crate::command::script_word;
 use crate::command::{find_script, read_command};

@@ -1,10 +1,10 @@
 //! Why a job wasn't read.
 
-pub use option_words::refusal::WordKind;
-pub(crate) use option_words::refusal::told;
 use small_texts::memory_error;
 use std::error::Error;
 use std::fmt;
+pub use text_values::word_refusal::WordKind;
+pub(crate) use text_values::word_refusal::told;
 
 /// A place of a command. Words and lines count from 1.
 #[derive(Clone, Copy)]

@@ -1,16 +1,16 @@
 //! What the words of a command say.
 
 ghost use Rattle.std.specs.Prelude.{◌≡◌, ◌+◌, if◌then◌else◌, IfOk};
-ghost use Rattle.option_words.specs.Arguments.{part_of};
+ghost use Rattle.text_values.specs.Arguments.{part_of};
 ghost use Rattle.sbatch_reader.specs.Said.{fault_at, is_stray, said_of};
-ghost use Rattle.option_words.specs.declared.refusal.WordKind.TheVariants.{StrayWord, MissingValue};
+ghost use Rattle.text_values.specs.declared.word_refusal.WordKind.TheVariants.{StrayWord, MissingValue};
 
 use crate::entries::{Entry, flag_entry, read_entry};
 use crate::refusal::{Place, WordKind, told};
 use crate::table::{FlagOption, ValueOption};
-use option_words::arguments::Argument;
 use small_texts::memory_error::Memory;
 use std::alloc::Global;
+use text_values::arguments::Argument;
 
 /// Where words stand.
 #[derive(Clone, Copy)]

@@ -2,12 +2,12 @@
 //! option is added by a row here, with what it says in `entries`.
 
 ghost use Rattle.std.specs.Prelude.{◌≡◌, ◌∷◌, [], MatchOption};
-ghost use Rattle.option_words.specs.Arguments.{parts_left, part_of};
+ghost use Rattle.text_values.specs.Arguments.{parts_left, part_of};
 ghost use Rattle.sbatch_reader.specs.Table.{options};
 
 use line_words::words::Words;
-use option_words::arguments::Takes::{self, Maybe, Nothing, Value};
-use option_words::arguments::{Argument, Cursor, next_argument};
+use text_values::arguments::Takes::{self, Maybe, Nothing, Value};
+use text_values::arguments::{Argument, Cursor, next_argument};
 
 /// An option that stands without a value.
 #[derive(Clone, Copy)]

@@ -6,12 +6,12 @@ use crate::show::push_marked;
 use command_words::command::Command;
 use command_words::fault::{WordFault, WordKind};
 use command_words::header::{Asked, Meaning, read_header};
-use conf_values::refusal::ConfKind;
 use plain_data::job::JobDesc;
 use request_data::request::Request;
 use std::alloc::Global;
 use table_lines::answer::{Unanswered, push};
 use table_lines::fields::LONGEST;
+use text_values::conf_refusal::ConfKind;
 
 // Puts what a job asks for behind the command that hands it in.
 fn push_job(out: &mut Vec<u8>, job: &JobDesc) -> Result<(), Unanswered> {

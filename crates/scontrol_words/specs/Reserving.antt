@@ -6,9 +6,9 @@ use Rattle.text_values.specs.Names.{name_in, few_names_in}
 use Rattle.text_values.specs.Nodes.{few_nodes_in}
 use Rattle.operands.specs.Pairs.{pairs_say}
 use Rattle.operands.specs.declared.bad_word.BadWord.{BadWord}
-use Rattle.option_words.specs.declared.refusal.WordKind.{WordKind}
-use Rattle.option_words.specs.declared.refusal.WordKind.TheVariants.{UnknownOption, MissingWord}
-use Rattle.slurm_num.specs.Limits.{limit_of}
+use Rattle.text_values.specs.declared.word_refusal.WordKind.{WordKind}
+use Rattle.text_values.specs.declared.word_refusal.WordKind.TheVariants.{UnknownOption, MissingWord}
+use Rattle.plain_data.specs.Limits.{limit_of}
 use Rattle.small_texts.specs.Moment.{moment_of}
 use Rattle.plain_data.specs.declared.limit.Limit.{Limit}
 use Rattle.plain_data.specs.declared.limit.Limit.TheVariants.{Minutes, Unlimited}

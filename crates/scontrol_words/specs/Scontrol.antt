@@ -4,7 +4,7 @@ use Rattle.text_values.specs.Steps.{◌>>=◌}
 use Rattle.operands.specs.BadWord.{bad, at_word, given}
 use Rattle.operands.specs.Operands.{word_at, closed_at}
 use Rattle.operands.specs.declared.bad_word.BadWord.{BadWord}
-use Rattle.option_words.specs.declared.refusal.WordKind.TheVariants.{MissingWord, StrayWord, UnknownCommand}
+use Rattle.text_values.specs.declared.word_refusal.WordKind.TheVariants.{MissingWord, StrayWord, UnknownCommand}
 use Rattle.request_data.specs.declared.request.Request.{Request}
 use Rattle.request_data.specs.declared.request.Request.TheVariants.{Show, Shutdown}
 use Rattle.scontrol_words.specs.Holding.{hold_by, release_by, requeue_by}

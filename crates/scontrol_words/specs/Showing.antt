@@ -6,7 +6,7 @@ use Rattle.text_values.specs.Names.{name_in}
 use Rattle.operands.specs.Operands.{word_at, closed_at, maybe}
 use Rattle.operands.specs.Targets.{target_by}
 use Rattle.operands.specs.declared.bad_word.BadWord.{BadWord}
-use Rattle.option_words.specs.declared.refusal.WordKind.TheVariants.{UnknownCommand}
+use Rattle.text_values.specs.declared.word_refusal.WordKind.TheVariants.{UnknownCommand}
 use Rattle.request_data.specs.declared.query.Query.{Query}
 use Rattle.request_data.specs.declared.query.Query.TheVariants.{ShowJob, ShowNode, ShowPartition, ShowReservation}
 use Rattle.scontrol_words.specs.declared.showing.Shown.{Shown}

@@ -7,11 +7,11 @@ use Rattle.operands.specs.Pairs.{pair_of, pairs_say}
 use Rattle.operands.specs.Targets.{target_by}
 use Rattle.text_values.specs.Names.{name_in}
 use Rattle.operands.specs.declared.bad_word.BadWord.{BadWord}
-use Rattle.option_words.specs.declared.refusal.WordKind.{WordKind}
-use Rattle.option_words.specs.declared.refusal.WordKind.TheVariants.{UnknownOption, MissingWord, BadValue}
+use Rattle.text_values.specs.declared.word_refusal.WordKind.{WordKind}
+use Rattle.text_values.specs.declared.word_refusal.WordKind.TheVariants.{UnknownOption, MissingWord, BadValue}
 use Rattle.text_values.specs.Nice.{nice_in}
 use Rattle.text_values.specs.Nodes.{few_nodes_in}
-use Rattle.slurm_num.specs.Limits.{limit_of}
+use Rattle.plain_data.specs.Limits.{limit_of}
 use Rattle.plain_data.specs.declared.conf.PartState.{PartState}
 use Rattle.request_data.specs.declared.request.NodeOrder.{NodeOrder}
 use Rattle.request_data.specs.declared.request.Request.{Request}

@@ -12,6 +12,7 @@ use plain_data::items::Items;
 use plain_data::limit::Limit;
 use plain_data::ranged::Ranged;
 use plain_data::seconds::Moment;
+use request_data::boxed::Boxed;
 use request_data::request::Request;
 use request_data::reservation::ReservationDesc;
 use small_texts::memory_error::Memory;
@@ -158,31 +159,37 @@ fn names_or_none(alloc: Global, names: Option<Items<Name>>) -> Items<Name>
 }
 
 // The request, where all that is wanted was said; `end` is the place after the last word.
-fn whole(alloc: Global, end: usize, said: Reserved) -> Result<Request, BadWord>
-    ensures { result ≡ whole (end + 1) said said.name said.start said.until said.nodes }
+fn whole(alloc: Global, end: usize, said: Reserved) -> Result<Result<Request, BadWord>, Memory>
+    ensures { IfOk result (λ request. request
+        ≡ whole (end + 1) said said.name said.start said.until said.nodes) }
 {
     match (said.name, said.start, said.until, said.nodes) {
         (Some(name), Some(start), Some(until), Some(nodes)) => {
-            Ok(Request::CreateReservation(ReservationDesc {
+            let desc = ReservationDesc {
                 name,
                 start,
                 end: Ranged::new(second_of_end(start, until)),
                 nodes,
                 users: names_or_none(alloc, said.users),
                 accounts: names_or_none(alloc, said.accounts),
-            }))
+            };
+            Ok(Ok(Request::CreateReservation(Boxed::new(alloc, desc)?)))
         }
-        _ => Err(fault_at(end, WordKind::MissingWord)),
+        _ => Ok(Err(fault_at(end, WordKind::MissingWord))),
     }
 }
 
-fn reservation_said(alloc: Global, end: usize, said: Reserved) -> Result<Request, BadWord>
-    ensures { result ≡ reservation_said (end + 1) said }
+fn reservation_said(
+    alloc: Global,
+    end: usize,
+    said: Reserved,
+) -> Result<Result<Request, BadWord>, Memory>
+    ensures { IfOk result (λ request. request ≡ reservation_said (end + 1) said) }
 {
     if is_for_someone(&said) {
         whole(alloc, end, said)
     } else {
-        Err(fault_at(end, WordKind::MissingWord))
+        Ok(Err(fault_at(end, WordKind::MissingWord)))
     }
 }
 
@@ -211,7 +218,7 @@ fn created_from(
     ensures { IfOk result (λ request. request ≡ created_from now first words.now) }
 {
     match read_pairs(alloc, nothing_reserved(now), words, first)? {
-        Ok(said) => Ok(reservation_said(alloc, words.len(), said)),
+        Ok(said) => reservation_said(alloc, words.len(), said),
         Err(fault) => Ok(Err(fault)),
     }
 }

@@ -5,7 +5,7 @@ use Rattle.ctl_desk.specs.Desk.{Seat, history_of, sight_of}
 use Rattle.ctl_desk.specs.History.{BookState, History, history_in, present}
 use Rattle.ctl_session.specs.declared.session.How.{How}
 use Rattle.ctl_session.specs.declared.session.How.TheVariants as how
-use Rattle.program_words.specs.declared.asked.Period.{Period}
+use Rattle.plain_data.specs.declared.period.Period.{Period}
 use Rattle.sacct_book.specs.Lines.{lines}
 use Rattle.sacct_book.specs.declared.window.Window.{Window}
 use Rattle.slurm_io.specs.Wire.{Wire}

@@ -7,7 +7,7 @@ use Rattle.ctl_session.specs.declared.session.How.{How}
 use Rattle.ctl_session.specs.declared.session.How.TheVariants as how
 use Rattle.ctl_session.specs.Session.{most_blocks}
 use Rattle.ctl_state.specs.State.{State}
-use Rattle.program_words.specs.declared.asked.Period.{Period}
+use Rattle.plain_data.specs.declared.period.Period.{Period}
 use Rattle.saved_data.specs.Sizes.{longest_text}
 use Rattle.slurm_io.specs.Faults.{CountsNone}
 use Rattle.slurm_io.specs.Wire.{Wire}

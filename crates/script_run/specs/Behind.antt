@@ -14,7 +14,7 @@ use Rattle.ctl_desk.specs.History.{History, present}
 use Rattle.ctl_session.specs.declared.session.How.{How}
 use Rattle.ctl_session.specs.declared.session.How.TheVariants.{Closed, Spent, WriteFault, Memory}
 use Rattle.ctl_session.specs.Reading.{ReadsStay}
-use Rattle.program_words.specs.declared.asked.Period.{Period}
+use Rattle.plain_data.specs.declared.period.Period.{Period}
 use Rattle.sacct_book.specs.Lines.{lines}
 use Rattle.sacct_book.specs.declared.window.Window.{Window}
 use Rattle.script_run.specs.Script.{IsScript, script_history}

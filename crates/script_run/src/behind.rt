@@ -12,7 +12,7 @@ use cluster_opening::ClusterFiles;
 use ctl_core::controller::Ctl;
 use ctl_desk::book::Book;
 use ctl_session::How;
-use program_words::Period;
+use plain_data::period::Period;
 use slurm_io::{Failed, Link, write_all};
 use small_texts::memory_error::Memory;
 use std::alloc::Global;

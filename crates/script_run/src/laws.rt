@@ -7,7 +7,7 @@ ghost use Rattle.ctl_desk.specs.History.{present};
 ghost use Rattle.ctl_session.specs.declared.session.How.{How};
 ghost use Rattle.ctl_session.specs.Session.{most_blocks};
 ghost use Rattle.ctl_state.specs.State.{State};
-ghost use Rattle.program_words.specs.declared.asked.Period.{Period};
+ghost use Rattle.plain_data.specs.declared.period.Period.{Period};
 ghost use Rattle.saved_data.specs.Sizes.{longest_text};
 ghost use Rattle.script_run.specs.Behind.{IsScriptRun, saved_if};
 ghost use Rattle.script_run.specs.Script.{script_history};

@@ -13,7 +13,7 @@ use cluster_opening::ClusterFiles;
 use ctl_desk::book::Book;
 use ctl_desk::own_desk::OwnDesk;
 use ctl_session::How;
-use program_words::Period;
+use plain_data::period::Period;
 use slurm_io::Link;
 use std::alloc::Global;
 

@@ -9,7 +9,7 @@ ghost use Rattle.script_run.specs.Behind.{sums_text, window_of};
 
 use cluster_opening::{ClusterFiles, controller};
 use ctl_desk::entry::{Entry, let_all_go};
-use program_words::Period;
+use plain_data::period::Period;
 use sacct_book::history::add_all;
 use sacct_book::lines::lines;
 use sacct_book::sums::Sums;

@@ -4,7 +4,7 @@ ghost use Rattle.std.specs.Prelude.{◌≡◌, [], IfSome};
 
 use cluster_opening::open_named;
 use ctl_desk::book::Book;
-use program_words::FileNames;
+use plain_data::files::FileNames;
 use slurm_io::MemShelf;
 use std::alloc::{AllocError, Global};
 

@@ -1,2 +1,4 @@
 pub mod Inputs
 pub mod Ends
+pub mod ScriptInputs
+pub mod ScriptEnds

@@ -10,8 +10,8 @@ use Rattle.session_text.specs.Blocks.{block_at}
 use Rattle.session_text.specs.Moments.{later, moments_from}
 use Rattle.session_text.specs.declared.call.Call.{Call}
 use Rattle.session_text.specs.declared.fault.LineFault.{LineFault}
-use Rattle.session_calls.specs.Actions.{Action, Asks, Faults, Tells, asking, asking_at, calling}
-use Rattle.session_calls.specs.Texts.{fault_line}
+use Rattle.session_text.specs.Actions.{Action, Asks, Faults, Tells, asking, asking_at, calling}
+use Rattle.session_text.specs.CallTexts.{fault_line}
 use Rattle.session_talk.specs.Answered.{IsAnswer}
 use Rattle.session_talk.specs.Telling.{answer_text, is_refused, told_by}
 use Rattle.session_talk.specs.Working.{IsStopped, IsTold, IsWorked, Out, Works, Writes}

@@ -7,10 +7,10 @@ use Rattle.session_text.specs.declared.call.Call.{Call}
 use Rattle.session_text.specs.declared.reader.Heard.{Heard}
 use Rattle.session_text.specs.declared.reader.Heard.TheVariants as heard
 use Rattle.session_text.specs.declared.reader.Reader.{Reader}
-use Rattle.session_calls.specs.Actions.{Action, Tells, actions_heard, calling, is_quit, script_read}
-use Rattle.session_calls.specs.Scripts.{IsFileOf, IsRead, file_named, script_name}
-use Rattle.session_calls.specs.Texts.{behind}
-use Rattle.session_calls.specs.declared.input.Input.{Input}
+use Rattle.session_text.specs.Actions.{Action, Tells, actions_heard, calling, is_quit, script_read}
+use Rattle.session_text.specs.Scripts.{IsFileOf, IsRead, file_named, script_name}
+use Rattle.session_text.specs.CallTexts.{behind}
+use Rattle.session_text.specs.declared.input.Input.{Input}
 use Rattle.session_talk.specs.Telling.{told_by}
 use Rattle.session_talk.specs.Working.{IsStopped, IsTold, IsWorked, Out, Works, WorksHeard, WorksLine, WorksTurned}
 use Rattle.session_talk.specs.declared.fault.Fault.{Fault}

@@ -4,7 +4,7 @@ use Rattle.std.proofs.KnownBytes.{Appends-nil, Appends-trans}
 use Rattle.slurm_io.specs.Bytes.{AppendsFront}
 use Rattle.slurm_io.specs.Faults.{CountsOne}
 use Rattle.ctl_state.specs.State.{State}
-use Rattle.session_calls.specs.Actions.{Action}
+use Rattle.session_text.specs.Actions.{Action}
 use Rattle.session_talk.specs.Telling.{told_of, state_after, is_wrong, told_by, state_by, wrong_by}
 use Rattle.session_talk.specs.Working.{IsCounted, IsStopped, IsTold, IsWorked, Out, Works, Writes}
 use Rattle.session_talk.specs.declared.fault.Fault.{Fault}

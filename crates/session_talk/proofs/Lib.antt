@@ -4,3 +4,6 @@ pub mod Askings
 pub mod Hearing
 pub mod Turning
 pub mod PlainSessions
+pub mod Feeds
+pub mod Longer
+pub mod LinesOf

@@ -15,8 +15,8 @@ use Rattle.session_text.specs.declared.call.Call.{Call}
 use Rattle.session_text.specs.declared.reader.Heard.{Heard}
 use Rattle.session_text.specs.declared.reader.Heard.TheVariants as heard
 use Rattle.session_text.specs.declared.reader.Reader.{Reader}
-use Rattle.session_calls.specs.Actions.{Action, Tells, Faults, Asks, Line, actions_heard, actions_in, actions_of, asking, asking_at, blocks_asked, calling, script_read}
-use Rattle.session_calls.specs.declared.input.Input.{Input}
+use Rattle.session_text.specs.Actions.{Action, Tells, Faults, Asks, Line, actions_heard, actions_in, actions_of, asking, asking_at, blocks_asked, calling, script_read}
+use Rattle.session_text.specs.declared.input.Input.{Input}
 use Rattle.session_talk.specs.Plain.{IsPlainSession}
 use Rattle.session_talk.specs.Telling.{answers_by, plain_answers, plain_state, state_by}
 

@@ -4,17 +4,17 @@ use Rattle.std.specs.Io.KnownBytes.{Consumes, IsAtEnd}
 use Rattle.std.proofs.KnownBytes.{Consumes-nil, Consumes-trans}
 use Rattle.std.proofs.lemmas.List.{append-nil}
 use Rattle.slurm_io.specs.Faults.{CountsOne}
-use Rattle.input_lines.specs.Lines.{BeginsWithLine, HasOneLine, lines_of}
-use Rattle.input_lines.specs.declared.lines.TheConstants.{LONGEST_LINE}
+use Rattle.session_talk.specs.Lines.{BeginsWithLine, HasOneLine, lines_of}
+use Rattle.session_talk.specs.declared.lines.TheConstants.{LONGEST_LINE}
 use Rattle.ctl_state.specs.State.{State}
 use Rattle.session_text.specs.Heard.{heard_in, reader_after}
 use Rattle.session_text.specs.declared.fault.LineFault.TheVariants as line_fault
 use Rattle.session_text.specs.declared.reader.Heard.{Heard}
 use Rattle.session_text.specs.declared.reader.Heard.TheVariants as heard
 use Rattle.session_text.specs.declared.reader.Reader.{Reader}
-use Rattle.session_calls.specs.Actions.{Action, Tells, Faults, Line, actions_at_end, actions_heard, actions_in, is_quit, open_at_end}
-use Rattle.session_calls.specs.Scripts.{IsFileOf, IsRead, file_named}
-use Rattle.session_calls.specs.Texts.{before, behind, end_shown, shown}
+use Rattle.session_text.specs.Actions.{Action, Tells, Faults, Line, actions_at_end, actions_heard, actions_in, is_quit, open_at_end}
+use Rattle.session_text.specs.Scripts.{IsFileOf, IsRead, file_named}
+use Rattle.session_text.specs.CallTexts.{before, behind, end_shown, shown}
 use Rattle.session_talk.specs.Talk.{GoOn, IsCut, IsEnd, IsTalk, IsWhole, Post, Scene, Setting, StartsWithLines, Talked, actions_at, closing_at, reader_past, too_long_at}
 use Rattle.session_talk.specs.Telling.{told_by}
 use Rattle.session_talk.specs.Turns.{EndsInput, IsTurn, TakesLine, behind_line, ended_by, post, post_behind, turn_of}

@@ -4,3 +4,4 @@ pub mod Answered
 pub mod Talk
 pub mod Turns
 pub mod Plain
+pub mod Lines

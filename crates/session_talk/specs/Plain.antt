@@ -4,7 +4,7 @@ use Rattle.block_frame.specs.Grammar.{blocks_of, rest_of, spelled_all}
 use Rattle.block_frame.specs.declared.form.Form.TheVariants.{Plain}
 use Rattle.ctl_state.specs.State.{State}
 use Rattle.ctl_session.specs.Meaning.{meaning_of}
-use Rattle.session_calls.specs.Actions.{Action, blocks_asked}
+use Rattle.session_text.specs.Actions.{Action, blocks_asked}
 use Rattle.session_talk.specs.Telling.{answers_by, plain_answers, plain_state, state_by}
 
 -- The blocks that actions ask, spelled one after another, are a text of the plain form that is just these blocks; and the

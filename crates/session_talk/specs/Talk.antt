@@ -3,16 +3,16 @@ use Rattle.std.specs.Prelude.{◌≡◌, ◌⊎◌, ℕ, ◌+◌, ◌<◌, ◌�
 use Rattle.std.specs.Io.KnownBytes.{Consumes, IsAtEnd}
 use Rattle.slurm_io.specs.Faults.{CountsOne}
 use Rattle.slurm_io.specs.Shelf.{ShelfFile}
-use Rattle.input_lines.specs.Lines.{HasOneLine, lines_of}
-use Rattle.input_lines.specs.declared.lines.TheConstants.{LONGEST_LINE}
+use Rattle.session_talk.specs.Lines.{HasOneLine, lines_of}
+use Rattle.session_talk.specs.declared.lines.TheConstants.{LONGEST_LINE}
 use Rattle.ctl_state.specs.State.{State}
 use Rattle.session_text.specs.Heard.{heard_in, reader_after, reader_behind, first_reader}
 use Rattle.session_text.specs.declared.reader.Heard.TheVariants as heard
 use Rattle.session_text.specs.declared.reader.Reader.{Reader}
-use Rattle.session_calls.specs.Actions.{Action, Tells, Line, actions_of, actions_at_end, actions_too_long, is_quit}
-use Rattle.session_calls.specs.Scripts.{IsFileOf, IsRead, file_named}
-use Rattle.session_calls.specs.Texts.{before, shown}
-use Rattle.session_calls.specs.declared.input.Input.{Input}
+use Rattle.session_text.specs.Actions.{Action, Tells, Line, actions_of, actions_at_end, actions_too_long, is_quit}
+use Rattle.session_text.specs.Scripts.{IsFileOf, IsRead, file_named}
+use Rattle.session_text.specs.CallTexts.{before, shown}
+use Rattle.session_text.specs.declared.input.Input.{Input}
 use Rattle.session_talk.specs.Telling.{told_by}
 use Rattle.session_talk.specs.Working.{IsStopped, IsWorked, Out, out}
 use Rattle.session_talk.specs.declared.fault.Fault.{Fault}

@@ -3,8 +3,8 @@ use Rattle.std.specs.Prelude.{ℕ, ◌==◌, ◌||◌, Bool, true, false, if◌t
 use Rattle.command_words.specs.declared.header.Meaning.{Meaning}
 use Rattle.ctl_state.specs.State.{State}
 use Rattle.ctl_session.specs.Meaning.{meaning_of, state_behind, status_told, told}
-use Rattle.session_calls.specs.Actions.{Action, Tells, Faults, Asks}
-use Rattle.session_calls.specs.Texts.{fault_line, place_text}
+use Rattle.session_text.specs.Actions.{Action, Tells, Faults, Asks}
+use Rattle.session_text.specs.CallTexts.{fault_line, place_text}
 
 -- whether a block is refused, or asks nothing
 abbrev pub is_refused : State → Meaning → Bool

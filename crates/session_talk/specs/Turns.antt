@@ -1,15 +1,15 @@
 -- One turn of a session: a line is read and worked, or the session ends.
 use Rattle.std.specs.Prelude.{◌≡◌, ℕ, ◌+◌, Bool, true, false, ◌||◌, List, ◌++◌, Option, Result, Ok, Err}
 use Rattle.std.specs.Io.KnownBytes.{Consumes}
-use Rattle.input_lines.specs.Lines.{BeginsWithLine, IsFound}
-use Rattle.input_lines.specs.declared.lines.Found.{Found}
+use Rattle.session_talk.specs.Lines.{BeginsWithLine, IsFound}
+use Rattle.session_talk.specs.declared.lines.Found.{Found}
 use Rattle.ctl_state.specs.State.{State}
 use Rattle.session_text.specs.Heard.{heard_in, reader_after}
 use Rattle.session_text.specs.declared.reader.Reader.{Reader}
-use Rattle.session_calls.specs.Actions.{Line, actions_at_end, actions_in, is_quit}
-use Rattle.session_calls.specs.Scripts.{IsRead, file_named}
-use Rattle.session_calls.specs.Texts
-use Rattle.session_calls.specs.declared.input.Input.{Input}
+use Rattle.session_text.specs.Actions.{Line, actions_at_end, actions_in, is_quit}
+use Rattle.session_text.specs.Scripts.{IsRead, file_named}
+use Rattle.session_text.specs.CallTexts
+use Rattle.session_text.specs.declared.input.Input.{Input}
 use Rattle.session_talk.specs.Talk.{IsTalk, Post, Scene, Setting}
 use Rattle.session_talk.specs.Working.{IsStopped, IsTold, IsWorked, Out, Works}
 use Rattle.session_talk.specs.declared.fault.Fault.{Fault}
@@ -30,9 +30,9 @@ post reader before pending wrong = record { reader = reader; before = before; pe
 abbrev pub ReadsLine : Input → Option (List ℕ) → Option (List ℕ) → ℕ → ℕ → List ℕ → List ℕ → Out → Out
     → Result Found Fault → Type 0
 ReadsLine input left left' reads reads' pending pending' old new (Ok found) =
-    IsTold (Texts.before input) old new × IsFound left left' reads reads' pending pending' found
+    IsTold (CallTexts.before input) old new × IsFound left left' reads reads' pending pending' found
 ReadsLine input left left' reads reads' pending pending' old new (Err kind) =
-    IsStopped (Texts.before input) old new kind × (left' ≡ left) × (reads' ≡ reads) × (pending' ≡ pending)
+    IsStopped (CallTexts.before input) old new kind × (left' ≡ left) × (reads' ≡ reads) × (pending' ≡ pending)
 
 -- the end of a session by its last work, which would end it so, behind lines of which something was wrong or not
 abbrev pub ended_by : Result Bool Fault → How → Bool → Ended
@@ -84,7 +84,7 @@ IsTurn how at pending' s s' old new (turn.Ended ended) = IsTalk how at s old new
 abbrev pub TurnsBy : Setting → Session → ℕ → Found → State → State → ℕ → ℕ → Out → Out → Turn → Type 0
 TurnsBy how session before found s s' files files' mid new result =
     (left left' : Option (List ℕ)) (reads reads' : ℕ) (pending pending' : List ℕ) (old : Out)
-    → IsFound left left' reads reads' pending pending' found → IsTold (Texts.before how.input) old mid
+    → IsFound left left' reads reads' pending pending' found → IsTold (CallTexts.before how.input) old mid
     → IsTurn how (post session.reader before pending session.wrong) pending' s s'
     (record { left = left; reads = reads; output = old; files = files })
     (record { left = left'; reads = reads'; output = new; files = files' }) result

@@ -7,10 +7,10 @@ use Rattle.ctl_state.specs.State.{State}
 use Rattle.session_text.specs.Heard.{heard_in, reader_after}
 use Rattle.session_text.specs.declared.reader.Heard.{Heard}
 use Rattle.session_text.specs.declared.reader.Reader.{Reader}
-use Rattle.session_calls.specs.Actions.{Action, Tells, Line, actions_heard, is_quit}
-use Rattle.session_calls.specs.Scripts.{IsFileOf, IsRead, file_named}
-use Rattle.session_calls.specs.Texts.{behind}
-use Rattle.session_calls.specs.declared.input.Input.{Input}
+use Rattle.session_text.specs.Actions.{Action, Tells, Line, actions_heard, is_quit}
+use Rattle.session_text.specs.Scripts.{IsFileOf, IsRead, file_named}
+use Rattle.session_text.specs.CallTexts.{behind}
+use Rattle.session_text.specs.declared.input.Input.{Input}
 use Rattle.session_talk.specs.Telling.{told_by, state_by, wrong_by}
 use Rattle.session_talk.specs.declared.fault.Fault.{Fault}
 use Rattle.session_talk.specs.declared.fault.Fault.TheVariants as fault

@@ -4,7 +4,7 @@ ghost use Rattle.std.specs.Prelude.{◌≡◌, ◌||◌, ◌∷◌, [], option_c
 ghost use Rattle.ctl_desk.specs.Desk.{state_of};
 ghost use Rattle.session_text.specs.Blocks.{block_at};
 ghost use Rattle.session_text.specs.Moments.{moments_of};
-ghost use Rattle.session_calls.specs.Actions.{Asks, asking, asking_at, calling, named_script, script_read};
+ghost use Rattle.session_text.specs.Actions.{Asks, asking, asking_at, calling, named_script, script_read};
 ghost use Rattle.session_talk.specs.Working.{Works, out};
 
 use crate::answer::answer;
@@ -12,8 +12,7 @@ use crate::fault::Fault;
 use crate::writing::{tell_answer, tell_wrong};
 use block_frame::Block;
 use ctl_desk::own_desk::OwnDesk;
-use session_calls::Place;
-use session_text::{Call, LineFault, Script, block_at};
+use session_text::{Call, LineFault, Place, Script, block_at};
 use slurm_io::Sink;
 use std::alloc::Global;
 

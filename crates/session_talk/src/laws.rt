@@ -3,8 +3,8 @@
 ghost use Rattle.std.specs.Prelude.{ℕ, List};
 ghost use Rattle.ctl_state.specs.State.{State};
 ghost use Rattle.session_text.specs.declared.reader.Reader.{Reader};
-ghost use Rattle.session_calls.specs.Actions.{Line, actions_of};
-ghost use Rattle.session_calls.specs.declared.input.Input.{Input};
+ghost use Rattle.session_text.specs.Actions.{Line, actions_of};
+ghost use Rattle.session_text.specs.declared.input.Input.{Input};
 ghost use Rattle.session_talk.specs.Plain.{IsPlainSession};
 
 use block_frame::{blocks_are_cut_once, nothing_is_partial};

@@ -5,16 +5,15 @@ ghost use Rattle.ctl_desk.specs.Desk.{state_of};
 ghost use Rattle.ctl_state.specs.State.{State};
 ghost use Rattle.session_text.specs.Heard.{heard_in, reader_after};
 ghost use Rattle.session_text.specs.declared.reader.Heard.TheVariants as spec;
-ghost use Rattle.session_calls.specs.Actions.{Tells, is_quit};
-ghost use Rattle.session_calls.specs.Texts.{behind, help_text};
+ghost use Rattle.session_text.specs.Actions.{Tells, is_quit};
+ghost use Rattle.session_text.specs.CallTexts.{behind, help_text};
 ghost use Rattle.session_talk.specs.Working.{Works, WorksHeard, WorksLine, WorksTurned, Writes, out};
 
 use crate::asking::work_call;
 use crate::fault::Fault;
 use crate::writing::{tell_wrong, write_text};
 use ctl_desk::own_desk::OwnDesk;
-use session_calls::{Input, Place, help, read_script};
-use session_text::{Call, Heard, Reader, hear};
+use session_text::{Call, Heard, Input, Place, Reader, hear, help, read_script};
 use slurm_io::{Shelf, Sink};
 use std::alloc::Global;
 

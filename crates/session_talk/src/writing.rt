@@ -2,15 +2,14 @@
 
 ghost use Rattle.std.specs.Prelude.{◌≡◌, [], ◌∷◌, IfOk};
 ghost use Rattle.ctl_state.specs.State.{State};
-ghost use Rattle.session_calls.specs.Actions.{Faults};
-ghost use Rattle.session_calls.specs.Texts.{fault_line};
+ghost use Rattle.session_text.specs.Actions.{Faults};
+ghost use Rattle.session_text.specs.CallTexts.{fault_line};
 ghost use Rattle.session_talk.specs.Telling.{answer_text};
 ghost use Rattle.session_talk.specs.Working.{Works, Writes, out};
 
 use crate::answer::Told;
 use crate::fault::Fault;
-use session_calls::{Place, fault_line, place_text};
-use session_text::LineFault;
+use session_text::{LineFault, Place, fault_line, place_text};
 use slurm_io::{Failed, Sink, write_all};
 use small_texts::memory_error::Memory;
 use small_texts::pieces::push_text;

@@ -1,2 +1,3 @@
 pub mod PlainBlocks
 pub mod WordParts
+pub mod WordTexts

@@ -5,7 +5,7 @@ use Rattle.small_texts.specs.Digits.{number_within}
 use Rattle.small_texts.specs.Name.{is_name}
 use Rattle.small_texts.specs.Options.{◌>>=◌}
 use Rattle.line_words.specs.Words.{before_comment, first_bad, words_in}
-use Rattle.option_words.specs.Refusal.{told}
+use Rattle.text_values.specs.WordRefusal.{told}
 use Rattle.sbatch_reader.specs.Job.{script_word}
 use Rattle.session_text.specs.Moments.{moment_named, later}
 use Rattle.session_text.specs.declared.call.Times.{Times}

@@ -2,10 +2,10 @@
 
 ghost use Rattle.std.specs.Prelude.{◌≡◌, ◌<◌, [], length, IfSome};
 
+use cluster_opening::simulated_desk;
 use ctl_desk::book::Book;
 use ctl_server::{BookLock, BookPass, LockedDesk, locked_desk};
 use resource_profile::start;
-use simulated_cluster::simulated_desk;
 use simulation::generate_run;
 use std::alloc::Global;
 use std::sync::Wait;

@@ -1,10 +1,10 @@
 -- What is told of blocks that ask nothing.
 use Rattle.std.specs.Prelude.{ℕ, List, ◌++◌, codes, decimal}
-use Rattle.conf_values.specs.Refusal.{kind_text as conf_kind_text}
-use Rattle.conf_values.specs.declared.refusal.ConfKind.{ConfKind}
-use Rattle.option_words.specs.Refusal.{kind_text}
-use Rattle.option_words.specs.declared.refusal.WordKind.{WordKind}
-use Rattle.option_words.specs.declared.refusal.WordKind.TheVariants.{UnknownCommand}
+use Rattle.text_values.specs.ConfRefusal.{kind_text as conf_kind_text}
+use Rattle.text_values.specs.declared.conf_refusal.ConfKind.{ConfKind}
+use Rattle.text_values.specs.WordRefusal.{kind_text}
+use Rattle.text_values.specs.declared.word_refusal.WordKind.{WordKind}
+use Rattle.text_values.specs.declared.word_refusal.WordKind.TheVariants.{UnknownCommand}
 use Rattle.command_words.specs.Command.{name_of}
 use Rattle.command_words.specs.declared.command.Command.{Command}
 use Rattle.command_words.specs.declared.fault.WordFault.{WordFault}

@@ -1,15 +1,15 @@
 //! The texts that answer blocks which ask nothing.
 
 ghost use Rattle.std.specs.Prelude.{◌≡◌, ◌++◌, IfOk, OnOk};
-ghost use Rattle.option_words.specs.Refusal.{kind_text};
+ghost use Rattle.text_values.specs.WordRefusal.{kind_text};
 ghost use Rattle.slurm_print.specs.Malformed.{teller, fault_line, conf_fault_line, malformed_text, bad_words_text, bad_header_text, unknown_command_text};
 
 use command_words::command::Command;
 use command_words::fault::{WordFault, WordKind};
-use conf_values::refusal::ConfKind;
 use small_texts::memory_error::Memory;
 use small_texts::pieces::{push_labelled, push_text};
 use std::alloc::Global;
+use text_values::conf_refusal::ConfKind;
 
 /// The text that answers malformed words, or a malformed script or configuration (own).
 pub fn malformed(alloc: Global, command: Command, fault: WordFault) -> Result<Vec<u8>, Memory>

@@ -1,8 +1,7 @@
 //! Sessions for people: a script of commands with comments and moments, or a terminal, at the controller of a cluster.
 #![tactic(auto)]
 
-use session_calls::Input;
-use session_run::{WordsFault, session_run, session_without_words};
+use session_text::Input;
 use slurm_io::{FileShelf, ReaderSource, WriterSink};
 use std::env;
 use std::io::{ErrorKind, IsTerminal};
@@ -42,3 +41,11 @@ fn main(rt: HostRuntime) -> ExitCode {
     );
     ExitCode::from(status)
 }
+
+mod command;
+mod ending;
+mod opening;
+mod running;
+mod words;
+
+use running::{WordsFault, session_run, session_without_words};

@@ -10,9 +10,12 @@ mod doors;
 mod files;
 #[cfg(test)]
 mod loopback;
+mod marks;
 #[cfg(test)]
 mod serving;
 #[cfg(test)]
 mod timed;
+#[cfg(test)]
+mod turns;
 #[cfg(test)]
 mod waiting;

@@ -7,19 +7,21 @@ use Rattle.ctl_session.specs.declared.session.How.{How}
 use Rattle.ctl_session.specs.declared.session.How.TheVariants as how
 use Rattle.generator.specs.Generated.{generated}
 use Rattle.simulation.specs.Simulation.{Simulated, summary}
-use Rattle.program_words.specs.declared.asked.Period.{Period}
+use Rattle.plain_data.specs.declared.period.Period.{Period}
 use Rattle.program_words.specs.declared.call.Call.{Call}
-use Rattle.program_words.specs.Asked.{Named, Asked, asked_in}
+use Rattle.plain_data.specs.Files.{Named}
+use Rattle.program_words.specs.Asked.{Asked, asked_in}
 use Rattle.program_words.specs.Asked as asks
-use Rattle.server_call.specs.Outside.{Outside, Hosting, Beside}
-use Rattle.server_call.specs.Calls as calls
-use Rattle.server_call.specs.declared.end.CallEnd.{CallEnd}
-use Rattle.server_call.specs.declared.end.CallEnd.TheVariants as call_end
+use Rattle.slurm_top.specs.Outside.{Outside, Hosting, Beside}
+use Rattle.slurm_top.specs.Calls as calls
+use Rattle.slurm_top.specs.declared.call_end.CallEnd.{CallEnd}
+use Rattle.slurm_top.specs.declared.call_end.CallEnd.TheVariants as call_end
 use Rattle.slurm_top.specs.Lines.{status_of}
 use Rattle.slurm_top.specs.Run.{Hosted, IsCallKnown, IsEnd, IsEndAsked, IsEndCalling, IsEndOff, IsEndOn, IsEndServing, IsEndSimulating, IsEndWriting}
 use Rattle.slurm_top.specs.SimulatedCluster.{simulation_of}
 use Rattle.slurm_top.specs.declared.end.End.{End}
-use Rattle.slurm_top.specs.declared.end.End.TheVariants.{Usage, NoFile, BadConf, BadAssocs, BadState, Memory, Script, Generated, WriteFault, Spent, Served, DoorFault, Called}
+use Rattle.slurm_top.specs.declared.end.End.TheVariants.{Usage, NoFile, BadFile, Memory, Script, Generated, WriteFault, Spent, Served, DoorFault, Called}
+use Rattle.slurm_top.proofs.BadFiles.{has_no_other}
 use Rattle.slurm_top.proofs.FileCauses.{asked_so}
 
 -- the script that a number stands for is written whole, or memory is wanting
@@ -28,9 +30,7 @@ generated_by : (script : List ℕ) (old new : Wire) (end : End) → IsEndWriting
     → ((status_of end ≡ 0) × Appends old.taken new.taken script) ⊎ ((status_of end ≡ 8) × (new ≡ old))
 generated_by script old new Usage ended none = absurd ended
 generated_by script old new NoFile ended none = absurd ended
-generated_by script old new (BadConf line kind) ended none = absurd ended
-generated_by script old new (BadAssocs line kind) ended none = absurd ended
-generated_by script old new (BadState line) ended none = absurd ended
+generated_by script old new (BadFile bad) ended none = absurd ended
 generated_by script old new Memory ended none = inr (refl, ended)
 generated_by script old new (Script how) ended none = absurd ended
 generated_by script old new Generated ended none = inl (refl, ended.0)
@@ -62,9 +62,7 @@ summed_up : (number : ℕ) (sim : Simulated) (old new : Wire) (end : End) → Is
     → ((status_of end ≡ 0) × Appends old.taken new.taken (summary sim.tally)) ⊎ ((status_of end ≡ 8) × (new ≡ old))
 summed_up number sim old new Usage ended is none = absurd ended
 summed_up number sim old new NoFile ended is none = absurd ended
-summed_up number sim old new (BadConf line kind) ended is none = absurd ended
-summed_up number sim old new (BadAssocs line kind) ended is none = absurd ended
-summed_up number sim old new (BadState line) ended is none = absurd ended
+summed_up number sim old new (BadFile bad) ended is none = absurd ended
 summed_up number sim old new Memory ended is none = inr (refl, ended)
 summed_up number sim old new (Script how) ended is none = absurd ended
 summed_up number sim old new Generated ended is none =
@@ -81,9 +79,7 @@ left_behind : (number : ℕ) (old new : Wire) (end : End) → IsEndSimulating nu
     → ((status_of end ≡ 9) ⊎ (status_of end ≡ 8)) × (new ≡ old)
 left_behind number old new Usage ended is = absurd ended
 left_behind number old new NoFile ended is = absurd ended
-left_behind number old new (BadConf line kind) ended is = absurd ended
-left_behind number old new (BadAssocs line kind) ended is = absurd ended
-left_behind number old new (BadState line) ended is = absurd ended
+left_behind number old new (BadFile bad) ended is = absurd ended
 left_behind number old new Memory ended is = (inr refl, ended)
 left_behind number old new (Script how) ended is = absurd ended
 left_behind number old new Generated ended is = absurd (cc (ended.1, is))
@@ -98,9 +94,7 @@ simulates_by : (number : ℕ) (old new : Wire) (end : End) → IsEndSimulating n
     → CountsNone old.writes new.writes → (status_of end ≡ 0) ⊎ ((status_of end ≡ 9) ⊎ (status_of end ≡ 8))
 simulates_by number old new Usage ended none = absurd ended
 simulates_by number old new NoFile ended none = absurd ended
-simulates_by number old new (BadConf line kind) ended none = absurd ended
-simulates_by number old new (BadAssocs line kind) ended none = absurd ended
-simulates_by number old new (BadState line) ended none = absurd ended
+simulates_by number old new (BadFile bad) ended none = absurd ended
 simulates_by number old new Memory ended none = inr (inr refl)
 simulates_by number old new (Script how) ended none = absurd ended
 simulates_by number old new Generated ended none = inl refl
@@ -162,9 +156,7 @@ files_arent_off : (named : Named) (sacct : Option Period) (save : Bool) (old new
     → IsEndOn named sacct save old new end → status_of end ≡ 2 → ⊥
 files_arent_off named sacct save old new Usage ended e = ended
 files_arent_off named sacct save old new NoFile ended e = omega arith
-files_arent_off named sacct save old new (BadConf line kind) ended e = omega arith
-files_arent_off named sacct save old new (BadAssocs line kind) ended e = omega arith
-files_arent_off named sacct save old new (BadState line) ended e = omega arith
+files_arent_off named sacct save old new (BadFile bad) ended e = has_no_other bad 2 refl e
 files_arent_off named sacct save old new Memory ended e = omega arith
 files_arent_off named sacct save old new (Script how) ended e = script_isnt_off how e
 files_arent_off named sacct save old new Generated ended e = ended
@@ -179,9 +171,7 @@ server_isnt_off : (named : Named) (port workers : ℕ) (save : Bool) (host : Hos
     → status_of end ≡ 2 → ⊥
 server_isnt_off named port workers save host old new beside beside' Usage ended e = ended.2
 server_isnt_off named port workers save host old new beside beside' NoFile ended e = omega arith
-server_isnt_off named port workers save host old new beside beside' (BadConf line kind) ended e = omega arith
-server_isnt_off named port workers save host old new beside beside' (BadAssocs line kind) ended e = omega arith
-server_isnt_off named port workers save host old new beside beside' (BadState line) ended e = omega arith
+server_isnt_off named port workers save host old new beside beside' (BadFile bad) ended e = has_no_other bad 2 refl e
 server_isnt_off named port workers save host old new beside beside' Memory ended e = omega arith
 server_isnt_off named port workers save host old new beside beside' (Script how) ended e = ended.2
 server_isnt_off named port workers save host old new beside beside' Generated ended e = ended.2
@@ -195,9 +185,7 @@ generated_isnt_off : (script : List ℕ) (old new : Wire) (end : End) → IsEndW
     → status_of end ≡ 2 → ⊥
 generated_isnt_off script old new Usage ended e = ended
 generated_isnt_off script old new NoFile ended e = ended
-generated_isnt_off script old new (BadConf line kind) ended e = ended
-generated_isnt_off script old new (BadAssocs line kind) ended e = ended
-generated_isnt_off script old new (BadState line) ended e = ended
+generated_isnt_off script old new (BadFile bad) ended e = ended
 generated_isnt_off script old new Memory ended e = omega arith
 generated_isnt_off script old new (Script how) ended e = ended
 generated_isnt_off script old new Generated ended e = omega arith
@@ -211,9 +199,7 @@ simulated_isnt_off : (number : ℕ) (old new : Wire) (end : End) → IsEndSimula
     → status_of end ≡ 2 → ⊥
 simulated_isnt_off number old new Usage ended e = ended
 simulated_isnt_off number old new NoFile ended e = ended
-simulated_isnt_off number old new (BadConf line kind) ended e = ended
-simulated_isnt_off number old new (BadAssocs line kind) ended e = ended
-simulated_isnt_off number old new (BadState line) ended e = ended
+simulated_isnt_off number old new (BadFile bad) ended e = ended
 simulated_isnt_off number old new Memory ended e = omega arith
 simulated_isnt_off number old new (Script how) ended e = ended
 simulated_isnt_off number old new Generated ended e = omega arith
@@ -227,9 +213,7 @@ calling_isnt_off : (call : Call) (old new : Outside) (beside beside' : Beside) (
     → IsEndCalling call old new beside beside' end → status_of end ≡ 2 → ⊥
 calling_isnt_off call old new beside beside' Usage ended e = ended
 calling_isnt_off call old new beside beside' NoFile ended e = ended
-calling_isnt_off call old new beside beside' (BadConf line kind) ended e = ended
-calling_isnt_off call old new beside beside' (BadAssocs line kind) ended e = ended
-calling_isnt_off call old new beside beside' (BadState line) ended e = ended
+calling_isnt_off call old new beside beside' (BadFile bad) ended e = ended
 calling_isnt_off call old new beside beside' Memory ended e = omega arith
 calling_isnt_off call old new beside beside' (Script how) ended e = ended
 calling_isnt_off call old new beside beside' Generated ended e = ended
@@ -292,9 +276,7 @@ known_by call old new beside beside' Memory ended = record {
 }
 known_by call old new beside beside' Usage ended = absurd ended
 known_by call old new beside beside' NoFile ended = absurd ended
-known_by call old new beside beside' (BadConf line kind) ended = absurd ended
-known_by call old new beside beside' (BadAssocs line kind) ended = absurd ended
-known_by call old new beside beside' (BadState line) ended = absurd ended
+known_by call old new beside beside' (BadFile bad) ended = absurd ended
 known_by call old new beside beside' (Script how) ended = absurd ended
 known_by call old new beside beside' Generated ended = absurd ended
 known_by call old new beside beside' WriteFault ended = absurd ended

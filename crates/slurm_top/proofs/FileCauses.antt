@@ -6,17 +6,19 @@ use Rattle.slurm_io.specs.Wire.{Wire}
 use Rattle.saved_data.specs.Sizes.{longest_text}
 use Rattle.ctl_state.specs.State.{State}
 use Rattle.ctl_desk.specs.History.{BookState}
-use Rattle.program_words.specs.declared.asked.Period.{Period}
-use Rattle.program_words.specs.Asked.{Named, Asked, asked_in}
+use Rattle.plain_data.specs.declared.period.Period.{Period}
+use Rattle.plain_data.specs.Files.{Named}
+use Rattle.program_words.specs.Asked.{Asked, asked_in}
 use Rattle.program_words.specs.Asked as asks
-use Rattle.server_call.specs.Outside.{Outside, Beside}
+use Rattle.slurm_top.specs.Outside.{Outside, Beside}
 use Rattle.cluster_opening.specs.declared.refusal.ClusterRefusal.{ClusterRefusal}
 use Rattle.cluster_opening.specs.Files.{FilesOpen, IsMissing, IsTextIf, Opens}
 use Rattle.slurm_top.specs.Lines.{refused, status_of}
 use Rattle.slurm_top.specs.Run.{Finds, HasEnded, Hosted, IsEnd, IsEndAsked, IsEndOn, IsEndServing, IsUnopened, IsUnsaved, files_asked}
 use Rattle.slurm_top.specs.Serving.{saved_by}
 use Rattle.slurm_top.specs.declared.end.End.{End}
-use Rattle.slurm_top.specs.declared.end.End.TheVariants.{Usage, NoFile, BadConf, BadAssocs, BadState, Memory, Script, Generated, WriteFault, Spent, Served, DoorFault, Called}
+use Rattle.slurm_top.specs.declared.end.End.TheVariants.{Usage, NoFile, BadFile, Memory, Script, Generated, WriteFault, Spent, Served, DoorFault, Called}
+use Rattle.slurm_top.proofs.BadFiles.{has_no_other}
 
 -- files open one cluster, or are refused for one cause
 abbrev pub OpenOne : Type 0
@@ -53,9 +55,7 @@ unopened_cause : (named : Named) (old new : Outside) (end : End) → IsUnopened 
     → FileCause named old new end
 unopened_cause named old new Usage ended = absurd ended
 unopened_cause named old new NoFile ended = inl (refl, ended.0)
-unopened_cause named old new (BadConf line kind) ended = inr (inr (inl (_, refl, ended.0)))
-unopened_cause named old new (BadAssocs line kind) ended = inr (inr (inl (_, refl, ended.0)))
-unopened_cause named old new (BadState line) ended = inr (inr (inl (_, refl, ended.0)))
+unopened_cause named old new (BadFile bad) ended = inr (inr (inl (_, refl, ended.0)))
 unopened_cause named old new Memory ended = absurd ended
 unopened_cause named old new (Script how) ended = absurd ended
 unopened_cause named old new Generated ended = absurd ended
@@ -69,11 +69,7 @@ script_cause : (named : Named) (sacct : Option Period) (save : Bool) (old new : 
     → IsEndOn named sacct save old new end → FileCause named old new end
 script_cause named sacct save old new Usage ended = absurd ended
 script_cause named sacct save old new NoFile ended = unopened_cause named old new NoFile ended
-script_cause named sacct save old new (BadConf line kind) ended =
-    unopened_cause named old new (BadConf line kind) ended
-script_cause named sacct save old new (BadAssocs line kind) ended =
-    unopened_cause named old new (BadAssocs line kind) ended
-script_cause named sacct save old new (BadState line) ended = unopened_cause named old new (BadState line) ended
+script_cause named sacct save old new (BadFile bad) ended = unopened_cause named old new (BadFile bad) ended
 script_cause named sacct save old new Memory ended = inr (inl refl)
 script_cause named sacct save old new (Script how) ended = inr (inr (inr (ended.opening, ended.opens)))
 script_cause named sacct save old new Generated ended = absurd ended
@@ -89,12 +85,8 @@ server_cause : (named : Named) (port workers : ℕ) (save : Bool) (host : Hosted
 server_cause named port workers save host old new beside beside' Usage ended = inr (inr (inr (ended.0, ended.1)))
 server_cause named port workers save host old new beside beside' NoFile ended =
     unopened_cause named old new NoFile ended.0
-server_cause named port workers save host old new beside beside' (BadConf line kind) ended =
-    unopened_cause named old new (BadConf line kind) ended.0
-server_cause named port workers save host old new beside beside' (BadAssocs line kind) ended =
-    unopened_cause named old new (BadAssocs line kind) ended.0
-server_cause named port workers save host old new beside beside' (BadState line) ended =
-    unopened_cause named old new (BadState line) ended.0
+server_cause named port workers save host old new beside beside' (BadFile bad) ended =
+    unopened_cause named old new (BadFile bad) ended.0
 server_cause named port workers save host old new beside beside' Memory ended = inr (inl refl)
 server_cause named port workers save host old new beside beside' (Script how) ended =
     inr (inr (inr (ended.0, ended.1)))
@@ -163,11 +155,7 @@ pub unopened_isnt : OpenOne → (named : Named) (old new : Outside) (end : End) 
     → FilesOpen old.files named (Some (Ok s)) → CountsNone old.faults new.faults → IsUnopened named old new end → ⊥
 unopened_isnt once named old new Usage s open_so none ended = ended
 unopened_isnt once named old new NoFile s open_so none ended = omega (arith, ended.0.0, none.0, none.1)
-unopened_isnt once named old new (BadConf line kind) s open_so none ended =
-    absurd (cc (opened_one once old.files named (Ok s) _ open_so ended.0))
-unopened_isnt once named old new (BadAssocs line kind) s open_so none ended =
-    absurd (cc (opened_one once old.files named (Ok s) _ open_so ended.0))
-unopened_isnt once named old new (BadState line) s open_so none ended =
+unopened_isnt once named old new (BadFile bad) s open_so none ended =
     absurd (cc (opened_one once old.files named (Ok s) _ open_so ended.0))
 unopened_isnt once named old new Memory s open_so none ended = ended
 unopened_isnt once named old new (Script how) s open_so none ended = ended
@@ -209,12 +197,8 @@ served_on once named port workers save host old new beside beside' Usage s open_
     absurd ended.2
 served_on once named port workers save host old new beside beside' NoFile s open_so none writes hosts ended =
     absurd (unopened_isnt once named old new NoFile s open_so none ended.0)
-served_on once named port workers save host old new beside beside' (BadConf line kind) s open_so none writes hosts ended =
-    absurd (unopened_isnt once named old new (BadConf line kind) s open_so none ended.0)
-served_on once named port workers save host old new beside beside' (BadAssocs line kind) s open_so none writes hosts ended =
-    absurd (unopened_isnt once named old new (BadAssocs line kind) s open_so none ended.0)
-served_on once named port workers save host old new beside beside' (BadState line) s open_so none writes hosts ended =
-    absurd (unopened_isnt once named old new (BadState line) s open_so none ended.0)
+served_on once named port workers save host old new beside beside' (BadFile bad) s open_so none writes hosts ended =
+    absurd (unopened_isnt once named old new (BadFile bad) s open_so none ended.0)
 served_on once named port workers save host old new beside beside' Memory s open_so none writes hosts ended =
     inr (inl refl)
 served_on once named port workers save host old new beside beside' (Script how) s open_so none writes hosts ended =
@@ -250,9 +234,8 @@ shut_on : (named : Named) (port workers : ℕ) (save : Bool) (host : Hosted) (ol
     → HasEnded named port workers save host old new
 shut_on named port workers save host old new beside beside' Usage e ended = absurd (omega (arith, e))
 shut_on named port workers save host old new beside beside' NoFile e ended = absurd (omega (arith, e))
-shut_on named port workers save host old new beside beside' (BadConf line kind) e ended = absurd (omega (arith, e))
-shut_on named port workers save host old new beside beside' (BadAssocs line kind) e ended = absurd (omega (arith, e))
-shut_on named port workers save host old new beside beside' (BadState line) e ended = absurd (omega (arith, e))
+shut_on named port workers save host old new beside beside' (BadFile bad) e ended =
+    absurd (has_no_other bad 0 refl e)
 shut_on named port workers save host old new beside beside' Memory e ended = absurd (omega (arith, e))
 shut_on named port workers save host old new beside beside' (Script how) e ended = absurd ended.2
 shut_on named port workers save host old new beside beside' Generated e ended = absurd ended.2
@@ -276,10 +259,8 @@ unfailed_on : (named : Named) (port workers : ℕ) (save : Bool) (host : Hosted)
     → IsEndServing named port workers save host old new beside beside' end → beside'.host.faults ≡ beside.host.faults
 unfailed_on named port workers save host old new beside beside' Usage e ended = absurd (omega (arith, e))
 unfailed_on named port workers save host old new beside beside' NoFile e ended = absurd (omega (arith, e))
-unfailed_on named port workers save host old new beside beside' (BadConf line kind) e ended = absurd (omega (arith, e))
-unfailed_on named port workers save host old new beside beside' (BadAssocs line kind) e ended =
-    absurd (omega (arith, e))
-unfailed_on named port workers save host old new beside beside' (BadState line) e ended = absurd (omega (arith, e))
+unfailed_on named port workers save host old new beside beside' (BadFile bad) e ended =
+    absurd (has_no_other bad 0 refl e)
 unfailed_on named port workers save host old new beside beside' Memory e ended = absurd (omega (arith, e))
 unfailed_on named port workers save host old new beside beside' (Script how) e ended = absurd ended.2
 unfailed_on named port workers save host old new beside beside' Generated e ended = absurd ended.2
@@ -303,10 +284,8 @@ unsaved_on : (named : Named) (port workers : ℕ) (save : Bool) (host : Hosted) 
     → IsUnsaved named port workers save host old new
 unsaved_on named port workers save host old new beside beside' Usage e ended = absurd (omega (arith, e))
 unsaved_on named port workers save host old new beside beside' NoFile e ended = absurd (omega (arith, e))
-unsaved_on named port workers save host old new beside beside' (BadConf line kind) e ended = absurd (omega (arith, e))
-unsaved_on named port workers save host old new beside beside' (BadAssocs line kind) e ended =
-    absurd (omega (arith, e))
-unsaved_on named port workers save host old new beside beside' (BadState line) e ended = absurd (omega (arith, e))
+unsaved_on named port workers save host old new beside beside' (BadFile bad) e ended =
+    absurd (has_no_other bad 9 refl e)
 unsaved_on named port workers save host old new beside beside' Memory e ended = absurd (omega (arith, e))
 unsaved_on named port workers save host old new beside beside' (Script how) e ended = absurd ended.2
 unsaved_on named port workers save host old new beside beside' Generated e ended = absurd ended.2
@@ -330,11 +309,8 @@ write_fault_on : (named : Named) (port workers : ℕ) (save : Bool) (host : Host
     → IsEndServing named port workers save host old new beside beside' end → CountsOne old.wire.writes new.wire.writes
 write_fault_on named port workers save host old new beside beside' Usage e ended = absurd (omega (arith, e))
 write_fault_on named port workers save host old new beside beside' NoFile e ended = absurd (omega (arith, e))
-write_fault_on named port workers save host old new beside beside' (BadConf line kind) e ended =
-    absurd (omega (arith, e))
-write_fault_on named port workers save host old new beside beside' (BadAssocs line kind) e ended =
-    absurd (omega (arith, e))
-write_fault_on named port workers save host old new beside beside' (BadState line) e ended = absurd (omega (arith, e))
+write_fault_on named port workers save host old new beside beside' (BadFile bad) e ended =
+    absurd (has_no_other bad 6 refl e)
 write_fault_on named port workers save host old new beside beside' Memory e ended = absurd (omega (arith, e))
 write_fault_on named port workers save host old new beside beside' (Script how) e ended = absurd ended.2
 write_fault_on named port workers save host old new beside beside' Generated e ended = absurd ended.2
@@ -359,11 +335,8 @@ door_fault_on : (named : Named) (port workers : ℕ) (save : Bool) (host : Hoste
     → CountsOne beside.host.faults beside'.host.faults
 door_fault_on named port workers save host old new beside beside' Usage e ended = absurd (omega (arith, e))
 door_fault_on named port workers save host old new beside beside' NoFile e ended = absurd (omega (arith, e))
-door_fault_on named port workers save host old new beside beside' (BadConf line kind) e ended =
-    absurd (omega (arith, e))
-door_fault_on named port workers save host old new beside beside' (BadAssocs line kind) e ended =
-    absurd (omega (arith, e))
-door_fault_on named port workers save host old new beside beside' (BadState line) e ended = absurd (omega (arith, e))
+door_fault_on named port workers save host old new beside beside' (BadFile bad) e ended =
+    absurd (has_no_other bad 10 refl e)
 door_fault_on named port workers save host old new beside beside' Memory e ended = absurd (omega (arith, e))
 door_fault_on named port workers save host old new beside beside' (Script how) e ended = absurd ended.2
 door_fault_on named port workers save host old new beside beside' Generated e ended = absurd ended.2

@@ -1,3 +1,4 @@
+pub mod BadFiles
 pub mod FileCauses
 pub mod ScriptEnds
 pub mod Ends
@@ -5,3 +6,7 @@ pub mod Summing
 pub mod Shutting
 pub mod Opened
 pub mod Sides
+pub mod CallEnds
+pub mod Names
+pub mod Inputs
+pub mod Carrying

@@ -5,16 +5,16 @@ use Rattle.slurm_io.specs.Wire.{Wire}
 use Rattle.ctl_state.specs.State.{State}
 use Rattle.ctl_desk.specs.Desk.{Seat}
 use Rattle.ctl_session.specs.declared.session.How.{How}
-use Rattle.program_words.specs.declared.asked.Period.{Period}
-use Rattle.program_words.specs.Asked.{Named}
-use Rattle.server_call.specs.Outside.{Beside, Outside, beside, hosting, outside}
+use Rattle.plain_data.specs.declared.period.Period.{Period}
+use Rattle.plain_data.specs.Files.{Named}
+use Rattle.slurm_top.specs.Outside.{Beside, Outside, beside, hosting, outside}
 use Rattle.cluster_opening.specs.Files.{Opens, fresh}
 use Rattle.script_run.specs.Behind.{IsScriptRun}
 use Rattle.slurm_top.specs.Opened.{IsRunThere}
 use Rattle.slurm_top.specs.Run.{Hosted, IsEndOn, IsEndServing, StaysBeside}
 use Rattle.slurm_top.specs.Serving.{IsServing}
 use Rattle.slurm_top.specs.declared.end.End.{End}
-use Rattle.slurm_top.specs.declared.end.End.TheVariants.{Usage, NoFile, BadConf, BadAssocs, BadState, Memory, Script, Generated, WriteFault, Spent, Served, DoorFault, Called}
+use Rattle.slurm_top.specs.declared.end.End.TheVariants.{Usage, NoFile, BadFile, Memory, Script, Generated, WriteFault, Spent, Served, DoorFault, Called}
 
 pub fresh_at : (seat : Seat) (s : State) → seat ≡ fresh s → seat ≡ fresh seat.opening
 fresh_at seat s is = is ∙ ap fresh (sym (ap (λ (d : Seat). d.opening) is))
@@ -37,9 +37,7 @@ pub ran_on : (named : Named) (sacct : Option Period) (save : Bool) (old new : Ou
     → IsRunThere s sacct save old.wire new.wire end → IsEndOn named sacct save old new end
 ran_on named sacct save old new Usage s opens alone ran = absurd ran
 ran_on named sacct save old new NoFile s opens alone ran = absurd ran
-ran_on named sacct save old new (BadConf line kind) s opens alone ran = absurd ran
-ran_on named sacct save old new (BadAssocs line kind) s opens alone ran = absurd ran
-ran_on named sacct save old new (BadState line) s opens alone ran = absurd ran
+ran_on named sacct save old new (BadFile bad) s opens alone ran = absurd ran
 ran_on named sacct save old new Memory s opens alone ran = untouched old new alone ran
 ran_on named sacct save old new (Script how) s opens alone ran =
     record { opening = s; opens = opens; script = ran; alone = alone }
@@ -63,12 +61,7 @@ pub served_end : (named : Named) (port workers : ℕ) (save : Bool) (host : Host
 served_end named port workers save host old new beside beside' Usage s opens served alone stays =
     (s, opens, served, alone, stays)
 served_end named port workers save host old new beside beside' NoFile s opens served alone stays = absurd served
-served_end named port workers save host old new beside beside' (BadConf line kind) s opens served alone stays =
-    absurd served
-served_end named port workers save host old new beside beside' (BadAssocs line kind) s opens served alone stays =
-    absurd served
-served_end named port workers save host old new beside beside' (BadState line) s opens served alone stays =
-    absurd served
+served_end named port workers save host old new beside beside' (BadFile bad) s opens served alone stays = absurd served
 served_end named port workers save host old new beside beside' Memory s opens served alone stays =
     (served, alone, stays)
 served_end named port workers save host old new beside beside' (Script how) s opens served alone stays =

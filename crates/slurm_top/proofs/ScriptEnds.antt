@@ -10,18 +10,20 @@ use Rattle.ctl_desk.specs.History.{present}
 use Rattle.ctl_session.specs.declared.session.How.{How}
 use Rattle.ctl_session.specs.declared.session.How.TheVariants as how
 use Rattle.ctl_session.specs.Session.{most_blocks}
-use Rattle.program_words.specs.declared.asked.Period.{Period}
-use Rattle.program_words.specs.Asked.{Named, asked_in}
+use Rattle.plain_data.specs.declared.period.Period.{Period}
+use Rattle.plain_data.specs.Files.{Named}
+use Rattle.program_words.specs.Asked.{asked_in}
 use Rattle.program_words.specs.Asked as asks
-use Rattle.server_call.specs.Outside.{Outside, Beside}
+use Rattle.slurm_top.specs.Outside.{Outside, Beside}
 use Rattle.cluster_opening.specs.Files.{FilesOpen}
 use Rattle.script_run.specs.Behind.{IsScriptRun, saved_if}
 use Rattle.script_run.specs.Script.{script_history}
-use Rattle.script_laws.specs.Inputs.{IsBroken, IsToldAt, IsTooLong, rest_begins}
+use Rattle.session_laws.specs.ScriptInputs.{IsBroken, IsToldAt, IsTooLong, rest_begins}
 use Rattle.slurm_top.specs.Lines.{status_of}
 use Rattle.slurm_top.specs.Run.{Hosted, IsEnd, IsEndOn, IsWholeScript, Ran}
 use Rattle.slurm_top.specs.declared.end.End.{End}
-use Rattle.slurm_top.specs.declared.end.End.TheVariants.{Usage, NoFile, BadConf, BadAssocs, BadState, Memory, Script, Generated, WriteFault, Spent, Served, DoorFault, Called}
+use Rattle.slurm_top.specs.declared.end.End.TheVariants.{Usage, NoFile, BadFile, Memory, Script, Generated, WriteFault, Spent, Served, DoorFault, Called}
+use Rattle.slurm_top.proofs.BadFiles.{none_between}
 use Rattle.slurm_top.proofs.FileCauses.{OpenOne, asked_so, same_opening, unopened_isnt}
 
 -- scripts of whole blocks are answered to their end, and what is asked for is written behind them
@@ -64,12 +66,8 @@ ran_on : OpenOne → (named : Named) (sacct : Option Period) (save : Bool) (old 
 ran_on once named sacct save old new Usage s open_so none ended = absurd ended
 ran_on once named sacct save old new NoFile s open_so none ended =
     absurd (unopened_isnt once named old new NoFile s open_so none ended)
-ran_on once named sacct save old new (BadConf line kind) s open_so none ended =
-    absurd (unopened_isnt once named old new (BadConf line kind) s open_so none ended)
-ran_on once named sacct save old new (BadAssocs line kind) s open_so none ended =
-    absurd (unopened_isnt once named old new (BadAssocs line kind) s open_so none ended)
-ran_on once named sacct save old new (BadState line) s open_so none ended =
-    absurd (unopened_isnt once named old new (BadState line) s open_so none ended)
+ran_on once named sacct save old new (BadFile bad) s open_so none ended =
+    absurd (unopened_isnt once named old new (BadFile bad) s open_so none ended)
 ran_on once named sacct save old new Memory s open_so none ended = inl refl
 ran_on once named sacct save old new (Script last) s open_so none ended = inr (
   last,
@@ -174,9 +172,7 @@ ran_so : (named : Named) (sacct : Option Period) (save : Bool) (old new : Outsid
     → (last : How) × (end ≡ Script last) × Ran old new named sacct save last
 ran_so named sacct save old new Usage low high other ended = absurd ended
 ran_so named sacct save old new NoFile low high other ended = absurd (omega (arith, low))
-ran_so named sacct save old new (BadConf line kind) low high other ended = absurd (omega (arith, low))
-ran_so named sacct save old new (BadAssocs line kind) low high other ended = absurd (omega (arith, low))
-ran_so named sacct save old new (BadState line) low high other ended = absurd (omega (arith, high))
+ran_so named sacct save old new (BadFile bad) low high other ended = absurd (none_between bad low high)
 ran_so named sacct save old new Memory low high other ended = absurd (other refl)
 ran_so named sacct save old new (Script last) low high other ended = (last, refl, ended)
 ran_so named sacct save old new Generated low high other ended = absurd ended

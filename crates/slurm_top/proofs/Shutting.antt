@@ -10,7 +10,7 @@ use Rattle.ctl_server.specs.Line.{serving_line}
 use Rattle.script_run.specs.Behind.{HasBegun, HasWritten}
 use Rattle.slurm_top.specs.Serving.{HasServed, IsSavedBehind, IsServedUntil, IsServing, saved_by}
 use Rattle.slurm_top.specs.declared.end.End.{End}
-use Rattle.slurm_top.specs.declared.end.End.TheVariants.{Usage, NoFile, BadConf, BadAssocs, BadState, Memory, Script, Generated, WriteFault, Spent, Served, DoorFault, Called}
+use Rattle.slurm_top.specs.declared.end.End.TheVariants.{Usage, NoFile, BadFile, Memory, Script, Generated, WriteFault, Spent, Served, DoorFault, Called}
 
 -- of two texts, the first of them and a front of the second
 take_past : {X : Type 0} (xs ys : List X) (n : ℕ) → take (length xs + n) (xs ++ ys) ≡ xs ++ take n ys
@@ -48,9 +48,7 @@ module _ (opening : State) (port workers : ℕ) (save : Bool) (course : Option C
       → IsServing opening port workers save course closed old new hosts hosts' end
   saved_then old mid new book Usage served wrote same behind = absurd behind
   saved_then old mid new book NoFile served wrote same behind = absurd behind
-  saved_then old mid new book (BadConf line kind) served wrote same behind = absurd behind
-  saved_then old mid new book (BadAssocs line kind) served wrote same behind = absurd behind
-  saved_then old mid new book (BadState line) served wrote same behind = absurd behind
+  saved_then old mid new book (BadFile bad) served wrote same behind = absurd behind
   saved_then old mid new book Memory served wrote same behind =
       inr (subst (HasWritten (serving_line port) old) (sym behind) wrote)
   saved_then old mid new book (Script how) served wrote same behind = absurd behind
@@ -70,9 +68,7 @@ module _ (opening : State) (port workers : ℕ) (save : Bool) (course : Option C
       → IsServing opening port workers save course closed old new hosts hosts' end
   ended_before old new Usage until = absurd until
   ended_before old new NoFile until = absurd until
-  ended_before old new (BadConf line kind) until = absurd until
-  ended_before old new (BadAssocs line kind) until = absurd until
-  ended_before old new (BadState line) until = absurd until
+  ended_before old new (BadFile bad) until = absurd until
   ended_before old new Memory until = until
   ended_before old new (Script how) until = absurd until
   ended_before old new Generated until = absurd until

@@ -3,11 +3,11 @@ use Rattle.std.proofs.Common.{◌≡◌, ℕ, List, [], ◌∷◌, map, Option, 
 use Rattle.slurm_io.specs.Wire.{Wire}
 use Rattle.ctl_desk.specs.Desk.{Seat, sight_of, state_of}
 use Rattle.ctl_state.specs.State.{State}
-use Rattle.simulated_cluster.specs.Files.{simulated_assocs, simulated_conf}
+use Rattle.cluster_opening.specs.SimulatedFiles.{simulated_assocs, simulated_conf}
 use Rattle.simulation.specs.Run.{AllGoOn, IfOneAlone}
 use Rattle.simulation.specs.Simulation.{Simulated, simulated, summary}
 use Rattle.slurm_top.specs.declared.end.End.{End}
-use Rattle.slurm_top.specs.declared.end.End.TheVariants.{Usage, NoFile, BadConf, BadAssocs, BadState, Memory, Script, Generated, WriteFault, Spent, Served, DoorFault, Called}
+use Rattle.slurm_top.specs.declared.end.End.TheVariants.{Usage, NoFile, BadFile, Memory, Script, Generated, WriteFault, Spent, Served, DoorFault, Called}
 use Rattle.cluster_opening.specs.Cluster.{opening_in}
 use Rattle.slurm_top.specs.Run.{IsEndSimulating, IsEndWriting}
 use Rattle.slurm_top.specs.SimulatedCluster.{simulation_of}
@@ -52,9 +52,7 @@ written_line : (number : ℕ) (text : List ℕ) (old new : Wire) (end : End) →
     → IsEndWriting text old new end → IsEndSimulating number old new end
 written_line number text old new Usage line_is ended = absurd ended
 written_line number text old new NoFile line_is ended = absurd ended
-written_line number text old new (BadConf line kind) line_is ended = absurd ended
-written_line number text old new (BadAssocs line kind) line_is ended = absurd ended
-written_line number text old new (BadState line) line_is ended = absurd ended
+written_line number text old new (BadFile bad) line_is ended = absurd ended
 written_line number text old new Memory line_is ended = ended
 written_line number text old new (Script how) line_is ended = absurd ended
 written_line number text old new Generated line_is ended =

@@ -3,3 +3,7 @@ pub mod Run
 pub mod SimulatedCluster
 pub mod Serving
 pub mod Opened
+pub mod Outside
+pub mod Scripts
+pub mod Places
+pub mod Calls

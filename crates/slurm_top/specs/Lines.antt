@@ -1,34 +1,27 @@
 -- How a run ends: its status, and the line that is written to errors.
 use Rattle.std.specs.Prelude.{ℕ, List, [], ◌++◌, codes, decimal}
-use Rattle.assoc_reader.specs.Refusal
-use Rattle.assoc_reader.specs.declared.refusal.AssocKind.{AssocKind}
-use Rattle.conf_values.specs.declared.refusal.ConfKind.{ConfKind}
-use Rattle.conf_values.specs.Refusal.{kind_text}
+use Rattle.cluster_opening.specs.BadFiles.{bad_status, bad_text}
 use Rattle.cluster_opening.specs.declared.opening.OpenRefusal.{OpenRefusal}
 use Rattle.cluster_opening.specs.declared.opening.OpenRefusal.TheVariants as refusal
 use Rattle.cluster_opening.specs.declared.refusal.ClusterRefusal.{ClusterRefusal}
 use Rattle.cluster_opening.specs.declared.refusal.ClusterRefusal.TheVariants as cluster
 use Rattle.ctl_session.specs.declared.session.How.{How}
 use Rattle.ctl_session.specs.declared.session.How.TheVariants as how
-use Rattle.server_call.specs.Calls as calls
-use Rattle.server_call.specs.declared.end.CallEnd.{CallEnd}
-use Rattle.server_call.specs.declared.end.CallEnd.TheVariants as call
+use Rattle.slurm_top.specs.Calls as calls
+use Rattle.slurm_top.specs.declared.call_end.CallEnd.{CallEnd}
+use Rattle.slurm_top.specs.declared.call_end.CallEnd.TheVariants as call
 use Rattle.slurm_top.specs.declared.end.End.{End}
-use Rattle.slurm_top.specs.declared.end.End.TheVariants.{Usage, NoFile, BadConf, BadAssocs, BadState, Memory, Script, Generated, WriteFault, Spent, Served, DoorFault, Called}
+use Rattle.slurm_top.specs.declared.end.End.TheVariants.{Usage, NoFile, BadFile, Memory, Script, Generated, WriteFault, Spent, Served, DoorFault, Called}
 
 -- the end of a run whose cluster wasn't opened
 abbrev pub unopened : OpenRefusal → End
 unopened refusal.NoFile = NoFile
-unopened (refusal.BadConf line kind) = BadConf line kind
-unopened (refusal.BadAssocs line kind) = BadAssocs line kind
-unopened (refusal.BadState line) = BadState line
+unopened (refusal.Bad bad) = BadFile bad
 unopened refusal.Memory = Memory
 
 -- likewise where its files are refused
 abbrev pub refused : ClusterRefusal → End
-refused (cluster.BadConf line kind) = BadConf line kind
-refused (cluster.BadAssocs line kind) = BadAssocs line kind
-refused (cluster.BadState line) = BadState line
+refused (cluster.Bad bad) = BadFile bad
 refused cluster.Memory = Memory
 
 -- the status of a script's run
@@ -45,9 +38,7 @@ script_status how.Spent = 9
 -- the status of a run
 abbrev pub status_of : End → ℕ
 status_of Usage = 2
-status_of (BadConf line kind) = 3
-status_of (BadAssocs line kind) = 4
-status_of (BadState line) = 11
+status_of (BadFile bad) = bad_status bad
 status_of NoFile = 5
 status_of Memory = 8
 status_of (Script how) = script_status how
@@ -61,20 +52,6 @@ status_of (Called end) = calls.status_of end
 -- the line that tells where no block begins, or where one begins that doesn't end
 abbrev pub place_line : ℕ → List ℕ
 place_line place = codes "slurm: error: block at byte " ++ decimal place ++ codes "\n"
-
--- the line that tells which line of slurm.conf is bad, and why
-abbrev pub conf_line : ℕ → ConfKind → List ℕ
-conf_line line kind =
-    codes "slurmctld: error: conf line " ++ decimal line ++ codes ": " ++ kind_text kind ++ codes "\n"
-
--- the line that tells which line of the association file is bad, and why
-abbrev pub assocs_line : ℕ → AssocKind → List ℕ
-assocs_line line kind =
-    codes "slurmctld: error: assoc line " ++ decimal line ++ codes ": " ++ Refusal.kind_text kind ++ codes "\n"
-
--- the line that tells which line of a saved state is bad
-abbrev pub state_line : ℕ → List ℕ
-state_line line = codes "slurmctld: error: state line " ++ decimal line ++ codes "\n"
 
 -- the line of a script's run; there is none where the input was answered to its end
 abbrev pub script_line : How → List ℕ
@@ -100,9 +77,7 @@ call_line call.DoorFault = codes "slurm: error: door\n"
 -- the line of a run; there is none where all was written
 abbrev pub line_of : End → List ℕ
 line_of Usage = codes "slurm: error: usage\n"
-line_of (BadConf line kind) = conf_line line kind
-line_of (BadAssocs line kind) = assocs_line line kind
-line_of (BadState line) = state_line line
+line_of (BadFile bad) = codes "slurmctld: error: " ++ bad_text bad ++ codes "\n"
 line_of NoFile = codes "slurm: error: read\n"
 line_of Memory = codes "slurm: error: memory\n"
 line_of (Script how) = script_line how

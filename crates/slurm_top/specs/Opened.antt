@@ -2,7 +2,7 @@
 use Rattle.std.specs.Prelude.{◌≡◌, Bool, Option}
 use Rattle.slurm_io.specs.Wire.{Wire}
 use Rattle.ctl_state.specs.State.{State}
-use Rattle.program_words.specs.declared.asked.Period.{Period}
+use Rattle.plain_data.specs.declared.period.Period.{Period}
 use Rattle.script_run.specs.Behind.{IsScriptRun}
 use Rattle.slurm_top.specs.declared.end.End.{End}
 use Rattle.slurm_top.specs.declared.end.End.TheVariants.{Memory, Script}

@@ -14,14 +14,15 @@ use Rattle.ctl_server.specs.Line.{serving_line}
 use Rattle.ctl_session.specs.declared.session.How.{How}
 use Rattle.ctl_session.specs.Session.{most_blocks}
 use Rattle.generator.specs.Generated.{generated}
-use Rattle.program_words.specs.declared.asked.Period.{Period}
+use Rattle.plain_data.specs.declared.period.Period.{Period}
 use Rattle.program_words.specs.declared.call.Call.{Call}
-use Rattle.program_words.specs.Asked.{Named, Asked, asked_in}
+use Rattle.plain_data.specs.Files.{Named}
+use Rattle.program_words.specs.Asked.{Asked, asked_in}
 use Rattle.program_words.specs.Asked as asks
-use Rattle.server_call.specs.Outside.{Outside, Hosting, Beside}
-use Rattle.server_call.specs.Calls.{IsCaused, IsDecided, IsSpent}
-use Rattle.server_call.specs.Calls as calls
-use Rattle.server_call.specs.declared.end.CallEnd.{CallEnd}
+use Rattle.slurm_top.specs.Outside.{Outside, Hosting, Beside}
+use Rattle.slurm_top.specs.Calls.{IsCaused, IsDecided, IsSpent}
+use Rattle.slurm_top.specs.Calls as calls
+use Rattle.slurm_top.specs.declared.call_end.CallEnd.{CallEnd}
 use Rattle.simulation.specs.Simulation.{Simulated, summary}
 use Rattle.cluster_opening.specs.declared.refusal.ClusterRefusal.{ClusterRefusal}
 use Rattle.cluster_opening.specs.declared.refusal.ClusterRefusal.TheVariants as cluster
@@ -29,7 +30,7 @@ use Rattle.cluster_opening.specs.Files.{FilesOpen, Opens}
 use Rattle.script_run.specs.Behind.{HasBegun, HasWritten, IsScriptRun, saved_if}
 use Rattle.script_run.specs.Script.{script_history}
 use Rattle.slurm_top.specs.declared.end.End.{End}
-use Rattle.slurm_top.specs.declared.end.End.TheVariants.{Usage, NoFile, BadConf, BadAssocs, BadState, Memory, Script, Generated, WriteFault, Spent, Called}
+use Rattle.slurm_top.specs.declared.end.End.TheVariants.{Usage, NoFile, BadFile, Memory, Script, Generated, WriteFault, Spent, Called}
 use Rattle.slurm_top.specs.declared.program.WordsFault.{WordsFault}
 use Rattle.slurm_top.specs.declared.program.WordsFault.TheVariants.{NotText}
 use Rattle.slurm_top.specs.declared.program.WordsFault.TheVariants as words
@@ -41,10 +42,7 @@ abbrev pub IsUnopened : Named → Outside → Outside → End → Type 0
 -- a read of one of the files failed, and nothing but files was read or written
 IsUnopened named old new NoFile = CountsOne old.faults new.faults × (new ≡ record old { faults = new.faults })
 -- one of them is refused, and nothing but the files was read or written
-IsUnopened named old new (BadConf line kind) = Opens old.files named (Err (cluster.BadConf line kind)) × (new ≡ old)
-IsUnopened named old new (BadAssocs line kind) =
-    Opens old.files named (Err (cluster.BadAssocs line kind)) × (new ≡ old)
-IsUnopened named old new (BadState line) = Opens old.files named (Err (cluster.BadState line)) × (new ≡ old)
+IsUnopened named old new (BadFile bad) = Opens old.files named (Err (cluster.Bad bad)) × (new ≡ old)
 IsUnopened named old new end = ⊥
 
 -- a script was run on the cluster of the files of these names, with what is asked for behind it, and ended so
@@ -116,12 +114,8 @@ IsEndServing named port workers save host old new beside beside' Memory =
 -- the cluster wasn't opened
 IsEndServing named port workers save host old new beside beside' NoFile =
     IsUnopened named old new NoFile × (beside' ≡ beside)
-IsEndServing named port workers save host old new beside beside' (BadConf line kind) =
-    IsUnopened named old new (BadConf line kind) × (beside' ≡ beside)
-IsEndServing named port workers save host old new beside beside' (BadAssocs line kind) =
-    IsUnopened named old new (BadAssocs line kind) × (beside' ≡ beside)
-IsEndServing named port workers save host old new beside beside' (BadState line) =
-    IsUnopened named old new (BadState line) × (beside' ≡ beside)
+IsEndServing named port workers save host old new beside beside' (BadFile bad) =
+    IsUnopened named old new (BadFile bad) × (beside' ≡ beside)
 -- it was opened
 IsEndServing named port workers save host old new beside beside' end =
     (opening : State) × Opens old.files named (Ok opening)

@@ -2,7 +2,7 @@
 use Rattle.std.specs.Prelude.{ℕ, Option, Result, Ok}
 use Rattle.text_values.specs.Steps.{◌>>=◌}
 use Rattle.simulation.specs.Simulation.{Simulated, simulated}
-use Rattle.simulated_cluster.specs.Files.{simulated_conf, simulated_assocs}
+use Rattle.cluster_opening.specs.SimulatedFiles.{simulated_conf, simulated_assocs}
 use Rattle.cluster_opening.specs.declared.refusal.ClusterRefusal.{ClusterRefusal}
 use Rattle.cluster_opening.specs.Cluster.{opening_in}
 

@@ -1,16 +1,15 @@
 //! How a run ends, and what is told of it.
 
 ghost use Rattle.std.specs.Prelude.{◌≡◌, ◌≤◌, ◌++◌, length, codes};
+ghost use Rattle.cluster_opening.specs.BadFiles.{bad_text};
 ghost use Rattle.slurm_io.specs.Bytes.{Tells};
-ghost use Rattle.slurm_top.specs.Lines.{status_of, line_of, place_line, conf_line, assocs_line, state_line, call_line, unopened};
+ghost use Rattle.slurm_top.specs.Lines.{status_of, line_of, place_line, call_line, unopened};
 
+use crate::CallEnd;
 use arrayvec::ArrayString;
-use assoc_reader::refusal::AssocKind;
-use cluster_opening::OpenRefusal;
-use conf_reader::refusal::ConfKind;
+use cluster_opening::{BadFile, OpenRefusal};
 use ctl_session::How;
 use itoa::Buffer;
-use server_call::CallEnd;
 use slurm_io::Sink;
 
 /// Room for a line of errors.
@@ -23,12 +22,8 @@ pub enum End {
     Usage,
     /// A read of one of the files failed.
     NoFile,
-    /// A line of slurm.conf(5) is bad.
-    BadConf { line: u32, kind: ConfKind },
-    /// A line of the association file is bad.
-    BadAssocs { line: u32, kind: AssocKind },
-    /// A line of the saved state is bad; 0 is that it is too long, or isn't that of this cluster.
-    BadState { line: u32 },
+    /// One of them is bad.
+    BadFile(BadFile),
     /// Memory was wanting before the script, or for a server.
     Memory,
     /// The script was run, and ended so.
@@ -55,15 +50,13 @@ impl End {
         match self {
             End::Script(How::Closed | How::Shut) | End::Generated | End::Served => 0,
             End::Usage => 2,
-            End::BadConf { .. } => 3,
-            End::BadAssocs { .. } => 4,
+            End::BadFile(bad) => bad.status(),
             End::NoFile | End::Script(How::ReadFault) => 5,
             End::Script(How::WriteFault) | End::WriteFault => 6,
             End::Script(How::Truncated { .. } | How::Bad { .. }) => 7,
             End::Memory | End::Script(How::Memory) => 8,
             End::Spent | End::Script(How::Spent) => 9,
             End::DoorFault => 10,
-            End::BadState { .. } => 11,
             End::Called(end) => end.status(),
         }
     }
@@ -75,9 +68,7 @@ pub fn end_unopened(refusal: OpenRefusal) -> End
 {
     match refusal {
         OpenRefusal::NoFile => End::NoFile,
-        OpenRefusal::BadConf { line, kind } => End::BadConf { line, kind },
-        OpenRefusal::BadAssocs { line, kind } => End::BadAssocs { line, kind },
-        OpenRefusal::BadState { line } => End::BadState { line },
+        OpenRefusal::Bad(bad) => End::BadFile(bad),
         OpenRefusal::Memory => End::Memory,
     }
 }
@@ -105,39 +96,14 @@ fn place_line(place: u64) -> ArrayString<LINE_LEN>
     line
 }
 
-fn conf_line(number: u32, kind: ConfKind) -> ArrayString<LINE_LEN>
-    ensures { result.bytes ≡ conf_line number kind }
+// The line of a bad file.
+fn file_line(bad: BadFile) -> ArrayString<LINE_LEN>
+    ensures { result.bytes ≡ codes "slurmctld: error: " ++ bad_text bad ++ codes "\n" }
 {
     let mut line = ArrayString::new();
-    let mut buffer = Buffer::new();
-    line.push_str("slurmctld: error: conf line ");
-    line.push_str(buffer.format(number));
-    line.push_str(": ");
-    line.push_str(kind.name());
-    line.push_str("\n");
-    line
-}
-
-fn assocs_line(number: u32, kind: AssocKind) -> ArrayString<LINE_LEN>
-    ensures { result.bytes ≡ assocs_line number kind }
-{
-    let mut line = ArrayString::new();
-    let mut buffer = Buffer::new();
-    line.push_str("slurmctld: error: assoc line ");
-    line.push_str(buffer.format(number));
-    line.push_str(": ");
-    line.push_str(kind.name());
-    line.push_str("\n");
-    line
-}
-
-fn state_line(number: u32) -> ArrayString<LINE_LEN>
-    ensures { result.bytes ≡ state_line number }
-{
-    let mut line = ArrayString::new();
-    let mut buffer = Buffer::new();
-    line.push_str("slurmctld: error: state line ");
-    line.push_str(buffer.format(number));
+    let text = bad.text();
+    line.push_str("slurmctld: error: ");
+    line.push_str(text.as_str());
     line.push_str("\n");
     line
 }
@@ -164,14 +130,12 @@ fn line_of(end: End) -> ArrayString<LINE_LEN>
     match end {
         End::Script(How::Closed | How::Shut) | End::Generated | End::Served => ArrayString::new(),
         End::Usage => cause_line("usage"),
-        End::BadConf { line, kind } => conf_line(line, kind),
-        End::BadAssocs { line, kind } => assocs_line(line, kind),
+        End::BadFile(bad) => file_line(bad),
         End::NoFile | End::Script(How::ReadFault) => cause_line("read"),
         End::Script(How::WriteFault) | End::WriteFault => cause_line("write"),
         End::Script(How::Truncated { place } | How::Bad { place }) => place_line(place),
         End::Memory | End::Script(How::Memory) => cause_line("memory"),
         End::Spent | End::Script(How::Spent) => cause_line("spent"),
-        End::BadState { line } => state_line(line),
         End::DoorFault => cause_line("door"),
         End::Called(end) => call_line(end),
     }

@@ -1,8 +1,8 @@
 //! A script on the cluster of some files.
 
 ghost use Rattle.std.specs.Prelude.{◌≡◌};
-ghost use Rattle.program_words.specs.Words.{named_by};
-ghost use Rattle.server_call.specs.Outside.{outside};
+ghost use Rattle.plain_data.specs.Files.{named_by};
+ghost use Rattle.slurm_top.specs.Outside.{outside};
 ghost use Rattle.cluster_opening.specs.Restoring.{OpensIn};
 ghost use Rattle.ctl_state.specs.State.{State};
 ghost use Rattle.script_run.specs.Behind.{IsScriptRun};

@@ -4,17 +4,19 @@ ghost use Rattle.std.specs.Prelude.{◌≡◌, ◌⊎◌, ◌≤◌, ℕ, Bool, 
 ghost use Rattle.std.specs.Io.KnownBytes.{Appends};
 ghost use Rattle.assoc_reader.specs.declared.refusal.AssocKind.{AssocKind};
 ghost use Rattle.cluster_opening.specs.Files.{FilesOpen};
+ghost use Rattle.cluster_opening.specs.declared.refusal.BadFile.{BadFile};
 ghost use Rattle.cluster_opening.specs.declared.refusal.ClusterRefusal.{ClusterRefusal};
-ghost use Rattle.conf_values.specs.declared.refusal.ConfKind.{ConfKind};
+ghost use Rattle.text_values.specs.declared.conf_refusal.ConfKind.{ConfKind};
 ghost use Rattle.ctl_state.specs.State.{State};
 ghost use Rattle.generator.specs.Generated.{generated};
-ghost use Rattle.program_words.specs.Asked.{Generate, Named, Script, Serve, Simulate, asked_in};
+ghost use Rattle.plain_data.specs.Files.{Named};
+ghost use Rattle.program_words.specs.Asked.{Generate, Script, Serve, Simulate, asked_in};
 ghost use Rattle.program_words.specs.Asked as asks;
 ghost use Rattle.program_words.specs.Words.{Fits, asked_of};
-ghost use Rattle.program_words.specs.declared.asked.Period.{Period};
+ghost use Rattle.plain_data.specs.declared.period.Period.{Period};
 ghost use Rattle.program_words.specs.declared.call.Call.{Call};
-ghost use Rattle.script_laws.specs.Inputs.{IsBroken, IsTooLong};
-ghost use Rattle.server_call.specs.Outside.{beside, hosting, outside};
+ghost use Rattle.session_laws.specs.ScriptInputs.{IsBroken, IsTooLong};
+ghost use Rattle.slurm_top.specs.Outside.{beside, hosting, outside};
 ghost use Rattle.simulation.specs.Simulation.{Simulated, summary};
 ghost use Rattle.slurm_io.specs.Bytes.{Tells};
 ghost use Rattle.slurm_io.specs.Faults.{CountsNone, CountsOne};
@@ -22,6 +24,7 @@ ghost use Rattle.slurm_top.specs.Lines.{status_of, line_of};
 ghost use Rattle.slurm_top.specs.Run.{end_without_words, IsEnd, IsEndAsked, IsCallKnown, Finds, IsUnsaved, IsWholeScript, HasEnded, hosted};
 ghost use Rattle.slurm_top.specs.SimulatedCluster.{simulation_of};
 
+use crate::call_server;
 use crate::end::{End, tell};
 use crate::files_run::run_on_files;
 use crate::generate::write_generated;
@@ -29,9 +32,8 @@ use crate::serving::serve_files;
 use crate::simulated::write_summary;
 use cluster_opening::files_open_one_cluster;
 use program_words::{Asked, asked_in};
-use script_laws::{broken_inputs_are_told, longer_inputs_are_spent};
 use script_run::whole_inputs_are_answered;
-use server_call::call_server;
+use session_laws::{broken_inputs_are_told, longer_inputs_are_spent};
 use slurm_io::{Link, Shelf, Sink};
 use slurm_net::{Clock, Door, Host};
 use small_texts::memory_error::Memory;
@@ -176,13 +178,13 @@ where
     // 3, a bad association file by 4 and a bad saved state by 11 unless a read fails, but for want of memory.
     ensures missing { Finds (map string_bytes words.now) (Q.files shelf.old) None → (result ≡ 5) ⊎ (result ≡ 8) }
     ensures bad_conf { (line : ℕ) → (kind : ConfKind)
-        → Finds (map string_bytes words.now) (Q.files shelf.old) (Some (Err (ClusterRefusal.BadConf line kind)))
+        → Finds (map string_bytes words.now) (Q.files shelf.old) (Some (Err (ClusterRefusal.Bad (BadFile.Conf line kind))))
         → CountsNone (Q.shelf_faults shelf.old) (Q.shelf_faults shelf.new) → (result ≡ 3) ⊎ (result ≡ 8) }
     ensures bad_assocs { (line : ℕ) → (kind : AssocKind)
-        → Finds (map string_bytes words.now) (Q.files shelf.old) (Some (Err (ClusterRefusal.BadAssocs line kind)))
+        → Finds (map string_bytes words.now) (Q.files shelf.old) (Some (Err (ClusterRefusal.Bad (BadFile.Assocs line kind))))
         → CountsNone (Q.shelf_faults shelf.old) (Q.shelf_faults shelf.new) → (result ≡ 4) ⊎ (result ≡ 8) }
     ensures bad_state { (line : ℕ)
-        → Finds (map string_bytes words.now) (Q.files shelf.old) (Some (Err (ClusterRefusal.BadState line)))
+        → Finds (map string_bytes words.now) (Q.files shelf.old) (Some (Err (ClusterRefusal.Bad (BadFile.State line))))
         → CountsNone (Q.shelf_faults shelf.old) (Q.shelf_faults shelf.new) → (result ≡ 11) ⊎ (result ≡ 8) }
 
     // Good files and an input of whole blocks, no more than one session answers, are answered to the end, and what is

@@ -1,10 +1,10 @@
 //! A run of the program as a server.
 
 ghost use Rattle.std.specs.Prelude.{◌≡◌, ◌<◌, ◌≤◌, ℕ, [], List, Option, IfOk, IsErrOf, OnOk, length};
-ghost use Rattle.program_words.specs.Words.{named_by};
+ghost use Rattle.plain_data.specs.Files.{named_by};
 ghost use Rattle.saved_data.specs.Sizes.{longest_text};
 ghost use Rattle.script_run.specs.Behind.{saved_state};
-ghost use Rattle.server_call.specs.Outside.{beside, hosting, outside};
+ghost use Rattle.slurm_top.specs.Outside.{beside, hosting, outside};
 ghost use Rattle.slurm_top.specs.Run.{IsEndServing, hosted};
 ghost use Rattle.slurm_top.specs.Serving.{IsSavedBehind, IsServedUntil, IsServing, saved_by};
 

@@ -7,8 +7,8 @@ ghost use Rattle.slurm_top.specs.SimulatedCluster.{simulation_of};
 
 use crate::end::End;
 use crate::generate::write_whole;
+use cluster_opening::simulated_desk;
 use resource_profile::start;
-use simulated_cluster::simulated_desk;
 use simulation::{SimulationRefusal, generate_run};
 use slurm_io::Link;
 use small_texts::memory_error::Memory;

@@ -7,7 +7,7 @@ ghost use Rattle.state_save.specs.Fitting.{PartFits};
 
 use crate::numbers::read_u64;
 use crate::word::Word;
-use cpu_ids::CpuIds;
+use plain_data::CpuIds;
 use reply_data::view::NamedPart;
 use small_texts::fields::{UpToThree, up_to_three};
 use small_texts::memory_error::Memory;

@@ -9,7 +9,7 @@ ghost use Rattle.state_save.specs.Fitting.{AreCpus};
 
 use crate::numbers::read_u32;
 use crate::word::Word;
-use cpu_ids::CpuIds;
+use plain_data::CpuIds;
 use plain_data::items::Items;
 use small_texts::fields::{UpToThree, up_to_three};
 use small_texts::memory_error::Memory;

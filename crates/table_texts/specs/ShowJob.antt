@@ -1,6 +1,6 @@
 -- The line of a job: "show job" in scontrol(1).
 use Rattle.std.specs.Prelude.{ℕ, Bool, if◌then◌else◌, List, [], ◌∷◌, ◌++◌, flat_map, Option, Some, None, codes, decimal}
-use Rattle.slurm_num.specs.Elapsed.{elapsed_text}
+use Rattle.plain_data.specs.Elapsed.{elapsed_text}
 use Rattle.small_texts.specs.Moment.{moment_text}
 use Rattle.request_data.specs.declared.state.Reason.{Reason}
 use Rattle.reply_data.specs.declared.view.EndAt.{EndAt}

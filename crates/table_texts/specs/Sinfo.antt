@@ -1,6 +1,6 @@
 -- The lines of sinfo.
 use Rattle.std.specs.Prelude.{ℕ, ◌*◌, Bool, if◌then◌else◌, List, [], ◌++◌, length, flat_map, codes, decimal}
-use Rattle.slurm_num.specs.Elapsed.{elapsed_text}
+use Rattle.plain_data.specs.Elapsed.{elapsed_text}
 use Rattle.host_lists.specs.Folding.{folded}
 use Rattle.plain_data.specs.declared.conf.PartState.{PartState}
 use Rattle.plain_data.specs.declared.conf.PartState.TheVariants as part

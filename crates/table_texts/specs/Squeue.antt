@@ -1,6 +1,6 @@
 -- The lines of squeue.
 use Rattle.std.specs.Prelude.{ℕ, ◌*◌, Bool, if◌then◌else◌, List, [], ◌∷◌, ◌++◌, flat_map, Option, Some, None, codes, decimal}
-use Rattle.slurm_num.specs.Elapsed.{elapsed_text}
+use Rattle.plain_data.specs.Elapsed.{elapsed_text}
 use Rattle.host_lists.specs.Folding.{folded}
 use Rattle.small_texts.specs.Moment.{moment_text}
 use Rattle.plain_data.specs.declared.limit.Limit.{Limit}
@@ -19,7 +19,7 @@ use Rattle.reply_data.specs.declared.view.JobRow.{JobRow}
 use Rattle.reply_data.specs.declared.view.Row.{Row}
 use Rattle.reply_data.specs.declared.view.Row.TheVariants as shown
 use Rattle.reply_data.specs.declared.view.View.{View}
-use Rattle.squeue_format.specs.Format.{usual}
+use Rattle.operands.specs.Format.{usual}
 use Rattle.table_texts.specs.Field.{field}
 
 -- "JOB STATE CODES" in squeue(1)

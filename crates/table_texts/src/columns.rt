@@ -1,17 +1,17 @@
 //! What the columns of squeue(1) tell of a job.
 
 ghost use Rattle.std.specs.Prelude.{◌≡◌, ◌≤◌, ◌++◌, OnOk};
-ghost use Rattle.slurm_num.specs.Elapsed.{elapsed_text};
+ghost use Rattle.plain_data.specs.Elapsed.{elapsed_text};
 ghost use Rattle.small_texts.specs.Moment.{moment_text};
 ghost use Rattle.table_texts.specs.Squeue;
 
 use host_lists::folding::fold_hosts;
 use plain_data::limit::Limit;
+use plain_data::print_elapsed;
 use plain_data::seconds::{FOREVER, Second};
 use reply_data::view::JobRow;
 use request_data::query::JobColumn;
 use request_data::state::{Final, JobState, Reason};
-use slurm_num::print_elapsed;
 use small_texts::memory_error::Memory;
 use small_texts::moment::print_moment;
 use small_texts::pieces::{push_labelled, push_number, push_text};

@@ -1,6 +1,6 @@
 //! Fields of a fixed width.
 
-ghost use Rattle.std.specs.Prelude.{◌≡◌, ◌≤◌, ◌+◌, ◌-◌, ◌++◌, OnOk, IfOk, length, take, drop, replicate};
+ghost use Rattle.std.specs.Prelude.{◌≡◌, ◌≤◌, ◌+◌, ◌-◌, ◌++◌, OnOk, IfOk, length, take, drop, replicate, reverse};
 ghost use Rattle.std.specs.Str.{byte};
 ghost use Rattle.table_texts.specs.Field.{field, cell, left_cell};
 ghost use Rattle.table_texts.specs.Squeue.{sized};
@@ -40,7 +40,27 @@ fn put_last_first(bytes: &mut [u8], start: usize, count: usize)
     ensures { bytes.new ≡ take start bytes.old ++ drop (length bytes.old - count) bytes.old
         ++ take (length bytes.old - start - count) (drop start bytes.old) }
 {
-    bytes[start..].rotate_right(count);
+    turn_right(&mut bytes[start..], count);
+}
+
+// Moves the last `count` bytes before the others, by reversals in place. The slice's own `rotate_right` clears a room
+// of some 100 KB on the stack at each call: with it that was two thirds of what squeue(1) cost.
+fn turn_right(bytes: &mut [u8], count: usize)
+    requires { count ≤ length bytes.old }
+    ensures { bytes.new ≡ drop (length bytes.old - count) bytes.old ++ take (length bytes.old - count) bytes.old }
+{
+    bytes.reverse();
+    reverse_apart(bytes, count);
+}
+
+// Reverses the first `count` bytes and the others, each part by itself.
+fn reverse_apart(bytes: &mut [u8], count: usize)
+    requires { count ≤ length bytes.old }
+    ensures { bytes.new ≡ reverse (take count bytes.old) ++ reverse (drop count bytes.old) }
+{
+    let (front, back) = bytes.split_at_mut(count);
+    front.reverse();
+    back.reverse();
 }
 
 /// Makes what stands behind the first `start` bytes a field of the width, where there is one. "--format" of squeue(1).

@@ -3,7 +3,7 @@
 ghost use Rattle.std.specs.Prelude.{◌≡◌, ◌==◌, ◌+◌, ◌++◌, OnOk};
 ghost use Rattle.table_texts.specs.Ranges.{run_text, ranges_text};
 
-use cpu_ids::CpuIds;
+use plain_data::CpuIds;
 use small_texts::memory_error::Memory;
 use small_texts::pieces::{push_labelled, push_number, push_text};
 

@@ -5,11 +5,11 @@ ghost use Rattle.table_texts.specs.Squeue.{squeue_text, lines_of, line, row_line
 
 use crate::columns::{push_told, title};
 use crate::field::fit_if_sized;
+use operands::format::usual_format;
 use reply_data::view::{JobRow, Row, View};
 use request_data::query::{JobQuery, Piece};
 use small_texts::memory_error::Memory;
 use small_texts::pieces::push_text;
-use squeue_format::format::usual_format;
 use std::alloc::Global;
 
 /// Writes a line for each row in the format of the query, with titles above them where they are wanted.

@@ -3,8 +3,8 @@ use Rattle.std.proofs.Common.{◌≡◌, ℕ, zero, suc, ◌<◌, ◌≤◌, Lis
 use Rattle.std.specs.Prelude.{slice_get, IfSome, option_and_then}
 use Rattle.std.proofs.lemmas.List.Elements.{All-nil, All-push}
 use Rattle.std.proofs.lemmas.List.Sums.{count_by-le-length}
-use Rattle.multifactor.specs.declared.tree.TreeNode.{TreeNode}
-use Rattle.multifactor.specs.Tree.{IsTree, parent_at, is_same_place}
+use Rattle.run_limits.specs.declared.tree.TreeNode.{TreeNode}
+use Rattle.run_limits.specs.Tree.{IsTree, parent_at, is_same_place}
 
 get-push : {X : Type 0} (xs : List X) (x : X) (k : ℕ)
     → (slice_get (xs ++ x ∷ []) k ≡ slice_get xs k) ⊎ ((k ≡ length xs) × (slice_get (xs ++ x ∷ []) k ≡ Some x))

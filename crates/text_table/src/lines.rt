@@ -2,10 +2,11 @@
 
 use crate::rows::job_row;
 use crate::views::query_text;
+use operands::format::{FormatRefusal, read_format};
 use plain_data::items::Items;
 use reply_data::view::Row;
+use request_data::boxed::Boxed;
 use request_data::query::{JobQuery, Piece, Query, Who};
-use squeue_format::format::{FormatRefusal, read_format};
 use std::alloc::Global;
 use table_lines::answer::{Unanswered, refused};
 
@@ -17,7 +18,7 @@ fn shown(
     format: Option<Items<Piece>>,
     rows: Vec<Row>,
 ) -> Result<Vec<u8>, Unanswered> {
-    let query = Query::Squeue(JobQuery {
+    let query = JobQuery {
         who: Who::Anyone,
         jobs: None,
         partition: None,
@@ -25,8 +26,8 @@ fn shown(
         titles,
         starts,
         format,
-    });
-    query_text(alloc, query, rows)
+    };
+    query_text(alloc, Query::Squeue(Boxed::new(alloc, query)?), rows)
 }
 
 // The same in a format, where the text is one.

@@ -1,9 +1,9 @@
 // Time limits, lengths of time, fractions and shares.
 ghost use Rattle.std.specs.Prelude.{◌<◌, ◌^◌, IfOk};
 
+use plain_data::limit::Limit;
 use plain_data::seconds::FOREVER;
-use slurm_num::plain::Limit;
-use slurm_num::{Ratio, parse_limit, print_elapsed};
+use plain_data::{Ratio, parse_limit, print_elapsed};
 use std::alloc::Global;
 use std::cmp::Ordering;
 use table_lines::answer::{Unanswered, refused, taken};
@@ -57,7 +57,7 @@ pub fn compare(alloc: Global, arguments: &[&[u8]]) -> Result<Vec<u8>, Unanswered
     };
     let one = ratio(num, den)?;
     let other = ratio(other_num, other_den)?;
-    match slurm_num::compare(&one, &other) {
+    match plain_data::compare(&one, &other) {
         Ordering::Less => taken(alloc, &"less"),
         Ordering::Equal => taken(alloc, &"equal"),
         Ordering::Greater => taken(alloc, &"greater"),
@@ -75,5 +75,5 @@ pub fn scaled(alloc: Global, arguments: &[&[u8]]) -> Result<Vec<u8>, Unanswered>
     if num > den {
         return Err(Unanswered::Arguments);
     }
-    taken(alloc, &slurm_num::scaled(weight, num, den))
+    taken(alloc, &plain_data::scaled(weight, num, den))
 }

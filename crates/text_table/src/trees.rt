@@ -1,9 +1,9 @@
 // Trees as texts.
 ghost use Rattle.std.specs.Prelude.{◌<◌, ◌≤◌, All, IfOk, IfSome};
-ghost use Rattle.multifactor.specs.declared.tree.TreeNode.{TreeNode};
-ghost use Rattle.multifactor.specs.Tree.{IsTree};
+ghost use Rattle.run_limits.specs.declared.tree.TreeNode.{TreeNode};
+ghost use Rattle.run_limits.specs.Tree.{IsTree};
 
-use multifactor::tree::TreeNode;
+use run_limits::tree::TreeNode;
 use std::alloc::Global;
 use table_lines::answer::{Unanswered, push};
 use table_lines::fields::{narrow_number, parts};
@@ -78,7 +78,7 @@ fn rank_all(alloc: Global, tree: &[u8], used: &[u8]) -> Result<Vec<u8>, Unanswer
         return Err(Unanswered::Arguments);
     }
     let mut out = Vec::new(alloc);
-    for rank in &multifactor::fair_tree::ranks(alloc, &nodes, &usage)? {
+    for rank in &run_limits::fair_tree::ranks(alloc, &nodes, &usage)? {
         if !out.is_empty() {
             out.push(b',')?;
         }

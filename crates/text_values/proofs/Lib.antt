@@ -1,2 +1,5 @@
 pub mod NodeLemmas
 pub mod PartLemmas
+pub mod WordLemmas
+pub mod NameLemmas
+pub mod SchedulerLemmas

@@ -9,3 +9,9 @@ pub mod Refusal
 pub mod States
 pub mod Steps
 pub mod Tables
+pub mod Arguments
+pub mod WordRefusal
+pub mod Keys
+pub mod ConfRefusal
+pub mod Scheduler
+pub mod Values

@@ -1,13 +1,13 @@
 //! Limits of time, and moments.
 
 ghost use Rattle.std.specs.Prelude.{◌≡◌};
-ghost use Rattle.slurm_num.specs.Limits.{limit_of};
+ghost use Rattle.plain_data.specs.Limits.{limit_of};
 ghost use Rattle.small_texts.specs.Moment.{moment_of};
 
 use plain_data::limit::Limit;
+use plain_data::parse_limit;
 use plain_data::ranged::Ranged;
 use plain_data::seconds::Moment;
-use slurm_num::parse_limit;
 use small_texts::moment::parse_moment;
 
 /// A limit of time.

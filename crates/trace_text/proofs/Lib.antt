@@ -1,1 +1,4 @@
 pub mod LineSteps
+pub mod Order
+pub mod Places
+pub mod Taking

@@ -8,3 +8,5 @@ pub mod Steps
 pub mod Swf
 pub mod SwfValues
 pub mod Traces
+pub mod Handing
+pub mod Laws

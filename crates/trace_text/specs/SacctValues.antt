@@ -9,7 +9,7 @@ use Rattle.small_texts.specs.Fields.{fields}
 use Rattle.small_texts.specs.Moment.{moment_of}
 use Rattle.small_texts.specs.Options.{◌>>=◌}
 use Rattle.plain_data.specs.declared.limit.Limit.{Limit}
-use Rattle.slurm_num.specs.Limits.{limit_of}
+use Rattle.plain_data.specs.Limits.{limit_of}
 use Rattle.trace_text.specs.declared.job.Outcome.{Outcome}
 use Rattle.trace_text.specs.declared.job.Outcome.TheVariants.{Completed, Failed, Cancelled, TimedOut, Unfinished}
 use Rattle.trace_text.specs.declared.job.TraceId.{TraceId}

@@ -7,7 +7,7 @@ ghost use Rattle.trace_text.specs.SacctValues.{behind_whole, but_last, civil_in,
 
 use crate::job::{Outcome, TraceId, TraceMemory};
 use plain_data::limit::Limit;
-use slurm_num::parse_limit;
+use plain_data::parse_limit;
 use small_texts::digits::{parse_number, split_digits};
 use small_texts::fields::first_field;
 use small_texts::moment::parse_moment;

@@ -35,7 +35,7 @@ use Rattle.ctl_nodes.specs.Failing.{after_loss, loses, off_lost}
 use Rattle.ctl_pass.specs.Limits.{is_over, timed_out}
 use Rattle.ctl_pass.specs.Readiness.{base_of, goes, jobs_left, planned, ready}
 use Rattle.ctl_node_side.specs.Silence.{any_silent, silent_at, silenced, without_silent}
-use Rattle.ctl_submit.specs.Submission.{Basis, basis_of, made_under, new_arrays, new_jobs, submit_after}
+use Rattle.ctl_jobs.specs.Submission.{Basis, basis_of, made_under, new_arrays, new_jobs, submit_after}
 use Rattle.ctl_core.specs.Sizes.{size_of}
 use Rattle.ctl_core.specs.Step.{entered, raised, state_after}
 use Rattle.user_laws.specs.Planning.{plan_at, ranked_at}

@@ -15,8 +15,8 @@ use Rattle.plain_data.specs.declared.mem_ask.MemAsk.TheVariants.{All as AllMem, 
 use Rattle.resource_profile.specs.declared.NodeRoom.{NodeRoom}
 use Rattle.resource_profile.specs.declared.Hold.{Hold}
 use Rattle.resource_profile.specs.Free.{covers, free_cpus, free_mem, held_cpus, held_mem, least_after, least_over, room_at}
-use Rattle.node_pick.specs.declared.Need.{Need}
-use Rattle.node_pick.specs.Sets.{Fits, capacity}
+use Rattle.resource_profile.specs.declared.picking.Need.{Need}
+use Rattle.resource_profile.specs.Sets.{Fits, capacity}
 use Rattle.backfill_planner.specs.declared.Placed.{Placed}
 use Rattle.backfill_planner.specs.declared.job.Barred.{Barred}
 use Rattle.backfill_planner.specs.declared.job.PlanJob.{PlanJob}

@@ -12,8 +12,8 @@ use Rattle.plain_data.specs.declared.mem_ask.MemAsk.TheVariants.{All as AllMem, 
 use Rattle.resource_profile.specs.declared.NodeRoom.{NodeRoom}
 use Rattle.resource_profile.specs.declared.Hold.{Hold}
 use Rattle.resource_profile.specs.Free.{free_cpus, free_mem, least_over, room_at}
-use Rattle.node_pick.specs.declared.Dealt.{Dealt}
-use Rattle.node_pick.specs.Sets.{capacity, dealt, tasks_given as tasks_together}
+use Rattle.resource_profile.specs.declared.picking.Dealt.{Dealt}
+use Rattle.resource_profile.specs.Sets.{capacity, dealt, tasks_given as tasks_together}
 use Rattle.backfill_planner.specs.declared.Placed.{Placed}
 use Rattle.backfill_planner.specs.declared.Share.{Share}
 use Rattle.backfill_planner.specs.declared.job.PlanJob.{PlanJob}

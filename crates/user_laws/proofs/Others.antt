@@ -22,7 +22,7 @@ use Rattle.ctl_jobs.specs.declared.action.Action.{Action}
 use Rattle.ctl_jobs.specs.declared.action.Action.TheVariants as act
 use Rattle.ctl_jobs.specs.Actions.{done_to, is_denied, job_refusal, may_change}
 use Rattle.ctl_jobs.specs.Changing.{are_meant, are_naming, change_after, change_made, done_if, goes, may_do}
-use Rattle.ctl_submit.specs.Submission.{Basis, basis_of, made_under, new_jobs, task}
+use Rattle.ctl_jobs.specs.Submission.{Basis, basis_of, made_under, new_jobs, task}
 use Rattle.ctl_core.specs.Step.{made, raised, refusals_of, state_after}
 use Rattle.user_laws.specs.Others.{AddsOwn, LeavesOthers}
 use Rattle.user_laws.proofs.Changes.{done_if_goes}

@@ -22,7 +22,7 @@ use Rattle.ctl_node_side.specs.Answering.{is_restarted, node_of}
 use Rattle.ctl_node_side.specs.Passes.{pass_is_idle}
 use Rattle.ctl_node_side.specs.Restarting.{made_by_report}
 use Rattle.ctl_node_side.specs.Silence.{any_silent, silenced, without_silent}
-use Rattle.ctl_submit.specs.Submission.{Basis, basis_of, made_under}
+use Rattle.ctl_jobs.specs.Submission.{Basis, basis_of, made_under}
 use Rattle.ctl_reconfigure.specs.Reconfiguring.{reconfigured}
 use Rattle.ctl_reconfigure.specs.Same.{is_same}
 use Rattle.ctl_core.specs.Operating.{is_in_state, partition_after, partition_made}

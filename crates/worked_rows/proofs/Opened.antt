@@ -5,22 +5,22 @@ use lib.Utf8.{encode}
 use Rattle.conf_reader.specs.Lines.{without_return, lines_of_rest}
 use Rattle.conf_reader.specs.LineWords.{words_in}
 use Rattle.conf_reader.specs.Pairs.{unquoted, pair_of_parts, pair_in}
-use Rattle.conf_values.specs.Keys.{setting_key, node_key, partition_key}
-use Rattle.conf_values.specs.Values.{node_start, yes_or_no, mem_per_cpu}
+use Rattle.text_values.specs.Keys.{setting_key, node_key, partition_key}
+use Rattle.text_values.specs.Values.{node_start, yes_or_no, mem_per_cpu}
 use Rattle.text_values.specs.Jobs.{job_of as target_of}
 use Rattle.text_values.specs.Names.{names_in, few_names_in}
 use Rattle.text_values.specs.Nodes.{nodes_in}
 use Rattle.text_values.specs.Numbers.{number_in}
 use Rattle.text_values.specs.States.{part_state}
-use Rattle.conf_values.specs.Scheduler.{no_items}
+use Rattle.text_values.specs.Scheduler.{no_items}
 use Rattle.conf_reader.specs.Words.{entry_in, said_by}
 use Rattle.conf_reader.specs.SettingLines.{setting_entry, setting_word, with_setting, no_settings, setting_line, settings_of}
 use Rattle.conf_reader.specs.NodeLines.{node_name, node_entry, names_fault, entry_fault, node_word, with_entry, no_node_words, node_line, over, processors, node_conf, is_for_nodes, listed}
 use Rattle.conf_reader.specs.PartitionLines.{part_name, part_nodes, part_entry, part_fault, part_word, with_part, no_part_words, part_line, over as parts_over, part_conf, line_of, is_for_partitions}
 use Rattle.conf_reader.specs.Reader.{kind_of, with_nodes, after_node_line, after_part_line, after_line}
 use Rattle.conf_reader.specs.Reader.{nothing_said, has_unknown, first_unknown, nodes_by, conf_of_lines, whole_file, conf_in}
-use Rattle.slurm_num.specs.Elapsed.{elapsed_text}
-use Rattle.slurm_num.specs.Limits.{seconds_of_clock, seconds_of_day, seconds_of_parts, seconds_of, limit_of_minutes, limit_of}
+use Rattle.plain_data.specs.Elapsed.{elapsed_text}
+use Rattle.plain_data.specs.Limits.{seconds_of_clock, seconds_of_day, seconds_of_parts, seconds_of, limit_of_minutes, limit_of}
 use Rattle.small_texts.specs.Digits.{number_within}
 use Rattle.small_texts.specs.Name.{is_name, is_job_name}
 use Rattle.small_texts.specs.Memory.{in_megabytes, megabytes_of}
@@ -40,7 +40,7 @@ use Rattle.command_words.specs.Command.{command_named}
 use Rattle.command_words.specs.Header.{head_in, asked_by, meaning_by, meaning_in}
 use Rattle.command_words.specs.Wanted.{alone_by, wanted_by}
 use Rattle.command_words.specs.Sbatch.{sbatch_by}
-use Rattle.option_words.specs.Arguments.{parts_left}
+use Rattle.text_values.specs.Arguments.{parts_left}
 use Rattle.sbatch_reader.specs.Table.{options}
 use Rattle.sbatch_reader.specs.Entries.{value_entry, entry_in as option_entry, with_entry as with_option, no_words}
 use Rattle.sbatch_reader.specs.Description.{least_nodes, are_crossed, all_tasks, last_part, job_of}
@@ -60,9 +60,9 @@ use Rattle.scontrol_words.specs.Reserving.{create_by, delete_by}
 use Rattle.scontrol_words.specs.Updating.{job_update_by, node_update_by, partition_update_by, unnamed_update_by, update_by}
 use Rattle.sbatch_reader.specs.Dependency.{kind_in, item_naming, item_of, dependency_in}
 use Rattle.scontrol_words.specs.Showing.{shown_named, job_query, name_query, shown_in, show_by}
-use Rattle.squeue_format.specs.Format.{column_of, width_of, column_by, part_in, format_in, usual}
+use Rattle.operands.specs.Format.{column_of, width_of, column_by, part_in, format_in, usual}
 use Rattle.command_words.specs.Queries.{query_words, squeue_options, sinfo_options, sprio_options, squeue_by, sinfo_by, sprio_by}
-use Rattle.node_pick.specs.Choosing.{numbers_from, filled_sets, sets, fits, chosen}
+use Rattle.resource_profile.specs.Choosing.{numbers_from, filled_sets, sets, fits, chosen}
 use Rattle.resource_profile.specs.Free.{least_after}
 use Rattle.backfill_planner.specs.Giving.{capacities}
 use Rattle.backfill_planner.specs.Plans.{placement_at, first_second, placed_of, plan_beside, plan_of}
@@ -74,8 +74,8 @@ use Rattle.job_table.specs.Standing.{standing}
 use Rattle.job_table.specs.Awaiting.{is_awaited}
 use Rattle.ctl_state.specs.Holding.{times_held, free_ids}
 use Rattle.job_table.specs.Usage.{used_by, used_when_left, used_of, charged}
-use Rattle.multifactor.specs.Tree.{level_of, path_of}
-use Rattle.multifactor.specs.Ranks.{rank_among, paths_of, ranks_of}
+use Rattle.run_limits.specs.Tree.{level_of, path_of}
+use Rattle.run_limits.specs.Ranks.{rank_among, paths_of, ranks_of}
 use Rattle.ctl_waiting.specs.Usage.{used_running, usage_at}
 use Rattle.ctl_waiting.specs.FairShare.{tree_of, user_usage, user_count, rank_at}
 use Rattle.ctl_waiting.specs.Priority.{greatest, all_cpus, greatest_factor, greatest_qos, parts_of}
@@ -86,7 +86,7 @@ use Rattle.ctl_pass.specs.Readiness.{arrays_left, base_of, planned}
 use Rattle.ctl_pass.specs.Starting.{may_start, started}
 use Rattle.ctl_pass.specs.Passing.{is_idle}
 use Rattle.ctl_pass.specs.Preempting.{preemptor, victims_in}
-use Rattle.ctl_submit.specs.Submission.{is_placeable, new_jobs, basis_of, unended}
+use Rattle.ctl_jobs.specs.Submission.{is_placeable, new_jobs, basis_of, unended}
 use Rattle.ctl_jobs.specs.Actions.{job_refusal}
 use Rattle.ctl_jobs.specs.Changing.{target_refusal}
 use Rattle.ctl_node_side.specs.Ordering.{in_order, orders_of}

@@ -1,11 +1,11 @@
 // What files slurm.conf say.
 ghost use Rattle.std.specs.Prelude.{◌≡◌, ◌++◌, codes, Ok, Err};
 ghost use Rattle.conf_reader.specs.Reader.{conf_in};
-ghost use Rattle.conf_values.specs.declared.refusal.ConfKind.{ConfKind};
-ghost use Rattle.conf_values.specs.declared.refusal.ConfRefusal.{ConfRefusal};
+ghost use Rattle.text_values.specs.declared.conf_refusal.ConfKind.{ConfKind};
+ghost use Rattle.text_values.specs.declared.conf_refusal.ConfRefusal.{ConfRefusal};
 ghost use Rattle.worked_rows.specs.Clusters.{one_node, four_nodes};
 
-use conf_reader::refusal::{ConfKind, ConfRefusal};
+use conf_reader::conf_refusal::{ConfKind, ConfRefusal};
 
 /// A file says what its lines say, or its first bad line is told.
 #[tactic(none)]

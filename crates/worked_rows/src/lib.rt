@@ -3,4 +3,6 @@
 #![tactic(auto)]
 
 pub mod confs;
+pub mod folds;
 pub mod scripts;
+pub mod words;

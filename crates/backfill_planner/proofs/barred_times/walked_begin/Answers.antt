@@ -1,6 +1,6 @@
 use Rattle.std.proofs.Common.{◌≡◌, ◌≤◌, true, arith}
 use Rattle.std.proofs.lemmas.List.{take_all}
-use Rattle.cpu_ids.specs.Rows.{has_id}
+use Rattle.plain_data.specs.Rows.{has_id}
 use Rattle.backfill_planner.specs.declared.job.Barred.{Barred}
 use Rattle.backfill_planner.proofs.Barring.{times-more}
 use Rattle.backfill_planner.proofs.barred_times.walked_begin.Goals as goal

@@ -1,7 +1,7 @@
 use Rattle.std.proofs.Common.{◌≡◌, ◌∙◌, [], true, sym, inl, inr, Some, None}
 use Rattle.std.proofs.lemmas.Bool.{cases_Bool}
-use Rattle.node_pick.specs.Sets.{places}
-use Rattle.node_pick.specs.Choosing.{chosen}
+use Rattle.resource_profile.specs.Sets.{places}
+use Rattle.resource_profile.specs.Choosing.{chosen}
 use Rattle.backfill_planner.specs.Giving.{capacities}
 use Rattle.backfill_planner.proofs.Rises.{chosen-none_fits}
 use Rattle.backfill_planner.proofs.NothingHeld.{placed-at_once}

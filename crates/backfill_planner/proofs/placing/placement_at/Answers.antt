@@ -1,6 +1,6 @@
 use Rattle.std.proofs.Common.{◌≡◌, ◌*◌, ◌<◌, ◌^◌, length, All, map, arith, ap, ◌∙◌, Some, None}
-use Rattle.node_pick.specs.Sets.{dealt, places, IsChosen}
-use Rattle.node_pick.specs.Choosing.{chosen}
+use Rattle.resource_profile.specs.Sets.{dealt, places, IsChosen}
+use Rattle.resource_profile.specs.Choosing.{chosen}
 use Rattle.backfill_planner.proofs.Rises.{chosen-none_fits}
 use Rattle.backfill_planner.specs.Plans.{share_of}
 use Rattle.backfill_planner.proofs.Dealing.{IsGiven, dealt-given, places_in_range, tasks_in_range, placement-none, placement-some, length-capacities}

@@ -1,6 +1,6 @@
 use Rattle.std.proofs.Common.{◌≡◌, ◌≤◌, true, All, arith}
 use Rattle.resource_profile.specs.Windows.{free_of, IsSteady}
-use Rattle.cpu_ids.specs.Rows.{has_id}
+use Rattle.plain_data.specs.Rows.{has_id}
 use Rattle.backfill_planner.specs.declared.job.Barred.{Barred}
 use Rattle.backfill_planner.specs.Giving.{window_end}
 use Rattle.backfill_planner.proofs.Sweeping.{gives-until, in-reach-some, in-reach-none, end-some, end-none}

@@ -1,8 +1,7 @@
 use Rattle.std.proofs.Common.{Ok, Err, refl}
-use Rattle.program_words.specs.Words.{named_by}
-use Rattle.cluster_opening.specs.declared.refusal.ClusterRefusal.TheVariants.{BadConf, BadAssocs, BadState}
+use Rattle.plain_data.specs.Files.{named_by}
 use Rattle.cluster_opening.proofs.FileTexts.{opens_as_read}
-use Rattle.cluster_opening.proofs.Judgements.{judged_so, same_files}
+use Rattle.cluster_opening.proofs.Judgements.{same_files, unopened}
 use Rattle.cluster_opening.proofs.opening.open_files.Goals as goal
 
 pub returns-in-Ok-judge-clause-opening : goal.returns-in-Ok-judge-clause-opening
@@ -19,32 +18,11 @@ returns-in-Ok-judge-clause-opening g c =
       read.faults,
     )
 
-pub returns-in-Err-BadConf-clause-opening : goal.returns-in-Err-BadConf-clause-opening
-returns-in-Err-BadConf-clause-opening g c =
-    let refused = c.in-Err-BadConf in
-    let read = c.in-Ok.ensures in (
-      opens_as_read (g.Q.Shelf.files c.args.shelf.now) (named_by c.args.names.now) _ _ _ _ _ _
-          (Err (BadConf refused.line refused.kind)) refl refl refl read.conf read.assocs read.state
-          (judged_so c.in-Ok.files refused.field-0 (BadConf refused.line refused.kind) refused.field-0-is refused.ensures),
-      read.faults,
-    )
-
-pub returns-in-Err-BadAssocs-clause-opening : goal.returns-in-Err-BadAssocs-clause-opening
-returns-in-Err-BadAssocs-clause-opening g c =
-    let refused = c.in-Err-BadAssocs in
-    let read = c.in-Ok.ensures in (
-      opens_as_read (g.Q.Shelf.files c.args.shelf.now) (named_by c.args.names.now) _ _ _ _ _ _
-          (Err (BadAssocs refused.line refused.kind)) refl refl refl read.conf read.assocs read.state
-          (judged_so c.in-Ok.files refused.field-0 (BadAssocs refused.line refused.kind) refused.field-0-is refused.ensures),
-      read.faults,
-    )
-
-pub returns-in-Err-BadState-clause-opening : goal.returns-in-Err-BadState-clause-opening
-returns-in-Err-BadState-clause-opening g c =
-    let refused = c.in-Err-BadState in
-    let read = c.in-Ok.ensures in (
-      opens_as_read (g.Q.Shelf.files c.args.shelf.now) (named_by c.args.names.now) _ _ _ _ _ _
-          (Err (BadState refused.line)) refl refl refl read.conf read.assocs read.state
-          (judged_so c.in-Ok.files refused.field-0 (BadState refused.line) refused.field-0-is refused.ensures),
-      read.faults,
-    )
+pub returns-in-Err-clause-opening : goal.returns-in-Err-clause-opening
+returns-in-Err-clause-opening g c =
+    let refused = c.in-Err in
+    let read = c.in-Ok.ensures in
+    let files = g.Q.Shelf.files c.args.shelf.now in
+    unopened files (named_by c.args.names.now) _ _ c.in-Ok.files refused.refusal _ c.from.ensures refused.ensures
+    (opens_as_read files (named_by c.args.names.now) _ _ _ _ _ _ (Err refused.refusal) refl refl refl read.conf
+    read.assocs read.state) read.faults

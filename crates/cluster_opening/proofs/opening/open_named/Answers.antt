@@ -1,4 +1,4 @@
-use Rattle.program_words.specs.Words.{named_by}
+use Rattle.plain_data.specs.Files.{named_by}
 use Rattle.cluster_opening.proofs.Judgements.{seated}
 use Rattle.cluster_opening.proofs.opening.open_named.Goals as goal
 

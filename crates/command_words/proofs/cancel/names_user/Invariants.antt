@@ -1,6 +1,6 @@
 use Rattle.std.proofs.Common.{◌≡◌, length}
 use Rattle.std.specs.List.{list_any}
-use Rattle.option_words.specs.Arguments.{parts_left, rows}
+use Rattle.text_values.specs.Arguments.{parts_left, rows}
 use Rattle.command_words.specs.Cancel.{cancel_parts, is_user}
 use Rattle.command_words.proofs.cancel.names_user.Given as goal
 

@@ -1,5 +1,5 @@
 use Rattle.std.proofs.Common.{◌≡◌, length}
-use Rattle.option_words.specs.Arguments.{parts_left, rows}
+use Rattle.text_values.specs.Arguments.{parts_left, rows}
 use Rattle.command_words.specs.Cancel.{cancel_parts, said_by, nothing_said}
 use Rattle.command_words.proofs.cancel.read_said.Given as goal
 

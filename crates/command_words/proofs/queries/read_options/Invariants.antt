@@ -1,5 +1,5 @@
 use Rattle.std.proofs.Common.{◌≡◌, length, false}
-use Rattle.option_words.specs.Arguments.{parts_left, rows}
+use Rattle.text_values.specs.Arguments.{parts_left, rows}
 use Rattle.command_words.specs.Queries.{said_by, nothing_said}
 use Rattle.command_words.proofs.queries.read_options.Given as goal
 

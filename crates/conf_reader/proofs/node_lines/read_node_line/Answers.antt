@@ -1,7 +1,7 @@
 use Rattle.std.proofs.Common.{◌≡◌, sym, ◌∙◌, ap, Err}
 use Rattle.plain_data.specs.Confs.{node_names}
 use Rattle.conf_reader.specs.NodeLines.{node_word, with_entry, node_line}
-use Rattle.conf_values.specs.declared.refusal.Fault.TheVariants.{Refused}
+use Rattle.text_values.specs.declared.conf_refusal.Fault.TheVariants.{Refused}
 use Rattle.conf_reader.proofs.SaidLemmas.{said_bad}
 use Rattle.conf_reader.proofs.node_lines.read_node_line.Goals as goal
 

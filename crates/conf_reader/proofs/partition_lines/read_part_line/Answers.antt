@@ -1,6 +1,6 @@
 use Rattle.std.proofs.Common.{◌≡◌, sym, ◌∙◌, ap, Err, rules, arith}
 use Rattle.conf_reader.specs.PartitionLines.{partition_names, part_word, with_part, part_line}
-use Rattle.conf_values.specs.declared.refusal.Fault.TheVariants.{Refused}
+use Rattle.text_values.specs.declared.conf_refusal.Fault.TheVariants.{Refused}
 use Rattle.conf_reader.proofs.SaidLemmas.{said_bad, said_more}
 use Rattle.conf_reader.proofs.partition_lines.read_part_line.Goals as goal
 

@@ -1,5 +1,5 @@
 use Rattle.std.proofs.Common.{◌≡◌, filter, take}
-use Rattle.cpu_ids.specs.Rows.{has_id}
+use Rattle.plain_data.specs.Rows.{has_id}
 use Rattle.ctl_nodes.specs.Failing.{loses}
 use Rattle.ctl_node_side.proofs.kept.copy_losing.Given as goal
 

@@ -1,5 +1,5 @@
 use Rattle.std.proofs.Common.{◌≡◌, ℕ, take}
-use Rattle.cpu_ids.specs.Rows.{has_id}
+use Rattle.plain_data.specs.Rows.{has_id}
 use Rattle.ctl_state.specs.Planning.{is_at}
 use Rattle.ctl_node_side.specs.Silence.{falls_silent}
 use Rattle.ctl_node_side.proofs.silence.silent_places.Given as goal

@@ -1,6 +1,6 @@
 use Rattle.std.proofs.Common.{◌∙◌, ◌≡◌, length, subst, sym, true}
 use Rattle.std.proofs.lemmas.List.Elements.{at_read}
-use Rattle.cpu_ids.specs.Rows.{has_id}
+use Rattle.plain_data.specs.Rows.{has_id}
 use Rattle.job_table.specs.declared.record.JobRecord.{JobRecord}
 use Rattle.ctl_state.specs.Index.{GivesParts}
 use Rattle.ctl_nodes.specs.Failing.{HoldsParts, after_loss, loses, parts_lost}

@@ -1,5 +1,5 @@
 use Rattle.std.proofs.Common.{◌≡◌, length}
-use Rattle.cpu_ids.specs.Rows.{has_id}
+use Rattle.plain_data.specs.Rows.{has_id}
 use Rattle.job_table.specs.Usage.{Charges}
 use Rattle.job_table.specs.Walks.{walked}
 use Rattle.ctl_nodes.specs.Failing.{ShowsJobs, after_loss}

@@ -1,5 +1,5 @@
 use Rattle.std.proofs.Common.{◌≡◌, ◌≤◌, ◌∙◌, true, All, refl, subst, sym}
-use Rattle.cpu_ids.specs.Rows.{has_id}
+use Rattle.plain_data.specs.Rows.{has_id}
 use Rattle.node_state.specs.Held.{held_mem, holds_cpu}
 use Rattle.job_table.specs.declared.record.Part.{Part}
 use Rattle.ctl_nodes.proofs.GivenBack.{gives_lost, gives_others, none_given, still_cpus, still_mem}

@@ -1,5 +1,5 @@
 use Rattle.std.proofs.Common.{◌≡◌, take}
-use Rattle.cpu_ids.specs.Rows.{has_id}
+use Rattle.plain_data.specs.Rows.{has_id}
 use Rattle.ctl_state.specs.Index.{GivesParts}
 use Rattle.ctl_nodes.specs.Failing.{parts_lost}
 use Rattle.ctl_nodes.proofs.failing.give_back.Given as goal

@@ -1,5 +1,5 @@
 use Rattle.std.proofs.Common.{◌≡◌, ℕ, take}
-use Rattle.cpu_ids.specs.Rows.{has_id}
+use Rattle.plain_data.specs.Rows.{has_id}
 use Rattle.ctl_state.specs.Planning.{is_at}
 use Rattle.ctl_nodes.specs.Updating.{is_among}
 use Rattle.ctl_nodes.proofs.names.places_of.Given as goal

@@ -3,7 +3,7 @@ use Rattle.std.proofs.lemmas.Result.{IfOk-weaker}
 use Rattle.backfill_planner.specs.declared.Placed.{Placed}
 use Rattle.job_table.specs.declared.record.JobRecord.{JobRecord}
 use Rattle.resource_profile.specs.declared.Hold.{Hold}
-use Rattle.preemption.specs.Going.{kept_holds}
+use Rattle.backfill_planner.specs.Going.{kept_holds}
 use Rattle.ctl_state.specs.Planning.{room_of}
 use Rattle.ctl_state.specs.State.{last_moment, state_of}
 use Rattle.ctl_pass.specs.declared.preemptable.Preemptable.{Preemptable}

@@ -1,6 +1,6 @@
 use Rattle.std.proofs.Common.{◌≡◌, ℕ, take}
 use Rattle.std.specs.List.{list_any}
-use Rattle.cpu_ids.specs.Rows.{has_id}
+use Rattle.plain_data.specs.Rows.{has_id}
 use Rattle.job_table.specs.Changes.{is_on}
 use Rattle.ctl_state.specs.Holding.{parts_of}
 use Rattle.ctl_reconfigure.proofs.blocking.places_of_parts.Given as goal

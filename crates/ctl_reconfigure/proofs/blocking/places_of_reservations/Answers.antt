@@ -1,4 +1,4 @@
-use Rattle.cpu_ids.specs.Rows.{has_id}
+use Rattle.plain_data.specs.Rows.{has_id}
 use Rattle.node_state.specs.declared.reservation_record.Reservation.{Reservation}
 use Rattle.ctl_reconfigure.proofs.Anys.{any-grown}
 use Rattle.ctl_reconfigure.proofs.blocking.places_of_reservations.Goals as goal

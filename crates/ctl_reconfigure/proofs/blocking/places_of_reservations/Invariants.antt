@@ -1,6 +1,6 @@
 use Rattle.std.proofs.Common.{◌≡◌, ℕ, take}
 use Rattle.std.specs.List.{list_any}
-use Rattle.cpu_ids.specs.Rows.{has_id}
+use Rattle.plain_data.specs.Rows.{has_id}
 use Rattle.node_state.specs.declared.reservation_record.Reservation.{Reservation}
 use Rattle.ctl_reconfigure.proofs.blocking.places_of_reservations.Given as goal
 

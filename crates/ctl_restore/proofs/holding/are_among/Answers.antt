@@ -1,5 +1,5 @@
 use Rattle.std.proofs.Common.{◌≡◌, ℕ, not, ◌&&◌, ap, ◌∙◌}
-use Rattle.cpu_ids.specs.Rows.{has_id}
+use Rattle.plain_data.specs.Rows.{has_id}
 use Rattle.ctl_restore.proofs.Held.{left-none, none-left}
 use Rattle.ctl_restore.proofs.holding.are_among.Goals as goal
 

@@ -1,5 +1,5 @@
 use Rattle.std.proofs.Common.{◌≡◌, ℕ, true, not, ◌&&◌, length, refl, ap, ◌∙◌}
-use Rattle.cpu_ids.specs.Rows.{has_id}
+use Rattle.plain_data.specs.Rows.{has_id}
 use Rattle.ctl_restore.proofs.Held.{among, free-unheld, taken-all, takes-just}
 use Rattle.ctl_restore.proofs.holding.take.Goals as goal
 

@@ -1,7 +1,7 @@
 -- The parts so far are on nodes that differ, and these were seen.
 use Rattle.std.proofs.Common.{◌≡◌, ℕ, take}
 use Rattle.std.specs.List.{list_any}
-use Rattle.cpu_ids.specs.Rows.{has_id}
+use Rattle.plain_data.specs.Rows.{has_id}
 use Rattle.job_table.specs.Changes.{is_on}
 use Rattle.ctl_state.specs.Holding.{OnNodesApart}
 use Rattle.ctl_restore.proofs.kept.are_apart.Given as goal

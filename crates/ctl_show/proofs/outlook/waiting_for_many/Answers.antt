@@ -5,7 +5,7 @@ use Rattle.ctl_show.proofs.outlook.waiting_for_many.Goals as goal
 pub returns : goal.returns
 unfolding highest
 returns c = record {
-  tally = rw c.records.ensures.value at c.in_ok-tally.ensures;
+  tally = c.in_ok-tally.ensures;
   behind = c.in_ok-behind.ensures;
   shared = record {
     highest = c.highest_beside.ensures;

@@ -1,8 +1,8 @@
 use Rattle.std.proofs.Common.{◌≡◌, ℕ, arith, ap, get_or, length, map, sym, ◌∙◌}
 use Rattle.std.specs.Prelude.{count_by}
 use Rattle.std.proofs.lemmas.List.{length-map}
-use Rattle.multifactor.specs.declared.tree.TreeNode.{TreeNode}
-use Rattle.multifactor.specs.Tree.{users}
+use Rattle.run_limits.specs.declared.tree.TreeNode.{TreeNode}
+use Rattle.run_limits.specs.Tree.{users}
 use Rattle.ctl_state.specs.State.{state_of}
 use Rattle.ctl_waiting.specs.Usage.{usage_at}
 use Rattle.ctl_waiting.specs.FairShare.{rank_at, tree_of}

@@ -1,5 +1,5 @@
 use Rattle.std.proofs.Common.{◌≡◌, ℕ, ◌<◌, ◌≤◌, get_or, length, take, vec_len}
-use Rattle.multifactor.specs.Tree.{users}
+use Rattle.run_limits.specs.Tree.{users}
 use Rattle.ctl_waiting.specs.FairShare.{tree_of}
 use Rattle.ctl_waiting.proofs.Users.{rank_in}
 use Rattle.ctl_waiting.proofs.ranks.spread.Given as goal

@@ -1,6 +1,6 @@
 use Rattle.std.proofs.Common.{◌≡◌, ◌≤◌, get_or, map, take}
 use Rattle.std.specs.Prelude.{All}
-use Rattle.multifactor.specs.Tree.{users}
+use Rattle.run_limits.specs.Tree.{users}
 use Rattle.ctl_waiting.specs.FairShare.{tree_of}
 use Rattle.ctl_waiting.proofs.ranks.used_by_users.Given as goal
 

@@ -1,6 +1,6 @@
 use Rattle.std.proofs.Common.{◌≡◌, ◌≤◌, map, take}
 use Rattle.std.specs.Prelude.{All}
-use Rattle.multifactor.specs.declared.tree.TreeNode.{TreeNode}
+use Rattle.run_limits.specs.declared.tree.TreeNode.{TreeNode}
 use Rattle.ctl_waiting.specs.FairShare.{node_of}
 use Rattle.ctl_waiting.proofs.tree.tree_of.Given as goal
 

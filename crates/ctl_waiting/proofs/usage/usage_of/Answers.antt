@@ -13,6 +13,5 @@ returns c = λ place.
     (running_usage c.args.now c.args.cluster.now.jobs.records)
     (rw c.usage.ensures at c.in_ok-usage.ensures)
     (omega (arith, c.add_running.ensures.len, c.in_ok-usage.usage.ok.0, c.add_running.new.usage.ok.0))
-    (λ at inside.
-    rw c.records.ensures.value at (c.add_running.ensures.each at (omega (arith, inside, c.in_ok-usage.usage.ok.0))))
+    (λ at inside. c.add_running.ensures.each at (omega (arith, inside, c.in_ok-usage.usage.ok.0)))
     place

@@ -1,5 +1,5 @@
 use Rattle.std.proofs.Common.{◌≡◌, ◌&&◌, ℕ, List, not, ap, ◌∙◌}
-use Rattle.cpu_ids.specs.Rows.{has_id}
+use Rattle.plain_data.specs.Rows.{has_id}
 use Rattle.node_state.proofs.Shared.{shares_common}
 use Rattle.node_state.proofs.reservations.shares.Goals as goal
 

@@ -1,6 +1,6 @@
 use Rattle.std.proofs.Common.{◌≡◌, List, subst}
 use Rattle.ctl_desk.specs.Desk.{state_of}
-use Rattle.replay_plan.specs.declared.submission.Submission.{Submission}
+use Rattle.trace_text.specs.declared.submission.Submission.{Submission}
 use Rattle.replay_run.specs.Replays.{MayStand}
 use Rattle.replay_run.proofs.Standing.{came_so}
 use Rattle.replay_run.proofs.working.work_begun.Goals as goal

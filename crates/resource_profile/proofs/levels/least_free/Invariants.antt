@@ -9,8 +9,8 @@ invariant-loop-place l = record {
   low : l.begun ≤ l.place;
   high : l.place ≤ length l.levels;
   begin : (i : ℕ) (d : Level) → l.begun ≤ i → i < l.place → (get_or l.levels i d).from < l.until;
-  cpus : IsLeastOf (λ amount. amount.cpus) l.levels (l.begun - 1) l.place l.cpus;
-  mem : IsLeastOf (λ amount. amount.mem) l.levels (l.begun - 1) l.place l.mem;
+  cpus : IsLeastOf (λ amount. amount.cpus) l.levels (l.begun - 1) l.place l.lowest.free.cpus l.lowest.behind_cpus;
+  mem : IsLeastOf (λ amount. amount.mem) l.levels (l.begun - 1) l.place l.lowest.free.mem l.lowest.behind_mem;
 }
 
 abbrev pub decreases-loop-place : goal.decreases-loop-place

@@ -1,5 +1,5 @@
 use Rattle.std.proofs.Common.{◌≡◌, length}
-use Rattle.option_words.specs.Arguments.{parts_left}
+use Rattle.text_values.specs.Arguments.{parts_left}
 use Rattle.sbatch_reader.specs.Table.{options}
 use Rattle.sbatch_reader.specs.Said.{command_parts, script_in}
 use Rattle.sbatch_reader.proofs.command.find_script.Given as goal

@@ -1,5 +1,5 @@
 use Rattle.std.proofs.Common.{◌≡◌, length, fold, map}
-use Rattle.option_words.specs.Arguments.{parts_left}
+use Rattle.text_values.specs.Arguments.{parts_left}
 use Rattle.sbatch_reader.specs.Table.{options}
 use Rattle.sbatch_reader.specs.Drafts.{after}
 use Rattle.sbatch_reader.specs.Said.{line_parts, said_of}

@@ -2,7 +2,7 @@ use Rattle.std.proofs.Common.{[], ◌∷◌, Some, None, sym, ◌∙◌}
 use Rattle.std.specs.Prelude.{option_copied}
 use Rattle.ctl_desk.specs.Desk.{state_of}
 use Rattle.session_text.specs.Blocks.{block_at}
-use Rattle.session_calls.specs.Actions.{asking}
+use Rattle.session_text.specs.Actions.{asking}
 use Rattle.session_talk.specs.Telling.{told_by}
 use Rattle.session_talk.specs.Working.{out}
 use Rattle.session_talk.proofs.Askings.{asking_works}

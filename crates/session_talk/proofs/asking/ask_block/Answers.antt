@@ -1,6 +1,6 @@
 use Rattle.std.proofs.Common.{[], ◌∷◌}
 use Rattle.ctl_desk.specs.Desk.{state_of}
-use Rattle.session_calls.specs.Actions.{Asks}
+use Rattle.session_text.specs.Actions.{Asks}
 use Rattle.session_talk.specs.Telling.{told_by}
 use Rattle.session_talk.specs.Working.{out}
 use Rattle.session_talk.proofs.Askings.{asked_works}

@@ -2,7 +2,7 @@ use Rattle.std.proofs.Common.{◌≡◌, suc, ◌-◌, arith}
 use Rattle.std.specs.Prelude.{option_copied}
 use Rattle.ctl_desk.specs.Desk.{state_of}
 use Rattle.session_text.specs.Moments.{moments_of}
-use Rattle.session_calls.specs.Actions.{asking_at}
+use Rattle.session_text.specs.Actions.{asking_at}
 use Rattle.session_talk.specs.Working.{out}
 use Rattle.session_talk.proofs.Askings.{at_end, at_start, cut_short, one_more}
 use Rattle.session_talk.proofs.asking.ask_times.Goals as goal

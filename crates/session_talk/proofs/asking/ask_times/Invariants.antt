@@ -2,7 +2,7 @@ use Rattle.std.proofs.Common.{◌≡◌, ℕ, ◌+◌}
 use Rattle.std.specs.Prelude.{option_copied}
 use Rattle.ctl_desk.specs.Desk.{state_of}
 use Rattle.session_text.specs.Moments.{moments_of}
-use Rattle.session_calls.specs.Actions.{asking_at}
+use Rattle.session_text.specs.Actions.{asking_at}
 use Rattle.session_talk.specs.Working.{out}
 use Rattle.session_talk.proofs.Askings.{IsUnderWay}
 use Rattle.session_talk.proofs.asking.ask_times.Given as goal

@@ -2,7 +2,7 @@ use Rattle.std.proofs.Common.{Some, None, List, ℕ, sym, ap, ◌∙◌}
 use Rattle.std.specs.Prelude.{option_copied}
 use Rattle.ctl_desk.specs.Desk.{state_of}
 use Rattle.session_text.specs.declared.call.Script.{Script}
-use Rattle.session_calls.specs.Actions.{named_script, script_read}
+use Rattle.session_text.specs.Actions.{named_script, script_read}
 use Rattle.session_talk.specs.Working.{out}
 use Rattle.session_talk.proofs.Askings.{calling_works}
 use Rattle.session_talk.proofs.asking.work_call.Goals as goal

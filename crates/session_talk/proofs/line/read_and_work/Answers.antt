@@ -3,7 +3,7 @@ use Rattle.std.specs.Prelude.{Vec, option_copied, option_map}
 use Rattle.std.specs.declared.alloc.Global.{Global}
 use Rattle.ctl_desk.specs.Desk.{state_of}
 use Rattle.session_text.specs.declared.reader.Heard.TheVariants as heard
-use Rattle.session_calls.specs.Actions.{script_read}
+use Rattle.session_text.specs.Actions.{script_read}
 use Rattle.session_talk.specs.Working.{out}
 use Rattle.session_talk.proofs.Askings.{calling_works}
 use Rattle.session_talk.proofs.Hearing.{call_works, nothing_works}

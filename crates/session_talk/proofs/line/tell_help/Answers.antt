@@ -1,5 +1,5 @@
 use Rattle.session_talk.specs.Working.{out}
-use Rattle.session_calls.specs.Texts.{help_text}
+use Rattle.session_text.specs.CallTexts.{help_text}
 use Rattle.session_talk.proofs.Askings.{text_stopped, text_worked}
 use Rattle.session_talk.proofs.Joining.{stopped_as, told_as}
 use Rattle.session_talk.proofs.line.tell_help.Goals as goal

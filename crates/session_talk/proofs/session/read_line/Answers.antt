@@ -1,5 +1,5 @@
 use Rattle.std.proofs.Common.{refl}
-use Rattle.session_calls.specs.Texts.{before}
+use Rattle.session_text.specs.CallTexts.{before}
 use Rattle.session_talk.specs.Working.{out}
 use Rattle.session_talk.proofs.Joining.{stopped_as, told_as}
 use Rattle.session_talk.proofs.session.read_line.Goals as goal

@@ -1,6 +1,6 @@
 use Rattle.std.proofs.Common.{◌++◌}
-use Rattle.session_calls.specs.Actions.{open_at_end}
-use Rattle.session_calls.specs.Texts.{before, end_shown}
+use Rattle.session_text.specs.Actions.{open_at_end}
+use Rattle.session_text.specs.CallTexts.{before, end_shown}
 use Rattle.session_talk.specs.Telling.{told_by}
 use Rattle.session_talk.specs.Working.{out}
 use Rattle.session_talk.proofs.Joining.{stopped_as, stopped_more, told_as}

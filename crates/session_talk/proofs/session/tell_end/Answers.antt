@@ -1,5 +1,5 @@
-use Rattle.session_calls.specs.Actions.{open_at_end}
-use Rattle.session_calls.specs.Texts.{end_shown}
+use Rattle.session_text.specs.Actions.{open_at_end}
+use Rattle.session_text.specs.CallTexts.{end_shown}
 use Rattle.session_talk.specs.Telling.{told_by}
 use Rattle.session_talk.specs.Working.{out}
 use Rattle.session_talk.proofs.Hearing.{text_then}

@@ -1,7 +1,7 @@
 use Rattle.std.proofs.Common.{Ok, Option, false, [], ◌∷◌, sym, ap}
 use Rattle.session_text.specs.declared.fault.LineFault.TheVariants.{NoEndLine}
 use Rattle.session_text.specs.declared.reader.Open.{Open}
-use Rattle.session_calls.specs.Actions.{Faults, open_at_end}
+use Rattle.session_text.specs.Actions.{Faults, open_at_end}
 use Rattle.session_talk.specs.Working.{out}
 use Rattle.session_talk.proofs.Joining.{worked_none, works_as}
 use Rattle.session_talk.proofs.session.tell_open.Goals as goal

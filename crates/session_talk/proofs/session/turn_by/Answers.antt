@@ -1,6 +1,6 @@
 use Rattle.std.proofs.Common.{refl, subst}
-use Rattle.input_lines.specs.Lines.{IsFound}
-use Rattle.input_lines.specs.declared.lines.Found.{Found}
+use Rattle.session_talk.specs.Lines.{IsFound}
+use Rattle.session_talk.specs.declared.lines.Found.{Found}
 use Rattle.ctl_desk.specs.Desk.{state_of}
 use Rattle.session_talk.specs.Talk.{Scene, setting}
 use Rattle.session_talk.specs.Turns.{ended_by, post}

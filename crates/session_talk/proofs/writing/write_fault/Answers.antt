@@ -1,5 +1,5 @@
 use Rattle.std.proofs.Common.{◌∙◌}
-use Rattle.session_calls.specs.Texts.{fault_line}
+use Rattle.session_text.specs.CallTexts.{fault_line}
 use Rattle.session_talk.specs.Working.{out}
 use Rattle.session_talk.proofs.Joining.{stopped_at_once, writes_as}
 use Rattle.session_talk.proofs.writing.write_fault.Goals as goal

@@ -1,5 +1,5 @@
-use Rattle.program_words.specs.Words.{named_by}
-use Rattle.server_call.specs.Outside.{outside}
+use Rattle.plain_data.specs.Files.{named_by}
+use Rattle.slurm_top.specs.Outside.{outside}
 use Rattle.slurm_top.proofs.Opened.{alone_so, ran_on}
 use Rattle.slurm_top.proofs.files_run.run_on_files.Goals as goal
 

@@ -1,5 +1,6 @@
 use Rattle.std.proofs.Common.{sym, ◌∙◌}
-use Rattle.cluster_opening.specs.declared.refusal.ClusterRefusal.TheVariants.{BadConf, BadAssocs, BadState}
+use Rattle.cluster_opening.specs.declared.refusal.BadFile.TheVariants as bad_file
+use Rattle.cluster_opening.specs.declared.refusal.ClusterRefusal.TheVariants.{Bad}
 use Rattle.slurm_top.proofs.Ends.{call_known, endless, off_so, only_off, simulates, told, written}
 use Rattle.slurm_top.proofs.FileCauses.{door_fault, missing, refuses, served, shut, unfailed, unsaved, write_fault}
 use Rattle.slurm_top.proofs.ScriptEnds.{broken, complete, only_broken, only_spent, spent}
@@ -19,18 +20,18 @@ returns-clause-missing g c = λ finds.
 
 pub returns-clause-bad_conf : goal.returns-clause-bad_conf
 returns-clause-bad_conf g c = λ line kind finds none.
-    rw c.status.ensures (refuses c.files_open_one_cluster.ensures _ _ _ _ _ _ c.run_words-end.result (BadConf line kind)
-    c.run_words-end.ensures finds none)
+    rw c.status.ensures (refuses c.files_open_one_cluster.ensures _ _ _ _ _ _ c.run_words-end.result
+    (Bad (bad_file.Conf line kind)) c.run_words-end.ensures finds none)
 
 pub returns-clause-bad_assocs : goal.returns-clause-bad_assocs
 returns-clause-bad_assocs g c = λ line kind finds none.
-    rw c.status.ensures (refuses c.files_open_one_cluster.ensures _ _ _ _ _ _ c.run_words-end.result (BadAssocs line kind)
-    c.run_words-end.ensures finds none)
+    rw c.status.ensures (refuses c.files_open_one_cluster.ensures _ _ _ _ _ _ c.run_words-end.result
+    (Bad (bad_file.Assocs line kind)) c.run_words-end.ensures finds none)
 
 pub returns-clause-bad_state : goal.returns-clause-bad_state
 returns-clause-bad_state g c = λ line finds none.
-    rw c.status.ensures (refuses c.files_open_one_cluster.ensures _ _ _ _ _ _ c.run_words-end.result (BadState line)
-    c.run_words-end.ensures finds none)
+    rw c.status.ensures (refuses c.files_open_one_cluster.ensures _ _ _ _ _ _ c.run_words-end.result
+    (Bad (bad_file.State line)) c.run_words-end.ensures finds none)
 
 pub returns-clause-complete : goal.returns-clause-complete
 returns-clause-complete g c = λ named sacct save opening asks opens whole none reads writes.

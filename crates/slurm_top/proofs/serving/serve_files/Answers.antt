@@ -1,7 +1,7 @@
 use Rattle.std.proofs.Common.{Ok, subst, sym}
 use Rattle.ctl_state.specs.State.{State}
-use Rattle.program_words.specs.Words.{named_by}
-use Rattle.server_call.specs.Outside.{beside, hosting, outside}
+use Rattle.plain_data.specs.Files.{named_by}
+use Rattle.slurm_top.specs.Outside.{beside, hosting, outside}
 use Rattle.cluster_opening.specs.Files.{Opens}
 use Rattle.slurm_top.specs.Run.{hosted}
 use Rattle.slurm_top.proofs.Opened.{alone_so, served_end, stays_beside}

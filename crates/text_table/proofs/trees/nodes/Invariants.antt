@@ -1,5 +1,5 @@
 use Rattle.std.proofs.Common.{◌≤◌, vec_len}
-use Rattle.multifactor.specs.Tree.{IsTree}
+use Rattle.run_limits.specs.Tree.{IsTree}
 use Rattle.text_table.proofs.trees.nodes.Given as goal
 
 -- a tree so far

@@ -1,6 +1,6 @@
 use Rattle.std.proofs.Common.{◌≡◌, sym, ◌∙◌, ap, Err, rules}
 use Rattle.conf_reader.specs.SettingLines.{setting_word, with_setting, setting_line}
-use Rattle.conf_values.specs.declared.refusal.Fault.TheVariants.{Refused}
+use Rattle.text_values.specs.declared.conf_refusal.Fault.TheVariants.{Refused}
 use Rattle.conf_reader.proofs.SaidLemmas.{said_bad, said_more}
 use Rattle.conf_reader.proofs.setting_lines.SettingWords.read_line.Goals as goal
 

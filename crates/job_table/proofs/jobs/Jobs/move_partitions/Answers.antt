@@ -19,7 +19,7 @@ invariant_of-self c =
     (rising-map f (λ job. refl) jobs c.self.invariant.table.rising) in
     table-found entries (map f jobs) jobs c.self.inside.by_index c.self.inside.blocks.items c.self.inside.unended table c.move_all_partitions.ensures
     (found-map f (λ job. refl) jobs) c.self.invariant.indices
-    (marked-kept c.self.inside.blocks.items jobs f (λ job. refl) c.self.invariant.marked)
+    (marked-kept c.self.inside.blocks.items jobs f (λ job. refl) (λ job. refl) c.self.invariant.marked)
     (tallied-map c.self.inside.unended f jobs (λ test job. refl) c.self.invariant.tallied)
 
 pub returns-clause-records : goal.returns-clause-records

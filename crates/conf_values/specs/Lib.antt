@@ -1,4 +1,0 @@
-pub mod Keys
-pub mod Refusal
-pub mod Scheduler
-pub mod Values

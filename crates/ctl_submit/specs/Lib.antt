@@ -1,3 +1,0 @@
-pub mod Submission
-pub mod Drafts
-pub mod Tallied

@@ -1,5 +1,0 @@
-use Rattle.input_lines.proofs.LinesOf.{last_of}
-use Rattle.input_lines.proofs.laws.the_last_line_may_lack_its_end.Goals as goal
-
-pub returns : goal.returns
-returns c = last_of

@@ -1,8 +1,0 @@
-use Rattle.std.proofs.Common.{refl}
-use Rattle.multifactor.specs.Tree.{level_of, path_of}
-use Rattle.multifactor.specs.Ranks.{rank_among, paths_of, ranks_of}
-use Rattle.multifactor.proofs.rows.tied_accounts_are_merged.Goals as goal
-
-pub returns : goal.returns
-unfolding ranks_of paths_of rank_among path_of level_of
-returns c = refl

@@ -1,5 +1,0 @@
-use Rattle.node_pick.proofs.Filling.{IsFilling}
-use Rattle.node_pick.proofs.reserve.Reserve.new.Given as goal
-
-abbrev pub invariant-loop-i : goal.invariant-loop-i
-invariant-loop-i l = IsFilling l.caps l.candidates.items l.least l.i l.held.items l.tasks

@@ -1,5 +1,0 @@
-use Rattle.node_pick.specs.Holding.{AreCandidates}
-use Rattle.node_pick.proofs.reserve.ranked.Given as goal
-
-abbrev pub invariant-loop-place : goal.invariant-loop-place
-invariant-loop-place l = AreCandidates l.caps l.required l.place l.candidates.items

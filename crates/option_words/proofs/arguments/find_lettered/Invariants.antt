@@ -1,6 +1,0 @@
-use Rattle.std.proofs.Common.{◌≡◌, drop}
-use Rattle.option_words.specs.Arguments.{lettered, rows}
-use Rattle.option_words.proofs.arguments.find_lettered.Given as goal
-
-abbrev pub invariant-loop-own : goal.invariant-loop-own
-invariant-loop-own g l = lettered (rows (drop l.own-index l.table)) l.letter ≡ lettered (rows l.table) l.letter

@@ -1,7 +1,0 @@
-pub mod Freer
-pub mod Places
-pub mod GivingBack
-pub mod Rooms
-pub mod Dropping
-pub mod Walks
-pub mod Needs

@@ -1,7 +1,0 @@
-use Rattle.preemption.proofs.laws.pick_laws.Goals as goal
-
-pub returns : goal.returns
-returns c = record {
-  some = λ caps need set is. (c.chosen_is_first.ensures.some caps need set is).fits;
-  none = c.chosen_is_first.ensures.none;
-}

@@ -1,6 +1,0 @@
-use Rattle.std.proofs.Common.{◌≡◌, take}
-use Rattle.replay_users.specs.Known.{accounts_in}
-use Rattle.replay_users.proofs.known.accounts_in.Given as goal
-
-abbrev pub invariant-loop-assoc : goal.invariant-loop-assoc
-invariant-loop-assoc l = l.accounts.items ≡ accounts_in (take l.assoc-index l.assocs)

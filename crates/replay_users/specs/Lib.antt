@@ -1,3 +1,0 @@
-pub mod Adding
-pub mod Known
-pub mod Lines

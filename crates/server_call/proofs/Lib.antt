@@ -1,4 +1,0 @@
-pub mod Ends
-pub mod Names
-pub mod Inputs
-pub mod Carrying

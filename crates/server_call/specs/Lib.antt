@@ -1,4 +1,0 @@
-pub mod Outside
-pub mod Scripts
-pub mod Places
-pub mod Calls

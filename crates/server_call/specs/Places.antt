@@ -1,9 +1,0 @@
--- What is told of a place.
-use Rattle.server_call.specs.Scripts.{Place, Nowhere, File, Input}
-use Rattle.server_call.specs.declared.place.Place as place
-use Rattle.server_call.specs.declared.place.Place.TheVariants as place_as
-
-abbrev pub told_place : place.Place → Place
-told_place place_as.Nowhere = Nowhere
-told_place (place_as.File name) = File name.now
-told_place place_as.Input = Input

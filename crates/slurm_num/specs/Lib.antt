@@ -1,3 +1,0 @@
-pub mod Elapsed
-pub mod Limits
-pub mod Ratios

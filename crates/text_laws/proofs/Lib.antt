@@ -1,8 +1,0 @@
-pub mod Bytes
-pub mod Groups
-pub mod Meaning
-pub mod Modes
-pub mod Numbers
-pub mod Pairs
-pub mod Reading
-pub mod Runs
