@@ -1,4 +1,5 @@
-//! The cluster of some files, opened: of the two that describe it, and of a saved state where it goes on from one.
+//! The cluster of some files, opened: of the two that describe it, and of a saved state where it goes on from one; the
+//! cluster of a simulation; and what reconfiguring makes of a book.
 #![tactic(auto)]
 
 mod cluster;

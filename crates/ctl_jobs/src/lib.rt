@@ -1,4 +1,4 @@
-//! What users do to jobs: they cancel, hold, release, requeue and update them. scancel(1), scontrol(1).
+//! What users do to jobs: they submit, cancel, hold, release, requeue and update them. sbatch(1), scancel(1), scontrol(1).
 #![tactic(auto)]
 
 mod accounts;

@@ -11,11 +11,6 @@ use Rattle.node_state.specs.declared.reservation_record.Reservation.{Reservation
 use Rattle.node_state.specs.Reservations.{AreReservations, Fits, is_named, overlaps, reservation_named}
 use Rattle.ctl_restore.proofs.Usages.{found-passes}
 
--- past the last node no test holds
-pub none_past : (test : NodeRecord → Bool) (nodes : List NodeRecord) (place : ℕ) → length nodes ≤ place
-    → is_at test nodes place ≡ false
-none_past test nodes place past = rw (slice_get_past nodes place past) refl
-
 any-false : {X : Type 0} (p : X → Bool) (xs : List X) (d : X) → ((k : ℕ) → k < length xs → p (get_or xs k d) ≡ false)
     → list_any p xs ≡ false
 any-false p [] d none = refl

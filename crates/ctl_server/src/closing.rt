@@ -84,11 +84,11 @@ where
     ensures end { (opening : State) (course : Option Course) → BeganWith opening pass → HasSeenShut opening planner
         → All (IsLeft lock H.Door.door_faults H.Door.sessions opening course) worked.items
         → EndsServing opening course (vec_len worked) result (H.closed host.new)
-        (H.host_faults host.old) (H.host_faults host.new) }
-    ensures counts { (H.link_reads host.new ≡ H.link_reads host.old)
-        × (H.link_writes host.new ≡ H.link_writes host.old) }
-    ensures kept { (H.next_left host.new ≡ H.next_left host.old)
-        × (H.last_taken host.new ≡ H.last_taken host.old) }
+        (H.hosting host.old).faults (H.hosting host.new).faults }
+    ensures counts { ((H.hosting host.new).link_reads ≡ (H.hosting host.old).link_reads)
+        × ((H.hosting host.new).link_writes ≡ (H.hosting host.old).link_writes) }
+    ensures kept { ((H.hosting host.new).next_left ≡ (H.hosting host.old).next_left)
+        × ((H.hosting host.new).last_taken ≡ (H.hosting host.old).last_taken) }
 {
     let mut pass = pass;
     let mut doors = doors;

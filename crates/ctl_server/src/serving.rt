@@ -163,13 +163,13 @@ fn open_doors<H: Host, K: Sink>(
     ensures written { IfOk result (λ _. Appends (K.taken output.old) (K.taken output.new) (serving_line port)) }
     ensures unfailed { IfOk result (λ _. K.write_faults output.new ≡ K.write_faults output.old) }
     ensures err { IfErr result (λ end. IsUnopened end (K.taken output.old) (K.taken output.new)
-        (K.write_faults output.old) (K.write_faults output.new) (H.host_faults host.old) (H.host_faults host.new)
+        (K.write_faults output.old) (K.write_faults output.new) (H.hosting host.old).faults (H.hosting host.new).faults
         (serving_line port)) }
-    ensures faults { OnOk result (H.host_faults host.new ≡ H.host_faults host.old) }
-    ensures counts { (H.link_reads host.new ≡ H.link_reads host.old)
-        × (H.link_writes host.new ≡ H.link_writes host.old) }
-    ensures kept { (H.next_left host.new ≡ H.next_left host.old)
-        × (H.last_taken host.new ≡ H.last_taken host.old) }
+    ensures faults { OnOk result ((H.hosting host.new).faults ≡ (H.hosting host.old).faults) }
+    ensures counts { ((H.hosting host.new).link_reads ≡ (H.hosting host.old).link_reads)
+        × ((H.hosting host.new).link_writes ≡ (H.hosting host.old).link_writes) }
+    ensures kept { ((H.hosting host.new).next_left ≡ (H.hosting host.old).next_left)
+        × ((H.hosting host.new).last_taken ≡ (H.hosting host.old).last_taken) }
     ensures beside { K.kept_by_writes output.new ≡ K.kept_by_writes output.old }
 {
     let doors = match host.listen(port, workers) {
@@ -221,11 +221,11 @@ where
     requires new { All (λ door. IsNewDoor (H.Door.door_faults door) (H.Door.out door) (H.Door.sessions door))
         doors.items }
     ensures end { (opening : State) → BeganWith opening prepared.pass → EndsServing opening (C.course clock.now)
-        (vec_len doors) result (H.closed host.new) (H.host_faults host.old) (H.host_faults host.new) }
-    ensures counts { (H.link_reads host.new ≡ H.link_reads host.old)
-        × (H.link_writes host.new ≡ H.link_writes host.old) }
-    ensures kept { (H.next_left host.new ≡ H.next_left host.old)
-        × (H.last_taken host.new ≡ H.last_taken host.old) }
+        (vec_len doors) result (H.closed host.new) (H.hosting host.old).faults (H.hosting host.new).faults }
+    ensures counts { ((H.hosting host.new).link_reads ≡ (H.hosting host.old).link_reads)
+        × ((H.hosting host.new).link_writes ≡ (H.hosting host.old).link_writes) }
+    ensures kept { ((H.hosting host.new).next_left ≡ (H.hosting host.old).next_left)
+        × ((H.hosting host.new).last_taken ≡ (H.hosting host.old).last_taken) }
 {
     let Prepared {
         lock,
@@ -298,13 +298,13 @@ where
         (λ lists. AreServed (C.course clock.old) end lists)) }
     ensures written { Writes result (K.taken output.old) (K.taken output.new)
         (K.write_faults output.old) (K.write_faults output.new) (serving_line port) }
-    ensures unfailed { IfShut result (λ _. H.host_faults host.new ≡ H.host_faults host.old) }
-    ensures door_fault { result ≡ DoorFault → CountsOne (H.host_faults host.old) (H.host_faults host.new) }
-    ensures counts { (H.link_reads host.new ≡ H.link_reads host.old)
-        × (H.link_writes host.new ≡ H.link_writes host.old) }
+    ensures unfailed { IfShut result (λ _. (H.hosting host.new).faults ≡ (H.hosting host.old).faults) }
+    ensures door_fault { result ≡ DoorFault → CountsOne (H.hosting host.old).faults (H.hosting host.new).faults }
+    ensures counts { ((H.hosting host.new).link_reads ≡ (H.hosting host.old).link_reads)
+        × ((H.hosting host.new).link_writes ≡ (H.hosting host.old).link_writes) }
     ensures clock { clock.new ≡ clock.old }
-    ensures kept { (H.next_left host.new ≡ H.next_left host.old)
-        × (H.last_taken host.new ≡ H.last_taken host.old) }
+    ensures kept { ((H.hosting host.new).next_left ≡ (H.hosting host.old).next_left)
+        × ((H.hosting host.new).last_taken ≡ (H.hosting host.old).last_taken) }
     ensures beside { K.kept_by_writes output.new ≡ K.kept_by_writes output.old }
 {
     let Ok(prepared) = prepare(alloc, book, workers) else {

@@ -6,6 +6,7 @@ ghost use Rattle.command_words.specs.declared.header.Meaning.TheVariants.{Asks};
 ghost use Rattle.ctl_session.specs.Clock.{timing};
 ghost use Rattle.ctl_session.specs.Meaning.{status_by};
 ghost use Rattle.ctl_session.specs.Turn.{AnswersBlock, MakesNone, Tells, Works, bytes_in, post};
+ghost use Rattle.slurm_print.specs.Heading.{heading_of};
 
 use crate::meaning::read_block;
 use crate::outside::write_text;
@@ -18,8 +19,9 @@ use request_data::request::Request;
 use resource_profile::{Plain, Steps};
 use slurm_io::{Failed, Link};
 use slurm_net::Clock;
+use slurm_print::heading::{Heading, heading_of};
 use slurm_print::malformed::{bad_header, bad_words, malformed, unknown_command};
-use slurm_print::text::text;
+use slurm_print::text::text_under;
 use small_texts::memory_error::Memory;
 use std::alloc::Global;
 
@@ -27,20 +29,30 @@ use std::alloc::Global;
 pub fn decide<D: Desk>(
     desk: &mut D,
     steps: &mut Steps<Plain>,
-    asked: &Asked,
+    asked: Asked,
 ) -> Result<Answer, Memory>
     ensures goes_on { GoesOn (D.sight desk.old) (D.sight desk.new) }
     ensures answered { IfOk result (λ answer. IsAnswered (D.sight desk.old) (D.sight desk.new)
-        asked.now.moment asked.now.user asked.now.request answer) }
+        asked.moment asked.user asked.request answer) }
     ensures err { OnErr result ((D.sight desk.new).mine ≡ (D.sight desk.old).mine) }
 {
-    match &asked.request {
-        Request::Pass => desk.pass(asked.moment, &asked.user, None, steps),
-        request => {
-            let request = request.copy()?;
-            desk.ask(asked.moment, &asked.user, request)
+    let Asked {
+        moment,
+        user,
+        request,
+    } = asked;
+    match &request {
+        Request::Pass => {
+            request.let_go();
+            desk.pass(moment, &user, None, steps)
         }
+        _ => desk.ask(moment, &user, request),
     }
+}
+
+// Lets go of what was asked.
+fn let_go(asked: Asked) {
+    asked.request.let_go();
 }
 
 /// What a block is told.
@@ -68,16 +80,42 @@ fn ask<D: Desk>(
     alloc: Global,
     desk: &mut D,
     steps: &mut Steps<Plain>,
-    asked: &Asked,
+    asked: Asked,
 ) -> Result<Told, Memory>
-    ensures ok { IfOk result (λ told. Tells (Asks asked.now) (D.sight desk.old) (D.sight desk.new) told) }
+    ensures ok { IfOk result (λ told. Tells (Asks asked) (D.sight desk.old) (D.sight desk.new) told) }
     ensures err { OnErr result (MakesNone (D.sight desk.old) (D.sight desk.new)
-        ⊎ Works (Asks asked.now) (D.sight desk.old) (D.sight desk.new)) }
+        ⊎ Works (Asks asked) (D.sight desk.old) (D.sight desk.new)) }
+{
+    match heading_of(&asked.request) {
+        Ok(heading) => {
+            let told = ask_under(alloc, desk, steps, &heading, asked);
+            heading.let_go();
+            told
+        }
+        Err(Memory) => {
+            let_go(asked);
+            Err(Memory)
+        }
+    }
+}
+
+// The desk takes the request; its heading stays for the text.
+fn ask_under<D: Desk>(
+    alloc: Global,
+    desk: &mut D,
+    steps: &mut Steps<Plain>,
+    heading: &Heading,
+    asked: Asked,
+) -> Result<Told, Memory>
+    requires { heading.now ≡ heading_of asked.request }
+    ensures ok { IfOk result (λ told. Tells (Asks asked) (D.sight desk.old) (D.sight desk.new) told) }
+    ensures err { OnErr result (MakesNone (D.sight desk.old) (D.sight desk.new)
+        ⊎ Works (Asks asked) (D.sight desk.old) (D.sight desk.new)) }
 {
     let answer = decide(desk, steps, asked)?;
     let status = status_by(&answer.reply);
     let place = answer.place;
-    let made = text(alloc, &asked.request, &answer.reply);
+    let made = text_under(alloc, heading, &answer.reply);
     answer.let_go();
     match made {
         Ok(text) => Ok(Told {
@@ -87,11 +125,6 @@ fn ask<D: Desk>(
         }),
         Err(Memory) => Err(Memory),
     }
-}
-
-// Lets go of what was asked.
-fn let_go(asked: Asked) {
-    asked.request.let_go();
 }
 
 fn copied(alloc: Global, text: &[u8]) -> Result<Vec<u8>, Memory>
@@ -124,11 +157,7 @@ fn tell<D: Desk>(
         ⊎ Works meaning (D.sight desk.old) (D.sight desk.new)) }
 {
     match meaning {
-        Meaning::Asks(asked) => {
-            let told = ask(alloc, desk, steps, &asked);
-            let_go(asked);
-            told
-        }
+        Meaning::Asks(asked) => ask(alloc, desk, steps, asked),
         Meaning::Malformed { command, fault } => unasked(malformed(alloc, command, fault)),
         Meaning::UnknownCommand => unasked(copied(alloc, unknown_command())),
         Meaning::BadWords { place } => unasked(bad_words(alloc, place)),

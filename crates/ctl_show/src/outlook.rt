@@ -87,8 +87,9 @@ fn waiting_for_many(alloc: Global, cluster: &Cluster, factors: &Factors) -> Resu
     })
 }
 
-// What the rows of few pending jobs need, at any moment: each that is shown looks for the rest by itself. Linear in the
-// jobs; each that holds processors costs its association's way up to root besides.
+// What the rows of few pending jobs need, at any moment: each that is shown looks for the rest by itself. One look for
+// each 64 jobs of which none holds processors, and each that does costs its association's way up to root; where the
+// terms of one say to wait for those before it of its user and name it is linear in the jobs besides.
 fn waiting_for_few(alloc: Global, cluster: &Cluster) -> Result<Waiting, Memory>
     requires { IsSound (state_of cluster.now) }
     ensures { IfOk result (λ waiting. (now : ℕ) → ShowsWaiting (state_of cluster.now) now waiting) }
@@ -168,10 +169,10 @@ fn find_waiting(
 
 /// Finds what the job's row needs, as far as it isn't found yet. The first time it measures what the priorities rest
 /// on: linear in nodes, partitions, associations, the jobs that hold something and their parts, with one look for each
-/// 64 others, beside a sort of the users by what they have used. At the first pending job it is linear in the jobs, and
-/// each that holds processors costs its association's way up to root besides; where many are shown it is linear in the
-/// plan then, and each pending one that is higher in rank than the candidates before it costs such a way too. Else it
-/// takes constant time.
+/// 64 others, beside a sort of the users by what they have used. At the first pending job each that holds processors
+/// costs its association's way up to root besides, and it is linear in the jobs where the terms of one say to wait for
+/// those before it of its user and name; where many are shown it is linear in the jobs and the plan then, and each
+/// pending one that is higher in rank than the candidates before it costs such a way too. Else it takes constant time.
 pub(crate) fn look(
     alloc: Global,
     cluster: &Cluster,

@@ -136,15 +136,16 @@ fn rows_of(
 /// names, or all: beside a search for each target it is linear in these places, and for each in the targets and states
 /// that it names. Once a job is shown it measures what the priorities rest on, which is linear in nodes, partitions,
 /// associations, the jobs that hold something and their parts, with one look for each 64 others, and sorts the users.
-/// Once a pending one is shown it is linear in the jobs, and each that holds processors costs its association's way up
-/// to root. Where more than 16 places are walked it is linear in the plan then, and each pending job costs such a way
-/// too; where few are, each pending job that is shown is looked for in the plan, and one that nothing hinders is
-/// compared with the others up to the first candidate that comes before it, at such a way for each that may. A row is
-/// linear in its job's parts. What scontrol(1) shows of jobs costs what a query of jobs does. A query of priorities
-/// walks such places too, and always measures what these rest on. One of partitions and how their nodes stand is linear
-/// in the nodes, the jobs' parts and the nodes of the partitions that it shows. What scontrol(1) shows of nodes is
-/// linear in these and the jobs' parts, of partitions in these and the nodes of those that are shown, and of
-/// reservations in these with the nodes and names of those that are shown.
+/// Once a pending one is shown each that holds processors costs its association's way up to root, and it is linear in
+/// the jobs where the terms of one say to wait for those before it of its user and name. Where more than 16 places are
+/// walked it is linear in the jobs and the plan then, and each pending job costs such a way too; where few are, each
+/// pending job that is shown is looked for in the plan, and one that nothing hinders is compared with the others up to
+/// the first candidate that comes before it, at such a way for each that may. A row is linear in its job's parts. What
+/// scontrol(1) shows of jobs costs what a query of jobs does. A query of priorities walks such places too, and always
+/// measures what these rest on. One of partitions and how their nodes stand is linear in the nodes, the jobs' parts and
+/// the nodes of the partitions that it shows. What scontrol(1) shows of nodes is linear in these and the jobs' parts, of
+/// partitions in these and the nodes of those that are shown, and of reservations in these with the nodes and names of
+/// those that are shown.
 #[tactic(auto, unfolding(crate::specs::Showing::view_of))]
 pub fn view_of(
     alloc: Global,

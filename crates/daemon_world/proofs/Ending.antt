@@ -1,51 +1,43 @@
 -- Through every event a start of a job ends once, and then it is settled how.
-use Rattle.std.proofs.Common.{ℕ, ◌≡◌, ◌≤◌, ◌+◌, Bool, true, false, ◌&&◌, not, List, [], ◌∷◌, map, All, Option, Some, None, if◌then◌else◌, refl, arith, inl, inr, ◌⊎◌, nat_eq, slice_get}
-use Rattle.std.specs.Prelude.{nat_lt}
-use Rattle.std.specs.List.{enumerate_from, list_any}
-use Rattle.std.proofs.lemmas.Bool.{both_ways, cond_both, ltb-false}
+use Rattle.std.proofs.Common.{ℕ, ◌≡◌, ◌≤◌, ◌+◌, Bool, true, false, ◌&&◌, not, List, [], ◌∷◌, map, All, Option, Some, None, refl, arith, inl, inr, ◌⊎◌, nat_eq}
+use Rattle.std.specs.List.{enumerate_from}
+use Rattle.std.proofs.lemmas.Bool.{both_ways, cond_both}
 use Rattle.std.proofs.lemmas.List.Elements.{All-append, All-cons, All-filter, All-map, All-nil, All-weaker}
 use Rattle.plain_data.specs.declared.array.ArraySpec.{ArraySpec}
 use Rattle.plain_data.specs.Confs.{ConfView}
-use Rattle.plain_data.specs.declared.conf.PartState.{PartState}
 use Rattle.plain_data.specs.declared.job.JobDesc.{JobDesc}
-use Rattle.reply_data.specs.declared.refusal.Refusal.{Refusal}
-use Rattle.reply_data.specs.declared.refusal.Refusal.TheVariants.{MomentTooLarge, ShuttingDown}
 use Rattle.request_data.specs.declared.report.Report.{Report as Told}
 use Rattle.request_data.specs.declared.request.NodeOrder.{NodeOrder}
 use Rattle.request_data.specs.declared.request.Request.{Request}
-use Rattle.request_data.specs.declared.request.Request.TheVariants.{Submit, Cancel, Hold, Release, Requeue, UpdateJob, UpdateNode, UpdatePartition, CreateReservation, DeleteReservation, Report, Pass, Shutdown, Reconfigure, Show}
-use Rattle.reply_data.specs.declared.reply.Reply.TheVariants.{Done}
-use Rattle.node_state.specs.Partitions.{place_meant}
+use Rattle.request_data.specs.declared.request.Request.TheVariants.{Pass}
 use Rattle.job_table.specs.declared.record.JobRecord.{JobRecord}
 use Rattle.job_table.specs.declared.record.Part.{Part}
 use Rattle.job_table.specs.declared.change.Change.TheVariants.{Start}
 use Rattle.job_table.specs.Changes.{changed}
 use Rattle.job_table.specs.JobStates.{is_pending}
-use Rattle.ctl_state.specs.Refusals.{first_refusal, refused_if, unless_refused}
 use Rattle.ctl_state.specs.Soundness.{IsSound}
 use Rattle.ctl_state.specs.State.{State, last_moment}
-use Rattle.ctl_state.specs.Verdicts.{Verdict, Refuses, Tells, Stays, Makes, left_by, reply_by, stamped}
+use Rattle.ctl_state.specs.Verdicts.{stamped}
 use Rattle.ctl_jobs.specs.declared.action.Action.{Action}
-use Rattle.ctl_jobs.specs.declared.action.Action.TheVariants as act
 use Rattle.ctl_jobs.specs.Actions.{done_to}
-use Rattle.ctl_jobs.specs.Changing.{are_meant, are_naming, change_after, change_made, done_if, goes, may_do}
+use Rattle.ctl_jobs.specs.Changing.{change_after, done_if, may_do}
 use Rattle.ctl_nodes.specs.Failing.{after_loss, lost_after}
-use Rattle.ctl_nodes.specs.Updating.{changes_any, lost_by, update_after}
+use Rattle.ctl_nodes.specs.Updating.{lost_by, update_after}
 use Rattle.ctl_pass.specs.Limits.{timed_out}
 use Rattle.ctl_pass.specs.Passing.{outcome, pass_after}
 use Rattle.ctl_pass.specs.Preempting.{preempted, victims_in}
 use Rattle.ctl_pass.specs.Readiness.{goes as gone, jobs_left, placements, ready}
-use Rattle.ctl_node_side.specs.Answering.{is_restarted, node_of}
+use Rattle.ctl_node_side.specs.Answering.{is_restarted}
 use Rattle.ctl_node_side.specs.Reporting.{report_after, reported}
-use Rattle.ctl_node_side.specs.Passes.{after_pass, pass_is_idle}
-use Rattle.ctl_node_side.specs.Restarting.{made_by_report, met}
+use Rattle.ctl_node_side.specs.Passes.{after_pass}
+use Rattle.ctl_node_side.specs.Restarting.{met}
 use Rattle.ctl_node_side.specs.Silence.{any_silent, silent_at, silenced, without_silent}
-use Rattle.ctl_jobs.specs.Submission.{Basis, made_under, new_arrays, new_jobs, submit_after, task, basis_of}
+use Rattle.ctl_jobs.specs.Submission.{Basis, new_arrays, new_jobs, submit_after, task}
 use Rattle.ctl_reconfigure.specs.Reconfiguring.{job_after, reconfigured}
-use Rattle.ctl_reconfigure.specs.Same.{is_same}
-use Rattle.ctl_core.specs.Operating.{is_in_state, partition_after, partition_made}
-use Rattle.ctl_core.specs.Sizes.{has_room, size_of}
-use Rattle.ctl_core.specs.Step.{entered, is_closed, is_entered, made, raised, refusals_of, state_after, unless_full, verdict_of, worked}
+use Rattle.ctl_core.specs.Sizes.{size_of}
+use Rattle.ctl_core.specs.Step.{raised, state_after}
+use Rattle.step_lemmas.proofs.Making.{ByAction, ByPass, ByReconfigure, ByReport, BySubmit, ByUpdateNode, MayMake}
+use Rattle.step_lemmas.proofs.Steps.{step_is}
 use Rattle.daemon_world.proofs.Requests.{Passes, pass_may, silenced_raised}
 use Rattle.daemon_world.proofs.Settling.{Settles, done_settles, gone_settles, loss_settles, moved_settles, over_settles, report_settles, settles_itself}
 use Rattle.daemon_world.proofs.Starting.{MayStart, starts_all}
@@ -217,99 +209,23 @@ submit-goes s Q lasts now user desc basis all =
 
 -- ---- each request
 
-abbrev GoesBy : State → (JobRecord → Type 0) → Verdict → Type 0
-GoesBy s Q (Refuses refusal) = Unit {0}
-GoesBy s Q (Tells view) = Unit {0}
-GoesBy s Q Stays = Unit {0}
-GoesBy s Q (Makes reply after) = Goes s after Q
-
-change-by : (s : State) (Q : JobRecord → Type 0) → Lasts s Q → (now : ℕ) (user : List ℕ) (action : Action)
-    (named : JobRecord → Bool) → All Q s.jobs → GoesBy s Q (change_made s now user action named)
-change-by s Q lasts now user action named all =
-    cond_both (list_any (goes s user action named) s.jobs) (Makes Done (change_after s now user action named)) Stays
-    (GoesBy s Q) (λ some. change-goes s Q lasts now user action named all) (λ none. tt)
-
-submit-by : (s : State) (Q : JobRecord → Type 0) → Lasts s Q → (now : ℕ) (user : List ℕ) (desc : JobDesc)
-    (basis : Option Basis) → All Q s.jobs → GoesBy s Q (made_under s now user desc basis)
-submit-by s Q lasts now user desc None all = tt
-submit-by s Q lasts now user desc (Some basis) all = submit-goes s Q lasts now user desc basis all
-
-partition-by : (s : State) (Q : JobRecord → Type 0) (state : PartState) (place : Option ℕ) → All Q s.jobs
-    → GoesBy s Q (partition_made s state place)
-partition-by s Q state None all = tt
-partition-by s Q state (Some place) all =
-    cond_both (is_in_state state (slice_get s.partitions place)) Stays
-    (Makes Done (partition_after s place state)) (GoesBy s Q) (λ had. tt)
-    (λ out. record { all = all; size = refl; next = omega arith })
-
-report-by : (s : State) (Q : JobRecord → Type 0) → Lasts s Q → (now : ℕ) (report : Told) (found : Option ℕ)
-    → All Q s.jobs → GoesBy s Q (made_by_report s now report found)
-report-by s Q lasts now report None all = tt
-report-by s Q lasts now report (Some place) all = report-goes s Q lasts now place report all
-
 goes-made : Passes → (s : State) (Q : JobRecord → Type 0) → Lasts s Q → (moment : ℕ) (user : List ℕ)
-    (request : Request) → IsSound s → s.moment ≤ moment → moment ≤ last_moment → All Q s.jobs
-    → All (λ (job : JobRecord). job.starts ≤ s.size) s.jobs → GoesBy s Q (made s moment user request)
-goes-made passes s Q lasts moment user (Submit desc) sound later in_time all few =
-    submit-by s Q lasts moment user desc (basis_of s user desc) all
-goes-made passes s Q lasts moment user (Cancel targets) sound later in_time all few =
-    change-by s Q lasts moment user act.Cancel (are_meant targets) all
-goes-made passes s Q lasts moment user (Hold targets for_owner) sound later in_time all few =
-    change-by s Q lasts moment user (act.Hold for_owner) (are_naming targets) all
-goes-made passes s Q lasts moment user (Release targets) sound later in_time all few =
-    change-by s Q lasts moment user act.Release (are_naming targets) all
-goes-made passes s Q lasts moment user (Requeue target) sound later in_time all few =
-    change-by s Q lasts moment user act.Requeue (are_naming (target ∷ [])) all
-goes-made passes s Q lasts moment user (UpdateJob target limit nice) sound later in_time all few =
-    change-by s Q lasts moment user (act.Update limit nice) (are_naming (target ∷ [])) all
-goes-made passes s Q lasts moment user (UpdateNode nodes state) sound later in_time all few =
-    cond_both (changes_any s nodes state) (Makes Done (update_after s moment nodes state)) Stays (GoesBy s Q)
-    (λ some. update-goes s Q lasts moment nodes state all) (λ none. tt)
-goes-made passes s Q lasts moment user (UpdatePartition name state) sound later in_time all few =
-    partition-by s Q state (place_meant (Some name) s.partitions) all
-goes-made passes s Q lasts moment user (CreateReservation desc) sound later in_time all few =
+    (request : Request) (after : State) → IsSound s → s.moment ≤ moment → moment ≤ last_moment → All Q s.jobs
+    → All (λ (job : JobRecord). job.starts ≤ s.size) s.jobs → MayMake s moment user request after → Goes s after Q
+goes-made passes s Q lasts moment user request after sound later in_time all few (BySubmit desc basis found) =
+    submit-goes s Q lasts moment user desc basis all
+goes-made passes s Q lasts moment user request after sound later in_time all few (ByAction action named asks) =
+    change-goes s Q lasts moment user action named all
+goes-made passes s Q lasts moment user request after sound later in_time all few (ByUpdateNode nodes order) =
+    update-goes s Q lasts moment nodes order all
+goes-made passes s Q lasts moment user request after sound later in_time all few (ByReport report node found) =
+    report-goes s Q lasts moment node report all
+goes-made passes s Q lasts moment user request after sound later in_time all few ByPass =
+    whole-pass-goes passes s Q lasts moment sound later in_time all few
+goes-made passes s Q lasts moment user request after sound later in_time all few (ByReconfigure conf bytes) =
+    reconfigured-goes s Q lasts moment conf all
+goes-made passes s Q lasts moment user request after sound later in_time all few other =
     record { all = all; size = refl; next = omega arith }
-goes-made passes s Q lasts moment user (DeleteReservation name) sound later in_time all few =
-    record { all = all; size = refl; next = omega arith }
-goes-made passes s Q lasts moment user Shutdown sound later in_time all few =
-    record { all = all; size = refl; next = omega arith }
-goes-made passes s Q lasts moment user (Report report) sound later in_time all few =
-    report-by s Q lasts moment report (node_of s report) all
-goes-made passes s Q lasts moment user Pass sound later in_time all few =
-    cond_both (pass_is_idle s moment) Stays _ (GoesBy s Q) (λ idle. tt)
-    (λ busy. whole-pass-goes passes s Q lasts moment sound later in_time all few)
-goes-made passes s Q lasts moment user (Reconfigure conf bytes) sound later in_time all few =
-    cond_both (is_same s conf) Stays (Makes Done (reconfigured s moment conf)) (GoesBy s Q) (λ idle. tt)
-    (λ other. reconfigured-goes s Q lasts moment conf all)
-goes-made passes s Q lasts moment user (Show query) sound later in_time all few = tt
-
-goes-full : (s : State) (Q : JobRecord → Type 0) (room : Bool) (verdict : Verdict) → GoesBy s Q verdict
-    → GoesBy s Q (unless_full room verdict)
-goes-full s Q true verdict went = went
-goes-full s Q false (Refuses refusal) went = tt
-goes-full s Q false (Tells view) went = tt
-goes-full s Q false Stays went = tt
-goes-full s Q false (Makes reply after) went = tt
-
-goes-judged : (s : State) (Q : JobRecord → Type 0) (refusal : Option Refusal) (verdict : Verdict) → GoesBy s Q verdict
-    → GoesBy s Q (unless_refused refusal verdict)
-goes-judged s Q None verdict went = went
-goes-judged s Q (Some refusal) verdict went = tt
-
-goes-early : Passes → (s : State) (Q : JobRecord → Type 0) → Lasts s Q → (now : ℕ) (user : List ℕ)
-    (request : Request) (early closed : Bool) → IsSound s → All Q s.jobs
-    → All (λ (job : JobRecord). job.starts ≤ s.size) s.jobs → nat_lt last_moment now ≡ early
-    → GoesBy s Q
-    (unless_refused (first_refusal (refused_if early MomentTooLarge ∷ refused_if closed ShuttingDown ∷ []))
-    (worked s (raised s now) user request))
-goes-early passes s Q lasts now user request true closed sound all few is = tt
-goes-early passes s Q lasts now user request false true sound all few is = tt
-goes-early passes s Q lasts now user request false false sound all few is =
-    let moment = raised s now in
-    let in_time = ltb-false last_moment now is in
-    goes-judged s Q (first_refusal (refusals_of s moment user request)) _
-    (goes-full s Q (has_room s request) (made s moment user request)
-    (goes-made passes s Q lasts moment user request sound (omega arith) (omega (arith, sound.moment, in_time)) all few))
 
 -- the next state: what lasts lasts, and it has grown where an entry was made
 pub record GoesOn (s after : State) (Q : JobRecord → Type 0) : Type 0 where
@@ -319,44 +235,21 @@ pub record GoesOn (s after : State) (Q : JobRecord → Type 0) : Type 0 where
   pub next : s.next_id ≤ after.next_id
 
 sized : (request : Request) → 1 ≤ size_of request
-sized (Submit desc) = omega arith
-sized (Cancel targets) = omega arith
-sized (Hold targets for_owner) = omega arith
-sized (Release targets) = omega arith
-sized (Requeue target) = omega arith
-sized (UpdateJob target limit nice) = omega arith
-sized (UpdateNode nodes state) = omega arith
-sized (UpdatePartition name state) = omega arith
-sized (CreateReservation desc) = omega arith
-sized (DeleteReservation name) = omega arith
-sized (Report report) = omega arith
 sized Pass = omega arith
-sized Shutdown = omega arith
-sized (Reconfigure conf bytes) = omega arith
-sized (Show query) = omega arith
-
-stays-on : (s : State) (Q : JobRecord → Type 0) → All Q s.jobs → GoesOn s s Q
-stays-on s Q all = record { all = all; size = inl refl; not_less = omega arith; next = omega arith }
-
-goes-left : (s : State) (Q : JobRecord → Type 0) (moment size : ℕ) (verdict : Verdict) → 1 ≤ size → All Q s.jobs
-    → GoesBy s Q verdict
-    → GoesOn s (if is_entered (reply_by verdict) then entered moment size (left_by s verdict) else s) Q
-goes-left s Q moment size (Refuses refusal) some all went = stays-on s Q all
-goes-left s Q moment size (Tells view) some all went = stays-on s Q all
-goes-left s Q moment size Stays some all went = stays-on s Q all
-goes-left s Q moment size (Makes reply after) some all went =
-    cond_both (is_entered reply) (entered moment size after) s (λ (t : State). GoesOn s t Q)
-    (λ enters. record {
-      all = went.all;
-      size = inr (omega (arith, went.size, some));
-      not_less = omega (arith, went.size);
-      next = went.next;
-    })
-    (λ other. stays-on s Q all)
+sized request = omega arith
 
 pub step_goes : Passes → (s : State) (Q : JobRecord → Type 0) → Lasts s Q → (now : ℕ) (user : List ℕ)
     (request : Request) → IsSound s → All Q s.jobs → All (λ (job : JobRecord). job.starts ≤ s.size) s.jobs
     → GoesOn s (state_after s now user request) Q
 step_goes passes s Q lasts now user request sound all few =
-    goes-left s Q (raised s now) (size_of request) (verdict_of s now user request) (sized request) all
-    (goes-early passes s Q lasts now user request (nat_lt last_moment now) (is_closed s request) sound all few refl)
+    step_is (λ (t : State). GoesOn s t Q) s now user request
+    (record { all = all; size = inl refl; not_less = omega arith; next = omega arith })
+    (λ reply after is.
+    let went = goes-made passes s Q lasts (raised s now) user request after sound (omega arith)
+    (omega (arith, sound.moment, is.in_time)) all few is.kind in
+    record {
+      all = went.all;
+      size = inr (omega (arith, went.size, sized request));
+      not_less = omega (arith, went.size);
+      next = went.next;
+    })

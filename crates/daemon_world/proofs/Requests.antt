@@ -1,18 +1,12 @@
 -- What users ask, and a pass, leave each node's side alone.
-use Rattle.std.proofs.Common.{ℕ, ◌≡◌, ◌≤◌, ◌∙◌, Bool, true, false, ◌&&◌, not, List, [], ◌∷◌, map, Any, Option, Some, None, if◌then◌else◌, refl, sym, ap, arith, inl, slice_get}
-use Rattle.std.specs.Prelude.{nat_lt}
+use Rattle.std.proofs.Common.{ℕ, ◌≡◌, ◌≤◌, ◌∙◌, Bool, true, false, ◌&&◌, not, List, [], ◌∷◌, map, Any, Option, Some, None, refl, sym, ap, arith, inl}
 use Rattle.std.specs.List.{list_any}
-use Rattle.std.proofs.lemmas.Bool.{both_ways, cond_both, ltb-false, not_from_false}
+use Rattle.std.proofs.lemmas.Bool.{both_ways, cond_both, not_from_false}
 use Rattle.plain_data.specs.declared.limit.Limit.{Limit}
 use Rattle.plain_data.specs.declared.nice.Nice.{Nice}
-use Rattle.plain_data.specs.declared.conf.PartState.{PartState}
-use Rattle.plain_data.specs.declared.job.JobDesc.{JobDesc}
-use Rattle.reply_data.specs.declared.refusal.Refusal.{Refusal}
-use Rattle.reply_data.specs.declared.refusal.Refusal.TheVariants.{MomentTooLarge, ShuttingDown}
 use Rattle.request_data.specs.declared.request.NodeOrder.{NodeOrder}
 use Rattle.request_data.specs.declared.request.NodeOrder.TheVariants as order
 use Rattle.request_data.specs.declared.request.Request.{Request}
-use Rattle.request_data.specs.declared.request.Request.TheVariants.{Submit, Cancel, Hold, Release, Requeue, UpdateJob, UpdateNode, UpdatePartition, CreateReservation, DeleteReservation, Report, Pass, Shutdown, Reconfigure, Show}
 use Rattle.request_data.specs.declared.state.Final.TheVariants as final
 use Rattle.request_data.specs.declared.state.JobState.{JobState}
 use Rattle.request_data.specs.declared.state.JobState.TheVariants.{Pending, Running, Completing, Ended}
@@ -20,7 +14,6 @@ use Rattle.node_state.specs.declared.record.NodeChange.TheVariants as change
 use Rattle.node_state.specs.declared.record.NodeRecord.{NodeRecord}
 use Rattle.node_state.specs.Laws.{PlacesAreNamed}
 use Rattle.node_state.specs.Nodes.{place_named}
-use Rattle.node_state.specs.Partitions.{place_meant}
 use Rattle.job_table.specs.declared.record.JobRecord.{JobRecord}
 use Rattle.job_table.specs.declared.record.Part.{Part}
 use Rattle.job_table.specs.declared.change.Change.TheVariants.{Leave}
@@ -29,29 +22,27 @@ use Rattle.job_table.specs.JobStates.{is_ended, is_holding, is_pending, is_runni
 use Rattle.job_table.specs.Table.{has_id}
 use Rattle.ctl_state.specs.Holding.{has_members}
 use Rattle.ctl_state.specs.Planning.{is_at}
-use Rattle.ctl_state.specs.Refusals.{first_refusal, refused_if, unless_refused}
 use Rattle.ctl_state.specs.Soundness.{IsKept, IsSound, is_up_at}
 use Rattle.ctl_state.specs.State.{State, last_moment}
-use Rattle.ctl_state.specs.Verdicts.{Verdict, Refuses, Tells, Stays, Makes, left_by, reply_by}
 use Rattle.ctl_jobs.specs.declared.action.Action.{Action}
 use Rattle.ctl_jobs.specs.declared.action.Action.TheVariants as act
 use Rattle.ctl_jobs.specs.Actions.{cancelled_in, done_to, with_limit, with_nice}
-use Rattle.ctl_jobs.specs.Changing.{are_meant, are_naming, change_after, change_made, done_if, goes, may_do}
+use Rattle.ctl_jobs.specs.Changing.{change_after, done_if, may_do}
 use Rattle.ctl_nodes.specs.Changing.{changed_where}
 use Rattle.ctl_nodes.specs.Failing.{after_loss}
-use Rattle.ctl_nodes.specs.Updating.{changes_any, is_among, lost_by, update_after}
+use Rattle.ctl_nodes.specs.Updating.{is_among, lost_by, update_after}
 use Rattle.ctl_pass.specs.Limits.{is_over, timed_out}
 use Rattle.ctl_pass.specs.Passing.{outcome, pass_after}
 use Rattle.ctl_pass.specs.Preempting.{preempted, victims_in}
 use Rattle.ctl_pass.specs.Readiness.{goes as gone, jobs_left, placements, ready}
 use Rattle.ctl_node_side.specs.Reporting.{heard_of}
-use Rattle.ctl_node_side.specs.Passes.{after_pass, pass_is_idle}
+use Rattle.ctl_node_side.specs.Passes.{after_pass}
 use Rattle.ctl_node_side.specs.Silence.{any_silent, falls_silent, silent_at, silenced, without_silent}
-use Rattle.ctl_jobs.specs.Submission.{made_under, new_arrays, new_jobs, submit_after, basis_of, Basis}
-use Rattle.ctl_reconfigure.specs.Same.{is_same}
-use Rattle.ctl_core.specs.Operating.{is_in_state, partition_made}
-use Rattle.ctl_core.specs.Sizes.{has_room, size_of}
-use Rattle.ctl_core.specs.Step.{entered, is_closed, is_entered, made, raised, refusals_of, state_after, unless_full, verdict_of, worked}
+use Rattle.ctl_jobs.specs.Submission.{new_jobs}
+use Rattle.ctl_core.specs.Sizes.{size_of}
+use Rattle.ctl_core.specs.Step.{entered, raised, state_after}
+use Rattle.step_lemmas.proofs.Making.{ByAction, ByPass, ByReconfigure, ByReport, BySubmit, ByUpdateNode, MayMake}
+use Rattle.step_lemmas.proofs.Steps.{step_is}
 use Rattle.daemon_world.specs.Claims.{Claim, Holds, IsClaimed, IsHeldAt}
 use Rattle.daemon_world.specs.Leaving.{LeavesNode}
 use Rattle.daemon_world.specs.Together.{IsNoneGone, is_emptied}
@@ -257,111 +248,33 @@ whole-pass-left passes s now node sound raised in_time =
 
 -- ---- each request
 
--- whatever state the verdict makes leaves the node's side alone
-abbrev LeavesBy : State → List ℕ → Verdict → Type 0
-LeavesBy s node (Refuses refusal) = Unit {0}
-LeavesBy s node (Tells view) = Unit {0}
-LeavesBy s node Stays = Unit {0}
-LeavesBy s node (Makes reply after) = LeavesNode s after node
-
-change-made : (s : State) (now : ℕ) (user : List ℕ) (action : Action) (named : JobRecord → Bool) (node : List ℕ)
-    → LeavesBy s node (change_made s now user action named)
-change-made s now user action named node =
-    cond_both (list_any (goes s user action named) s.jobs) _ Stays (LeavesBy s node)
-    (λ some. change-left s now user action named node) (λ none. tt)
-
-submit-made : (s : State) (now : ℕ) (user : List ℕ) (desc : JobDesc) (node : List ℕ) (basis : Option Basis)
-    → LeavesBy s node (made_under s now user desc basis)
-submit-made s now user desc node None = tt
-submit-made s now user desc node (Some basis) =
-    let jobs = new_jobs s now user desc basis desc.array in
-    left_held s (submit_after s jobs (new_arrays s desc.array)) node refl refl
-    (λ place claim held. any_left (Holds place claim) s.jobs jobs held)
-
-partition-made : (s : State) (state : PartState) (node : List ℕ) (place : Option ℕ)
-    → LeavesBy s node (partition_made s state place)
-partition-made s state node None = tt
-partition-made s state node (Some place) =
-    cond_both (is_in_state state (slice_get s.partitions place)) Stays _ (LeavesBy s node) (λ had. tt)
-    (λ out. left_held s _ node refl refl (λ place claim held. held))
-
-leaves-made : Passes → PlacesAreNamed → (s : State) (moment : ℕ) (user : List ℕ) (request : Request) (node : List ℕ)
-    → IsSound s → IsNoneGone s node → s.moment ≤ moment → moment ≤ last_moment → IsNoReport request
-    → LeavesBy s node (made s moment user request)
-leaves-made passes law s moment user (Submit desc) node sound apart later in_time own =
-    submit-made s moment user desc node (basis_of s user desc)
-leaves-made passes law s moment user (Cancel targets) node sound apart later in_time own =
-    change-made s moment user act.Cancel (are_meant targets) node
-leaves-made passes law s moment user (Hold targets for_owner) node sound apart later in_time own =
-    change-made s moment user (act.Hold for_owner) (are_naming targets) node
-leaves-made passes law s moment user (Release targets) node sound apart later in_time own =
-    change-made s moment user act.Release (are_naming targets) node
-leaves-made passes law s moment user (Requeue target) node sound apart later in_time own =
-    change-made s moment user act.Requeue (are_naming (target ∷ [])) node
-leaves-made passes law s moment user (UpdateJob target limit nice) node sound apart later in_time own =
-    change-made s moment user (act.Update limit nice) (are_naming (target ∷ [])) node
-leaves-made passes law s moment user (UpdateNode nodes state) node sound apart later in_time own =
-    cond_both (changes_any s nodes state) _ Stays (LeavesBy s node) (λ some. update-left s moment nodes state node)
-    (λ none. tt)
-leaves-made passes law s moment user (UpdatePartition name state) node sound apart later in_time own =
-    partition-made s state node (place_meant (Some name) s.partitions)
-leaves-made passes law s moment user (CreateReservation desc) node sound apart later in_time own =
-    left_held s _ node refl refl (λ place claim held. held)
-leaves-made passes law s moment user (DeleteReservation name) node sound apart later in_time own =
-    left_held s _ node refl refl (λ place claim held. held)
-leaves-made passes law s moment user Shutdown node sound apart later in_time own =
-    left_held s _ node refl refl (λ place claim held. held)
-leaves-made passes law s moment user (Report report) node sound apart later in_time own = absurd own
-leaves-made passes law s moment user Pass node sound apart later in_time own =
-    cond_both (pass_is_idle s moment) Stays _ (LeavesBy s node) (λ idle. tt)
-    (λ busy. whole-pass-left passes s moment node sound later in_time)
-leaves-made passes law s moment user (Reconfigure conf bytes) node sound apart later in_time own =
-    cond_both (is_same s conf) Stays _ (LeavesBy s node) (λ idle. tt)
-    (λ other. reconfigured_leaves law s moment conf node sound.nodes.named apart)
-leaves-made passes law s moment user (Show query) node sound apart later in_time own = tt
-
-leaves-full : (s : State) (node : List ℕ) (room : Bool) (verdict : Verdict) → LeavesBy s node verdict
-    → LeavesBy s node (unless_full room verdict)
-leaves-full s node true verdict leaves = leaves
-leaves-full s node false (Refuses refusal) leaves = tt
-leaves-full s node false (Tells view) leaves = tt
-leaves-full s node false Stays leaves = tt
-leaves-full s node false (Makes reply after) leaves = tt
-
-leaves-judged : (s : State) (node : List ℕ) (refusal : Option Refusal) (verdict : Verdict) → LeavesBy s node verdict
-    → LeavesBy s node (unless_refused refusal verdict)
-leaves-judged s node None verdict leaves = leaves
-leaves-judged s node (Some refusal) verdict leaves = tt
-
-leaves-early : Passes → PlacesAreNamed → (s : State) (now : ℕ) (user : List ℕ) (request : Request) (node : List ℕ)
-    (early closed : Bool) → IsSound s → IsNoneGone s node → IsNoReport request → nat_lt last_moment now ≡ early
-    → LeavesBy s node
-    (unless_refused (first_refusal (refused_if early MomentTooLarge ∷ refused_if closed ShuttingDown ∷ []))
-    (worked s (raised s now) user request))
-leaves-early passes law s now user request node true closed sound apart own is = tt
-leaves-early passes law s now user request node false true sound apart own is = tt
-leaves-early passes law s now user request node false false sound apart own is =
-    let moment = raised s now in
-    let in_time = ltb-false last_moment now is in
-    leaves-judged s node (first_refusal (refusals_of s moment user request)) _
-    (leaves-full s node (has_room s request) (made s moment user request)
-    (leaves-made passes law s moment user request node sound apart (omega arith)
-    (omega (arith, sound.moment, in_time)) own))
-
-leaves-left : (s : State) (moment size : ℕ) (node : List ℕ) (verdict : Verdict) → LeavesBy s node verdict
-    → LeavesNode s (if is_entered (reply_by verdict) then entered moment size (left_by s verdict) else s) node
-leaves-left s moment size node (Refuses refusal) leaves = left_same s s node refl refl refl
-leaves-left s moment size node (Tells view) leaves = left_same s s node refl refl refl
-leaves-left s moment size node Stays leaves = left_same s s node refl refl refl
-leaves-left s moment size node (Makes reply after) leaves =
-    cond_both (is_entered reply) (entered moment size after) s (λ (t : State). LeavesNode s t node)
-    (λ enters. leaves_on s after (entered moment size after) node leaves
-    (left_same after (entered moment size after) node refl refl refl))
-    (λ other. left_same s s node refl refl refl)
+-- what a request makes that is no report leaves the node's side alone
+leaves-made : Passes → PlacesAreNamed → (s : State) (moment : ℕ) (user : List ℕ) (request : Request) (after : State)
+    (node : List ℕ) → IsSound s → IsNoneGone s node → s.moment ≤ moment → moment ≤ last_moment → IsNoReport request
+    → MayMake s moment user request after → LeavesNode s after node
+leaves-made passes law s moment user request after node sound apart later in_time own (BySubmit desc basis found) =
+    left_held s after node refl refl
+    (λ place claim held. any_left (Holds place claim) s.jobs (new_jobs s moment user desc basis desc.array) held)
+leaves-made passes law s moment user request after node sound apart later in_time own (ByAction action named asks) =
+    change-left s moment user action named node
+leaves-made passes law s moment user request after node sound apart later in_time own (ByUpdateNode nodes order) =
+    update-left s moment nodes order node
+leaves-made passes law s moment user request after node sound apart later in_time own (ByReport report place found) =
+    absurd own
+leaves-made passes law s moment user request after node sound apart later in_time own ByPass =
+    whole-pass-left passes s moment node sound later in_time
+leaves-made passes law s moment user request after node sound apart later in_time own (ByReconfigure conf bytes) =
+    reconfigured_leaves law s moment conf node sound.nodes.named apart
+leaves-made passes law s moment user request after node sound apart later in_time own other =
+    left_held s after node refl refl (λ place claim held. held)
 
 -- Whatever is asked but a report leaves each node's side alone.
 pub asked_leaves : Passes → PlacesAreNamed → (s : State) (now : ℕ) (user : List ℕ) (request : Request) (node : List ℕ)
     → IsSound s → IsNoneGone s node → IsNoReport request → LeavesNode s (state_after s now user request) node
 asked_leaves passes law s now user request node sound apart own =
-    leaves-left s (raised s now) (size_of request) node (verdict_of s now user request)
-    (leaves-early passes law s now user request node (nat_lt last_moment now) (is_closed s request) sound apart own refl)
+    let moment = raised s now in
+    step_is (λ (t : State). LeavesNode s t node) s now user request (left_same s s node refl refl refl)
+    (λ reply after is. leaves_on s after (entered moment (size_of request) after) node
+    (leaves-made passes law s moment user request after node sound apart (omega arith)
+    (omega (arith, sound.moment, is.in_time)) own is.kind)
+    (left_same after (entered moment (size_of request) after) node refl refl refl))

@@ -13,6 +13,7 @@ use Rattle.request_data.specs.declared.state.Final.TheVariants as finals
 use Rattle.job_table.specs.declared.awaited.Awaited.{Awaited}
 use Rattle.job_table.specs.declared.record.JobRecord.{JobRecord}
 use Rattle.job_table.specs.declared.record.Part.{Part}
+use Rattle.job_table.specs.declared.terms.Terms.{Terms}
 use Rattle.job_table.specs.declared.change.Change.{Change}
 use Rattle.job_table.specs.declared.change.Change.TheVariants.{Start, Leave, CancelPending, CancelRequeue, DropPart, SetHold, SetLimit, SetNice}
 use Rattle.job_table.specs.Awaiting.{AddsAwaited, ShowsAwaited, awaits, has_awaited, index_named, is_awaited, names_by, names_in, names_job}
@@ -63,39 +64,48 @@ awaited-by_number jobs one other same array index =
     any-same (λ waiting. awaits waiting one) (λ waiting. awaits waiting other) jobs
     (λ waiting. awaits-same waiting one other same array index)
 
--- what a change leaves of what a job is found by
-off_node-found : (now node : ℕ) (job : JobRecord) (state : JobState)
-    → found_by (off_node now node job state) ≡ found_by job
-off_node-found now node job Pending = refl
-off_node-found now node job Running = refl
-off_node-found now node job (Completing final) = by (parts_off node job.parts)
+-- what a change leaves of a job: what it is found by, and its terms
+abbrev lasting : JobRecord → (ℕ × Option ℕ × Option ℕ) × Terms
+lasting job = (found_by job, job.terms)
+
+off_node-lasting : (now node : ℕ) (job : JobRecord) (state : JobState)
+    → lasting (off_node now node job state) ≡ lasting job
+off_node-lasting now node job Pending = refl
+off_node-lasting now node job Running = refl
+off_node-lasting now node job (Completing final) = by (parts_off node job.parts)
   where
-    by : (parts : List Part) → found_by (with_left now final parts job) ≡ found_by job
+    by : (parts : List Part) → lasting (with_left now final parts job) ≡ lasting job
     by [] = refl
     by (part ∷ later) = refl
-off_node-found now node job (Ended final) = refl
+off_node-lasting now node job (Ended final) = refl
 
-not_again-found : (job : JobRecord) (state : JobState) → found_by (not_again job state) ≡ found_by job
-not_again-found job Pending = refl
-not_again-found job Running = refl
-not_again-found job (Completing finals.Requeue) = refl
-not_again-found job (Completing final) = refl
-not_again-found job (Ended final) = refl
+not_again-lasting : (job : JobRecord) (state : JobState) → lasting (not_again job state) ≡ lasting job
+not_again-lasting job Pending = refl
+not_again-lasting job Running = refl
+not_again-lasting job (Completing finals.Requeue) = refl
+not_again-lasting job (Completing final) = refl
+not_again-lasting job (Ended final) = refl
 
-cond-found : (b : Bool) (one other : JobRecord) → found_by one ≡ found_by other
-    → found_by (cond b one other) ≡ found_by other
-cond-found true one other same = same
-cond-found false one other same = refl
+cond-lasting : (b : Bool) (one other : JobRecord) → lasting one ≡ lasting other
+    → lasting (cond b one other) ≡ lasting other
+cond-lasting true one other same = same
+cond-lasting false one other same = refl
+
+changed-lasting : (change : Change) (job : JobRecord) → lasting (changed change job) ≡ lasting job
+changed-lasting (Start now parts nodes) job = refl
+changed-lasting (Leave final now exit) job = cond-lasting (is_running job.state) _ job refl
+changed-lasting (CancelPending now) job = cond-lasting (is_pending job.state) _ job refl
+changed-lasting CancelRequeue job = not_again-lasting job job.state
+changed-lasting (DropPart node now) job = off_node-lasting now node job job.state
+changed-lasting (SetHold by) job = refl
+changed-lasting (SetLimit limit) job = refl
+changed-lasting (SetNice nice) job = refl
 
 pub changed-found : (change : Change) (job : JobRecord) → found_by (changed change job) ≡ found_by job
-changed-found (Start now parts nodes) job = refl
-changed-found (Leave final now exit) job = cond-found (is_running job.state) _ job refl
-changed-found (CancelPending now) job = cond-found (is_pending job.state) _ job refl
-changed-found CancelRequeue job = not_again-found job job.state
-changed-found (DropPart node now) job = off_node-found now node job job.state
-changed-found (SetHold by) job = refl
-changed-found (SetLimit limit) job = refl
-changed-found (SetNice nice) job = refl
+changed-found change job = ap (λ of. of.0) (changed-lasting change job)
+
+pub changed-terms : (change : Change) (job : JobRecord) → (changed change job).terms ≡ job.terms
+changed-terms change job = ap (λ of. of.1) (changed-lasting change job)
 
 pub awaited-changed : (jobs : List JobRecord) (change : Change) (job : JobRecord)
     → is_awaited jobs (changed change job) ≡ is_awaited jobs job

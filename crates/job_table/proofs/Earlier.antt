@@ -1,4 +1,4 @@
--- Jobs with lower numbers.
+-- Jobs with lower numbers, and whether jobs may wait for such ones.
 use Rattle.std.proofs.Common.{◌≡◌, ℕ, ◌+◌, ◌<◌, Bool, true, false, ◌&&◌, ◌||◌, cond, nat_eq, nat_lt, List, [], ◌∷◌, take, drop, length, get_or, All, refl, sym, ap, ◌∙◌, arith, inl, inr}
 use Rattle.std.specs.List.{AllWithin, filter, list_any}
 use Rattle.std.specs.List.Sorted.{IsPartitionedBy}
@@ -7,8 +7,9 @@ use Rattle.std.proofs.lemmas.Bool.{cases_lt}
 use Rattle.std.proofs.lemmas.List.{get_or-drop, get_or-take, get_or_default, length-drop, length-take-le, take-append-drop}
 use Rattle.std.proofs.lemmas.List.Elements.{All-head, All-tail}
 use Rattle.std.proofs.lemmas.List.Folds.{list_any-append, list_any_more, list_any_none}
+use Rattle.list_lemmas.proofs.Elements.{any-none}
 use Rattle.job_table.specs.declared.record.JobRecord.{JobRecord}
-use Rattle.job_table.specs.Behind.{is_alike}
+use Rattle.job_table.specs.Behind.{NoneWaitsBehind, is_alike, one_waits_behind, waits_behind}
 use Rattle.job_table.specs.Table.{HaveRisingIds}
 use Rattle.job_table.specs.Standing.{is_before}
 use Rattle.job_table.proofs.Awaiting.{finds_number}
@@ -106,3 +107,10 @@ finds-more test jobs k number job inside is =
     ∙ list_any_more (λ one. test one && by one) jobs k job inside
     ∙ ap (λ one. list_any (λ other. test other && by other) (take k jobs) || (test one && by one)) (sym is)
     ∙ ap (λ found. found || (test job && by job)) (sym (any-filtered test by (take k jobs)))
+
+-- where none may wait none does, and else where none is found
+pub none-left : (may_wait : Bool) (jobs : List JobRecord) → (may_wait ≡ false → NoneWaitsBehind jobs)
+    → (may_wait && one_waits_behind jobs) ≡ false
+    → NoneWaitsBehind jobs
+none-left true jobs known none = any-none (λ (job : JobRecord). waits_behind job.terms) jobs none
+none-left false jobs known none = known refl

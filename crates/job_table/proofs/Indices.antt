@@ -9,6 +9,7 @@ use Rattle.std.proofs.lemmas.Bool.Decides.{nat_tests}
 use Rattle.std.proofs.lemmas.List.{get_or-drop, get_or-map, get_or-take, get_or_default, length-drop, length-map, length-take, length-take-le, take_all}
 use Rattle.job_table.specs.declared.record.JobRecord.{JobRecord}
 use Rattle.job_table.specs.Table.{HaveRisingIds, IsJobTable, IsTable, entry_of}
+use Rattle.job_table.specs.Behind.{NoneWaitsBehind}
 use Rattle.job_table.specs.Blocks.{AreMarked}
 use Rattle.job_table.specs.declared.blocks.Block.{Block}
 use Rattle.job_table.specs.Tallies.{IsTallied}
@@ -248,17 +249,18 @@ found-alike one other same array index = cc
 
 -- A table whose records are found by the same as those of another.
 pub table-found : (entries : List (ℕ × JobRecord)) (jobs were : List JobRecord) (by_index : Bool)
-    (blocks : List Block) (tallies : Tallies)
+    (blocks : List Block) (tallies : Tallies) (may_wait : Bool)
     → IsTable entries
     → entries ≡ map entry_of jobs → map found_by jobs ≡ map found_by were
     → (by_index ≡ true → HaveRisingIndices were)
-    → AreMarked blocks jobs → IsTallied tallies jobs
-    → IsJobTable entries by_index blocks tallies
-table-found entries jobs were by_index blocks tallies table are same rises marked tallied =
+    → AreMarked blocks jobs → IsTallied tallies jobs → (may_wait ≡ false → NoneWaitsBehind jobs)
+    → IsJobTable entries by_index blocks tallies may_wait
+table-found entries jobs were by_index blocks tallies may_wait table are same rises marked tallied behind =
     let listed : values_of entries ≡ jobs = ap values_of are ∙ values-entries jobs in
     record {
       table = table;
       indices = λ known. rw listed (indices-same jobs were same (rises known));
       marked = rw listed marked;
       tallied = rw listed tallied;
+      behind = λ none. rw listed (behind none);
     }

@@ -2,7 +2,7 @@
 use Rattle.std.proofs.Common.{◌≡◌, ℕ, zero, suc, ◌+◌, ◌<◌, ◌≤◌, List, [], ◌∷◌, ◌++◌, length, map, take, drop, slice_get, All, HoldsAt, refl, ap, sym, ◌∙◌, arith, add-one}
 use Rattle.std.specs.List.{AllWithin}
 use Rattle.std.proofs.lemmas.List.{map-append, take-append-drop}
-use Rattle.std.proofs.lemmas.List.Elements.{All-head, All-tail}
+use Rattle.std.proofs.lemmas.List.Elements.{All-cons, All-head, All-tail}
 use Rattle.job_table.specs.Walks.{map_at, walked}
 
 -- what stays as it is
@@ -78,3 +78,11 @@ pub map_at-twice : {X : Type 0} (f g : X → X) (place : ℕ) (xs : List X)
 map_at-twice f g place [] = refl
 map_at-twice f g zero (x ∷ xs) = refl
 map_at-twice f g (suc place) (x ∷ xs) = ap (λ rest. x ∷ rest) (map_at-twice f g place xs)
+
+-- what holds of each member, and of what becomes of one
+pub all-map_at : {X : Type 0} (P : X → Type 0) (f : X → X) (place : ℕ) (xs : List X) → ((x : X) → P x → P (f x))
+    → All P xs → All P (map_at place f xs)
+all-map_at P f place [] keeps all = all
+all-map_at P f zero (x ∷ xs) keeps all = All-cons P (f x) xs (keeps x (All-head P x xs all)) (All-tail P x xs all)
+all-map_at P f (suc place) (x ∷ xs) keeps all =
+    All-cons P x (map_at place f xs) (All-head P x xs all) (all-map_at P f place xs keeps (All-tail P x xs all))

@@ -1,11 +1,12 @@
 -- The table: the records in the order of their numbers.
-use Rattle.std.specs.Prelude.{◌≡◌, ℕ, ◌+◌, ◌<◌, Bool, true, ◌&&◌, not, nat_eq, nat_le, if◌then◌else◌, unwrap_or, List, map, find, AllPairs, Option}
+use Rattle.std.specs.Prelude.{◌≡◌, ℕ, ◌+◌, ◌<◌, Bool, true, false, ◌&&◌, not, nat_eq, nat_le, if◌then◌else◌, unwrap_or, List, map, find, AllPairs, Option}
 use Rattle.std.specs.Map.{values_of}
 use Rattle.job_table.specs.declared.record.JobRecord.{JobRecord}
 use Rattle.job_table.specs.declared.change.Change.{Change}
 use Rattle.job_table.specs.Changes.{changed}
 use Rattle.job_table.specs.JobStates.{is_ended}
 use Rattle.job_table.specs.Targets.{HaveRisingIndices}
+use Rattle.job_table.specs.Behind.{NoneWaitsBehind}
 use Rattle.job_table.specs.Blocks.{AreMarked}
 use Rattle.job_table.specs.declared.blocks.Block.{Block}
 use Rattle.job_table.specs.Tallies.{IsTallied}
@@ -30,13 +31,14 @@ pub record IsTable (entries : List (ℕ × JobRecord)) : Type 0 where
   pub under_ids : entries ≡ map entry_of (values_of entries)
   pub rising : HaveRisingIds (values_of entries)
 
--- Entries that are a table, whether it is known that indices rise in it, what may lie on which node or hold anything, and
--- how many jobs haven't ended.
-pub record IsJobTable (entries : List (ℕ × JobRecord)) (by_index : Bool) (blocks : List Block) (tallies : Tallies) : Type 0 where
+-- Entries that are a table, whether it is known that indices rise in it, what may lie on which node or hold anything, how
+-- many jobs haven't ended, and whether one may wait for others of its user and name.
+pub record IsJobTable (entries : List (ℕ × JobRecord)) (by_index : Bool) (blocks : List Block) (tallies : Tallies) (may_wait_behind : Bool) : Type 0 where
   pub table : IsTable entries
   pub indices : by_index ≡ true → HaveRisingIndices (values_of entries)
   pub marked : AreMarked blocks (values_of entries)
   pub tallied : IsTallied tallies (values_of entries)
+  pub behind : may_wait_behind ≡ false → NoneWaitsBehind (values_of entries)
 
 abbrev pub has_id : ℕ → JobRecord → Bool
 has_id id job = nat_eq job.id id

@@ -4,14 +4,15 @@ ghost use Rattle.std.specs.Prelude.{◌≡◌, ◌||◌, ◌&&◌, ℕ, All, IfO
 ghost use Rattle.std.specs.HashSet.{contains};
 ghost use Rattle.std.specs.List.{list_any};
 ghost use Rattle.job_table.specs.declared.record.JobRecord.{JobRecord};
-ghost use Rattle.job_table.specs.Behind.{ShowsBehind, UserAndName, is_alike, same_texts};
+ghost use Rattle.job_table.specs.Behind.{ShowsBehind, UserAndName, has_singleton, is_alike, is_singleton, one_waits_behind, same_texts, waits_behind};
 ghost use Rattle.job_table.specs.Standing as spec;
 ghost use Rattle.job_table.specs.Table.{HaveRisingIds};
 
 use crate::jobs::Jobs;
 use crate::record::JobRecord;
 use crate::standing::is_ended;
-use plain_data::dependency::{DepItem, DepKind};
+use crate::terms::Terms;
+use plain_data::dependency::{DepItem, DepKind, DepSpec};
 use request_data::state::JobState;
 use small_texts::memory_error::Memory;
 use std::alloc::Global;
@@ -34,12 +35,13 @@ impl Behind {
     }
 
     /// What is to be known of these jobs: of all, where one waits for those of its user and name, and else nothing. One
-    /// walk over them; it takes memory for the numbers of those that have another before them.
+    /// walk over them, but constant time where the table knows that the terms of none say to wait so; it takes memory for
+    /// the numbers of those that have another before them.
     pub fn of(alloc: Global, jobs: &Jobs) -> Result<Behind, Memory>
         ensures { IfOk result (λ behind. All (ShowsBehind behind jobs.now.records) jobs.now.records) }
     {
         let records = jobs.records();
-        if !records.iter().any(|job| waits_alone(job)) {
+        if !jobs.may_wait_behind() || !records.iter().any(|job| waits_alone(job)) {
             return Ok(Behind::unknown());
         }
         Ok(Behind {
@@ -50,18 +52,44 @@ impl Behind {
 
 // Whether the job waits for those of its user and name.
 fn waits_alone(job: &JobRecord) -> bool {
-    match &job.terms().dependency {
-        Some(needs) if job.state == JobState::Pending => needs
-            .items
-            .as_slice()
-            .iter()
-            .any(|item| is_singleton(item)),
-        _ => false,
+    job.state == JobState::Pending && waits_behind(job.terms())
+}
+
+/// Whether the terms say that a job waits for those before it of its user and name. Linear in what it waits for.
+#[tactic(auto, unfolding(crate::specs::Behind::waits_behind))]
+pub(crate) fn waits_behind(terms: &Terms) -> bool
+    ensures { result ≡ waits_behind terms.now }
+{
+    match &terms.dependency {
+        Some(needs) => has_singleton(needs),
+        None => false,
     }
 }
 
-fn is_singleton(item: &DepItem) -> bool {
+fn has_singleton(needs: &DepSpec) -> bool
+    ensures { result ≡ has_singleton needs.now }
+{
+    needs.items.as_slice().iter().any(|item| is_singleton(item))
+}
+
+fn is_singleton(item: &DepItem) -> bool
+    ensures { result ≡ is_singleton item.now.kind }
+{
     matches!(item.kind, DepKind::Singleton)
+}
+
+/// Whether one of the jobs has such terms.
+pub(crate) fn one_waits_behind(jobs: &[JobRecord]) -> bool
+    ensures { result ≡ one_waits_behind jobs.now }
+{
+    jobs.iter().any(|job| waits_behind(job.terms()))
+}
+
+/// The same, in constant time where none may have.
+pub(crate) fn still_waits_behind(may_wait: bool, jobs: &[JobRecord]) -> bool
+    ensures { result ≡ (may_wait && one_waits_behind jobs.now) }
+{
+    may_wait && one_waits_behind(jobs)
 }
 
 // Adds the user and the name of a job that hasn't ended.

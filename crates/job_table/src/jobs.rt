@@ -11,11 +11,13 @@ ghost use Rattle.job_table.specs.Targets.{AreTogether, found_by, is_named};
 ghost use Rattle.job_table.specs.Usage.{Charges, IsNoStart, charged_by, is_start};
 ghost use Rattle.job_table.specs.Moving.{partition_moved, parts_moved};
 ghost use Rattle.job_table.specs.Walks.{map_at};
+ghost use Rattle.job_table.specs.Behind.{NoneWaitsBehind};
 ghost use Rattle.job_table.specs.Blocks.{holds_on};
 ghost use Rattle.job_table.specs.JobStates.{is_holding};
 ghost use Rattle.job_table.specs.Tallies.{ShowsUnended};
 
 use crate::awaited::Awaited;
+use crate::behind::{one_waits_behind, still_waits_behind, waits_behind};
 use crate::blocks::{BLOCK, Block, count_from, count_left, follow, next_in_holding, next_marked};
 use crate::change::{Change, apply};
 use crate::moving::{move_partition, move_parts};
@@ -91,6 +93,8 @@ pub struct Jobs {
     blocks: Vec<Block>,
     // How many jobs haven't ended, by association and quality of service.
     unended: Tallies,
+    // Whether a job may wait for those before it of its user and name, by its terms.
+    may_wait_behind: bool,
 }
 
 impl Model for Jobs {
@@ -101,7 +105,7 @@ impl Model for Jobs {
 
     ghost view = { λ jobs. record { records = values jobs.by_id; usage = jobs.usage.items } };
 
-    ghost invariant = { λ jobs. IsJobTable jobs.by_id.entries jobs.by_index jobs.blocks.items jobs.unended };
+    ghost invariant = { λ jobs. IsJobTable jobs.by_id.entries jobs.by_index jobs.blocks.items jobs.unended jobs.may_wait_behind };
 }
 
 impl Jobs {
@@ -116,6 +120,7 @@ impl Jobs {
             by_index: true,
             blocks: Vec::new(alloc),
             unended: Tallies::new(alloc),
+            may_wait_behind: false,
         })
     }
 
@@ -213,6 +218,13 @@ impl Jobs {
         }
     }
 
+    /// Whether a job may wait for those before it of its user and name, by its terms. In constant time.
+    pub(crate) fn may_wait_behind(&self) -> bool
+        ensures { result ≡ false → NoneWaitsBehind self.now.records }
+    {
+        self.may_wait_behind
+    }
+
     /// Adds these jobs, whose numbers rise and are above all others, where with them there are at most so many. Linear
     /// in them, but for a table that outgrows its memory; want of memory leaves the table as it was.
     pub fn add(&mut self, more: Vec<JobRecord>, most: u64) -> Result<(), AddRefusal>
@@ -233,6 +245,7 @@ impl Jobs {
         self.blocks.reserve(more.len() / BLOCK + 1)?;
         self.unended.open(more.as_slice())?;
         self.unended.add(more.as_slice());
+        self.may_wait_behind |= one_waits_behind(more.as_slice());
         insert_all(&mut self.by_id, more);
         let jobs = self.by_id.values().as_slice();
         let known = rise_from(self.by_index, jobs, before);
@@ -295,8 +308,8 @@ impl Jobs {
         move_all_partitions(&mut self.by_id, places);
     }
 
-    /// Puts a record in the place of the one with its number, if there is one, in constant time: so a change is taken back
-    /// whose job was copied before (own). It takes no memory.
+    /// Puts a record in the place of the one with its number, if there is one, in constant time beside what the job holds
+    /// and waits for: so a change is taken back whose job was copied before (own). It takes no memory.
     pub fn put_back(&mut self, job: JobRecord)
         ensures records { self.new.records ≡ map (put_back_if job) self.old.records }
         ensures usage { self.new.usage ≡ self.old.usage }
@@ -317,6 +330,7 @@ impl Jobs {
         let after = pair_of(&job);
         let had = holds_any(&self.by_id[place]);
         let same = are_found_alike(&self.by_id[place], &job);
+        self.may_wait_behind |= waits_behind(job.terms());
         self.by_id[place] = job;
         self.by_index = self.by_index && same;
         self.unended.change(before, after);
@@ -346,6 +360,7 @@ impl Jobs {
         );
         let jobs = self.by_id.values().as_slice();
         count_left(&mut self.blocks, jobs, before);
+        self.may_wait_behind = still_waits_behind(self.may_wait_behind, jobs);
     }
 }
 

@@ -1,3 +1,4 @@
+pub mod Dropping
 pub mod Positions
 pub mod Quotes
 pub mod WordLemmas

@@ -1,4 +1,5 @@
-//! The plain data that readers of files and scripts make, and that the controller's crates take.
+//! The plain data that readers of files and scripts make, and that the controller's crates take; the numbers of a node's
+//! processors; numbers in their texts.
 #![tactic(auto)]
 
 ghost use Rattle.std.specs.Prelude.{◌≡◌, IfOk};

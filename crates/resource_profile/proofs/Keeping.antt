@@ -1,22 +1,25 @@
 -- A profile's parts agree after a hold is added or dropped.
-use Rattle.std.proofs.Common.{◌≡◌, ◌≢◌, ℕ, ◌+◌, ◌*◌, ◌≤◌, ◌<◌, zero, suc, true, false, ◌&&◌, cond, eqb, leb, ltb, List, [], ◌∷◌, ◌++◌, length, sum_by, get_or, slice_set, Contains, vec_len, vec_capacity, arith, refl, sym, ap, subst, ◌∙◌, inl, inr}
+use Rattle.std.proofs.Common.{◌≡◌, ◌≢◌, ℕ, ◌+◌, ◌*◌, ◌≤◌, ◌<◌, Bool, true, false, ◌&&◌, cond, eqb, leb, ltb, List, [], ◌∷◌, ◌++◌, length, sum_by, get_or, slice_set, Contains, vec_len, vec_capacity, arith, refl, sym, ap, subst, ◌∙◌, inl, inr}
 use Rattle.std.specs.List.{swap_remove}
-use Rattle.std.specs.List.Sorted.{IsPermutation, IsNonDecreasing}
-use Rattle.std.proofs.lemmas.Bool.{cases_lt, cases_eq, cases_Bool, eq-eqb, eqb-true}
+use Rattle.std.specs.List.Sorted.{IsPermutation}
+use Rattle.std.proofs.lemmas.Bool.{cases_eq, cases_Bool, eq-eqb, eqb-true}
 use Rattle.std.proofs.lemmas.List.{get_or_default, get_or-set_same, get_or-set_other, length-set}
-use Rattle.std.proofs.lemmas.List.Sums.{sum_by-cons, sum_by_push}
+use Rattle.std.proofs.lemmas.List.Sums.{sum_by-cons, sum_by_push, sum_by-le}
 use Rattle.std.proofs.lemmas.List.Elements.{All-contains}
 use Rattle.std.proofs.lemmas.List.Sorted.{sum_by-IsPermutation, IsPermutation-swap_remove}
 use Rattle.resource_profile.specs.declared.NodeRoom.{NodeRoom}
 use Rattle.resource_profile.specs.declared.Hold.{Hold}
 use Rattle.resource_profile.specs.declared.levels.Amount.{Amount}
 use Rattle.resource_profile.specs.declared.levels.Level.{Level}
+use Rattle.resource_profile.specs.declared.ends.End.{End}
 use Rattle.resource_profile.specs.declared.timeline.Timeline.{Timeline}
 use Rattle.resource_profile.specs.Free.{room_at, covers, free_cpus, free_mem}
 use Rattle.resource_profile.specs.Profiles.{AreWithin, HasFree}
 use Rattle.resource_profile.specs.Levels.{IsLevelled, CanTake, CanGive, taken, given}
 use Rattle.resource_profile.specs.Windows.{free_of}
-use Rattle.resource_profile.specs.Timelines.{holds_on, holds_until, ends_at, IsTimeline, AreKept, StaysAsItWas}
+use Rattle.resource_profile.specs.Ends.{HasEnds, ends_at}
+use Rattle.resource_profile.specs.Timelines.{holds_on, holds_until, IsTimeline, AreKept, StaysAsItWas}
+use Rattle.resource_profile.proofs.EndEdits.{counted-some, some-counted, tests-eq}
 use Rattle.resource_profile.proofs.LevelEdits.{amount}
 use Rattle.resource_profile.proofs.Held.{covers-true, covers-from, held-push}
 use Rattle.resource_profile.proofs.Least.{least_over-le}
@@ -120,38 +123,32 @@ set-each rooms holds after spare less_spare place timelines timeline long others
 ]
 
 -- the timeline that was read at a node
-pub read-timeline : (rooms : List NodeRoom) (holds : List Hold) (ends : List ℕ) (timelines : List Timeline) (spare node : ℕ) (read : Timeline) → AreKept rooms holds ends timelines spare → node < length rooms → read ≡ get_or timelines node read → IsTimeline rooms holds node spare read
+pub read-timeline : (rooms : List NodeRoom) (holds : List Hold) (ends : List End) (timelines : List Timeline) (spare node : ℕ) (read : Timeline) → AreKept rooms holds ends timelines spare → node < length rooms → read ≡ get_or timelines node read → IsTimeline rooms holds node spare read
 read-timeline rooms holds ends timelines spare node read kept inside is =
     let P : Timeline → Type 0 = λ t. IsTimeline rooms holds node spare t in
     subst P (sym is) (kept.each node read inside)
 
 -- after a hold is added
-pub kept-add : (rooms : List NodeRoom) (holds : List Hold) (ends after_ends : List ℕ) (timelines : List Timeline) (spare less_spare : ℕ) (hold : Hold) (timeline : Timeline) → AreKept rooms holds ends timelines spare → HasFree rooms holds hold → less_spare ≤ spare → IsPermutation (hold.until ∷ ends) after_ends → IsNonDecreasing after_ends → IsTimeline rooms (holds ++ hold ∷ []) hold.node less_spare timeline
+pub kept-add : (rooms : List NodeRoom) (holds : List Hold) (ends after_ends : List End) (timelines : List Timeline) (spare less_spare : ℕ) (hold : Hold) (timeline : Timeline) → AreKept rooms holds ends timelines spare → HasFree rooms holds hold → less_spare ≤ spare → ((moment : ℕ) → ends_at after_ends moment ≡ ends_at ends moment + cond (eqb hold.until moment) 1 0) → HasEnds after_ends → IsTimeline rooms (holds ++ hold ∷ []) hold.node less_spare timeline
     → AreKept rooms (holds ++ hold ∷ []) after_ends (slice_set timelines hold.node timeline) less_spare
-kept-add rooms holds ends after_ends timelines spare less_spare hold timeline kept free fewer moved sorted here = record {
+kept-add rooms holds ends after_ends timelines spare less_spare hold timeline kept free fewer counted has here = record {
   within = AreWithin-add rooms holds hold kept.within free;
   long = length-set timelines hold.node timeline ∙ kept.long;
   each = set-each rooms holds (holds ++ hold ∷ []) spare less_spare hold.node timelines timeline kept.long
       (λ node d inside apart. elsewhere-add rooms holds hold node spare less_spare (get_or timelines node d) (λ same. apart (sym same)) fewer (kept.each node d inside)) here;
-  same_ends = λ end. omega (
-    arith,
-    sum_by_push (λ (one : Hold). cond (eqb one.until end) 1 0) holds hold,
-    sum_by-IsPermutation (λ other. cond (eqb other end) 1 0) (hold.until ∷ ends) after_ends moved,
-    sum_by-cons (λ other. cond (eqb other end) 1 0) hold.until ends,
-    kept.same_ends end,
-  );
-  sorted = sorted;
+  has_ends = has;
+  same_ends = λ moment. omega (arith, sum_by_push (λ (one : Hold). cond (eqb one.until moment) 1 0) holds hold, counted moment, kept.same_ends moment);
 }
 
 -- after memory is taken for a node
-pub kept-reserve : (rooms : List NodeRoom) (holds : List Hold) (ends : List ℕ) (timelines : List Timeline) (spare node : ℕ) (read after : Timeline) → AreKept rooms holds ends timelines spare → node < length rooms → read ≡ get_or timelines node read → StaysAsItWas read after → AreKept rooms holds ends (slice_set timelines node after) spare
+pub kept-reserve : (rooms : List NodeRoom) (holds : List Hold) (ends : List End) (timelines : List Timeline) (spare node : ℕ) (read after : Timeline) → AreKept rooms holds ends timelines spare → node < length rooms → read ≡ get_or timelines node read → StaysAsItWas read after → AreKept rooms holds ends (slice_set timelines node after) spare
 kept-reserve rooms holds ends timelines spare node read after kept inside is same = record {
   within = kept.within;
   long = length-set timelines node after ∙ kept.long;
   each = set-each rooms holds holds spare spare node timelines after kept.long (λ other d there apart. kept.each other d there)
       (stays-less rooms holds node spare read after same (read-timeline rooms holds ends timelines spare node read kept inside is));
+  has_ends = kept.has_ends;
   same_ends = kept.same_ends;
-  sorted = kept.sorted;
 }
 
 -- what is held without one of the holds
@@ -229,73 +226,64 @@ can-give rooms holds rest hold spare timeline room within moved room_is is = rec
 }
 
 -- after a hold is dropped
-pub kept-drop : (rooms : List NodeRoom) (holds rest : List Hold) (ends after_ends : List ℕ) (timelines : List Timeline) (spare : ℕ) (hold : Hold) (timeline : Timeline) → AreKept rooms holds ends timelines spare → IsPermutation holds (hold ∷ rest) → IsPermutation ends (hold.until ∷ after_ends) → IsNonDecreasing after_ends → IsTimeline rooms rest hold.node spare timeline
+pub kept-drop : (rooms : List NodeRoom) (holds rest : List Hold) (ends after_ends : List End) (timelines : List Timeline) (spare : ℕ) (hold : Hold) (timeline : Timeline) → AreKept rooms holds ends timelines spare → IsPermutation holds (hold ∷ rest) → ((moment : ℕ) → ends_at after_ends moment + cond (eqb hold.until moment) 1 0 ≡ ends_at ends moment) → HasEnds after_ends → IsTimeline rooms rest hold.node spare timeline
     → AreKept rooms rest after_ends (slice_set timelines hold.node timeline) spare
-kept-drop rooms holds rest ends after_ends timelines spare hold timeline kept moved ends_moved sorted here = record {
+kept-drop rooms holds rest ends after_ends timelines spare hold timeline kept moved counted has here = record {
   within = AreWithin-drop rooms holds rest hold kept.within moved;
   long = length-set timelines hold.node timeline ∙ kept.long;
   each = set-each rooms holds rest spare spare hold.node timelines timeline kept.long
       (λ node d inside apart. elsewhere-drop rooms holds rest hold node spare (get_or timelines node d) moved (λ same. apart (sym same)) (kept.each node d inside)) here;
-  same_ends = λ end. omega (
+  has_ends = has;
+  same_ends = λ moment. omega (
     arith,
-    sum_by-IsPermutation (λ (one : Hold). cond (eqb one.until end) 1 0) holds (hold ∷ rest) moved,
-    sum_by-cons (λ (one : Hold). cond (eqb one.until end) 1 0) hold rest,
-    sum_by-IsPermutation (λ other. cond (eqb other end) 1 0) ends (hold.until ∷ after_ends) ends_moved,
-    sum_by-cons (λ other. cond (eqb other end) 1 0) hold.until after_ends,
-    kept.same_ends end,
+    sum_by-IsPermutation (λ (one : Hold). cond (eqb one.until moment) 1 0) holds (hold ∷ rest) moved,
+    sum_by-cons (λ (one : Hold). cond (eqb one.until moment) 1 0) hold rest,
+    counted moment,
+    kept.same_ends moment,
   );
-  sorted = sorted;
 }
 
--- what is counted is there
-counted-some : {X : Type 0} (count : X → ℕ) (xs : List X) (i : ℕ) (d : X) → i < length xs → 1 ≤ count (get_or xs i d) → 1 ≤ sum_by count xs
-counted-some count [] i d inside one = absurd (omega arith)
-counted-some count (x ∷ xs) zero d inside one = omega (arith, one, sum_by-cons count x xs)
-counted-some count (x ∷ xs) (suc i) d inside one =
-    let rest = counted-some count xs i d (omega (arith, inside)) one in
-    omega (arith, rest, sum_by-cons count x xs)
-
-record IsCounted {X : Type 0} (count : X → ℕ) (xs : List X) : Type 0 where
-  place : ℕ
-  inside : place < length xs
-  one : (d : X) → 1 ≤ count (get_or xs place d)
-
-some-counted : {X : Type 0} (count : X → ℕ) (xs : List X) → 1 ≤ sum_by count xs → IsCounted count xs
-some-counted count [] some = absurd (omega arith)
-some-counted count (x ∷ xs) some = elim (cases_lt 0 (count x)) [
-  | inl here ↦ record { place = 0; inside = omega arith; one = λ d. omega (arith, here) }
-  | inr none ↦
-      let rest = some-counted count xs (omega (arith, some, none, sum_by-cons count x xs)) in
-      record { place = suc rest.place; inside = omega (arith, rest.inside); one = rest.one }
-]
-
-tests-eq : (a b : ℕ) → 1 ≤ cond (eqb a b) 1 0 → a ≡ b
-tests-eq a b some = elim (cases_Bool (eqb a b)) [
-  | inl same ↦ eqb-true a b same
-  | inr not_same ↦ absurd (omega (arith, rw not_same at some))
-]
-
-eq-tests : (a b : ℕ) → a ≡ b → 1 ≤ cond (eqb a b) 1 0
-eq-tests a b same = let on = eq-eqb a b same in rw on (omega arith)
-
--- the end of each hold is among the ends, and each of these is the end of a hold
-pub end-of-hold : (holds : List Hold) (ends : List ℕ) → ((end : ℕ) → holds_until holds end ≡ ends_at ends end) → (k : ℕ) (d : Hold) → k < length holds → Contains ends (get_or holds k d).until
-end-of-hold holds ends same k d inside =
+-- a hold is counted at its end
+counted-at : (holds : List Hold) (k : ℕ) (d : Hold) → k < length holds → 1 ≤ holds_until holds (get_or holds k d).until
+counted-at holds k d inside =
     let end = (get_or holds k d).until in
-    let counted = counted-some (λ (one : Hold). cond (eqb one.until end) 1 0) holds k d inside (eq-tests end end refl) in
-    let found = some-counted (λ other. cond (eqb other end) 1 0) ends (omega (arith, counted, same end)) in
-    (found.place, found.inside, tests-eq (get_or ends found.place end) end (found.one end))
+    let same : eqb end end ≡ true = eq-eqb end end refl in
+    counted-some (λ (one : Hold). cond (eqb one.until end) 1 0) holds k d inside (rw same (omega arith))
 
-pub record IsEndOfOne (holds : List Hold) (end : ℕ) : Type 0 where
+-- some end is at the end of each hold, and some hold ends at each end
+pub record IsEndThere (ends : List End) (moment : ℕ) : Type 0 where
+  pub place : ℕ
+  pub inside : place < length ends
+  pub is : (d : End) → (get_or ends place d).moment ≡ moment
+
+pub end-of-hold : (holds : List Hold) (ends : List End) → ((moment : ℕ) → holds_until holds moment ≡ ends_at ends moment) → (k : ℕ) (d : Hold) → k < length holds → IsEndThere ends (get_or holds k d).until
+end-of-hold holds ends same k d inside =
+    let moment = (get_or holds k d).until in
+    let found = some-counted (λ (end : End). cond (eqb end.moment moment) end.count 0) ends (omega (arith, counted-at holds k d inside, same moment)) in
+    record { place = found.place; inside = found.inside; is = λ d. tests-eq _ moment _ (found.one d) }
+
+pub record IsEndOfOne (holds : List Hold) (moment : ℕ) : Type 0 where
   pub place : ℕ
   pub inside : place < length holds
-  pub is : (d : Hold) → (get_or holds place d).until ≡ end
+  pub is : (d : Hold) → (get_or holds place d).until ≡ moment
 
-pub hold-of-end : (holds : List Hold) (ends : List ℕ) (end : ℕ) → ((end : ℕ) → holds_until holds end ≡ ends_at ends end) → Contains ends end → IsEndOfOne holds end
-hold-of-end holds ends end same (place, inside, is) =
-    let counted = counted-some (λ other. cond (eqb other end) 1 0) ends place end inside (eq-tests (get_or ends place end) end is) in
-    let found = some-counted (λ (one : Hold). cond (eqb one.until end) 1 0) holds (omega (arith, counted, same end)) in
-    record { place = found.place; inside = found.inside; is = λ d. tests-eq (get_or holds found.place d).until end (found.one d) }
+pub hold-of-end : (holds : List Hold) (ends : List End) → HasEnds ends → ((moment : ℕ) → holds_until holds moment ≡ ends_at ends moment) → (k : ℕ) (d : End) → k < length ends → IsEndOfOne holds (get_or ends k d).moment
+hold-of-end holds ends has same k d inside =
+    let moment = (get_or ends k d).moment in
+    let on : eqb moment moment ≡ true = eq-eqb moment moment refl in
+    let counted = counted-some (λ (end : End). cond (eqb end.moment moment) end.count 0) ends k d inside (rw on (has.some k d inside)) in
+    let found = some-counted (λ (one : Hold). cond (eqb one.until moment) 1 0) holds (omega (arith, counted, same moment)) in
+    record { place = found.place; inside = found.inside; is = λ d. tests-eq _ moment _ (found.one d) }
+
+-- no more holds end at a moment than there are
+at-most-one : (b : Bool) → cond {A = ℕ} b 1 0 ≤ 1
+at-most-one true = omega arith
+at-most-one false = omega arith
+
+pub ends-few : (rooms : List NodeRoom) (holds : List Hold) (ends : List End) (timelines : List Timeline) (spare moment : ℕ) → AreKept rooms holds ends timelines spare → ends_at ends moment ≤ length holds
+ends-few rooms holds ends timelines spare moment kept =
+    let few = sum_by-le (λ (one : Hold). cond (eqb one.until moment) 1 0) 1 holds (λ k d inside. at-most-one (eqb (get_or holds k d).until moment)) in
+    omega (arith, kept.same_ends moment, few)
 
 -- the hold at a place is dropped
 pub dropped-moved : (holds rest : List Hold) (place : ℕ) (read hold : Hold) → place < length holds → get_or holds place hold ≡ hold → read ≡ get_or holds place read → rest ≡ swap_remove holds place read → IsPermutation holds (hold ∷ rest)
@@ -304,16 +292,16 @@ dropped-moved holds rest place read hold inside is read_is rest_is =
     rw (← same, rest_is) (IsPermutation-swap_remove holds place read inside read_is)
 
 -- what is known of a hold that there is
-pub record IsThere (rooms : List NodeRoom) (holds : List Hold) (ends : List ℕ) (hold : Hold) : Type 0 where
+pub record IsThere (rooms : List NodeRoom) (holds : List Hold) (ends : List End) (hold : Hold) : Type 0 where
   pub node : hold.node < length rooms
   pub window : hold.from < hold.until
-  pub end : Contains ends hold.until
+  pub end : 1 ≤ ends_at ends hold.until
 
-pub is-there : (rooms : List NodeRoom) (holds : List Hold) (ends : List ℕ) (timelines : List Timeline) (spare : ℕ) (hold : Hold) → AreKept rooms holds ends timelines spare → Contains holds hold → IsThere rooms holds ends hold
+pub is-there : (rooms : List NodeRoom) (holds : List Hold) (ends : List End) (timelines : List Timeline) (spare : ℕ) (hold : Hold) → AreKept rooms holds ends timelines spare → Contains holds hold → IsThere rooms holds ends hold
 is-there rooms holds ends timelines spare hold kept (place, inside, is) = record {
   node = All-contains (λ (one : Hold). one.node < length rooms) holds hold kept.within.nodes (place, inside, is);
   window = All-contains (λ (one : Hold). one.from < one.until) holds hold kept.within.windows (place, inside, is);
-  end = rw is at (end-of-hold holds ends kept.same_ends place hold inside);
+  end = omega (arith, rw is at (counted-at holds place hold inside), kept.same_ends hold.until);
 }
 
 -- there is place for the levels of a hold that is dropped, and it is counted

@@ -3,36 +3,15 @@ use Rattle.std.proofs.Common.{◌≡◌, ◌≢◌, ℕ, ◌+◌, ◌-◌, ◌�
 use Rattle.std.specs.List.{insert, remove}
 use Rattle.std.proofs.lemmas.Bool.{cases_lt, cases_eq, and_parts, eqb-true}
 use Rattle.std.proofs.lemmas.List.{get_or_default}
-use Rattle.std.proofs.lemmas.List.Edits.{get_or-insert_at, get_or-insert_below, get_or-insert_above, length-insert, get_or-remove_below, get_or-remove_above, length-remove}
+use Rattle.std.proofs.lemmas.List.Edits.{get_or-insert_at, get_or-insert_below, length-insert, get_or-remove_below, get_or-remove_above, length-remove}
 use Rattle.resource_profile.specs.declared.levels.Amount.{Amount}
 use Rattle.resource_profile.specs.declared.levels.Level.{Level}
 use Rattle.resource_profile.specs.Levels.{HasLevels, IsLevelled}
+use Rattle.resource_profile.proofs.Rising.{rising-order, insert-past, insert-rises, remove-rises}
 
 -- a level is before another one where its place is
 pub in-order : (levels : List Level) (middle i : ℕ) (d : Level) → HasLevels levels → i ≤ middle → middle < length levels → (get_or levels i d).from ≤ (get_or levels middle d).from
-in-order levels middle i d has before within = elim (cases_eq i middle) [
-  | inl same ↦ let is : i ≡ middle = same in rw is (omega arith)
-  | inr apart ↦ omega (arith, has.rising i middle d (omega arith) within)
-]
-
--- a search that halves: the levels up to one that begins up to the moment, and those from a later one on
-pub before-middle : (levels : List Level) (middle moment : ℕ) (read : Level) → HasLevels levels → middle < length levels → (get_or levels middle read).from ≤ moment → (i : ℕ) (d : Level) → i < middle + 1 → (get_or levels i d).from ≤ moment
-before-middle levels middle moment read has within early i d before =
-    let here : get_or levels middle d ≡ get_or levels middle read = get_or_default levels middle d read within in
-    let order = rw here at (in-order levels middle i d has (omega (arith, before)) within) in
-    omega (arith, order, early)
-
-pub after-middle : (levels : List Level) (middle moment : ℕ) (read : Level) → HasLevels levels → moment < (get_or levels middle read).from → (i : ℕ) (d : Level) → middle ≤ i → i < length levels → moment < (get_or levels i d).from
-after-middle levels middle moment read has late i d after within =
-    let middle_within : middle < length levels = omega (arith, after, within) in
-    let here : get_or levels middle d ≡ get_or levels middle read = get_or_default levels middle d read middle_within in
-    let order = rw here at (in-order levels i middle d has after within) in
-    omega (arith, order, late)
-
-insert-past : (levels : List Level) (place : ℕ) (level d : Level) (j : ℕ) → place < j → place ≤ length levels → get_or (insert levels place level) j d ≡ get_or levels (j - 1) d
-insert-past levels place level d j past within =
-    let e : j ≡ (j - 1) + 1 = omega arith in
-    ap (λ k. get_or (insert levels place level) k d) e ∙ get_or-insert_above levels place level d (j - 1) (omega arith) within
+in-order levels middle i d has before within = rising-order (λ (one : Level). one.from) levels middle i d has.rising before within
 
 -- the new level comes between those before its place and the others
 pub record IsBetween (levels : List Level) (place : ℕ) (level : Level) : Type 0 where
@@ -45,30 +24,7 @@ pub insert-has : (levels : List Level) (place : ℕ) (level : Level) → HasLeve
 insert-has levels place level has is = record {
   some = omega (arith, length-insert levels place level is.within);
   first = λ d. rw (get_or-insert_below levels place level d 0 is.some is.within) (has.first d);
-  rising = λ i j d low high. elim (cases_lt j place) [
-    | inl below ↦ rw (get_or-insert_below levels place level d i (omega arith) is.within, get_or-insert_below levels place level d j below is.within)
-        (has.rising i j d low (omega (arith, below, is.within)))
-    | inr above ↦ elim (cases_eq j place) [
-      | inl at ↦
-          let here : j ≡ place = at in
-          rw (here, get_or-insert_below levels place level d i (omega arith) is.within, get_or-insert_at levels place level d is.within)
-          (is.later i d (omega arith))
-      | inr past ↦
-          let long = length-insert levels place level is.within in
-          elim (cases_lt i place) [
-            | inl i_below ↦ rw (get_or-insert_below levels place level d i i_below is.within, insert-past levels place level d j (omega arith) is.within)
-                (has.rising i (j - 1) d (omega arith) (omega (arith, high, long)))
-            | inr i_above ↦ elim (cases_eq i place) [
-              | inl i_at ↦
-                  let here : i ≡ place = i_at in
-                  rw (here, get_or-insert_at levels place level d is.within, insert-past levels place level d j (omega arith) is.within)
-                  (is.earlier (j - 1) d (omega arith) (omega (arith, high, long)))
-              | inr i_past ↦ rw (insert-past levels place level d i (omega arith) is.within, insert-past levels place level d j (omega arith) is.within)
-                  (has.rising (i - 1) (j - 1) d (omega arith) (omega (arith, high, long)))
-            ]
-          ]
-    ]
-  ];
+  rising = insert-rises (λ (one : Level). one.from) levels place level has.rising is.within is.later is.earlier;
 }
 
 -- a level that says what the one before its place says changes nothing
@@ -117,16 +73,7 @@ remove-has levels place has some within =
     record {
       some = omega (arith, long, some, within);
       first = λ d. rw (get_or-remove_below levels place d 0 some within) (has.first d);
-      rising = λ i j d low high. elim (cases_lt j place) [
-        | inl below ↦ rw (get_or-remove_below levels place d i (omega arith) within, get_or-remove_below levels place d j below within)
-            (has.rising i j d low (omega (arith, below, within)))
-        | inr above ↦ elim (cases_lt i place) [
-          | inl i_below ↦ rw (get_or-remove_below levels place d i i_below within, get_or-remove_above levels place d j above within)
-              (has.rising i (j + 1) d (omega arith) (omega (arith, high, long)))
-          | inr i_above ↦ rw (get_or-remove_above levels place d i i_above within, get_or-remove_above levels place d j above within)
-              (has.rising (i + 1) (j + 1) d (omega arith) (omega (arith, high, long)))
-        ]
-      ];
+      rising = remove-rises (λ (one : Level). one.from) levels place has.rising within;
     }
 
 -- without a level that says what the one before it says, as much is said

@@ -1,6 +1,7 @@
 pub mod Least
 pub mod Held
 pub mod Rooms
+pub mod Rising
 pub mod LevelEdits
 pub mod LevelChanges
 pub mod LevelLeast

@@ -6,7 +6,7 @@ ghost use Rattle.resource_profile.specs.Windows.{free_of, IsSteady};
 ghost use Rattle.resource_profile.specs.Timelines.{IsTimeline, StaysAsItWas};
 ghost use Rattle.resource_profile.specs.declared.timeline.Timeline.{Timeline as OneTimeline};
 
-use crate::ends::{add_end, drop_end, next_end};
+use crate::ends::{End, add_end, drop_end, next_end};
 use crate::levels::{Window, least_free};
 use crate::timeline::Timeline;
 use crate::{Hold, NodeRoom};
@@ -15,13 +15,13 @@ use std::alloc::Global;
 use std::marker::Model;
 
 /// The rooms of the nodes and the holds on them. Beside the list of the holds it keeps what each node has free over
-/// time, and the ends of the holds in order.
+/// time, and in order the moments at which holds end, each once.
 #[derive(Drop)]
 pub struct Profile {
     rooms: Vec<NodeRoom>,
     holds: Vec<Hold>,
-    // The ends of the holds, upwards.
-    ends: Vec<u64>,
+    // The moments at which holds end, upwards, each once.
+    ends: Vec<End>,
     // One for each room.
     timelines: Vec<Timeline>,
     // How many holds can be added without taking memory.
@@ -137,6 +137,7 @@ impl Profile {
     }
 
     /// Adds the hold behind the others, and takes the memory that it needs. Where that is wanting, all stays as it was.
+    /// Linear in the levels of the node, and in the later ends where no other hold ends when this one does.
     pub fn hold(&mut self, hold: &Hold) -> Result<(), Memory>
         requires { HasFree self.old.rooms self.old.holds hold.now }
         ensures rooms { self.new.rooms ≡ self.old.rooms }
@@ -154,7 +155,7 @@ impl Profile {
         Ok(())
     }
 
-    /// Adds the hold. The order of the holds is left open.
+    /// Adds the hold. The order of the holds is left open. It costs what `hold` does, and takes no memory.
     pub fn add_hold(&mut self, hold: &Hold)
         requires spare { 1 ≤ self.old.spare }
         requires free { HasFree self.old.rooms self.old.holds hold.now }
@@ -216,7 +217,7 @@ impl Profile {
         (window.free.cpus, window.free.mem)
     }
 
-    /// The least end of a hold that is later than `after`. Logarithmic in the holds.
+    /// The least end of a hold that is later than `after`. Logarithmic in the ends.
     pub fn next_rise(&self, after: u64) -> Option<u64>
         ensures some { IfSome result (IsNextEnd self.now.holds after) }
         ensures none { IfNone result (All (λ hold. hold.until ≤ after) self.now.holds) }

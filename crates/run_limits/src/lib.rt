@@ -1,5 +1,5 @@
 //! Limits on jobs: the accounts, their users and qualities of service on which limits stand, what counts towards them, and
-//! which one a job reaches.
+//! which one a job reaches; and the priorities of jobs, which go by the same accounts.
 #![tactic(auto)]
 
 pub mod account_laws;

@@ -9,6 +9,7 @@ use Rattle.ctl_core.specs.Sizes.{size_of}
 use Rattle.ctl_core.specs.Step.{entered, is_entered, raised, reply_of, state_after, verdict_of}
 use Rattle.ctl_desk.specs.declared.entry.Entry.{Entry}
 use Rattle.ctl_desk.specs.History.{History, IsLegal, IsStep, after_all, present}
+use Rattle.ctl_desk.proofs.Entering.{after_all-push}
 use Rattle.sacct_book.specs.declared.window.Window.{Window}
 use Rattle.sacct_book.specs.declared.timeline.Timeline.{Timeline}
 use Rattle.request_data.specs.declared.target.Target.{Target}
@@ -27,12 +28,6 @@ use Rattle.sacct_book.proofs.Overlap.{seconds_in-few}
 use Rattle.sacct_book.proofs.Pushing.{used_at-none, used_at-push}
 
 -- ---- the last entry
-
--- it acts last
-pub after_all-push : (s : State) (es : List Entry) (e : Entry)
-    → after_all s (es ++ e ∷ []) ≡ state_after (after_all s es) e.moment e.user e.request
-after_all-push s [] e = refl
-after_all-push s (a ∷ es) e = after_all-push (state_after s a.moment a.user a.request) es e
 
 -- it is one that the controller makes then
 pub last-step : (s : State) (es : List Entry) (e : Entry) → IsLegal s (es ++ e ∷ []) → IsStep (after_all s es) e

@@ -1,7 +1,6 @@
 -- Requests leave what the running jobs hold that aren't named.
 use Rattle.std.proofs.Common.{ℕ, ◌≡◌, ◌∙◌, Bool, true, false, ◌&&◌, ◌||◌, not, cond, List, [], ◌∷◌, map, find, sum_by, Option, Some, None, nat_eq, refl, sym, ap, subst, arith, inl, inr}
 use Rattle.std.specs.Prelude.{unwrap_or}
-use Rattle.std.specs.List.{list_any}
 use Rattle.std.proofs.lemmas.Bool.{both_ways, cases_Bool, cond_both}
 use Rattle.std.proofs.lemmas.List.Sums.{sum_by-cons}
 use Rattle.request_data.specs.declared.report.Done.{Done}
@@ -14,8 +13,6 @@ use Rattle.request_data.specs.declared.target.Target.{Target}
 use Rattle.request_data.specs.declared.target.Targets.TheVariants.{List as Listed, User}
 use Rattle.request_data.specs.declared.request.NodeOrder.TheVariants as order
 use Rattle.request_data.specs.declared.request.Request.{Request}
-use Rattle.request_data.specs.declared.request.Request.TheVariants.{Submit, Cancel, Hold, Release, Requeue, UpdateJob, UpdateNode, UpdatePartition, CreateReservation, DeleteReservation, Report, Pass, Shutdown, Reconfigure, Show}
-use Rattle.reply_data.specs.declared.reply.Reply.TheVariants.{Done as IsDone}
 use Rattle.job_table.specs.declared.change.Change.{Change}
 use Rattle.job_table.specs.declared.change.Change.TheVariants.{Start, Leave, CancelPending, CancelRequeue, DropPart, SetHold, SetLimit, SetNice}
 use Rattle.job_table.specs.declared.record.JobRecord.{JobRecord}
@@ -24,22 +21,24 @@ use Rattle.job_table.specs.Changes.{changed, not_again, off_node, parts_off, wit
 use Rattle.job_table.specs.JobStates.{is_pending, is_running, left}
 use Rattle.job_table.specs.Targets.{is_named, is_named_by}
 use Rattle.ctl_state.specs.State.{State}
-use Rattle.ctl_state.specs.Verdicts.{Stays, Makes, left_by, stamped}
+use Rattle.ctl_state.specs.Verdicts.{stamped}
 use Rattle.ctl_nodes.specs.Failing.{lost_after}
 use Rattle.ctl_jobs.specs.declared.action.Action.{Action}
 use Rattle.ctl_jobs.specs.declared.action.Action.TheVariants as act
 use Rattle.ctl_jobs.specs.Actions.{cancelled_in, done_to}
-use Rattle.ctl_jobs.specs.Changing.{are_naming, change_after, change_made, done_if, done_where, goes, may_do}
-use Rattle.ctl_node_side.specs.Answering.{is_restarted, node_of}
+use Rattle.ctl_jobs.specs.Changing.{are_naming, change_after, done_if, done_where, may_do}
+use Rattle.ctl_node_side.specs.Answering.{is_restarted}
 use Rattle.ctl_node_side.specs.Reporting.{after_told, done_of, is_at, is_batch_host, is_last_start, is_listed, report_after, reported, script_over, told_over}
-use Rattle.ctl_node_side.specs.Restarting.{made_by_report}
+use Rattle.ctl_node_side.specs.Restarting.{met}
 use Rattle.ctl_core.specs.Step.{made, raised, state_after}
 use Rattle.list_lemmas.proofs.Filters.{filter-all}
+use Rattle.step_lemmas.proofs.Making.{AsksCancel, AsksRequeue, ByAction, ByPass, ByReport, ByUpdateNode, MayMake}
+use Rattle.step_lemmas.proofs.Steps.{step_is}
 use Rattle.sacct_book.specs.Naming.{changed_by, run_by_others, target_of}
 use Rattle.sacct_book.specs.Requests.{may_change_running}
 use Rattle.sacct_book.specs.Running.{cpus_run_by}
 use Rattle.sacct_book.proofs.Named.{counts, counts_if, if-fails, if-passes, run-filtered}
-use Rattle.sacct_book.proofs.Quiet.{made-leaves, step-keeps, still-none}
+use Rattle.sacct_book.proofs.Quiet.{made-leaves, still-none}
 
 -- ---- what no change touches of a job
 
@@ -158,16 +157,13 @@ IsLeft targets place jobs after = run_by_others targets after place ≡ run_by_o
 
 change-others : (targets : List Target) (place : ℕ) (s : State) (now : ℕ) (user : List ℕ) (action : Action)
     → ((job : JobRecord) → HasItsNumbers job (done_to now user action job))
-    → IsLeft targets place s.jobs (left_by s (change_made s now user action (are_naming targets))).jobs
+    → IsLeft targets place s.jobs (change_after s now user action (are_naming targets)).jobs
 change-others targets place s now user action numbers =
     let named = are_naming targets in
-    cond_both (list_any (goes s user action named) s.jobs) (Makes IsDone (change_after s now user action named)) Stays
-    (λ verdict. IsLeft targets place s.jobs (left_by s verdict).jobs)
-    (λ some. map-others targets place (done_if s now user action named) s.jobs
+    map-others targets place (done_if s now user action named) s.jobs
     (λ job. cond_both (named job && may_do s user action job) (done_to now user action job) job (HasItsNumbers job)
     (λ done. numbers job) (λ not. itself job))
-    (λ job off. ap (λ b. counts place (done_where s now user action b job)) off))
-    (λ none. refl)
+    (λ job off. ap (λ b. counts place (done_where s now user action b job)) off)
 
 -- ---- reports
 
@@ -251,12 +247,10 @@ reported-others place now node told jobs =
     (λ (after : JobRecord). counts place after ≡ counts place job)
     (λ there. told-counts place now node told job (done_of told job) (undone job told.done off)) (λ not. refl))
 
-report-others : (place : ℕ) (s : State) (now : ℕ) (told : Told) (node : Option ℕ) → is_restarted s told ≡ false
-    → IsLeft (map target_of told.done) place s.jobs (left_by s (made_by_report s now told node)).jobs
-report-others place s now told None same = refl
-report-others place s now told (Some node) same =
-    subst
-    (λ (t : State). IsLeft (map target_of told.done) place s.jobs (report_after t now node told).jobs)
+report-others : (place : ℕ) (s : State) (now : ℕ) (told : Told) (node : ℕ) → is_restarted s told ≡ false
+    → IsLeft (map target_of told.done) place s.jobs (report_after (met s now node told) now node told).jobs
+report-others place s now told node same =
+    subst (λ (t : State). IsLeft (map target_of told.done) place s.jobs (report_after t now node told).jobs)
     (sym (ap (λ b. cond b (stamped now (lost_after s now (nat_eq node))) s) same))
     (reported-others place now node told s.jobs)
 
@@ -271,67 +265,47 @@ told-left : (targets told : List Target) (place : ℕ) (jobs after : List JobRec
 told-left targets told place jobs after is left =
     subst (λ (some : List Target). IsLeft some place jobs after) (from-some told targets is) left
 
-mild : (targets : List Target) (place : ℕ) (s : State) (now : ℕ) (user : List ℕ) (request : Request)
-    → may_change_running request ≡ false → Some [] ≡ Some targets
-    → IsLeft targets place s.jobs (left_by s (made s now user request)).jobs
-mild targets place s now user request quiet is =
-    let after = (left_by s (made s now user request)).jobs in
-    told-left targets [] place s.jobs after is
-    (none-named after place ∙ made-leaves place s now user request quiet ∙ sym (none-named s.jobs place))
+mild : (targets : List Target) (place : ℕ) (s : State) (now : ℕ) (user : List ℕ) (request : Request) (after : State)
+    → may_change_running request ≡ false → Some [] ≡ Some targets → MayMake s now user request after
+    → IsLeft targets place s.jobs after.jobs
+mild targets place s now user request after quiet is kind =
+    told-left targets [] place s.jobs after.jobs is
+    (none-named after.jobs place ∙ made-leaves place s now user request after quiet kind ∙ sym (none-named s.jobs place))
 
 no-targets : {targets : List Target} → None ≡ Some targets → ⊥
 no-targets is = grind arith
 
-if-heard : (targets : List Target) (place : ℕ) (s : State) (now : ℕ) (told : Told) (restarted : Bool)
+if-heard : (targets : List Target) (place : ℕ) (s : State) (now : ℕ) (told : Told) (node : ℕ) (restarted : Bool)
     → is_restarted s told ≡ restarted → cond restarted None (Some (map target_of told.done)) ≡ Some targets
-    → IsLeft targets place s.jobs (left_by s (made_by_report s now told (node_of s told))).jobs
-if-heard targets place s now told true same is = absurd (no-targets is)
-if-heard targets place s now told false same is =
-    told-left targets (map target_of told.done) place s.jobs
-    (left_by s (made_by_report s now told (node_of s told))).jobs is
-    (report-others place s now told (node_of s told) same)
+    → IsLeft targets place s.jobs (report_after (met s now node told) now node told).jobs
+if-heard targets place s now told node true same is = absurd (no-targets is)
+if-heard targets place s now told node false same is =
+    told-left targets (map target_of told.done) place s.jobs (report_after (met s now node told) now node told).jobs is
+    (report-others place s now told node same)
 
 made-others : (targets : List Target) (place : ℕ) (s : State) (now : ℕ) (user : List ℕ) (request : Request)
-    → changed_by s request ≡ Some targets → IsLeft targets place s.jobs (left_by s (made s now user request)).jobs
-made-others targets place s now user (Submit desc) is = mild targets place s now user (Submit desc) refl is
-made-others targets place s now user (Cancel (Listed listed)) is =
-    told-left targets listed place s.jobs (left_by s (made s now user (Cancel (Listed listed)))).jobs is
+    (after : State) → changed_by s request ≡ Some targets → MayMake s now user request after → IsLeft targets place s.jobs after.jobs
+made-others targets place s now user request after is (ByAction action named (AsksCancel (Listed listed))) =
+    told-left targets listed place s.jobs after.jobs is
     (change-others listed place s now user act.Cancel (λ job. cancelled-numbers now job job.state))
-made-others targets place s now user (Cancel (User owner)) is = absurd (no-targets is)
-made-others targets place s now user (Hold some for_owner) is =
-    mild targets place s now user (Hold some for_owner) refl is
-made-others targets place s now user (Release some) is = mild targets place s now user (Release some) refl is
-made-others targets place s now user (Requeue target) is =
-    told-left targets (target ∷ []) place s.jobs (left_by s (made s now user (Requeue target))).jobs is
+made-others targets place s now user request after is (ByAction action named (AsksCancel (User owner))) =
+    absurd (no-targets is)
+made-others targets place s now user request after is (ByAction action named (AsksRequeue target)) =
+    told-left targets (target ∷ []) place s.jobs after.jobs is
     (change-others (target ∷ []) place s now user act.Requeue (λ job. changed-numbers (Leave final.Requeue now None) job))
-made-others targets place s now user (UpdateJob target limit nice) is =
-    mild targets place s now user (UpdateJob target limit nice) refl is
-made-others targets place s now user (UpdateNode nodes order.Down) is = absurd (no-targets is)
-made-others targets place s now user (UpdateNode nodes order.Drain) is =
-    mild targets place s now user (UpdateNode nodes order.Drain) refl is
-made-others targets place s now user (UpdateNode nodes order.Resume) is =
-    mild targets place s now user (UpdateNode nodes order.Resume) refl is
-made-others targets place s now user (UpdatePartition name state) is =
-    mild targets place s now user (UpdatePartition name state) refl is
-made-others targets place s now user (CreateReservation desc) is =
-    mild targets place s now user (CreateReservation desc) refl is
-made-others targets place s now user (DeleteReservation name) is =
-    mild targets place s now user (DeleteReservation name) refl is
-made-others targets place s now user (Report told) is =
-    if-heard targets place s now told (is_restarted s told) refl is
-made-others targets place s now user Pass is = absurd (no-targets is)
-made-others targets place s now user Shutdown is = mild targets place s now user Shutdown refl is
-made-others targets place s now user (Reconfigure conf bytes) is =
-    mild targets place s now user (Reconfigure conf bytes) refl is
-made-others targets place s now user (Show query) is = mild targets place s now user (Show query) refl is
+made-others targets place s now user request after is (ByUpdateNode nodes order.Down) = absurd (no-targets is)
+made-others targets place s now user request after is (ByReport told node found) =
+    if-heard targets place s now told node (is_restarted s told) refl is
+made-others targets place s now user request after is ByPass = absurd (no-targets is)
+made-others targets place s now user request after is kind = mild targets place s now user request after refl is kind
 
 -- Whatever a request does, the jobs that aren't named by the targets that it may change hold what they held.
 pub others-stay : (s : State) (now : ℕ) (user : List ℕ) (request : Request) (targets : List Target)
     → changed_by s request ≡ Some targets → (place : ℕ)
     → run_by_others targets (state_after s now user request).jobs place ≡ run_by_others targets s.jobs place
 others-stay s now user request targets is place =
-    step-keeps (IsLeft targets place s.jobs) s now user request refl
-    (made-others targets place s (raised s now) user request is)
+    step_is (λ (t : State). IsLeft targets place s.jobs t.jobs) s now user request refl
+    (λ reply after made. made-others targets place s (raised s now) user request after is made.kind)
 
 -- Where they name none, all hold what they held.
 pub nothing-changed : (s : State) (now : ℕ) (user : List ℕ) (request : Request) → changed_by s request ≡ Some []

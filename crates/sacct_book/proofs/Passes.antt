@@ -1,12 +1,11 @@
 -- Passes that take no job out of Running and start none.
-use Rattle.std.proofs.Common.{ℕ, ◌≡◌, ◌+◌, ◌∙◌, Bool, true, false, ◌&&◌, not, cond, List, [], ◌∷◌, Option, Some, None, length, map, filter, count_by, sum_by, nat_eq, refl, sym, ap, arith, inl, inr}
+use Rattle.std.proofs.Common.{ℕ, ◌≡◌, ◌+◌, ◌∙◌, Bool, true, false, ◌&&◌, not, cond, List, [], ◌∷◌, None, length, map, filter, count_by, sum_by, nat_eq, refl, sym, ap, arith, inl, inr}
 use Rattle.std.proofs.lemmas.Bool.{both_ways, cases_Bool, cond_both}
 use Rattle.std.proofs.lemmas.Bool.Decides.{nat_tests}
 use Rattle.std.proofs.lemmas.List.Sums.{sum_by-cons}
 use Rattle.backfill_planner.specs.declared.Placed.{Placed}
-use Rattle.reply_data.specs.declared.refusal.Refusal.{Refusal}
 use Rattle.request_data.specs.declared.request.Request.{Request}
-use Rattle.request_data.specs.declared.request.Request.TheVariants.{Submit, Cancel, Hold, Release, Requeue, UpdateJob, UpdateNode, UpdatePartition, CreateReservation, DeleteReservation, Report, Pass, Shutdown, Reconfigure, Show}
+use Rattle.request_data.specs.declared.request.Request.TheVariants.{Pass}
 use Rattle.request_data.specs.declared.state.JobState.{JobState}
 use Rattle.request_data.specs.declared.state.JobState.TheVariants.{Pending, Running, Completing, Ended}
 use Rattle.request_data.specs.declared.state.Final.TheVariants.{Timeout}
@@ -15,7 +14,7 @@ use Rattle.job_table.specs.declared.record.JobRecord.{JobRecord}
 use Rattle.job_table.specs.Changes.{changed}
 use Rattle.job_table.specs.JobStates.{is_ended, is_running}
 use Rattle.ctl_state.specs.State.{State}
-use Rattle.ctl_state.specs.Verdicts.{Verdict, Refuses, Tells, Stays, Makes, left_by, reply_by}
+use Rattle.ctl_state.specs.Verdicts.{Stays}
 use Rattle.ctl_nodes.specs.Failing.{after_loss, loses, off_lost, parts_kept}
 use Rattle.ctl_node_side.specs.Passes.{after_pass, ended_by_pass, made_by_pass, pass_is_idle}
 use Rattle.ctl_node_side.specs.Silence.{any_silent, failing_count, silenced, silent_at, without_silent}
@@ -24,15 +23,16 @@ use Rattle.ctl_pass.specs.Passing.{outcome}
 use Rattle.ctl_pass.specs.Preempting.{preempted, victims_in}
 use Rattle.ctl_pass.specs.Readiness.{goes, jobs_left, placements}
 use Rattle.ctl_pass.specs.Starting.{Started, begun, may_start, start_of, started}
-use Rattle.ctl_state.specs.Refusals.{first_refusal, unless_refused}
-use Rattle.ctl_core.specs.Sizes.{has_room, size_of}
-use Rattle.ctl_core.specs.Step.{early_refusals, entered, is_entered, made, raised, refusals_of, reply_of, state_after, unless_full, verdict_of, worked}
+use Rattle.ctl_core.specs.Step.{raised, reply_of, state_after}
 use Rattle.list_lemmas.proofs.Sums.{count-cons}
+use Rattle.reply_data.specs.declared.reply.Reply.{Reply}
+use Rattle.step_lemmas.proofs.Making.{MakesBy, made_by}
+use Rattle.step_lemmas.proofs.Steps.{step_says}
 use Rattle.sacct_book.specs.Running.{cpus_run_by}
 use Rattle.sacct_book.specs.Requests.{is_still}
 use Rattle.sacct_book.proofs.Named.{counts, counts_if, if-fails, if-passes, run-filtered}
 use Rattle.sacct_book.proofs.Others.{left-counts}
-use Rattle.sacct_book.proofs.Quiet.{still-none}
+use Rattle.sacct_book.proofs.Quiet.{IsSame, still-none}
 
 -- ---- starts
 
@@ -168,63 +168,29 @@ pass-same s now place ended starts =
     ∙ left-same place now (goes t now) t.jobs (gone-still t now) (omega (arith, ended))
     ∙ silenced-same s now place (omega (arith, ended))
 
--- what comes of a request by a pass that was answered so
-abbrev IsStill : ℕ → State → Verdict → Type 0
-IsStill place s verdict =
-    is_still Pass (reply_by verdict) ≡ true → cpus_run_by (left_by s verdict).jobs place ≡ cpus_run_by s.jobs place
+-- a pass that was answered so leaves what the running jobs of each association hold
+abbrev StillBy : ℕ → State → Reply → State → Type 0
+StillBy place s reply after = is_still Pass reply ≡ true → IsSame place s after
 
-refusal-still : (place : ℕ) (s : State) (refusal : Option Refusal) (verdict : Verdict) → IsStill place s verdict
-    → IsStill place s (unless_refused refusal verdict)
-refusal-still place s None verdict still = still
-refusal-still place s (Some refusal) verdict still = λ on. refl
-
-room-still : (place : ℕ) (s : State) (room : Bool) (verdict : Verdict) → IsStill place s verdict
-    → IsStill place s (unless_full room verdict)
-room-still place s true verdict still = still
-room-still place s false (Refuses refusal) still = λ on. refl
-room-still place s false (Tells view) still = λ on. refl
-room-still place s false Stays still = λ on. refl
-room-still place s false (Makes reply after) still = λ on. refl
-
-made-still : (place : ℕ) (s : State) (now : ℕ) → IsStill place s (made_by_pass s now)
+made-still : (place : ℕ) (s : State) (now : ℕ) → MakesBy (StillBy place s) (made_by_pass s now)
 made-still place s now =
-    cond_both (pass_is_idle s now) Stays _ (IsStill place s) (λ idle on. refl)
-    (λ busy on. pass-same s now place
-    (both (ended_by_pass s now) (length (outcome (silenced s now) now).starts) on).0
-    (both (ended_by_pass s now) (length (outcome (silenced s now) now).starts) on).1)
+    cond_both (pass_is_idle s now) Stays _ (MakesBy (StillBy place s)) (λ idle. tt)
+    (λ busy on.
+    let none = both (ended_by_pass s now) (length (outcome (silenced s now) now).starts) on in
+    pass-same s now place none.0 none.1)
   where
     both : (ended starts : ℕ) → (nat_eq ended 0 && nat_eq starts 0) ≡ true → (ended ≡ 0) × (starts ≡ 0)
     both ended starts on = grind (arith, nat_tests)
 
--- a pass that took no job out of Running and started none leaves what the running jobs of each association hold
-still-same : (s : State) (now : ℕ) (user : List ℕ) (place : ℕ) → is_still Pass (reply_of s now user Pass) ≡ true
-    → cpus_run_by (state_after s now user Pass).jobs place ≡ cpus_run_by s.jobs place
-still-same s now user place still =
-    let moment = raised s now in
-    cond_both (is_entered (reply_of s now user Pass))
-    (entered moment (size_of Pass) (left_by s (verdict_of s now user Pass))) s
-    (λ (t : State). cpus_run_by t.jobs place ≡ cpus_run_by s.jobs place)
-    (λ enters. refusal-still place s (first_refusal (early_refusals s now Pass)) (worked s moment user Pass)
-    (refusal-still place s (first_refusal (refusals_of s moment user Pass)) _
-    (room-still place s (has_room s Pass) (made s moment user Pass) (made-still place s moment))) still)
-    (λ not. refl)
+still-same : (s : State) (now : ℕ) (user : List ℕ) (place : ℕ) → StillBy place s (reply_of s now user Pass) (state_after s now user Pass)
+still-same s now user place =
+    step_says (StillBy place s) s now user Pass (λ refusal on. refl) (λ view on. refl) (λ idle on. refl)
+    (λ reply after is enters. made_by (StillBy place s) (made-still place s (raised s now)) is.makes)
+    (λ reply after is not on. refl)
 
 -- An entry that is such a pass leaves what the running jobs of each association hold.
 pub still-any : (s : State) (now : ℕ) (user : List ℕ) (request : Request) (place : ℕ)
     → is_still request (reply_of s now user request) ≡ true
     → cpus_run_by (state_after s now user request).jobs place ≡ cpus_run_by s.jobs place
 still-any s now user Pass place still = still-same s now user place still
-still-any s now user (Submit desc) place still = absurd (both_ways false refl still)
-still-any s now user (Cancel targets) place still = absurd (both_ways false refl still)
-still-any s now user (Hold targets for_owner) place still = absurd (both_ways false refl still)
-still-any s now user (Release targets) place still = absurd (both_ways false refl still)
-still-any s now user (Requeue target) place still = absurd (both_ways false refl still)
-still-any s now user (UpdateJob target limit nice) place still = absurd (both_ways false refl still)
-still-any s now user (UpdateNode nodes state) place still = absurd (both_ways false refl still)
-still-any s now user (UpdatePartition name state) place still = absurd (both_ways false refl still)
-still-any s now user (CreateReservation desc) place still = absurd (both_ways false refl still)
-still-any s now user (DeleteReservation name) place still = absurd (both_ways false refl still)
-still-any s now user (Report report) place still = absurd (both_ways false refl still)
-still-any s now user Shutdown place still = absurd (both_ways false refl still)
-still-any s now user (Reconfigure conf bytes) place still = absurd (both_ways false refl still)
-still-any s now user (Show query) place still = absurd (both_ways false refl still)
+still-any s now user request place still = absurd (both_ways false refl still)

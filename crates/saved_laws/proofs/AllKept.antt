@@ -19,18 +19,20 @@ use Rattle.job_table.specs.Usage.{greatest_usage}
 use Rattle.ctl_state.specs.Refusals.{first_refusal, unless_refused}
 use Rattle.ctl_state.specs.Soundness.{IsSound}
 use Rattle.ctl_state.specs.State.{State, last_moment, opening}
-use Rattle.ctl_state.specs.Verdicts.{Verdict, Refuses, Tells, Stays, Makes, left_by, reply_by}
+use Rattle.ctl_state.specs.Verdicts.{Verdict, Stays, Makes, left_by, reply_by}
+use Rattle.ctl_reconfigure.specs.Blocking.{blocked}
 use Rattle.ctl_reconfigure.specs.Files.{IsFile}
 use Rattle.ctl_reconfigure.specs.Reconfiguring.{reconfigured, settings_after}
 use Rattle.ctl_reconfigure.specs.Same.{is_same}
 use Rattle.ctl_core.specs.Sizes.{has_room, size_of}
-use Rattle.ctl_core.specs.Step.{early_refusals, entered, is_entered, made, raised, refusals_of, reply_of, state_after, unless_full}
+use Rattle.ctl_core.specs.Step.{early_refusals, entered, is_entered, raised, refusals_of, reply_of, state_after, unless_full}
+use Rattle.step_lemmas.proofs.Making.{ByAction, ByReconfigure, MayMake}
+use Rattle.step_lemmas.proofs.Steps.{step_is}
 use Rattle.saved_laws.specs.Kept.{AreFiles, HasTasks, IsAlone, IsInTypes, IsKept, IsKeptOver, IsOfItsNames, IsOnNodes, IsReserved, IsTask, IsTimed, Numbers, OnlyUsersUse, Stands, in_force, is_reconfigure, most_jobs, numbers_of, part_confs_of}
 use Rattle.saved_laws.specs.Scripts.{KeepsRanges}
-use Rattle.saved_laws.proofs.Comings.{MakesBy, step_is}
 use Rattle.saved_laws.proofs.NamesKept.{fixed_stays, names_fixed, new_names}
 use Rattle.saved_laws.proofs.NumbersWalk.{Numbered, made_numbered}
-use Rattle.saved_laws.proofs.Opened.{LeavesFiles, leaves_itself, left_dropped, left_gone, made_opened, same_force}
+use Rattle.saved_laws.proofs.Opened.{LeavesFiles, left_dropped, left_gone, made_opened, same_force}
 use Rattle.saved_laws.proofs.PlanKept.{PlanLaws, Plans, made_plan}
 use Rattle.saved_laws.proofs.Renewed.{RenewalLaws, blocks_none, confs_opened, force_after, lines_opened, renewed_force, renewed_kept}
 use Rattle.saved_laws.proofs.ReservationsKept.{AreReserved, made_reserved}
@@ -122,71 +124,37 @@ pub record IsElseKept (opened s : State) (moment : ℕ) : Type 0 where
   pub used : OnlyUsersUse s.assocs s.usage
   pub planned : Plans (length opened.nodes + length s.gone) s
 
--- all that is kept of the state that a verdict makes
-both-made : (P Q R : State → Type 0) (verdict : Verdict) → ((after : State) → P after → Q after → R after)
-    → MakesBy P verdict → MakesBy Q verdict → MakesBy R verdict
-both-made P Q R (Refuses refusal) both one other = tt
-both-made P Q R (Tells view) both one other = tt
-both-made P Q R Stays both one other = tt
-both-made P Q R (Makes reply after) both one other = both after one other
-
 -- what a request makes of jobs
-jobs-made : (opened s : State) (moment : ℕ) (user : List ℕ) (request : Request) → IsSound s
+jobs-made : (opened s : State) (moment : ℕ) (user : List ℕ) (request : Request) (after : State) → IsSound s
     → s.settings.max_job_count ≤ most_jobs → IsKept opened s → IsInTypes request
-    → first_refusal (refusals_of s moment user request) ≡ None
-    → MakesBy (AreJobsKept opened) (made s moment user request)
-jobs-made opened s moment user request sound most kept types none =
-    let verdict = made s moment user request in
-    let Names : State → Type 0 = λ after. All (IsOfItsNames opened) after.jobs in
-    let Timed : State → Type 0 = λ after. All IsTimed after.jobs in
-    let names : MakesBy Names verdict =
-    made_true (IsOfItsNames opened) (fixed_stays (IsOfItsNames opened) (names_fixed opened)) s moment user request kept.names
-    (λ desc basis asks is. new_names opened s kept.files moment user desc basis is) in
-    let timed : MakesBy Timed verdict =
-    made_true IsTimed timed_stays s moment user request kept.timed
-    (λ desc basis asks is. new_timed s moment user desc basis) in
-    let numbered : MakesBy (Numbered most_jobs) verdict =
-    made_numbered most_jobs s moment user request sound most types none
-    (record { few = omega (arith, kept.few, length-map s.jobs numbers_of); numbered = kept.numbered }) in
-    let Both : State → Type 0 = λ after. Names after × Timed after in
-    let both = both-made Names Timed Both verdict (λ after names timed. (names, timed)) names timed in
-    both-made Both (Numbered most_jobs) (AreJobsKept opened) verdict
-    (λ after jobs numbered. record { names = jobs.0; timed = jobs.1; numbered = numbered }) both numbered
+    → first_refusal (refusals_of s moment user request) ≡ None → MayMake s moment user request after
+    → AreJobsKept opened after
+jobs-made opened s moment user request after sound most kept types none kind = record {
+  names = made_true (IsOfItsNames opened) (fixed_stays (IsOfItsNames opened) (names_fixed opened)) s moment user request after
+      kept.names (λ desc basis asks is. new_names opened s kept.files moment user desc basis is) kind;
+  timed = made_true IsTimed timed_stays s moment user request after kept.timed
+      (λ desc basis asks is. new_timed s moment user desc basis) kind;
+  numbered = made_numbered most_jobs s moment user request after sound most types none
+      (record { few = omega (arith, kept.few, length-map s.jobs numbers_of); numbered = kept.numbered }) kind;
+}
 
 -- what it makes of all else where it is no new slurm.conf
-else-made : PlanLaws → (opened s : State) (moment : ℕ) (user : List ℕ) (request : Request)
+else-made : PlanLaws → (opened s : State) (moment : ℕ) (user : List ℕ) (request : Request) (after : State)
     → is_reconfigure request ≡ false → first_refusal (refusals_of s moment user request) ≡ None → IsSound s
-    → IsKept opened s → IsInTypes request → s.moment ≤ moment → moment ≤ last_moment
-    → MakesBy (λ after. IsElseKept opened after moment) (made s moment user request)
-else-made laws opened s moment user request other none sound kept types later in_time =
-    let verdict = made s moment user request in
-    let Use : State → Type 0 = λ after. OnlyUsersUse after.assocs after.usage in
+    → IsKept opened s → IsInTypes request → s.moment ≤ moment → moment ≤ last_moment → LeavesFiles s after
+    → MayMake s moment user request after → IsElseKept opened after moment
+else-made laws opened s moment user request after other none sound kept types later in_time leaves kind =
     let count : length s.nodes ≡ length opened.nodes =
     sym (length-map s.nodes (λ (node : NodeRecord). node.conf)) ∙ ap length kept.files.nodes
     ∙ length-map opened.nodes (λ (node : NodeRecord). node.conf) in
-    let all = length opened.nodes + length s.gone in
-    let standing = made_standing s moment user request (all_later s.moment moment s.nodes later kept.standing) in
-    let reserved = made_reserved opened s moment user request other none kept.files types kept.reserved in
-    let used : MakesBy Use verdict = made_use s moment user request (of_users s sound.of_accounts) kept.used in
-    let planned : MakesBy (Plans all) verdict =
-    made_plan laws all s moment user request other sound later in_time (omega (arith, count)) kept.planned in
-    let files = made_opened s s moment user request other (leaves_itself s) in
-    let One : State → Type 0 = λ after. Standing moment after × AreReserved opened after in
-    let Two : State → Type 0 = λ after. Use after × Plans (length opened.nodes + length after.gone) after in
-    let Three : State → Type 0 = λ after. Plans all after × LeavesFiles s after in
-    let one = both-made (Standing moment) (AreReserved opened) One verdict (λ after standing reserved. (standing, reserved))
-    standing reserved in
-    let three = both-made (Plans all) (LeavesFiles s) Three verdict (λ after planned files. (planned, files)) planned files in
-    let two = both-made Use Three Two verdict
-    (λ after used more. (used, subst (λ gone. Plans (length opened.nodes + length gone) after) (sym more.1.gone) more.0))
-    used three in
-    both-made One Two (λ after. IsElseKept opened after moment) verdict
-    (λ after nodes lists. record {
-      standing = nodes.0;
-      reserved = nodes.1;
-      used = lists.0;
-      planned = lists.1;
-    }) one two
+    record {
+      standing = made_standing s moment user request after (all_later s.moment moment s.nodes later kept.standing) kind;
+      reserved = made_reserved opened s moment user request after other none kept.files types kept.reserved kind;
+      used = made_use s moment user request after (of_users s sound.of_accounts) kept.used kind;
+      planned = subst (λ gone. Plans (length opened.nodes + length gone) after) (sym leaves.gone)
+          (made_plan laws (length opened.nodes + length s.gone) s moment user request after other sound later in_time
+          (omega (arith, count)) kept.planned kind);
+    }
 
 -- what is kept of the state that a request makes which is no new slurm.conf, once it bears its moment and size
 other-kept : (file : AssocView) (s after : State) (moment size : ℕ) → IsKeptOver file s → LeavesFiles s after
@@ -224,24 +192,26 @@ other-step : PlanLaws → (file : AssocView) (s : State) (now : ℕ) (user : Lis
 other-step laws file s now user request other sound types kept =
     let opened = opening (in_force s) file in
     let moment = raised s now in
-    let verdict = made s moment user request in
-    step_is (IsKeptOver file) s now user request kept (λ allowed.
-    let All_ : State → Type 0 = λ after. LeavesFiles s after × IsElseKept opened after moment in
-    let all = both-made (LeavesFiles s) (λ after. IsElseKept opened after moment) All_ verdict
-    (λ after leaves all. (leaves, all)) (made_opened s s moment user request other (leaves_itself s))
-    (else-made laws opened s moment user request other allowed.allowed sound kept.kept types (omega arith)
-    (omega (arith, allowed.in_time, sound.moment))) in
-    both-made (AreJobsKept opened) All_ (λ after. IsKeptOver file (entered moment (size_of request) after)) verdict
-    (λ after jobs more. other-kept file s after moment (size_of request) kept more.0 jobs more.1)
-    (jobs-made opened s moment user request sound kept.files.most kept.kept types allowed.allowed) all)
+    step_is (IsKeptOver file) s now user request kept (λ reply after is.
+    let leaves = made_opened s moment user request after other is.kind in
+    other-kept file s after moment (size_of request) kept leaves
+    (jobs-made opened s moment user request after sound kept.files.most kept.kept types is.allowed is.kind)
+    (else-made laws opened s moment user request after other is.allowed sound kept.kept types (omega arith)
+    (omega (arith, is.in_time, sound.moment)) leaves is.kind))
 
--- where it isn't what is in force
-if-other : (same : Bool) (after : State) (J S U P : State → Type 0)
-    → MakesBy J (if same then Stays else Makes Done after) → MakesBy S (if same then Stays else Makes Done after)
-    → MakesBy U (if same then Stays else Makes Done after) → (J after → S after → U after → P after)
-    → MakesBy P (if same then Stays else Makes Done after)
-if-other true after J S U P jobs stand uses all = tt
-if-other false after J S U P jobs stand uses all = all jobs stand uses
+-- what a new one makes
+conf-kept : RenewalLaws → (file : AssocView) (s : State) (moment size : ℕ) (user : List ℕ) (conf : ConfView)
+    (bytes : ℕ) (after : State) → IsSound s → IsFile conf → conf.settings.max_job_count ≤ most_jobs → s.moment ≤ moment
+    → blocked s conf ≡ None → IsKeptOver file s → AreJobsKept (opening (in_force s) file) after
+    → MayMake s moment user (Reconfigure conf bytes) after → IsKeptOver file (entered moment size after)
+conf-kept laws file s moment size user conf bytes after sound ranges types later free kept jobs (ByReconfigure new count) =
+    let request = Reconfigure conf bytes in
+    let kind : MayMake s moment user request after = ByReconfigure conf bytes in
+    renewed_kept laws file s moment size conf sound ranges types free kept jobs.names jobs.timed jobs.numbered
+    (made_standing s moment user request after (all_later s.moment moment s.nodes later kept.kept.standing) kind)
+    (made_use s moment user request after (of_users s sound.of_accounts) kept.kept.used kind)
+conf-kept laws file s moment size user conf bytes after sound ranges types later free kept jobs (ByAction action named asks) =
+    elim asks [ ]
 
 conf-step : RenewalLaws → (file : AssocView) (s : State) (now : ℕ) (user : List ℕ) (conf : ConfView) (bytes : ℕ)
     → IsSound s → IsFile conf → IsInTypes (Reconfigure conf bytes) → IsKeptOver file s
@@ -250,15 +220,10 @@ conf-step laws file s now user conf bytes sound ranges types kept =
     let opened = opening (in_force s) file in
     let moment = raised s now in
     let request = Reconfigure conf bytes in
-    step_is (IsKeptOver file) s now user request kept (λ allowed.
-    if-other (is_same s conf) (reconfigured s moment conf) (AreJobsKept opened) (Standing moment)
-    (λ (after : State). OnlyUsersUse after.assocs after.usage)
-    (λ (after : State). IsKeptOver file (entered moment (size_of request) after))
-    (jobs-made opened s moment user request sound kept.files.most kept.kept types allowed.allowed)
-    (made_standing s moment user request (all_later s.moment moment s.nodes (omega arith) kept.kept.standing))
-    (made_use s moment user request (of_users s sound.of_accounts) kept.kept.used)
-    (λ jobs stand uses. renewed_kept laws file s moment (size_of request) conf sound ranges types
-    (blocks_none s user conf allowed.allowed) kept jobs.names jobs.timed jobs.numbered stand uses))
+    step_is (IsKeptOver file) s now user request kept (λ reply after is.
+    conf-kept laws file s moment (size_of request) user conf bytes after sound ranges types (omega arith)
+    (blocks_none s user conf is.allowed) kept
+    (jobs-made opened s moment user request after sound kept.files.most kept.kept types is.allowed is.kind) is.kind)
 
 -- a request is a new slurm.conf, or isn't
 conf-or-other : (request : Request)
@@ -278,29 +243,18 @@ step_kept laws file s now user request sound ranges kept = elim (conf-or-other r
 
 -- ---- the slurm.conf in force
 
-weaker : (P Q : State → Type 0) (verdict : Verdict) → ((after : State) → P after → Q after) → MakesBy P verdict
-    → MakesBy Q verdict
-weaker P Q (Refuses refusal) on by = tt
-weaker P Q (Tells view) on by = tt
-weaker P Q Stays on by = tt
-weaker P Q (Makes reply after) on by = on after by
-
 pub force_stays : (s : State) (now : ℕ) (user : List ℕ) (request : Request) → is_reconfigure request ≡ false
     → in_force (state_after s now user request) ≡ in_force s
 force_stays s now user request other =
-    let moment = raised s now in
-    step_is (λ (t : State). in_force t ≡ in_force s) s now user request refl (λ allowed.
-    weaker (LeavesFiles s) (λ (after : State). in_force after ≡ in_force s) (made s moment user request)
-    (λ after leaves. same_force s after leaves) (made_opened s s moment user request other (leaves_itself s)))
+    step_is (λ (t : State). in_force t ≡ in_force s) s now user request refl
+    (λ reply after is. same_force s after (made_opened s (raised s now) user request after other is.kind))
 
 -- and no more nodes are gone
 pub gone_stays : (s : State) (now : ℕ) (user : List ℕ) (request : Request) → is_reconfigure request ≡ false
     → (state_after s now user request).gone ≡ s.gone
 gone_stays s now user request other =
-    let moment = raised s now in
-    step_is (λ (t : State). t.gone ≡ s.gone) s now user request refl (λ allowed.
-    weaker (LeavesFiles s) (λ (after : State). after.gone ≡ s.gone) (made s moment user request)
-    (λ after leaves. leaves.gone) (made_opened s s moment user request other (leaves_itself s)))
+    step_is (λ (t : State). t.gone ≡ s.gone) s now user request refl
+    (λ reply after is. (made_opened s (raised s now) user request after other is.kind).gone)
 
 -- one that isn't done leaves all as it was
 undone-conf : (s : State) (now : ℕ) (user : List ℕ) (conf : ConfView) (bytes : ℕ)

@@ -1,7 +1,6 @@
 pub mod AccountsBack
 pub mod AllBack
 pub mod AllKept
-pub mod Comings
 pub mod Fitting
 pub mod GoingOn
 pub mod JobsBack

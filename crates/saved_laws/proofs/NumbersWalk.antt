@@ -1,7 +1,7 @@
 -- What each request makes of the numbers of jobs and arrays.
-use Rattle.std.proofs.Common.{ℕ, ◌≡◌, ◌∙◌, ◌+◌, ◌<◌, ◌≤◌, Bool, true, false, ◌&&◌, not, List, [], ◌∷◌, ◌++◌, map, drop, length, zero, suc, All, Option, Some, None, IfSome, nat_eq, slice_get, refl, ap, sym, subst, arith}
+use Rattle.std.proofs.Common.{ℕ, ◌≡◌, ◌∙◌, ◌+◌, ◌<◌, ◌≤◌, Bool, true, false, ◌&&◌, not, List, [], ◌∷◌, ◌++◌, map, drop, length, zero, suc, All, Option, Some, None, IfSome, nat_eq, refl, ap, sym, subst, arith}
 use Rattle.std.specs.Prelude.{is_none, nat_lt, option_and_then}
-use Rattle.std.specs.List.{enumerate_from, list_any}
+use Rattle.std.specs.List.{enumerate_from}
 use Rattle.std.proofs.lemmas.Bool.{cond_both, ltb-false}
 use Rattle.std.proofs.lemmas.List.{length-map, map-append}
 use Rattle.std.proofs.lemmas.List.Elements.{All-map}
@@ -14,37 +14,30 @@ use Rattle.reply_data.specs.declared.refusal.Refusal.TheVariants.{JobIdsSpent, J
 use Rattle.run_limits.specs.Submitting.{submit_limits}
 use Rattle.request_data.specs.declared.report.Report.{Report as Told}
 use Rattle.request_data.specs.declared.request.Request.{Request}
-use Rattle.request_data.specs.declared.request.Request.TheVariants.{Submit, Cancel, Hold, Release, Requeue, UpdateJob, UpdateNode, UpdatePartition, CreateReservation, DeleteReservation, Report, Pass, Shutdown, Reconfigure, Show}
-use Rattle.node_state.specs.Partitions.{place_meant}
 use Rattle.job_table.specs.declared.record.JobRecord.{JobRecord}
 use Rattle.ctl_state.specs.Events.{started_as}
 use Rattle.ctl_state.specs.Counted.{counted_of}
 use Rattle.ctl_state.specs.Refusals.{first_refusal, refused_if}
 use Rattle.ctl_state.specs.Soundness.{IsSound}
 use Rattle.ctl_state.specs.State.{State, last_job_id}
-use Rattle.ctl_state.specs.Verdicts.{Stays}
-use Rattle.ctl_jobs.specs.Submission.{Basis, at_once_of, basis_of, beside_unended, count_of_jobs, lone_job, made_under, new_arrays, new_jobs, refusals_by, refusals_of_room, refusals_under, submit_refusals, task}
+use Rattle.ctl_jobs.specs.Submission.{Basis, at_once_of, basis_of, beside_unended, count_of_jobs, lone_job, new_arrays, new_jobs, refusals_by, refusals_of_room, refusals_under, submit_refusals, task}
 use Rattle.ctl_jobs.specs.declared.action.Action.{Action}
-use Rattle.ctl_jobs.specs.declared.action.Action.TheVariants as act
-use Rattle.ctl_jobs.specs.Changing.{are_meant, are_naming, change_made, done_if, goes}
+use Rattle.ctl_jobs.specs.Changing.{done_if}
 use Rattle.ctl_nodes.specs.Failing.{after_loss}
-use Rattle.ctl_nodes.specs.Updating.{changes_any, lost_by}
+use Rattle.ctl_nodes.specs.Updating.{lost_by}
 use Rattle.ctl_pass.specs.Limits.{timed_out}
 use Rattle.ctl_pass.specs.Passing.{outcome}
 use Rattle.ctl_pass.specs.Preempting.{preempted, victims_in}
 use Rattle.ctl_pass.specs.Readiness.{arrays_left, goes as is_gone, jobs_left, placements}
 use Rattle.ctl_pass.specs.Starting.{Started, begun, may_start, start_of, started}
-use Rattle.ctl_node_side.specs.Answering.{is_restarted, node_of}
-use Rattle.ctl_node_side.specs.Passes.{pass_is_idle}
+use Rattle.ctl_node_side.specs.Answering.{is_restarted}
 use Rattle.ctl_node_side.specs.Reporting.{reported}
-use Rattle.ctl_node_side.specs.Restarting.{made_by_report, met}
+use Rattle.ctl_node_side.specs.Restarting.{met}
 use Rattle.ctl_node_side.specs.Silence.{any_silent, silent_at, silenced}
 use Rattle.ctl_reconfigure.specs.Reconfiguring.{job_after as job_moved}
-use Rattle.ctl_reconfigure.specs.Same.{is_same}
-use Rattle.ctl_core.specs.Operating.{is_in_state, partition_made}
-use Rattle.ctl_core.specs.Step.{made, refusals_of}
+use Rattle.ctl_core.specs.Step.{refusals_of}
+use Rattle.step_lemmas.proofs.Making.{ByAction, ByPass, ByReconfigure, ByReport, BySubmit, ByUpdateNode, MayMake}
 use Rattle.saved_laws.specs.Kept.{AreIndices, IsInTypes, Numbers, numbers_of}
-use Rattle.saved_laws.proofs.Comings.{MakesBy}
 use Rattle.saved_laws.proofs.NamesKept.{fixed_stays, numbers_fixed}
 use Rattle.saved_laws.proofs.NumbersKept.{AreFew, array_added, lone_added, numbers_at, thinned}
 use Rattle.saved_laws.proofs.Walks.{StaysTrue, done_if_true, loss_true, preempted_true, reported_true, started_true, timed_true}
@@ -111,13 +104,6 @@ gone-numbers now gone jobs =
     (λ job. preempted_true (λ (one : JobRecord). numbers_of one ≡ numbers_of job) (has-numbers job) now gone job refl) jobs
 
 -- ---- what each request makes
-
-jobs-numbered : (limit : ℕ) (s : State) (moment : ℕ) (user : List ℕ) (action : Action) (named : JobRecord → Bool)
-    → Numbered limit s → MakesBy (Numbered limit) (change_made s moment user action named)
-jobs-numbered limit s moment user action named few =
-    cond_both (list_any (goes s user action named) s.jobs) _ Stays (MakesBy (Numbered limit))
-    (λ some. subst (AreFew limit s.next_id s.arrays) (sym (done-numbers s moment user action named s.jobs)) few)
-    (λ none. tt)
 
 met-numbered : (limit : ℕ) (s : State) (now node : ℕ) (report : Told) → Numbered limit s
     → Numbered limit (met s now node report)
@@ -224,57 +210,25 @@ passed-over limit s now few =
     subst (AreFew limit s.next_id (arrays_left (jobs_left s now) s.arrays))
     (sym (started-numbers s now (jobs_left s now) (placements s now))) left
 
-pub made_numbered : (limit : ℕ) (s : State) (moment : ℕ) (user : List ℕ) (request : Request) → IsSound s
-    → s.settings.max_job_count ≤ limit → IsInTypes request → first_refusal (refusals_of s moment user request) ≡ None
-    → Numbered limit s → MakesBy (Numbered limit) (made s moment user request)
-made_numbered limit s moment user (Submit desc) sound most types none few = by (basis_of s user desc) refl
-  where
-    by : (basis : Option Basis) → basis_of s user desc ≡ basis
-        → MakesBy (Numbered limit) (made_under s moment user desc basis)
-    by None is = tt
-    by (Some basis) is =
-        submitted limit s moment user desc basis desc.array refl few sound.below_next types
-        (omega (arith, has-room s moment user desc basis is none, most))
-made_numbered limit s moment user (Cancel targets) sound most types none few =
-    jobs-numbered limit s moment user act.Cancel (are_meant targets) few
-made_numbered limit s moment user (Hold targets for_owner) sound most types none few =
-    jobs-numbered limit s moment user (act.Hold for_owner) (are_naming targets) few
-made_numbered limit s moment user (Release targets) sound most types none few =
-    jobs-numbered limit s moment user act.Release (are_naming targets) few
-made_numbered limit s moment user (Requeue target) sound most types none few =
-    jobs-numbered limit s moment user act.Requeue (are_naming (target ∷ [])) few
-made_numbered limit s moment user (UpdateJob target until nice) sound most types none few =
-    jobs-numbered limit s moment user (act.Update until nice) (are_naming (target ∷ [])) few
-made_numbered limit s moment user (UpdateNode names state) sound most types none few =
-    cond_both (changes_any s names state) _ Stays (MakesBy (Numbered limit))
-    (λ some. subst (AreFew limit s.next_id s.arrays) (sym (loss-numbers moment (lost_by s.nodes names state) s.jobs)) few)
-    (λ none. tt)
-made_numbered limit s moment user (UpdatePartition name state) sound most types none few =
-    elim (place_meant (Some name) s.partitions) as (λ place. MakesBy (Numbered limit) (partition_made s state place)) [
-      | None ↦ tt
-      | Some place ↦
-          cond_both (is_in_state state (slice_get s.partitions place)) Stays _ (MakesBy (Numbered limit)) (λ had. tt)
-          (λ out. few)
-    ]
-made_numbered limit s moment user (CreateReservation desc) sound most types none few = few
-made_numbered limit s moment user (DeleteReservation name) sound most types none few = few
-made_numbered limit s moment user Shutdown sound most types none few = few
-made_numbered limit s moment user (Report report) sound most types none few =
-    elim (node_of s report) as (λ node. MakesBy (Numbered limit) (made_by_report s moment report node)) [
-      | None ↦ tt
-      | Some node ↦
-          let t = met s moment node report in
-          subst (AreFew limit t.next_id t.arrays) (sym (reported-numbers moment node report t.jobs))
-          (met-numbered limit s moment node report few)
-    ]
-made_numbered limit s moment user Pass sound most types none few =
-    cond_both (pass_is_idle s moment) Stays _ (MakesBy (Numbered limit)) (λ idle. tt)
-    (λ busy.
+pub made_numbered : (limit : ℕ) (s : State) (moment : ℕ) (user : List ℕ) (request : Request) (after : State)
+    → IsSound s → s.settings.max_job_count ≤ limit → IsInTypes request → first_refusal (refusals_of s moment user request) ≡ None
+    → Numbered limit s → MayMake s moment user request after → Numbered limit after
+made_numbered limit s moment user request after sound most types none few (BySubmit desc basis found) =
+    submitted limit s moment user desc basis desc.array refl few sound.below_next types
+    (omega (arith, has-room s moment user desc basis found none, most))
+made_numbered limit s moment user request after sound most types none few (ByAction action named asks) =
+    subst (AreFew limit s.next_id s.arrays) (sym (done-numbers s moment user action named s.jobs)) few
+made_numbered limit s moment user request after sound most types none few (ByUpdateNode names order) =
+    subst (AreFew limit s.next_id s.arrays) (sym (loss-numbers moment (lost_by s.nodes names order) s.jobs)) few
+made_numbered limit s moment user request after sound most types none few (ByReport report node found) =
+    let t = met s moment node report in
+    subst (AreFew limit t.next_id t.arrays) (sym (reported-numbers moment node report t.jobs))
+    (met-numbered limit s moment node report few)
+made_numbered limit s moment user request after sound most types none few ByPass =
     let t = silenced s moment in
     subst (AreFew limit t.next_id (arrays_left (jobs_left t moment) t.arrays))
     (sym (gone-numbers moment (victims_in t moment) (outcome t moment).jobs))
-    (passed-over limit t moment (silenced-numbered limit s moment few)))
-made_numbered limit s moment user (Reconfigure conf bytes) sound most types none few =
-    cond_both (is_same s conf) Stays _ (MakesBy (Numbered limit)) (λ same. tt)
-    (λ other. subst (AreFew limit s.next_id s.arrays) (sym (same-numbers (job_moved s conf) (λ job. refl) s.jobs)) few)
-made_numbered limit s moment user (Show query) sound most types none few = tt
+    (passed-over limit t moment (silenced-numbered limit s moment few))
+made_numbered limit s moment user request after sound most types none few (ByReconfigure conf bytes) =
+    subst (AreFew limit s.next_id s.arrays) (sym (same-numbers (job_moved s conf) (λ job. refl) s.jobs)) few
+made_numbered limit s moment user request after sound most types none few kind = few

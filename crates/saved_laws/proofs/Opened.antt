@@ -1,7 +1,6 @@
 -- What the two files say is left as it was by each request but a new slurm.conf.
-use Rattle.std.proofs.Common.{ℕ, ◌≡◌, ◌∙◌, zero, suc, Bool, true, false, List, [], ◌∷◌, get_or, map, Some, None, refl, ap, sym, subst, slice_get}
-use Rattle.std.specs.List.{list_any}
 use Rattle.std.proofs.lemmas.Bool.{both_ways, cond_both}
+use Rattle.std.proofs.Common.{ℕ, ◌≡◌, ◌∙◌, zero, suc, Bool, true, false, List, [], ◌∷◌, get_or, map, refl, ap, sym, subst, nat_eq}
 use Rattle.plain_data.specs.Confs.{ConfView}
 use Rattle.plain_data.specs.declared.conf.NodeConf.{NodeConf}
 use Rattle.plain_data.specs.declared.conf.PartConf.{PartConf}
@@ -10,7 +9,6 @@ use Rattle.plain_data.specs.declared.conf.Settings.{Settings}
 use Rattle.plain_data.specs.declared.conf.PartState.TheVariants.{Up}
 use Rattle.request_data.specs.declared.report.Report.{Report as Told}
 use Rattle.request_data.specs.declared.request.Request.{Request}
-use Rattle.request_data.specs.declared.request.Request.TheVariants.{Submit, Cancel, Hold, Release, Requeue, UpdateJob, UpdateNode, UpdatePartition, CreateReservation, DeleteReservation, Report, Pass, Shutdown, Reconfigure, Show}
 use Rattle.node_state.specs.declared.record.DownBy.{DownBy}
 use Rattle.node_state.specs.declared.record.DownBy.TheVariants as down
 use Rattle.node_state.specs.declared.record.NodeChange.{NodeChange}
@@ -18,25 +16,18 @@ use Rattle.node_state.specs.declared.record.NodeChange.TheVariants as change
 use Rattle.node_state.specs.declared.record.NodeRecord.{NodeRecord}
 use Rattle.node_state.specs.Nodes.{change_at, changed, noted, resumed, set_down, silent}
 use Rattle.node_state.specs.declared.partition_record.PartRecord.{PartRecord}
-use Rattle.node_state.specs.Partitions.{in_state, in_state_at, place_meant}
-use Rattle.job_table.specs.declared.record.JobRecord.{JobRecord}
+use Rattle.node_state.specs.Partitions.{in_state, in_state_at}
 use Rattle.ctl_state.specs.State.{State}
-use Rattle.ctl_state.specs.Verdicts.{Stays}
-use Rattle.ctl_jobs.specs.Submission.{basis_of, made_under}
-use Rattle.ctl_jobs.specs.declared.action.Action.{Action}
-use Rattle.ctl_jobs.specs.declared.action.Action.TheVariants as act
-use Rattle.ctl_jobs.specs.Changing.{are_meant, are_naming, change_made, goes}
+use Rattle.ctl_state.specs.Verdicts.{stamped}
 use Rattle.ctl_nodes.specs.Changing.{changed_where}
-use Rattle.ctl_nodes.specs.Updating.{change_by, changes_any, is_among}
-use Rattle.ctl_node_side.specs.Answering.{is_restarted, node_of}
-use Rattle.ctl_node_side.specs.Passes.{pass_is_idle}
+use Rattle.ctl_nodes.specs.Updating.{change_by, is_among}
+use Rattle.ctl_nodes.specs.Failing.{lost_after}
+use Rattle.ctl_node_side.specs.Answering.{is_restarted}
 use Rattle.ctl_node_side.specs.Reporting.{heard_by, lists_nothing}
-use Rattle.ctl_node_side.specs.Restarting.{made_by_report, met}
-use Rattle.ctl_node_side.specs.Silence.{any_silent, falls_silent, silenced}
-use Rattle.ctl_core.specs.Operating.{is_in_state, partition_made}
-use Rattle.ctl_core.specs.Step.{made}
+use Rattle.ctl_node_side.specs.Restarting.{met}
+use Rattle.ctl_node_side.specs.Silence.{any_silent, falls_silent, silenced, without_silent}
+use Rattle.step_lemmas.proofs.Making.{ByPass, ByReconfigure, ByReport, ByUpdateNode, ByUpdatePartition, MayMake}
 use Rattle.saved_laws.specs.Kept.{AreDropped, AreGone, confs_of, in_force, is_reconfigure, part_confs_of, without_states}
-use Rattle.saved_laws.proofs.Comings.{MakesBy}
 use Rattle.saved_laws.proofs.PlacesBack.{same_places}
 
 -- what the two files say is as before, and so are the nodes that are dropped and gone
@@ -153,160 +144,46 @@ shapes-at (suc place) state (partition ∷ partitions) =
 
 -- ---- what each request makes
 
--- the nodes once silent ones are seen to
-silenced-confs : (s : State) (now : ℕ) → confs_of (silenced s now).nodes ≡ confs_of s.nodes
-silenced-confs s now =
-    cond_both (any_silent s now) _ s (λ (t : State). confs_of t.nodes ≡ confs_of s.nodes)
-    (λ some. confs_where change.Silent (falls_silent s.settings.slurmd_timeout now) s.nodes) (λ none. refl)
-
-silenced-opened : (opened s : State) (now : ℕ) → LeavesFiles opened s → LeavesFiles opened (silenced s now)
-silenced-opened opened s now stays =
-    cond_both (any_silent s now) _ s (LeavesFiles opened)
-    (λ some. record {
-      settings = stays.settings;
-      assocs = stays.assocs;
-      qos = stays.qos;
-      partitions = stays.partitions;
-      nodes = confs_where change.Silent (falls_silent s.settings.slurmd_timeout now) s.nodes ∙ stays.nodes;
-      dropped = stays.dropped;
-      gone = stays.gone;
-    })
-    (λ none. stays)
-
-met-opened : (opened s : State) (now node : ℕ) (report : Told) → LeavesFiles opened s
-    → LeavesFiles opened (met s now node report)
-met-opened opened s now node report stays =
-    cond_both (is_restarted s report) _ s (LeavesFiles opened)
-    (λ restarted. record {
-      settings = stays.settings;
-      assocs = stays.assocs;
-      qos = stays.qos;
-      partitions = stays.partitions;
-      nodes = stays.nodes;
-      dropped = stays.dropped;
-      gone = stays.gone;
-    })
-    (λ not. stays)
-
-jobs-opened : (opened s : State) (moment : ℕ) (user : List ℕ) (action : Action) (named : JobRecord → Bool)
-    → LeavesFiles opened s → MakesBy (LeavesFiles opened) (change_made s moment user action named)
-jobs-opened opened s moment user action named stays =
-    cond_both (list_any (goes s user action named) s.jobs) _ Stays (MakesBy (LeavesFiles opened))
-    (λ some. record {
-      settings = stays.settings;
-      assocs = stays.assocs;
-      qos = stays.qos;
-      partitions = stays.partitions;
-      nodes = stays.nodes;
-      dropped = stays.dropped;
-      gone = stays.gone;
-    })
-    (λ none. tt)
-
-pub made_opened : (opened s : State) (moment : ℕ) (user : List ℕ) (request : Request)
-    → is_reconfigure request ≡ false → LeavesFiles opened s → MakesBy (LeavesFiles opened) (made s moment user request)
-made_opened opened s moment user (Submit desc) other stays =
-    elim (basis_of s user desc) as (λ basis. MakesBy (LeavesFiles opened) (made_under s moment user desc basis)) [
-      | None ↦ tt
-      | Some basis ↦ record {
-        settings = stays.settings;
-        assocs = stays.assocs;
-        qos = stays.qos;
-        partitions = stays.partitions;
-        nodes = stays.nodes;
-        dropped = stays.dropped;
-        gone = stays.gone;
-      }
-    ]
-made_opened opened s moment user (Cancel targets) other stays = jobs-opened opened s moment user act.Cancel (are_meant targets) stays
-made_opened opened s moment user (Hold targets for_owner) other stays =
-    jobs-opened opened s moment user (act.Hold for_owner) (are_naming targets) stays
-made_opened opened s moment user (Release targets) other stays = jobs-opened opened s moment user act.Release (are_naming targets) stays
-made_opened opened s moment user (Requeue target) other stays =
-    jobs-opened opened s moment user act.Requeue (are_naming (target ∷ [])) stays
-made_opened opened s moment user (UpdateJob target limit nice) other stays =
-    jobs-opened opened s moment user (act.Update limit nice) (are_naming (target ∷ [])) stays
-made_opened opened s moment user (UpdateNode names state) other stays =
-    cond_both (changes_any s names state) _ Stays (MakesBy (LeavesFiles opened))
-    (λ some. record {
-      settings = stays.settings;
-      assocs = stays.assocs;
-      qos = stays.qos;
-      partitions = stays.partitions;
-      nodes = confs_where (change_by state) (is_among names) s.nodes ∙ stays.nodes;
-      dropped = stays.dropped;
-      gone = stays.gone;
-    })
-    (λ none. tt)
-made_opened opened s moment user (UpdatePartition name state) other stays =
-    elim (place_meant (Some name) s.partitions) as (λ place. MakesBy (LeavesFiles opened) (partition_made s state place)) [
-      | None ↦ tt
-      | Some place ↦
-          cond_both (is_in_state state (slice_get s.partitions place)) Stays _ (MakesBy (LeavesFiles opened)) (λ had. tt)
-          (λ out. record {
-            settings = stays.settings;
-            assocs = stays.assocs;
-            qos = stays.qos;
-            partitions = shapes-at place state s.partitions ∙ stays.partitions;
-            nodes = stays.nodes;
-            dropped = stays.dropped;
-            gone = stays.gone;
-          })
-    ]
-made_opened opened s moment user (CreateReservation desc) other stays = record {
-  settings = stays.settings;
-  assocs = stays.assocs;
-  qos = stays.qos;
-  partitions = stays.partitions;
-  nodes = stays.nodes;
-  dropped = stays.dropped;
-  gone = stays.gone;
+-- what leaves the other files' lines, and the partitions and nodes their own
+leaves : (s after : State) → (after.settings ≡ s.settings) × (after.assocs ≡ s.assocs) × (after.qos ≡ s.qos)
+    → (after.dropped ≡ s.dropped) × (after.gone ≡ s.gone) → without_states after.partitions ≡ without_states s.partitions
+    → confs_of after.nodes ≡ confs_of s.nodes → LeavesFiles s after
+leaves s after files absent partitions nodes = record {
+  settings = files.0;
+  assocs = files.1;
+  qos = files.2;
+  partitions = partitions;
+  nodes = nodes;
+  dropped = absent.0;
+  gone = absent.1;
 }
-made_opened opened s moment user (DeleteReservation name) other stays = record {
-  settings = stays.settings;
-  assocs = stays.assocs;
-  qos = stays.qos;
-  partitions = stays.partitions;
-  nodes = stays.nodes;
-  dropped = stays.dropped;
-  gone = stays.gone;
-}
-made_opened opened s moment user Shutdown other stays = record {
-  settings = stays.settings;
-  assocs = stays.assocs;
-  qos = stays.qos;
-  partitions = stays.partitions;
-  nodes = stays.nodes;
-  dropped = stays.dropped;
-  gone = stays.gone;
-}
-made_opened opened s moment user (Report report) other stays =
-    elim (node_of s report) as (λ node. MakesBy (LeavesFiles opened) (made_by_report s moment report node)) [
-      | None ↦ tt
-      | Some node ↦
-          let stays = met-opened opened s moment node report stays in
-          record {
-            settings = stays.settings;
-            assocs = stays.assocs;
-            qos = stays.qos;
-            partitions = stays.partitions;
-            nodes = confs_at node (change.Heard (heard_by moment report) (lists_nothing report.running))
-                (met s moment node report).nodes ∙ stays.nodes;
-            dropped = stays.dropped;
-            gone = stays.gone;
-          }
-    ]
-made_opened opened s moment user Pass other stays =
-    let stays = silenced-opened opened s moment stays in
-    cond_both (pass_is_idle s moment) Stays _ (MakesBy (LeavesFiles opened)) (λ idle. tt)
-    (λ busy. record {
-      settings = stays.settings;
-      assocs = stays.assocs;
-      qos = stays.qos;
-      partitions = stays.partitions;
-      nodes = stays.nodes;
-      dropped = stays.dropped;
-      gone = stays.gone;
-    })
-made_opened opened s moment user (Reconfigure conf bytes) other stays = absurd (both_ways true other refl)
-made_opened opened s moment user (Show query) other stays = tt
+
+silenced-opened : (s : State) (now : ℕ) → LeavesFiles s (silenced s now)
+silenced-opened s now =
+    cond_both (any_silent s now) (without_silent s now) s (LeavesFiles s)
+    (λ some. leaves s (without_silent s now) (refl, refl, refl) (refl, refl) refl
+    (confs_where change.Silent (falls_silent s.settings.slurmd_timeout now) s.nodes))
+    (λ none. leaves_itself s)
+
+met-opened : (s : State) (now node : ℕ) (report : Told) → LeavesFiles s (met s now node report)
+met-opened s now node report =
+    let lost = stamped now (lost_after s now (nat_eq node)) in
+    cond_both (is_restarted s report) lost s (LeavesFiles s)
+    (λ restarted. leaves s lost (refl, refl, refl) (refl, refl) refl refl) (λ not. leaves_itself s)
+
+pub made_opened : (s : State) (moment : ℕ) (user : List ℕ) (request : Request) (after : State)
+    → is_reconfigure request ≡ false → MayMake s moment user request after → LeavesFiles s after
+made_opened s moment user request after other (ByUpdateNode names order) =
+    leaves s after (refl, refl, refl) (refl, refl) refl (confs_where (change_by order) (is_among names) s.nodes)
+made_opened s moment user request after other (ByUpdatePartition name state place) =
+    leaves s after (refl, refl, refl) (refl, refl) (shapes-at place state s.partitions) refl
+made_opened s moment user request after other (ByReport report node found) =
+    let stays = met-opened s moment node report in
+    leaves s after (stays.settings, stays.assocs, stays.qos) (stays.dropped, stays.gone) stays.partitions
+    (confs_at node (change.Heard (heard_by moment report) (lists_nothing report.running)) (met s moment node report).nodes
+    ∙ stays.nodes)
+made_opened s moment user request after other ByPass =
+    let stays = silenced-opened s moment in
+    leaves s after (stays.settings, stays.assocs, stays.qos) (stays.dropped, stays.gone) stays.partitions stays.nodes
+made_opened s moment user request after other (ByReconfigure conf bytes) = absurd (both_ways true other refl)
+made_opened s moment user request after other kind = leaves s after (refl, refl, refl) (refl, refl) refl refl

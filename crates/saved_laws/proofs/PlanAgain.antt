@@ -12,7 +12,6 @@ use Rattle.host_lists.specs.Hosts.{distinct, has, with_name}
 use Rattle.list_lemmas.proofs.Elements.{all-left, all-right, any-none}
 use Rattle.list_lemmas.proofs.Pairs.{pairs-append}
 use Rattle.plain_data.specs.declared.conf.NodeConf.{NodeConf}
-use Rattle.backfill_planner.specs.declared.Placed.{Placed}
 use Rattle.backfill_planner.specs.declared.Share.{Share}
 use Rattle.node_state.specs.declared.record.NodeRecord.{NodeRecord}
 use Rattle.node_state.specs.Nodes.{place_named}

@@ -1,7 +1,7 @@
 -- The plan stays on nodes that there are, or that are gone.
-use Rattle.std.proofs.Common.{ℕ, ◌≡◌, ◌<◌, ◌≤◌, Bool, true, false, ◌&&◌, List, [], ◌∷◌, filter, length, map, get_or, All, Option, Some, None, IfSome, nat_eq, slice_get, refl, sym, subst, arith}
+use Rattle.std.proofs.Common.{ℕ, ◌≡◌, ◌<◌, ◌≤◌, true, false, ◌&&◌, List, [], ◌∷◌, filter, length, map, get_or, All, Option, Some, None, IfSome, nat_eq, slice_get, refl, sym, subst, arith}
 use Rattle.std.specs.Prelude.{filter_map}
-use Rattle.std.specs.List.{cons_option, list_any}
+use Rattle.std.specs.List.{cons_option}
 use Rattle.std.proofs.lemmas.Bool.{both_ways, cond_both}
 use Rattle.std.proofs.lemmas.List.{length-map}
 use Rattle.std.proofs.lemmas.List.Elements.{All-cons, All-filter, All-head, All-nil, All-tail}
@@ -12,14 +12,13 @@ use Rattle.plain_data.specs.declared.limit.Limit.TheVariants.{Minutes, Unlimited
 use Rattle.plain_data.specs.declared.seconds.TheConstants.{LAST_START}
 use Rattle.request_data.specs.declared.report.Report.{Report as Told}
 use Rattle.request_data.specs.declared.request.Request.{Request}
-use Rattle.request_data.specs.declared.request.Request.TheVariants.{Submit, Cancel, Hold, Release, Requeue, UpdateJob, UpdateNode, UpdatePartition, CreateReservation, DeleteReservation, Report, Pass, Shutdown, Reconfigure, Show}
 use Rattle.backfill_planner.specs.Bases.{BaseView}
 use Rattle.backfill_planner.specs.Placements.{AreParts, IsOnRooms, IsPlannable}
 use Rattle.backfill_planner.specs.Plans.{plan_of}
 use Rattle.backfill_planner.specs.declared.Placed.{Placed}
 use Rattle.backfill_planner.specs.declared.job.PlanJob.{PlanJob}
 use Rattle.node_state.specs.declared.partition_record.PartRecord.{PartRecord}
-use Rattle.node_state.specs.Partitions.{IsOnNodes as IsOfThese, place_meant}
+use Rattle.node_state.specs.Partitions.{IsOnNodes as IsOfThese}
 use Rattle.node_state.specs.Reservations.{lasting}
 use Rattle.job_table.specs.declared.record.JobRecord.{JobRecord}
 use Rattle.job_table.specs.Table.{job_with}
@@ -29,24 +28,16 @@ use Rattle.ctl_state.specs.Ordered.{ordered_by}
 use Rattle.ctl_state.specs.Planning.{barred_of, bounds_in, plan_job, room_of, seconds_of}
 use Rattle.ctl_state.specs.Soundness.{IsKept as IsSoundJob, IsLimit, IsSound}
 use Rattle.ctl_state.specs.State.{State, last_moment, partition_of}
-use Rattle.ctl_state.specs.Verdicts.{Stays}
 use Rattle.ctl_waiting.specs.Candidates.{candidates, is_candidate, need_in, needs_of, ranked}
 use Rattle.ctl_waiting.specs.Rank.{is_higher}
-use Rattle.ctl_jobs.specs.Submission.{basis_of, made_under}
-use Rattle.ctl_jobs.specs.declared.action.Action.{Action}
-use Rattle.ctl_jobs.specs.declared.action.Action.TheVariants as act
-use Rattle.ctl_jobs.specs.Changing.{are_meant, are_naming, change_made, done_if, goes}
-use Rattle.ctl_nodes.specs.Updating.{changes_any}
+use Rattle.ctl_jobs.specs.Changing.{done_if}
 use Rattle.ctl_pass.specs.Readiness.{base_of, jobs_left, placements, planned, ready}
 use Rattle.ctl_pass.specs.Starting.{Started, begun, may_start, start_of, started}
-use Rattle.ctl_node_side.specs.Answering.{is_restarted, node_of}
-use Rattle.ctl_node_side.specs.Passes.{pass_is_idle}
-use Rattle.ctl_node_side.specs.Restarting.{made_by_report, met}
+use Rattle.ctl_node_side.specs.Answering.{is_restarted}
+use Rattle.ctl_node_side.specs.Restarting.{met}
 use Rattle.ctl_node_side.specs.Silence.{any_silent, silenced}
-use Rattle.ctl_core.specs.Operating.{is_in_state, partition_made}
-use Rattle.ctl_core.specs.Step.{made}
+use Rattle.step_lemmas.proofs.Making.{ByAction, ByPass, ByReconfigure, ByReport, MayMake}
 use Rattle.saved_laws.specs.Kept.{IsOnNodes, is_reconfigure}
-use Rattle.saved_laws.proofs.Comings.{MakesBy}
 use Rattle.saved_laws.proofs.Positions.{all_at}
 
 -- what is known of plans
@@ -167,15 +158,6 @@ stays-there count s now jobs (placed ∷ later) there =
 abbrev pub Plans : ℕ → State → Type 0
 Plans count s = All (IsOnNodes count) s.plan
 
-jobs-plan : (count : ℕ) (s : State) (moment : ℕ) (user : List ℕ) (action : Action) (named : JobRecord → Bool)
-    → Plans count s → MakesBy (Plans count) (change_made s moment user action named)
-jobs-plan count s moment user action named there =
-    cond_both (list_any (goes s user action named) s.jobs) _ Stays (MakesBy (Plans count))
-    (λ some. All-filter
-    (λ (placed : Placed). waits (job_with placed.id (map (done_if s moment user action named) s.jobs))) (IsOnNodes count) s.plan
-    there)
-    (λ none. tt)
-
 met-plan : (count : ℕ) (s : State) (now node : ℕ) (report : Told) → Plans count s → Plans count (met s now node report)
 met-plan count s now node report there =
     cond_both (is_restarted s report) _ s (Plans count) (λ restarted. there) (λ not. there)
@@ -190,47 +172,22 @@ silenced-moment : (s : State) (now : ℕ) → s.moment ≤ now → (silenced s n
 silenced-moment s now later =
     cond_both (any_silent s now) _ s (λ (t : State). t.moment ≤ now) (λ some. omega arith) (λ none. later)
 
-pub made_plan : PlanLaws → (count : ℕ) (s : State) (moment : ℕ) (user : List ℕ) (request : Request)
+pub made_plan : PlanLaws → (count : ℕ) (s : State) (moment : ℕ) (user : List ℕ) (request : Request) (after : State)
     → is_reconfigure request ≡ false → IsSound s → s.moment ≤ moment → moment ≤ last_moment → length s.nodes ≤ count
-    → Plans count s → MakesBy (Plans count) (made s moment user request)
-made_plan laws count s moment user (Submit desc) other sound later in_time more there =
-    elim (basis_of s user desc) as (λ basis. MakesBy (Plans count) (made_under s moment user desc basis))
-    [ None ↦ tt | Some basis ↦ there ]
-made_plan laws count s moment user (Cancel targets) other sound later in_time more there =
-    jobs-plan count s moment user act.Cancel (are_meant targets) there
-made_plan laws count s moment user (Hold targets for_owner) other sound later in_time more there =
-    jobs-plan count s moment user (act.Hold for_owner) (are_naming targets) there
-made_plan laws count s moment user (Release targets) other sound later in_time more there =
-    jobs-plan count s moment user act.Release (are_naming targets) there
-made_plan laws count s moment user (Requeue target) other sound later in_time more there =
-    jobs-plan count s moment user act.Requeue (are_naming (target ∷ [])) there
-made_plan laws count s moment user (UpdateJob target limit nice) other sound later in_time more there =
-    jobs-plan count s moment user (act.Update limit nice) (are_naming (target ∷ [])) there
-made_plan laws count s moment user (UpdateNode names state) other sound later in_time more there =
-    cond_both (changes_any s names state) _ Stays (MakesBy (Plans count)) (λ some. there) (λ none. tt)
-made_plan laws count s moment user (UpdatePartition name state) other sound later in_time more there =
-    elim (place_meant (Some name) s.partitions) as (λ place.
-    MakesBy (Plans count) (partition_made s state place)) [
-      | None ↦ tt
-      | Some place ↦
-          cond_both (is_in_state state (slice_get s.partitions place)) Stays _ (MakesBy (Plans count))
-          (λ had. tt) (λ out. there)
-    ]
-made_plan laws count s moment user (CreateReservation desc) other sound later in_time more there = there
-made_plan laws count s moment user (DeleteReservation name) other sound later in_time more there = there
-made_plan laws count s moment user Shutdown other sound later in_time more there = there
-made_plan laws count s moment user (Report report) other sound later in_time more there =
-    elim (node_of s report) as (λ node. MakesBy (Plans count) (made_by_report s moment report node))
-    [ None ↦ tt | Some node ↦ met-plan count s moment node report there ]
-made_plan laws count s moment user Pass other sound later in_time more there =
+    → Plans count s → MayMake s moment user request after → Plans count after
+made_plan laws count s moment user request after other sound later in_time more there (ByAction action named asks) =
+    All-filter (λ (placed : Placed). waits (job_with placed.id (map (done_if s moment user action named) s.jobs)))
+    (IsOnNodes count) s.plan there
+made_plan laws count s moment user request after other sound later in_time more there (ByReport report node found) =
+    met-plan count s moment node report there
+made_plan laws count s moment user request after other sound later in_time more there ByPass =
     let t = silenced s moment in
     let planned : All (IsOnNodes (length s.nodes)) (placements t moment) =
     subst (λ count. All (IsOnNodes count) (placements t moment)) (silenced-count s moment)
     (planned-there laws t moment (laws.silence s moment sound later in_time) (silenced-moment s moment later) in_time) in
     let within : All (IsOnNodes count) (placements t moment) =
     λ k d below i e inside. omega (arith, planned k d below i e inside, more) in
-    cond_both (pass_is_idle s moment) Stays _ (MakesBy (Plans count)) (λ idle. tt)
-    (λ busy. stays-there count t moment (jobs_left t moment) (placements t moment) within)
-made_plan laws count s moment user (Reconfigure conf bytes) other sound later in_time more there =
+    stays-there count t moment (jobs_left t moment) (placements t moment) within
+made_plan laws count s moment user request after other sound later in_time more there (ByReconfigure conf bytes) =
     absurd (both_ways true other refl)
-made_plan laws count s moment user (Show query) other sound later in_time more there = tt
+made_plan laws count s moment user request after other sound later in_time more there kind = there

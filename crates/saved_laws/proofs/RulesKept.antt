@@ -14,13 +14,13 @@ use Rattle.job_table.specs.declared.record.JobRecord.{JobRecord}
 use Rattle.ctl_state.specs.State.{State, opening}
 use Rattle.ctl_jobs.specs.Submission.{Basis, new_jobs, settled}
 use Rattle.ctl_core.specs.Step.{raised, state_after}
+use Rattle.step_lemmas.proofs.Steps.{step_is}
 use Rattle.ctl_desk.specs.declared.entry.Entry.{Entry}
 use Rattle.ctl_desk.specs.History.{after_all}
 use Rattle.ctl_session.specs.Meaning.{meaning_of, state_behind}
 use Rattle.saved_rules.specs.Rules.{AsksByRules, DescByRules, RequestByRules, TermsByRules}
 use Rattle.script_run.specs.Behind.{AreByRules}
 use Rattle.script_run.specs.Script.{state_behind_all}
-use Rattle.saved_laws.proofs.Comings.{step_is}
 use Rattle.saved_laws.proofs.NamesKept.{IsOfFixed, fixed_stays, new_true}
 use Rattle.saved_laws.proofs.Walks.{made_true}
 
@@ -53,9 +53,9 @@ opening_ruled conf file = All-nil IsRuled
 pub step_ruled : (s : State) (now : ℕ) (user : List ℕ) (request : Request) → RequestByRules request → AreByRules s
     → AreByRules (state_after s now user request)
 step_ruled s now user request by ruled =
-    step_is AreByRules s now user request ruled (λ allowed.
-    made_true IsRuled (fixed_stays IsRuled ruled-fixed) s (raised s now) user request ruled
-    (λ desc basis asks is. new-ruled s (raised s now) user desc basis (subst RequestByRules asks by)))
+    step_is AreByRules s now user request ruled (λ reply after is.
+    made_true IsRuled (fixed_stays IsRuled ruled-fixed) s (raised s now) user request after ruled
+    (λ desc basis asks of. new-ruled s (raised s now) user desc basis (subst RequestByRules asks by)) is.kind)
 
 behind-ruled : (s : State) (meaning : Meaning) → AsksByRules meaning → AreByRules s → AreByRules (state_behind s meaning)
 behind-ruled s (Asks asked) by ruled = step_ruled s asked.moment asked.user asked.request by ruled

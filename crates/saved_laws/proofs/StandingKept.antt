@@ -1,7 +1,6 @@
 -- How nodes stand stays as it may.
 use Rattle.std.proofs.Common.{ℕ, ◌≡◌, ◌≤◌, zero, suc, Bool, false, List, [], ◌∷◌, get_or, map, All, Option, Some, None, IfSome, refl, slice_get, arith}
 use Rattle.std.specs.Option.{option_and_then}
-use Rattle.std.specs.List.{list_any}
 use Rattle.std.proofs.lemmas.Bool.{cond_both}
 use Rattle.std.proofs.lemmas.List.Elements.{All-cons, All-head, All-map, All-tail, All-weaker}
 use Rattle.plain_data.specs.Confs.{ConfView}
@@ -11,7 +10,6 @@ use Rattle.request_data.specs.declared.report.Report.{Report as Told}
 use Rattle.request_data.specs.declared.request.NodeOrder.{NodeOrder}
 use Rattle.request_data.specs.declared.request.NodeOrder.TheVariants as order
 use Rattle.request_data.specs.declared.request.Request.{Request}
-use Rattle.request_data.specs.declared.request.Request.TheVariants.{Submit, Cancel, Hold, Release, Requeue, UpdateJob, UpdateNode, UpdatePartition, CreateReservation, DeleteReservation, Report, Pass, Shutdown, Reconfigure, Show}
 use Rattle.node_state.specs.declared.record.DroppedNode.{DroppedNode}
 use Rattle.node_state.specs.declared.record.DownBy.{DownBy}
 use Rattle.node_state.specs.declared.record.DownBy.TheVariants as down
@@ -20,27 +18,16 @@ use Rattle.node_state.specs.declared.record.NodeChange.TheVariants as change
 use Rattle.node_state.specs.declared.record.NodeRecord.{NodeRecord}
 use Rattle.node_state.specs.Nodes.{change_at, changed, noted, place_named, resumed, set_down, silent}
 use Rattle.node_state.specs.Renewing.{come, dropped_named, node_named, renewed, renewed_from}
-use Rattle.node_state.specs.Partitions.{place_meant}
-use Rattle.job_table.specs.declared.record.JobRecord.{JobRecord}
 use Rattle.ctl_state.specs.State.{State}
-use Rattle.ctl_state.specs.Verdicts.{Stays}
-use Rattle.ctl_jobs.specs.Submission.{basis_of, made_under}
-use Rattle.ctl_jobs.specs.declared.action.Action.{Action}
-use Rattle.ctl_jobs.specs.declared.action.Action.TheVariants as act
-use Rattle.ctl_jobs.specs.Changing.{are_meant, are_naming, change_made, goes}
 use Rattle.ctl_nodes.specs.Changing.{changed_where}
-use Rattle.ctl_nodes.specs.Updating.{change_by, changes_any, is_among}
-use Rattle.ctl_node_side.specs.Answering.{is_restarted, node_of}
-use Rattle.ctl_node_side.specs.Passes.{pass_is_idle}
+use Rattle.ctl_nodes.specs.Updating.{change_by, is_among}
+use Rattle.ctl_node_side.specs.Answering.{is_restarted}
 use Rattle.ctl_node_side.specs.Reporting.{heard_by, lists_nothing}
-use Rattle.ctl_node_side.specs.Restarting.{made_by_report, met}
+use Rattle.ctl_node_side.specs.Restarting.{met}
 use Rattle.ctl_node_side.specs.Silence.{any_silent, falls_silent, silenced}
 use Rattle.ctl_reconfigure.specs.Reconfiguring.{reconfigured}
-use Rattle.ctl_reconfigure.specs.Same.{is_same}
-use Rattle.ctl_core.specs.Operating.{is_in_state, partition_made}
-use Rattle.ctl_core.specs.Step.{made}
+use Rattle.step_lemmas.proofs.Making.{ByPass, ByReconfigure, ByReport, ByUpdateNode, MayMake}
 use Rattle.saved_laws.specs.Kept.{Stands}
-use Rattle.saved_laws.proofs.Comings.{MakesBy}
 use Rattle.saved_laws.proofs.Positions.{all_at}
 
 -- ---- one node
@@ -143,11 +130,6 @@ all_later moment later nodes after stand =
 abbrev pub Standing : ℕ → State → Type 0
 Standing moment s = All (Stands moment) s.nodes
 
-jobs-stand : (s : State) (moment : ℕ) (user : List ℕ) (action : Action) (named : JobRecord → Bool)
-    → Standing moment s → MakesBy (Standing moment) (change_made s moment user action named)
-jobs-stand s moment user action named stand =
-    cond_both (list_any (goes s user action named) s.jobs) _ Stays (MakesBy (Standing moment)) (λ some. stand) (λ none. tt)
-
 met-stand : (s : State) (moment node : ℕ) (report : Told) → Standing moment s → Standing moment (met s moment node report)
 met-stand s moment node report stand =
     cond_both (is_restarted s report) _ s (Standing moment) (λ restarted. stand) (λ not. stand)
@@ -192,43 +174,13 @@ ordered moment order.Down = tt
 ordered moment order.Drain = tt
 ordered moment order.Resume = tt
 
-pub made_standing : (s : State) (moment : ℕ) (user : List ℕ) (request : Request) → Standing moment s
-    → MakesBy (Standing moment) (made s moment user request)
-made_standing s moment user (Submit desc) stand =
-    elim (basis_of s user desc) as (λ basis. MakesBy (Standing moment) (made_under s moment user desc basis))
-    [ None ↦ tt | Some basis ↦ stand ]
-made_standing s moment user (Cancel targets) stand = jobs-stand s moment user act.Cancel (are_meant targets) stand
-made_standing s moment user (Hold targets for_owner) stand =
-    jobs-stand s moment user (act.Hold for_owner) (are_naming targets) stand
-made_standing s moment user (Release targets) stand = jobs-stand s moment user act.Release (are_naming targets) stand
-made_standing s moment user (Requeue target) stand =
-    jobs-stand s moment user act.Requeue (are_naming (target ∷ [])) stand
-made_standing s moment user (UpdateJob target limit nice) stand =
-    jobs-stand s moment user (act.Update limit nice) (are_naming (target ∷ [])) stand
-made_standing s moment user (UpdateNode names state) stand =
-    cond_both (changes_any s names state) _ Stays (MakesBy (Standing moment))
-    (λ some. where-stand moment (change_by state) (is_among names) s.nodes (ordered moment state) stand) (λ none. tt)
-made_standing s moment user (UpdatePartition name state) stand =
-    elim (place_meant (Some name) s.partitions) as (λ place. MakesBy (Standing moment) (partition_made s state place)) [
-      | None ↦ tt
-      | Some place ↦
-          cond_both (is_in_state state (slice_get s.partitions place)) Stays _ (MakesBy (Standing moment)) (λ had. tt)
-          (λ out. stand)
-    ]
-made_standing s moment user (CreateReservation desc) stand = stand
-made_standing s moment user (DeleteReservation name) stand = stand
-made_standing s moment user Shutdown stand = stand
-made_standing s moment user (Report report) stand =
-    elim (node_of s report) as (λ node. MakesBy (Standing moment) (made_by_report s moment report node)) [
-      | None ↦ tt
-      | Some node ↦
-          at-stand moment node (change.Heard (heard_by moment report) (lists_nothing report.running))
-          (met s moment node report).nodes (omega arith) (met-stand s moment node report stand)
-    ]
-made_standing s moment user Pass stand =
-    cond_both (pass_is_idle s moment) Stays _ (MakesBy (Standing moment)) (λ idle. tt)
-    (λ busy. silenced-stand s moment stand)
-made_standing s moment user (Reconfigure conf bytes) stand =
-    cond_both (is_same s conf) Stays _ (MakesBy (Standing moment)) (λ same. tt)
-    (λ other. renewed-stand s moment conf stand)
-made_standing s moment user (Show query) stand = tt
+pub made_standing : (s : State) (moment : ℕ) (user : List ℕ) (request : Request) (after : State)
+    → Standing moment s → MayMake s moment user request after → Standing moment after
+made_standing s moment user request after stand (ByUpdateNode names order) =
+    where-stand moment (change_by order) (is_among names) s.nodes (ordered moment order) stand
+made_standing s moment user request after stand (ByReport report node found) =
+    at-stand moment node (change.Heard (heard_by moment report) (lists_nothing report.running))
+    (met s moment node report).nodes (omega arith) (met-stand s moment node report stand)
+made_standing s moment user request after stand ByPass = silenced-stand s moment stand
+made_standing s moment user request after stand (ByReconfigure conf bytes) = renewed-stand s moment conf stand
+made_standing s moment user request after stand kind = stand

@@ -5,7 +5,7 @@ use Rattle.reply_data.specs.declared.refusal.Refusal.{Refusal}
 use Rattle.reply_data.specs.declared.refusal.Refusal.TheVariants.{HistoryFull}
 use Rattle.reply_data.specs.declared.reply.Reply.TheVariants.{Refused}
 use Rattle.request_data.specs.declared.request.Request.{Request}
-use Rattle.request_data.specs.declared.request.Request.TheVariants.{Submit, Cancel, Hold, Release, Requeue, UpdateJob, UpdateNode, UpdatePartition, CreateReservation, DeleteReservation, Report, Pass, Shutdown, Reconfigure, Show}
+use Rattle.request_data.specs.declared.request.Request.TheVariants.{Submit, Cancel, Hold, Release, Requeue, UpdateJob, UpdateNode, UpdatePartition, Report, Pass, Shutdown, Reconfigure, Show}
 use Rattle.node_state.specs.Partitions.{place_meant}
 use Rattle.ctl_state.specs.Refusals.{first_refusal, unless_refused}
 use Rattle.ctl_state.specs.State.{State, last_size}
@@ -32,15 +32,9 @@ refusals-of-sized size s moment user (Release targets) = refusals_sized size s u
 refusals-of-sized size s moment user (Requeue target) = refusals_sized size s user act.Requeue (target ∷ [])
 refusals-of-sized size s moment user (UpdateJob target limit nice) =
     refusals_sized size s user (act.Update limit nice) (target ∷ [])
-refusals-of-sized size s moment user (UpdateNode nodes state) = refl
-refusals-of-sized size s moment user (UpdatePartition name state) = refl
-refusals-of-sized size s moment user (CreateReservation desc) = refl
-refusals-of-sized size s moment user (DeleteReservation name) = refl
-refusals-of-sized size s moment user Shutdown = refl
-refusals-of-sized size s moment user (Report report) = refl
-refusals-of-sized size s moment user Pass = refl
 refusals-of-sized size s moment user (Reconfigure conf bytes) = reconfigure_refusals_sized size s user conf
 refusals-of-sized size s moment user (Show query) = show_refusals_sized size s query
+refusals-of-sized size s moment user request = refl
 
 -- what a request makes that isn't refused is the same
 made-sized : (size : ℕ) (s : State) (moment : ℕ) (user : List ℕ) (request : Request)
@@ -57,13 +51,11 @@ made-sized size s moment user (UpdateJob target limit nice) =
 made-sized size s moment user (UpdateNode nodes state) = update_made_sized size s moment nodes state
 made-sized size s moment user (UpdatePartition name state) =
     partition_made_sized size s state (place_meant (Some name) s.partitions)
-made-sized size s moment user (CreateReservation desc) = refl
-made-sized size s moment user (DeleteReservation name) = refl
-made-sized size s moment user Shutdown = refl
 made-sized size s moment user (Report report) = report_made_sized size s moment report
 made-sized size s moment user Pass = made_by_pass_sized size s moment
 made-sized size s moment user (Reconfigure conf bytes) = reconfigure_made_sized size s moment conf
 made-sized size s moment user (Show query) = ap Tells (view_of_sized size s moment user query)
+made-sized size s moment user request = refl
 
 -- where a request has room, it has it in a history that is no fuller
 roomier : (size : ℕ) (s : State) (request : Request) → size ≤ s.size → has_room s request ≡ true

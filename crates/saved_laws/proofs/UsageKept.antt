@@ -1,40 +1,31 @@
 -- Only users' associations only something.
 use Rattle.std.proofs.Common.{bytes_eq, ℕ, ◌≡◌, ◌≢◌, ◌∙◌, ◌+◌, ◌≤◌, zero, suc, Bool, true, false, ◌&&◌, if◌then◌else◌, List, [], ◌∷◌, map, All, Option, Some, None, nat_eq, slice_get, refl, ap, sym, subst, arith}
 use Rattle.std.specs.Prelude.{min, option_map}
-use Rattle.std.specs.List.{enumerate_from, list_any, zip}
+use Rattle.std.specs.List.{enumerate_from, zip}
 use Rattle.std.proofs.lemmas.Bool.{cond_both, eqb-true, false_from_ne_true}
 use Rattle.std.proofs.lemmas.List.Elements.{All-cons, All-head, All-nil, All-tail, All-weaker}
 use Rattle.list_lemmas.proofs.Sums.{sum_by-none}
 use Rattle.request_data.specs.declared.report.Report.{Report as Told}
 use Rattle.request_data.specs.declared.request.Request.{Request}
-use Rattle.request_data.specs.declared.request.Request.TheVariants.{Submit, Cancel, Hold, Release, Requeue, UpdateJob, UpdateNode, UpdatePartition, CreateReservation, DeleteReservation, Report, Pass, Shutdown, Reconfigure, Show}
-use Rattle.node_state.specs.Partitions.{place_meant}
 use Rattle.job_table.specs.declared.record.JobRecord.{JobRecord}
 use Rattle.job_table.specs.Usage.{charged, greatest_usage, grown, used_of, used_when_left}
 use Rattle.run_limits.specs.declared.record.AssocRecord.{AssocRecord}
 use Rattle.run_limits.specs.Accounts.{is_of_user}
 use Rattle.ctl_state.specs.State.{State}
 use Rattle.ctl_state.specs.Soundness.{IsOfAccounts}
-use Rattle.ctl_state.specs.Verdicts.{Stays}
-use Rattle.ctl_jobs.specs.Submission.{basis_of, made_under}
-use Rattle.ctl_jobs.specs.declared.action.Action.{Action}
-use Rattle.ctl_jobs.specs.declared.action.Action.TheVariants as act
-use Rattle.ctl_jobs.specs.Changing.{are_meant, are_naming, change_made, done_if, goes}
+use Rattle.ctl_jobs.specs.Changing.{done_if}
 use Rattle.ctl_nodes.specs.Failing.{after_loss}
-use Rattle.ctl_nodes.specs.Updating.{changes_any, lost_by}
+use Rattle.ctl_nodes.specs.Updating.{lost_by}
 use Rattle.ctl_pass.specs.Limits.{timed_out}
 use Rattle.ctl_pass.specs.Passing.{begun_in, outcome}
 use Rattle.ctl_pass.specs.Preempting.{preempted, victims_in}
-use Rattle.ctl_node_side.specs.Answering.{is_restarted, node_of}
-use Rattle.ctl_node_side.specs.Passes.{after_pass, pass_is_idle}
+use Rattle.ctl_node_side.specs.Answering.{is_restarted}
+use Rattle.ctl_node_side.specs.Passes.{after_pass}
 use Rattle.ctl_node_side.specs.Reporting.{reported}
-use Rattle.ctl_node_side.specs.Restarting.{made_by_report, met}
+use Rattle.ctl_node_side.specs.Restarting.{met}
 use Rattle.ctl_node_side.specs.Silence.{any_silent, silent_at, silenced}
-use Rattle.ctl_reconfigure.specs.Same.{is_same}
-use Rattle.ctl_core.specs.Operating.{is_in_state, partition_made}
-use Rattle.ctl_core.specs.Step.{made}
+use Rattle.step_lemmas.proofs.Making.{ByAction, ByPass, ByReport, ByUpdateNode, MayMake}
 use Rattle.saved_laws.specs.Kept.{OnlyUsersUse}
-use Rattle.saved_laws.proofs.Comings.{MakesBy}
 use Rattle.saved_laws.proofs.NamesKept.{IsOfUser, fixed_stays, user_fixed}
 use Rattle.saved_laws.proofs.Walks.{begun_true, met_true, silenced_true}
 
@@ -135,13 +126,6 @@ charged_users now assocs jobs after totals of users = record {
 abbrev Use : State → Type 0
 Use s = OnlyUsersUse s.assocs s.usage
 
-jobs-use : (s : State) (moment : ℕ) (user : List ℕ) (action : Action) (named : JobRecord → Bool)
-    → All (IsOfUser s.assocs) s.jobs → Use s → MakesBy Use (change_made s moment user action named)
-jobs-use s moment user action named of only =
-    cond_both (list_any (goes s user action named) s.jobs) _ Stays (MakesBy Use)
-    (λ some. charged_users moment s.assocs s.jobs (map (done_if s moment user action named) s.jobs) s.usage of only)
-    (λ none. tt)
-
 -- what is kept through a step that may charge
 pub record UseBy (kept : List AssocRecord) (s : State) : Type 0 where
   pub assocs : s.assocs ≡ kept
@@ -170,51 +154,24 @@ silenced-use s now by =
     })
     (λ none. λ jobs. by) jobs
 
-pub made_use : (s : State) (moment : ℕ) (user : List ℕ) (request : Request) → All (IsOfUser s.assocs) s.jobs → Use s
-    → MakesBy Use (made s moment user request)
-made_use s moment user (Submit desc) of only =
-    elim (basis_of s user desc) as (λ basis. MakesBy Use (made_under s moment user desc basis))
-    [ None ↦ tt | Some basis ↦ only ]
-made_use s moment user (Cancel targets) of only = jobs-use s moment user act.Cancel (are_meant targets) of only
-made_use s moment user (Hold targets for_owner) of only =
-    jobs-use s moment user (act.Hold for_owner) (are_naming targets) of only
-made_use s moment user (Release targets) of only = jobs-use s moment user act.Release (are_naming targets) of only
-made_use s moment user (Requeue target) of only = jobs-use s moment user act.Requeue (are_naming (target ∷ [])) of only
-made_use s moment user (UpdateJob target limit nice) of only =
-    jobs-use s moment user (act.Update limit nice) (are_naming (target ∷ [])) of only
-made_use s moment user (UpdateNode names state) of only =
-    cond_both (changes_any s names state) _ Stays (MakesBy Use)
-    (λ some. charged_users moment s.assocs s.jobs (map (after_loss moment (lost_by s.nodes names state)) s.jobs) s.usage of only)
-    (λ none. tt)
-made_use s moment user (UpdatePartition name state) of only =
-    elim (place_meant (Some name) s.partitions) as (λ place. MakesBy Use (partition_made s state place)) [
-      | None ↦ tt
-      | Some place ↦
-          cond_both (is_in_state state (slice_get s.partitions place)) Stays _ (MakesBy Use) (λ had. tt) (λ out. only)
-    ]
-made_use s moment user (CreateReservation desc) of only = only
-made_use s moment user (DeleteReservation name) of only = only
-made_use s moment user Shutdown of only = only
-made_use s moment user (Report report) of only =
-    elim (node_of s report) as (λ node. MakesBy Use (made_by_report s moment report node)) [
-      | None ↦ tt
-      | Some node ↦
-          let by = met-use s moment node report (record { assocs = refl; of = of; users = only }) in
-          let t = met s moment node report in
-          subst (λ assocs. OnlyUsersUse assocs (charged moment t.jobs (map (reported moment node report) t.jobs) t.usage)) (sym by.assocs)
-          (charged_users moment s.assocs t.jobs (map (reported moment node report) t.jobs) t.usage by.of by.users)
-    ]
-made_use s moment user Pass of only =
+pub made_use : (s : State) (moment : ℕ) (user : List ℕ) (request : Request) (after : State)
+    → All (IsOfUser s.assocs) s.jobs → Use s → MayMake s moment user request after → Use after
+made_use s moment user request after of only (ByAction action named asks) =
+    charged_users moment s.assocs s.jobs (map (done_if s moment user action named) s.jobs) s.usage of only
+made_use s moment user request after of only (ByUpdateNode names order) =
+    charged_users moment s.assocs s.jobs (map (after_loss moment (lost_by s.nodes names order)) s.jobs) s.usage of only
+made_use s moment user request after of only (ByReport report node found) =
+    let by = met-use s moment node report (record { assocs = refl; of = of; users = only }) in
+    let t = met s moment node report in
+    subst (λ assocs. OnlyUsersUse assocs (charged moment t.jobs (map (reported moment node report) t.jobs) t.usage)) (sym by.assocs)
+    (charged_users moment s.assocs t.jobs (map (reported moment node report) t.jobs) t.usage by.of by.users)
+made_use s moment user request after of only ByPass =
     let by = silenced-use s moment (record { assocs = refl; of = of; users = only }) in
     let t = silenced s moment in
-    cond_both (pass_is_idle s moment) Stays _ (MakesBy Use) (λ idle. tt)
-    (λ busy.
     let over : OnlyUsersUse s.assocs (begun_in t moment).usage =
     charged_users moment s.assocs t.jobs (map (timed_out moment) t.jobs) t.usage by.of by.users in
     let begun = begun_true (IsOfUser s.assocs) (fixed_stays (IsOfUser s.assocs) (user_fixed s.assocs)) s moment of in
     subst (λ assocs. OnlyUsersUse assocs (after_pass s moment).usage) (sym by.assocs)
     (charged_users moment s.assocs (outcome t moment).jobs
-    (map (preempted moment (victims_in t moment)) (outcome t moment).jobs) (begun_in t moment).usage begun over))
-made_use s moment user (Reconfigure conf bytes) of only =
-    cond_both (is_same s conf) Stays _ (MakesBy Use) (λ same. tt) (λ other. only)
-made_use s moment user (Show query) of only = tt
+    (map (preempted moment (victims_in t moment)) (outcome t moment).jobs) (begun_in t moment).usage begun over)
+made_use s moment user request after of only kind = only

@@ -1,5 +1,5 @@
 -- What every change of a job leaves true of it is true of each job after a step, where it was before, and is of new jobs.
-use Rattle.std.proofs.Common.{ℕ, ◌≡◌, Bool, true, false, ◌&&◌, not, List, [], ◌∷◌, map, All, Option, Some, None, if◌then◌else◌, refl, ap, nat_eq, slice_get}
+use Rattle.std.proofs.Common.{ℕ, ◌≡◌, Bool, true, false, ◌&&◌, not, List, [], ◌∷◌, map, All, Option, Some, None, if◌then◌else◌, refl, ap, nat_eq}
 use Rattle.std.specs.List.{list_any}
 use Rattle.std.proofs.lemmas.Bool.{cond_both}
 use Rattle.std.proofs.lemmas.List.Elements.{All-append, All-filter, All-map, All-weaker}
@@ -10,12 +10,11 @@ use Rattle.backfill_planner.specs.declared.Placed.{Placed}
 use Rattle.request_data.specs.declared.report.Done.{Done}
 use Rattle.request_data.specs.declared.report.Report.{Report as Told}
 use Rattle.request_data.specs.declared.request.Request.{Request}
-use Rattle.request_data.specs.declared.request.Request.TheVariants.{Submit, Cancel, Hold, Release, Requeue, UpdateJob, UpdateNode, UpdatePartition, CreateReservation, DeleteReservation, Report, Pass, Shutdown, Reconfigure, Show}
+use Rattle.request_data.specs.declared.request.Request.TheVariants.{Submit}
 use Rattle.request_data.specs.declared.state.Final.{Final}
 use Rattle.request_data.specs.declared.state.Final.TheVariants as final
 use Rattle.request_data.specs.declared.state.JobState.{JobState}
 use Rattle.request_data.specs.declared.state.JobState.TheVariants.{Pending, Running, Completing, Ended}
-use Rattle.node_state.specs.Partitions.{place_meant}
 use Rattle.job_table.specs.declared.record.JobRecord.{JobRecord}
 use Rattle.job_table.specs.declared.record.Part.{Part}
 use Rattle.job_table.specs.declared.change.Change.{Change}
@@ -25,29 +24,24 @@ use Rattle.job_table.specs.JobStates.{is_completing, is_running}
 use Rattle.job_table.specs.Table.{has_id}
 use Rattle.ctl_state.specs.Events.{started_as}
 use Rattle.ctl_state.specs.State.{State}
-use Rattle.ctl_state.specs.Verdicts.{Stays}
-use Rattle.ctl_jobs.specs.Submission.{Basis, basis_of, made_under, new_jobs}
+use Rattle.ctl_jobs.specs.Submission.{Basis, basis_of, new_jobs}
 use Rattle.ctl_jobs.specs.declared.action.Action.{Action}
 use Rattle.ctl_jobs.specs.declared.action.Action.TheVariants as act
 use Rattle.ctl_jobs.specs.Actions.{cancelled_in, done_to, held_after, with_limit, with_nice}
-use Rattle.ctl_jobs.specs.Changing.{are_meant, are_naming, change_made, done_if, goes, may_do}
+use Rattle.ctl_jobs.specs.Changing.{done_if, may_do}
 use Rattle.ctl_nodes.specs.Failing.{after_loss, failed, failing, loses, off_lost, parts_kept}
-use Rattle.ctl_nodes.specs.Updating.{changes_any, lost_by}
+use Rattle.ctl_nodes.specs.Updating.{lost_by}
 use Rattle.ctl_pass.specs.Limits.{is_over, timed_out}
 use Rattle.ctl_pass.specs.Passing.{outcome}
 use Rattle.ctl_pass.specs.Preempting.{preempted, victims_in}
 use Rattle.ctl_pass.specs.Readiness.{goes as is_gone, jobs_left, placements}
 use Rattle.ctl_pass.specs.Starting.{Started, begun, may_start, start_of, started}
-use Rattle.ctl_node_side.specs.Answering.{is_restarted, node_of}
-use Rattle.ctl_node_side.specs.Passes.{pass_is_idle}
+use Rattle.ctl_node_side.specs.Answering.{is_restarted}
 use Rattle.ctl_node_side.specs.Reporting.{after_told, done_of, final_of, is_at, is_batch_host, is_listed, reported, script_over}
-use Rattle.ctl_node_side.specs.Restarting.{made_by_report, met}
+use Rattle.ctl_node_side.specs.Restarting.{met}
 use Rattle.ctl_node_side.specs.Silence.{any_silent, silent_at, silenced}
 use Rattle.ctl_reconfigure.specs.Reconfiguring.{job_after as job_moved}
-use Rattle.ctl_reconfigure.specs.Same.{is_same}
-use Rattle.ctl_core.specs.Operating.{is_in_state, partition_made}
-use Rattle.ctl_core.specs.Step.{made}
-use Rattle.saved_laws.proofs.Comings.{MakesBy}
+use Rattle.step_lemmas.proofs.Making.{ByAction, ByPass, ByReconfigure, ByReport, BySubmit, ByUpdateNode, MayMake}
 
 -- each change leaves it true, and so do other places in the lists of nodes and of partitions
 pub record StaysTrue (J : JobRecord → Type 0) : Type 0 where
@@ -177,64 +171,24 @@ module _ (J : JobRecord → Type 0) (stays : StaysTrue J) where
       let t = silenced s now in
       starts-true t now (jobs_left t now) (placements t now) (left-true t now (silenced_true s now all))
 
-  jobs-true : (s : State) (moment : ℕ) (user : List ℕ) (action : Action) (named : JobRecord → Bool) → All J s.jobs
-      → MakesBy (λ (after : State). All J after.jobs) (change_made s moment user action named)
-  jobs-true s moment user action named all =
-      cond_both (list_any (goes s user action named) s.jobs) _ Stays (MakesBy (λ (after : State). All J after.jobs))
-      (λ some. mapped (done_if s moment user action named) (done_if_true s moment user action named) s.jobs all)
-      (λ none. tt)
-
   -- what a request makes
-  pub made_true : (s : State) (moment : ℕ) (user : List ℕ) (request : Request) → All J s.jobs
+  pub made_true : (s : State) (moment : ℕ) (user : List ℕ) (request : Request) (after : State) → All J s.jobs
       → ((desc : JobDesc) (basis : Basis) → request ≡ Submit desc → basis_of s user desc ≡ Some basis
       → All J (new_jobs s moment user desc basis desc.array))
-      → MakesBy (λ (after : State). All J after.jobs) (made s moment user request)
-  made_true s moment user (Submit desc) all new = by (basis_of s user desc) refl
-    where
-      by : (basis : Option Basis) → basis_of s user desc ≡ basis
-          → MakesBy (λ (after : State). All J after.jobs) (made_under s moment user desc basis)
-      by None is = tt
-      by (Some basis) is =
-          All-append J s.jobs (new_jobs s moment user desc basis desc.array) all (new desc basis refl is)
-  made_true s moment user (Cancel targets) all new = jobs-true s moment user act.Cancel (are_meant targets) all
-  made_true s moment user (Hold targets for_owner) all new =
-      jobs-true s moment user (act.Hold for_owner) (are_naming targets) all
-  made_true s moment user (Release targets) all new = jobs-true s moment user act.Release (are_naming targets) all
-  made_true s moment user (Requeue target) all new =
-      jobs-true s moment user act.Requeue (are_naming (target ∷ [])) all
-  made_true s moment user (UpdateJob target limit nice) all new =
-      jobs-true s moment user (act.Update limit nice) (are_naming (target ∷ [])) all
-  made_true s moment user (UpdateNode names state) all new =
-      cond_both (changes_any s names state) _ Stays (MakesBy (λ (after : State). All J after.jobs))
-      (λ some. mapped (after_loss moment (lost_by s.nodes names state)) (loss_true moment (lost_by s.nodes names state))
-      s.jobs all)
-      (λ none. tt)
-  made_true s moment user (UpdatePartition name state) all new =
-      elim (place_meant (Some name) s.partitions) as (λ place.
-      MakesBy (λ (after : State). All J after.jobs) (partition_made s state place)) [
-        | None ↦ tt
-        | Some place ↦
-            cond_both (is_in_state state (slice_get s.partitions place)) Stays _
-            (MakesBy (λ (after : State). All J after.jobs)) (λ had. tt) (λ out. all)
-      ]
-  made_true s moment user (CreateReservation desc) all new = all
-  made_true s moment user (DeleteReservation name) all new = all
-  made_true s moment user Shutdown all new = all
-  made_true s moment user (Report report) all new =
-      elim (node_of s report) as (λ node.
-      MakesBy (λ (after : State). All J after.jobs) (made_by_report s moment report node)) [
-        | None ↦ tt
-        | Some node ↦
-            mapped (reported moment node report) (reported_true moment node report) (met s moment node report).jobs
-            (met_true s moment node report all)
-      ]
-  made_true s moment user Pass all new =
-      cond_both (pass_is_idle s moment) Stays _ (MakesBy (λ (after : State). All J after.jobs)) (λ idle. tt)
-      (λ busy.
+      → MayMake s moment user request after → All J after.jobs
+  made_true s moment user request after all new (BySubmit desc basis found) =
+      All-append J s.jobs (new_jobs s moment user desc basis desc.array) all (new desc basis refl found)
+  made_true s moment user request after all new (ByAction action named asks) =
+      mapped (done_if s moment user action named) (done_if_true s moment user action named) s.jobs all
+  made_true s moment user request after all new (ByUpdateNode names order) =
+      mapped (after_loss moment (lost_by s.nodes names order)) (loss_true moment (lost_by s.nodes names order)) s.jobs all
+  made_true s moment user request after all new (ByReport report node found) =
+      mapped (reported moment node report) (reported_true moment node report) (met s moment node report).jobs
+      (met_true s moment node report all)
+  made_true s moment user request after all new ByPass =
       let t = silenced s moment in
       let gone = victims_in t moment in
-      mapped (preempted moment gone) (preempted_true moment gone) (outcome t moment).jobs (begun_true s moment all))
-  made_true s moment user (Reconfigure conf bytes) all new =
-      cond_both (is_same s conf) Stays _ (MakesBy (λ (after : State). All J after.jobs)) (λ same. tt)
-      (λ other. mapped (job_moved s conf) (λ job holds. stays.moves _ _ job holds) s.jobs all)
-  made_true s moment user (Show query) all new = tt
+      mapped (preempted moment gone) (preempted_true moment gone) (outcome t moment).jobs (begun_true s moment all)
+  made_true s moment user request after all new (ByReconfigure conf bytes) =
+      mapped (job_moved s conf) (λ job holds. stays.moves _ _ job holds) s.jobs all
+  made_true s moment user request after all new kind = all

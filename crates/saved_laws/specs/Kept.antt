@@ -1,5 +1,5 @@
 -- What is kept of each state that a controller comes to.
-use Rattle.std.specs.Prelude.{◌≡◌, ◌≢◌, ◌+◌, ◌<◌, ◌≤◌, ◌⊎◌, ◌&&◌, ℕ, Bool, true, false, List, [], length, map, max, nat_le, nat_lt, slice_get, is_none, is_some, unwrap_or, IfSome, All, AllPairs, Any, Option, None, Some}
+use Rattle.std.specs.Prelude.{◌≡◌, ◌≢◌, ◌+◌, ◌<◌, ◌≤◌, ◌⊎◌, ◌&&◌, ℕ, Bool, true, false, List, length, map, max, nat_le, nat_lt, slice_get, is_none, is_some, unwrap_or, IfSome, All, AllPairs, Any, Option, None, Some}
 use Rattle.std.specs.List.{list_all}
 use Rattle.plain_data.specs.Assocs.{AssocView, IsAssocFile}
 use Rattle.plain_data.specs.Confs.{ConfView, IsConf}

@@ -30,7 +30,7 @@ pub record Laws : Type 0 where
   pub empty : IsPartial Plain []
 
 -- what was read, and what is left
-whole_input : (bytes : List ℕ) (left' : Option (List ℕ)) (read : List ℕ) → Consumes (Some bytes) left' read
+pub whole_input : (bytes : List ℕ) (left' : Option (List ℕ)) (read : List ℕ) → Consumes (Some bytes) left' read
     → (more : List ℕ) × (bytes ≡ read ++ more)
 whole_input bytes None read consumed = absurd consumed
 whole_input bytes (Some more) read consumed = (more, consumed)

@@ -12,6 +12,7 @@ use Rattle.ctl_core.specs.Step.{reply_of, state_after, is_entered, raised}
 use Rattle.ctl_desk.specs.declared.entry.Entry.{Entry}
 use Rattle.ctl_desk.specs.Desk.{state_at}
 use Rattle.ctl_desk.specs.History.{after_all, StaysSound, entry_of}
+use Rattle.ctl_desk.proofs.Entering.{after_all-push}
 use Rattle.command_words.specs.declared.header.Meaning.{Meaning}
 use Rattle.command_words.specs.declared.header.Meaning.TheVariants.{Asks}
 use Rattle.ctl_session.specs.Answers.{Answered, IsAnswerIn, Rise, behind, entries, meanings, replies}
@@ -30,11 +31,6 @@ take_through [] n x h = absurd cc
 take_through (a ∷ xs) zero x h = cc
 take_through (a ∷ xs) (suc n) x h = let e : suc n + 1 ≡ suc (n + 1) =
     omega arith in rw e (ap (λ l. a ∷ l) (take_through xs n x h))
-
-after_all-push : (s : State) (es : List Entry) (e : Entry) → after_all s (es ++ e ∷ [])
-    ≡ state_after (after_all s es) e.moment e.user e.request
-after_all-push s [] e = refl
-after_all-push s (a ∷ es) e = after_all-push (state_after s a.moment a.user a.request) es e
 
 -- where an entry stands at a place, the state behind it is what its request leaves
 state_behind_entry : (opening : State) (history : List Entry) (place number : ℕ) (asked : Asked) → RaisedAlike

@@ -14,19 +14,9 @@ use Rattle.ctl_session.specs.Clock.{Timing}
 use Rattle.ctl_session.specs.Session.{Ending, IsCause, IsServed, MindsShut, most_blocks}
 use Rattle.slurm_io.specs.Faults.{CountsNone}
 use Rattle.slurm_io.specs.Wire.{Wire}
+use Rattle.script_run.proofs.Completeness.{read_at_end, whole_input}
 use Rattle.session_laws.specs.Inputs.{EndsSo, IsOfInput, Says, rest_begins}
 use Rattle.session_laws.proofs.Inputs.{Laws, cut_so, one}
-
--- what was read, and what is left
-whole_input : (bytes : List ℕ) (left' : Option (List ℕ)) (read : List ℕ) → Consumes (Some bytes) left' read
-    → (more : List ℕ) × (bytes ≡ read ++ more)
-whole_input bytes None read consumed = absurd consumed
-whole_input bytes (Some more) read consumed = (more, consumed)
-
-read_at_end : (bytes : List ℕ) (left' : Option (List ℕ)) (read : List ℕ) → Consumes (Some bytes) left' read
-    → IsAtEnd left' → bytes ≡ read
-read_at_end bytes None read consumed at_end = absurd consumed
-read_at_end bytes (Some more) read consumed at_end = consumed ∙ ap (λ l. read ++ l) at_end ∙ append-nil read
 
 -- What a session's end says of its input, whose first blocks it answered.
 record Tells (form : Form) (bytes : List ℕ) (blocks : List Block) (ended : How) : Type 0 where

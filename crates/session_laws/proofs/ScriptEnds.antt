@@ -11,7 +11,8 @@ use Rattle.script_run.specs.Script.{IsScript, script_history}
 use Rattle.slurm_io.specs.Faults.{CountsNone}
 use Rattle.slurm_io.specs.Wire.{Wire}
 use Rattle.session_laws.specs.ScriptInputs.{IsBroken, IsToldAt, IsTooLong, IsWhole, LeadsToLongText, rest_begins}
-use Rattle.session_laws.proofs.ScriptInputs.{Laws, bad_goes_on, broken_isnt_too_long, longer_goes_on, read_at_end, whole_input, whole_isnt_too_long}
+use Rattle.script_run.proofs.Completeness.{Laws, whole_input}
+use Rattle.session_laws.proofs.ScriptInputs.{bad_goes_on, broken_isnt_too_long, longer_goes_on, read_at_end, whole_isnt_too_long}
 
 -- A script was answered to its end, and this came behind it.
 record IsBehind (s : State) (sacct : Option Period) (save : Bool) (old new : Wire) (ended : How) : Type 0 where

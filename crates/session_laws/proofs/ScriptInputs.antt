@@ -8,28 +8,8 @@ use Rattle.block_frame.specs.declared.form.Form.TheVariants.{Plain}
 use Rattle.block_frame.specs.Grammar.{IsBlock, IsPartial, IsBad, BeginsWithBlock, spelled_all, blocks_of, rest_of}
 use Rattle.ctl_session.specs.Session.{most_blocks}
 use Rattle.ctl_state.specs.State.{State}
+use Rattle.script_run.proofs.Completeness.{Laws}
 use Rattle.session_laws.specs.ScriptInputs.{IsBroken, IsLonger, IsTooLong, IsWhole, LeadsToLongText, rest_begins}
-
--- the laws of blocks that this rests on
-pub record Laws : Type 0 where
-  pub cut : (text : List ℕ) → (text ≡ spelled_all Plain (blocks_of Plain text) ++ rest_of Plain text) × All
-      (IsBlock Plain) (blocks_of Plain text) × (IsPartial Plain (rest_of Plain text) ⊎ IsBad Plain (rest_of Plain text))
-  pub first : (blocks : List Block) (text : List ℕ) → All (IsBlock Plain) blocks
-      → (blocks_of Plain (spelled_all Plain blocks ++ text) ≡ blocks ++ blocks_of Plain text)
-      × (rest_of Plain (spelled_all Plain blocks ++ text) ≡ rest_of Plain text)
-  pub once : (blocks : List Block) (rest : List ℕ) → All (IsBlock Plain) blocks
-      → IsPartial Plain rest ⊎ IsBad Plain rest
-      → (blocks_of Plain (spelled_all Plain blocks ++ rest) ≡ blocks) ×
-      (rest_of Plain (spelled_all Plain blocks ++ rest) ≡ rest)
-  pub apart : (text : List ℕ) → IsBad Plain text → (¬ BeginsWithBlock Plain text) × (¬ IsPartial Plain text)
-  pub stays : (text more : List ℕ) → IsBad Plain text → IsBad Plain (text ++ more)
-  pub empty : IsPartial Plain []
-
--- what was read, and what is left
-pub whole_input : (bytes : List ℕ) (left' : Option (List ℕ)) (read : List ℕ) → Consumes (Some bytes) left' read
-    → (more : List ℕ) × (bytes ≡ read ++ more)
-whole_input bytes None read consumed = absurd consumed
-whole_input bytes (Some more) read consumed = (more, consumed)
 
 pub read_at_end : (bytes : List ℕ) (left' : Option (List ℕ)) (read : List ℕ) → Consumes (Some bytes) left' read
     → IsAtEnd left' → read ≡ bytes

@@ -4,6 +4,7 @@ ghost use Rattle.std.specs.Prelude.{◌≡◌, ◌==◌, true, Ok, IfOk};
 ghost use Rattle.command_words.specs.declared.header.Meaning.TheVariants.{Asks};
 ghost use Rattle.ctl_session.specs.Meaning.{meaning_of, status_by};
 ghost use Rattle.session_talk.specs.Answered.{IsAnswer};
+ghost use Rattle.slurm_print.specs.Heading.{heading_of};
 
 use block_frame::Block;
 use command_words::header::{Asked, Meaning};
@@ -13,8 +14,9 @@ use ctl_desk::own_desk::OwnDesk;
 use ctl_session::{decide, read_meaning};
 use reply_data::reply::Reply;
 use resource_profile::start;
+use slurm_print::heading::{Heading, heading_of};
 use slurm_print::malformed::{bad_header, bad_words, malformed, unknown_command};
-use slurm_print::text::text;
+use slurm_print::text::text_under;
 use small_texts::memory_error::Memory;
 use std::alloc::Global;
 
@@ -35,14 +37,30 @@ fn is_refusal(reply: &Reply) -> bool
 }
 
 // Asks what a header asked, and tells the reply.
-fn ask(alloc: Global, desk: &mut OwnDesk, asked: &Asked) -> Result<Told, Memory>
-    ensures { IfOk result (λ told. IsAnswer (Asks asked.now) desk.old desk.new told) }
+fn ask(alloc: Global, desk: &mut OwnDesk, asked: Asked) -> Result<Told, Memory>
+    ensures { IfOk result (λ told. IsAnswer (Asks asked) desk.old desk.new told) }
+{
+    let heading = heading_of(&asked.request)?;
+    let told = ask_under(alloc, desk, &heading, asked);
+    heading.let_go();
+    told
+}
+
+// The desk takes the request; its heading stays for the text.
+fn ask_under(
+    alloc: Global,
+    desk: &mut OwnDesk,
+    heading: &Heading,
+    asked: Asked,
+) -> Result<Told, Memory>
+    requires { heading.now ≡ heading_of asked.request }
+    ensures { IfOk result (λ told. IsAnswer (Asks asked) desk.old desk.new told) }
 {
     answers_follow_at_a_desk_of_its_own();
     let _seen = desk.seen_len();
     let answer = decide(desk, &mut start(), asked)?;
     let is_refused = is_refusal(&answer.reply);
-    match text(alloc, &asked.request, &answer.reply) {
+    match text_under(alloc, heading, &answer.reply) {
         Ok(text) => Ok(Told { text, is_refused }),
         Err(Memory) => Err(Memory),
     }
@@ -70,7 +88,7 @@ fn tell(alloc: Global, desk: &mut OwnDesk, meaning: Meaning) -> Result<Told, Mem
     ensures { IfOk result (λ told. IsAnswer meaning desk.old desk.new told) }
 {
     match meaning {
-        Meaning::Asks(asked) => ask(alloc, desk, &asked),
+        Meaning::Asks(asked) => ask(alloc, desk, asked),
         Meaning::Malformed { command, fault } => unasked(malformed(alloc, command, fault)),
         Meaning::UnknownCommand => unasked(copied(alloc, unknown_command())),
         Meaning::BadWords { place } => unasked(bad_words(alloc, place)),

@@ -19,6 +19,7 @@ use Rattle.ctl_desk.specs.declared.entry.Answer.{Answer}
 use Rattle.ctl_desk.specs.declared.entry.Entry.{Entry}
 use Rattle.ctl_desk.specs.Desk.{GoesOn, IsAnswered, Sight, history_of, seen, state_at}
 use Rattle.ctl_desk.specs.History.{IsHistory, after_all, entry_of}
+use Rattle.ctl_desk.proofs.Entering.{after_all-push}
 use Rattle.node_daemon.specs.Turn.{root}
 use Rattle.simulation.specs.Run.{IfAlone, state_seen}
 use Rattle.simulation.specs.Simulation.{behind, told}
@@ -27,12 +28,6 @@ use Rattle.simulation.specs.Simulation.{behind, told}
 abbrev pub RaisedAlike : Type 0
 RaisedAlike = (s : State) (now : ℕ) (user : List ℕ) (request : Request) → IsSound s
     → state_after s (raised s now) user request ≡ state_after s now user request
-
--- the last entry acts last
-after_all-push : (s : State) (es : List Entry) (e : Entry)
-    → after_all s (es ++ e ∷ []) ≡ state_after (after_all s es) e.moment e.user e.request
-after_all-push s [] e = refl
-after_all-push s (a ∷ es) e = after_all-push (state_after s a.moment a.user a.request) es e
 
 -- where all entries are some and one more, and its place is the last, the others are these
 the_others : (all before : List Entry) (entry : Entry) (place : ℕ) → place ≤ length all

@@ -24,20 +24,21 @@ fn work<D: Desk>(
     rota: &mut Rota,
     steps: &mut Steps<Plain>,
     tally: &mut Tally,
-    asked: &Asked,
+    asked: Asked,
 ) -> Result<(), Memory>
     requires { 0 < length desks.old }
     ensures go_on { AllGoOn (map D.sight desks.old) (map D.sight desks.new) }
-    ensures moment { OnOk result (tally.new.moment ≡ asked.now.moment) }
+    ensures moment { OnOk result (tally.new.moment ≡ asked.moment) }
     ensures alone { OnOk result (IfOneAlone (map D.sight desks.old) (map D.sight desks.new)
-        (λ s s'. (s' ≡ state_behind s (Asks asked.now)) × (tally.new ≡ tally_behind s (Asks asked.now) tally.old))) }
+        (λ s s'. (s' ≡ state_behind s (Asks asked)) × (tally.new ≡ tally_behind s (Asks asked) tally.old))) }
 {
     answers_follow_alone();
     let place = rota.take(desks.len());
     let desk = &mut desks[place];
     keeps_history(desk);
+    let moment = asked.moment;
     let answer = decide(desk, steps, asked)?;
-    tally.take(asked.moment, &answer.reply);
+    tally.take(moment, &answer.reply);
     Ok(())
 }
 
@@ -47,25 +48,18 @@ fn work_meaning<D: Desk>(
     rota: &mut Rota,
     steps: &mut Steps<Plain>,
     tally: &mut Tally,
-    meaning: &Meaning,
+    meaning: Meaning,
 ) -> Result<(), Memory>
     requires { 0 < length desks.old }
     ensures go_on { AllGoOn (map D.sight desks.old) (map D.sight desks.new) }
-    ensures moment { OnOk result (tally.new.moment ≡ moment_behind tally.old.moment meaning.now) }
+    ensures moment { OnOk result (tally.new.moment ≡ moment_behind tally.old.moment meaning) }
     ensures alone { OnOk result (IfOneAlone (map D.sight desks.old) (map D.sight desks.new)
         (λ s s'. record { state = s'; tally = tally.new }
-        ≡ behind_block (record { state = s; tally = tally.old }) meaning.now)) }
+        ≡ behind_block (record { state = s; tally = tally.old }) meaning)) }
 {
     match meaning {
         Meaning::Asks(asked) => work(desks, rota, steps, tally, asked),
         _ => Ok(()),
-    }
-}
-
-// Lets go of what a block means.
-fn let_go(meaning: Meaning) {
-    if let Meaning::Asks(asked) = meaning {
-        asked.request.let_go();
     }
 }
 
@@ -86,11 +80,7 @@ fn answer<D: Desk>(
         ≡ behind_block (record { state = s; tally = tally.old }) (meaning_of block.now))) }
 {
     match read_meaning(alloc, block) {
-        Ok(meaning) => {
-            let worked = work_meaning(desks, rota, steps, tally, &meaning);
-            let_go(meaning);
-            worked
-        }
+        Ok(meaning) => work_meaning(desks, rota, steps, tally, meaning),
         Err(Memory) => Err(Memory),
     }
 }

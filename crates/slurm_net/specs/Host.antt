@@ -6,6 +6,16 @@ use Rattle.slurm_net.specs.Session.{LinkSession}
 use Rattle.slurm_net.specs.declared.host.ListenRefusal.{ListenRefusal}
 use Rattle.slurm_net.specs.declared.host.ListenRefusal.TheVariants.{Failed, Memory}
 
+-- A host: how many calls of `listen` and `dial` failed and how often doors were closed of which one had failed; how many
+-- links were hung up of which a read, or a write, had failed; each up to the greatest `u64`. What the link of the next
+-- dial has left, and what the link that was hung up last had taken, where the host tells these.
+pub record Hosting : Type 0 where
+  pub faults : ℕ
+  pub link_reads : ℕ
+  pub link_writes : ℕ
+  pub next_left : Option (List ℕ)
+  pub last_taken : Option (List ℕ)
+
 -- one fault was counted where this is so, and else the count stayed
 abbrev pub CountsIf : Bool → ℕ → ℕ → Type 0
 CountsIf failed before after = MatchBool failed (CountsOne before after) (after ≡ before)

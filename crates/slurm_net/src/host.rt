@@ -4,7 +4,7 @@ ghost use Rattle.std.specs.List.{list_any};
 ghost use Rattle.slurm_io.specs.Faults.{CountsFault};
 ghost use Rattle.slurm_net.specs.Accepted.{IsNewLink};
 ghost use Rattle.slurm_net.specs.Session.{LinkSession};
-ghost use Rattle.slurm_net.specs.Host.{CountsIf, CountsListening, IsNewDoor, KeepsSessions};
+ghost use Rattle.slurm_net.specs.Host.{CountsIf, CountsListening, Hosting, IsNewDoor, KeepsSessions};
 
 use crate::Door;
 use slurm_io::{Failed, Link};
@@ -45,21 +45,8 @@ impl From<Failed> for ListenRefusal {
 pub trait Host {
     type Door: Door;
 
-    /// How many calls of `listen` and `dial` failed, and how often doors were closed of which one had failed, up to the
-    /// greatest `u64`.
-    ghost host_faults: { Self → ℕ };
-
-    /// How many links were hung up of which a read had failed, up to the greatest `u64`.
-    ghost link_reads: { Self → ℕ };
-
-    /// How many links were hung up of which a write had failed, up to the greatest `u64`.
-    ghost link_writes: { Self → ℕ };
-
-    /// What the link of the next `dial` has left, where the host tells it.
-    ghost next_left: { Self → Option (List ℕ) };
-
-    /// What the link that was hung up last had taken, where the host tells it.
-    ghost last_taken: { Self → Option (List ℕ) };
+    /// What the host counted and tells.
+    ghost hosting: { Self → Hosting };
 
     /// The sessions of each of the doors that were closed last, in order, where the host tells them.
     ghost closed: { Self → Option (List (List LinkSession)) };
@@ -70,34 +57,41 @@ pub trait Host {
         ensures new { IfOk result (λ doors. All
             (λ door. IsNewDoor (Self.Door.door_faults door) (Self.Door.out door) (Self.Door.sessions door))
             doors.items) }
-        ensures faults { CountsListening (host_faults self.old) (host_faults self.new) result }
-        ensures counts { (link_reads self.new ≡ link_reads self.old) × (link_writes self.new ≡ link_writes self.old) }
-        ensures kept { (next_left self.new ≡ next_left self.old) × (last_taken self.new ≡ last_taken self.old)
+        ensures faults { CountsListening (hosting self.old).faults (hosting self.new).faults result }
+        ensures counts { ((hosting self.new).link_reads ≡ (hosting self.old).link_reads)
+            × ((hosting self.new).link_writes ≡ (hosting self.old).link_writes) }
+        ensures kept { ((hosting self.new).next_left ≡ (hosting self.old).next_left)
+            × ((hosting self.new).last_taken ≡ (hosting self.old).last_taken)
             × (closed self.new ≡ closed self.old) };
 
     /// Takes doors back.
     fn close_doors(&mut self, doors: Vec<Self::Door>)
         ensures closed { KeepsSessions (closed self.new) (map Self.Door.sessions doors.items) }
         ensures faults { CountsIf (list_any (λ door. nat_lt 0 (Self.Door.door_faults door)) doors.items)
-            (host_faults self.old) (host_faults self.new) }
-        ensures counts { (link_reads self.new ≡ link_reads self.old) × (link_writes self.new ≡ link_writes self.old) }
-        ensures kept { (next_left self.new ≡ next_left self.old) × (last_taken self.new ≡ last_taken self.old) };
+            (hosting self.old).faults (hosting self.new).faults }
+        ensures counts { ((hosting self.new).link_reads ≡ (hosting self.old).link_reads)
+            × ((hosting self.new).link_writes ≡ (hosting self.old).link_writes) }
+        ensures kept { ((hosting self.new).next_left ≡ (hosting self.old).next_left)
+            × ((hosting self.new).last_taken ≡ (hosting self.old).last_taken) };
 
     /// Dials a port of this machine.
     fn dial(&mut self, port: u16) -> Result<<Self::Door as Door>::Link, Failed>
         ensures new { IfOk result (λ link. IsNewLink (Self.Door.Link.wire link)) }
-        ensures left { IfOk result (λ link. IfSome (next_left self.old)
+        ensures left { IfOk result (λ link. IfSome (hosting self.old).next_left
             (λ bytes. (Self.Door.Link.wire link).left ≡ Some bytes)) }
-        ensures err { OnErr result (next_left self.new ≡ next_left self.old) }
-        ensures faults { CountsFault (host_faults self.old) (host_faults self.new) result }
-        ensures counts { (link_reads self.new ≡ link_reads self.old) × (link_writes self.new ≡ link_writes self.old) }
-        ensures kept { (last_taken self.new ≡ last_taken self.old) × (closed self.new ≡ closed self.old) };
+        ensures err { OnErr result ((hosting self.new).next_left ≡ (hosting self.old).next_left) }
+        ensures faults { CountsFault (hosting self.old).faults (hosting self.new).faults result }
+        ensures counts { ((hosting self.new).link_reads ≡ (hosting self.old).link_reads)
+            × ((hosting self.new).link_writes ≡ (hosting self.old).link_writes) }
+        ensures kept { ((hosting self.new).last_taken ≡ (hosting self.old).last_taken) × (closed self.new ≡ closed self.old) };
 
     /// Takes back a link that was dialled.
     fn hang_up(&mut self, link: <Self::Door as Door>::Link)
-        ensures taken { IfSome (last_taken self.new) (λ bytes. (Self.Door.Link.wire link).taken ≡ Some bytes) }
-        ensures reads { CountsIf (nat_lt 0 (Self.Door.Link.wire link).reads) (link_reads self.old) (link_reads self.new) }
-        ensures writes { CountsIf (nat_lt 0 (Self.Door.Link.wire link).writes) (link_writes self.old) (link_writes self.new) }
-        ensures faults { host_faults self.new ≡ host_faults self.old }
-        ensures kept { (next_left self.new ≡ next_left self.old) × (closed self.new ≡ closed self.old) };
+        ensures taken { IfSome (hosting self.new).last_taken (λ bytes. (Self.Door.Link.wire link).taken ≡ Some bytes) }
+        ensures reads { CountsIf (nat_lt 0 (Self.Door.Link.wire link).reads)
+            (hosting self.old).link_reads (hosting self.new).link_reads }
+        ensures writes { CountsIf (nat_lt 0 (Self.Door.Link.wire link).writes)
+            (hosting self.old).link_writes (hosting self.new).link_writes }
+        ensures faults { (hosting self.new).faults ≡ (hosting self.old).faults }
+        ensures kept { ((hosting self.new).next_left ≡ (hosting self.old).next_left) × (closed self.new ≡ closed self.old) };
 }

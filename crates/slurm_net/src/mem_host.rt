@@ -116,15 +116,13 @@ impl MemHost {
 impl Host for MemHost {
     type Door = MemDoor;
 
-    ghost host_faults = { λ host. host.faults };
-
-    ghost link_reads = { λ host. host.link_reads };
-
-    ghost link_writes = { λ host. host.link_writes };
-
-    ghost next_left = { λ host. option_map (λ link. link.left) (first_link host.links) };
-
-    ghost last_taken = { λ host. option_map (λ link. link.taken) host.last };
+    ghost hosting = { λ host. record {
+      faults = host.faults;
+      link_reads = host.link_reads;
+      link_writes = host.link_writes;
+      next_left = option_map (λ link. link.left) (first_link host.links);
+      last_taken = option_map (λ link. link.taken) host.last;
+    } };
 
     ghost closed = { λ host. Some (map (λ door. door.sessions) host.closed) };
 

@@ -136,15 +136,13 @@ fn any_failed<L, R>(doors: &[TcpDoor<L, R>]) -> bool
 impl<R: Net + Clock + Wait + Copy> Host for TcpHost<R> {
     type Door = HostDoor<R>;
 
-    ghost host_faults = { λ host. host.faults };
-
-    ghost link_reads = { λ host. host.link_reads };
-
-    ghost link_writes = { λ host. host.link_writes };
-
-    ghost next_left = { λ host. None };
-
-    ghost last_taken = { λ host. None };
+    ghost hosting = { λ host. record {
+      faults = host.faults;
+      link_reads = host.link_reads;
+      link_writes = host.link_writes;
+      next_left = None;
+      last_taken = None;
+    } };
 
     ghost closed = { λ host. None };
 

@@ -1,3 +1,4 @@
+pub mod Heading
 pub mod Malformed
 pub mod Orders
 pub mod Refusal

@@ -1,13 +1,13 @@
 //! The text of a reply.
 
 ghost use Rattle.std.specs.Prelude.{◌≡◌, ◌++◌, IfOk, OnOk};
-ghost use Rattle.slurm_print.specs.Text.{text_of, command_of, command_asking, is_parsable, submitted_text, passed_line, done_text, created_line, idle_text, query_text, shown_text};
+ghost use Rattle.slurm_print.specs.Text.{text_of, text_under, command_of, is_parsable, submitted_text, passed_line, done_text, created_line, idle_text, shown_text};
 
+use crate::heading::{Heading, heading_of};
 use crate::orders::push_orders;
 use crate::refusal::push_refusal;
 use reply_data::reply::Reply;
 use reply_data::view::View;
-use request_data::query::Query;
 use request_data::request::Request;
 use small_texts::memory_error::Memory;
 use small_texts::name::Name;
@@ -24,40 +24,50 @@ use table_texts::values::push_pair;
 pub fn text(alloc: Global, request: &Request, reply: &Reply) -> Result<Vec<u8>, Memory>
     ensures { IfOk result (λ text. text.items ≡ text_of request.now reply.now) }
 {
+    let heading = heading_of(request)?;
+    let made = text_under(alloc, &heading, reply);
+    heading.let_go();
+    made
+}
+
+/// The text that answers the request of this heading. It costs what `text` costs.
+pub fn text_under(alloc: Global, heading: &Heading, reply: &Reply) -> Result<Vec<u8>, Memory>
+    ensures { IfOk result (λ text. text.items ≡ text_under heading.now reply.now) }
+{
     let mut out = Vec::new(alloc);
-    push_reply(alloc, &mut out, request, reply)?;
+    push_reply(alloc, &mut out, heading, reply)?;
     Ok(out)
 }
 
 fn push_reply(
     alloc: Global,
     out: &mut Vec<u8>,
-    request: &Request,
+    heading: &Heading,
     reply: &Reply,
 ) -> Result<(), Memory>
-    ensures { OnOk result (out.new.items ≡ out.old.items ++ text_of request.now reply.now) }
+    ensures { OnOk result (out.new.items ≡ out.old.items ++ text_under heading.now reply.now) }
 {
     match reply {
-        Reply::Submitted { id } => push_submitted(out, is_parsable(request), *id),
-        Reply::Done => push_done(out, request),
+        Reply::Submitted { id } => push_submitted(out, is_parsable(heading), *id),
+        Reply::Done => push_done(out, heading),
         Reply::Passed {
             ended,
             started,
             planned,
         } => push_passed(out, *ended, *started, *planned),
         Reply::Orders(orders) => push_orders(out, orders),
-        Reply::Idle => push_idle(out, request),
-        Reply::Shown(view) => push_shown(alloc, out, request, view),
-        Reply::Refused(refusal) => push_refusal(out, command(request), refusal),
+        Reply::Idle => push_idle(out, heading),
+        Reply::Shown(view) => push_shown(alloc, out, heading, view),
+        Reply::Refused(refusal) => push_refusal(out, command(heading), refusal),
     }
 }
 
 // Whether the answer is the number alone: `--parsable` of sbatch(1).
-fn is_parsable(request: &Request) -> bool
-    ensures { result ≡ is_parsable request.now }
+fn is_parsable(heading: &Heading) -> bool
+    ensures { result ≡ is_parsable heading.now }
 {
-    match request {
-        Request::Submit(desc) => desc.parsable,
+    match heading {
+        Heading::Sbatch { parsable } => *parsable,
         _ => false,
     }
 }
@@ -74,11 +84,11 @@ fn push_submitted(out: &mut Vec<u8>, parsable: bool, id: u32) -> Result<(), Memo
 }
 
 // What was done is told of a reservation alone that was made. "create" in scontrol(1).
-fn push_done(out: &mut Vec<u8>, request: &Request) -> Result<(), Memory>
-    ensures { OnOk result (out.new.items ≡ out.old.items ++ done_text request.now) }
+fn push_done(out: &mut Vec<u8>, heading: &Heading) -> Result<(), Memory>
+    ensures { OnOk result (out.new.items ≡ out.old.items ++ done_text heading.now) }
 {
-    match request {
-        Request::CreateReservation(desc) => push_created(out, &desc.name),
+    match heading {
+        Heading::CreateReservation(name) => push_created(out, name),
         _ => Ok(()),
     }
 }
@@ -101,11 +111,11 @@ fn push_passed(out: &mut Vec<u8>, ended: u32, started: u32, planned: u32) -> Res
     Ok(())
 }
 
-fn push_idle(out: &mut Vec<u8>, request: &Request) -> Result<(), Memory>
-    ensures { OnOk result (out.new.items ≡ out.old.items ++ idle_text request.now) }
+fn push_idle(out: &mut Vec<u8>, heading: &Heading) -> Result<(), Memory>
+    ensures { OnOk result (out.new.items ≡ out.old.items ++ idle_text heading.now) }
 {
-    match request {
-        Request::Pass => push_text(out, b"pass: idle\n"),
+    match heading {
+        Heading::Pass => push_text(out, b"pass: idle\n"),
         _ => Ok(()),
     }
 }
@@ -114,49 +124,31 @@ fn push_idle(out: &mut Vec<u8>, request: &Request) -> Result<(), Memory>
 fn push_shown(
     alloc: Global,
     out: &mut Vec<u8>,
-    request: &Request,
+    heading: &Heading,
     view: &View,
 ) -> Result<(), Memory>
-    ensures { OnOk result (out.new.items ≡ out.old.items ++ shown_text request.now view.now) }
+    ensures { OnOk result (out.new.items ≡ out.old.items ++ shown_text heading.now view.now) }
 {
-    match request {
-        Request::Show(query) => push_query(alloc, out, query, view),
+    match heading {
+        Heading::Squeue(query) => push_view(alloc, out, query, view),
+        Heading::Sinfo { titles } => push_sinfo(alloc, out, *titles, view),
+        Heading::Sprio { titles } => push_sprio(out, *titles, view),
+        Heading::Show => push_show(alloc, out, view),
         _ => Ok(()),
     }
 }
 
-fn push_query(alloc: Global, out: &mut Vec<u8>, query: &Query, view: &View) -> Result<(), Memory>
-    ensures { OnOk result (out.new.items ≡ out.old.items ++ query_text query.now view.now) }
+fn command(heading: &Heading) -> &'static [u8]
+    ensures { result.now ≡ command_of heading.now }
 {
-    match query {
-        Query::Squeue(query) => push_view(alloc, out, query, view),
-        Query::Sinfo { titles, .. } => push_sinfo(alloc, out, *titles, view),
-        Query::Sprio { titles, .. } => push_sprio(out, *titles, view),
-        // What scontrol(1) shows.
-        _ => push_show(alloc, out, view),
-    }
-}
-
-fn command_asking(query: &Query) -> &'static [u8]
-    ensures { result.now ≡ command_asking query.now }
-{
-    match query {
-        Query::Squeue(_) => b"squeue",
-        Query::Sinfo { .. } => b"sinfo",
-        Query::Sprio { .. } => b"sprio",
-        _ => b"scontrol",
-    }
-}
-
-fn command(request: &Request) -> &'static [u8]
-    ensures { result.now ≡ command_of request.now }
-{
-    match request {
-        Request::Submit(_) => b"sbatch",
-        Request::Cancel(_) => b"scancel",
-        Request::Report(_) => b"report",
-        Request::Pass => b"pass",
-        Request::Show(query) => command_asking(query),
+    match heading {
+        Heading::Sbatch { .. } => b"sbatch",
+        Heading::Scancel => b"scancel",
+        Heading::Report => b"report",
+        Heading::Pass => b"pass",
+        Heading::Squeue(_) => b"squeue",
+        Heading::Sinfo { .. } => b"sinfo",
+        Heading::Sprio { .. } => b"sprio",
         _ => b"scontrol",
     }
 }

@@ -5,7 +5,7 @@ use Rattle.std.proofs.lemmas.Bool.Decides.{nat_tests}
 use Rattle.slurm_io.specs.Faults.{CountsOne, CountsNone}
 use Rattle.slurm_io.specs.Shelf.{ShelfFile, bytes_named}
 use Rattle.slurm_io.specs.Wire.{Wire}
-use Rattle.slurm_net.specs.Host.{CountsIf}
+use Rattle.slurm_net.specs.Host.{CountsIf, Hosting}
 use Rattle.block_frame.specs.declared.block.Block.{Block}
 use Rattle.block_frame.specs.Replies.{IsReply, BeginsWithReply}
 use Rattle.slurm_client.specs.Calling.{Sinks, IsCalled, IsAnswered, Completes, HasNoReply, IsOff, Received}
@@ -17,7 +17,7 @@ use Rattle.slurm_top.specs.declared.call_end.CallEnd.{CallEnd}
 use Rattle.slurm_top.specs.declared.call_end.CallEnd.TheVariants.{Replied, ReadFault, WriteFault, BadReply, Memory, Spent, DoorFault}
 use Rattle.slurm_top.specs.declared.refusal.ScriptRefusal.{ScriptRefusal}
 use Rattle.slurm_top.specs.declared.refusal.ScriptRefusal.TheVariants as refusal
-use Rattle.slurm_top.specs.Outside.{Outside, Hosting, Beside}
+use Rattle.slurm_top.specs.Outside.{Outside, Beside}
 use Rattle.slurm_top.specs.Scripts.{Place, Nowhere, File, Input, IsScript, IsRefused, IsToldLong, IsLongWhereTold, IsShort, IsLong}
 use Rattle.slurm_top.specs.Calls.{IsEnd, IsCarriedOut, IsOver, IsDialled, IsHungUp, IsCaused, IsFaultless, IsOneOf, IsDecided, IsSpent, told_by, end_of, place_of}
 

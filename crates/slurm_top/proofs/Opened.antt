@@ -7,7 +7,8 @@ use Rattle.ctl_desk.specs.Desk.{Seat}
 use Rattle.ctl_session.specs.declared.session.How.{How}
 use Rattle.plain_data.specs.declared.period.Period.{Period}
 use Rattle.plain_data.specs.Files.{Named}
-use Rattle.slurm_top.specs.Outside.{Beside, Outside, beside, hosting, outside}
+use Rattle.slurm_net.specs.Host.{Hosting}
+use Rattle.slurm_top.specs.Outside.{Beside, Outside, beside, outside}
 use Rattle.cluster_opening.specs.Files.{Opens, fresh}
 use Rattle.script_run.specs.Behind.{IsScriptRun}
 use Rattle.slurm_top.specs.Opened.{IsRunThere}
@@ -48,10 +49,10 @@ ran_on named sacct save old new Served s opens alone ran = absurd ran
 ran_on named sacct save old new DoorFault s opens alone ran = absurd ran
 ran_on named sacct save old new (Called call) s opens alone ran = absurd ran
 
-pub stays_beside : (errors : Option (List ℕ)) (faults f f' r r' w w' : ℕ) (n n' l l' : Option (List ℕ)) → r' ≡ r → w' ≡ w
-    → n' ≡ n → l' ≡ l
-    → StaysBeside (beside errors faults (hosting f r w n l)) (beside errors faults (hosting f' r' w' n' l'))
-stays_beside errors faults f f' r r' w w' n n' l l' reads writes next last = rw (reads, writes, next, last) refl
+pub stays_beside : (errors : Option (List ℕ)) (faults : ℕ) (host host' : Hosting) → host'.link_reads ≡ host.link_reads
+    → host'.link_writes ≡ host.link_writes → host'.next_left ≡ host.next_left → host'.last_taken ≡ host.last_taken
+    → StaysBeside (beside errors faults host) (beside errors faults host')
+stays_beside errors faults host host' reads writes next last = rw (← reads, ← writes, ← next, ← last) refl
 
 pub served_end : (named : Named) (port workers : ℕ) (save : Bool) (host : Hosted) (old new : Outside)
     (beside beside' : Beside) (end : End) (s : State) → Opens old.files named (Ok s)

@@ -4,7 +4,7 @@ use Rattle.slurm_io.specs.Faults.{CountsOne, CountsNone}
 use Rattle.slurm_io.specs.Wire.{Wire}
 use Rattle.slurm_io.specs.declared.source.Failed.{Failed}
 use Rattle.slurm_net.specs.Accepted.{IsNewLink}
-use Rattle.slurm_net.specs.Host.{CountsIf}
+use Rattle.slurm_net.specs.Host.{CountsIf, Hosting}
 use Rattle.block_frame.specs.declared.block.Block.{Block}
 use Rattle.block_frame.specs.Replies.{BeginsWithReply}
 use Rattle.slurm_client.specs.declared.called.Called.{Called}
@@ -15,7 +15,7 @@ use Rattle.program_words.specs.declared.call.Call.{Call}
 use Rattle.slurm_top.specs.declared.call_end.CallEnd.{CallEnd}
 use Rattle.slurm_top.specs.declared.call_end.CallEnd.TheVariants.{Replied, ReadFault, WriteFault, BadReply, Memory, Spent, DoorFault}
 use Rattle.slurm_top.specs.declared.refusal.ScriptRefusal.TheVariants as refusal
-use Rattle.slurm_top.specs.Outside.{Outside, Hosting, Beside}
+use Rattle.slurm_top.specs.Outside.{Outside, Beside}
 use Rattle.slurm_top.specs.Scripts.{Place, IsScript, IsRefused, IsToldLong, IsLongWhereTold, script_place}
 
 -- the status that a command ends with

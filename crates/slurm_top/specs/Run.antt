@@ -19,7 +19,8 @@ use Rattle.program_words.specs.declared.call.Call.{Call}
 use Rattle.plain_data.specs.Files.{Named}
 use Rattle.program_words.specs.Asked.{Asked, asked_in}
 use Rattle.program_words.specs.Asked as asks
-use Rattle.slurm_top.specs.Outside.{Outside, Hosting, Beside}
+use Rattle.slurm_net.specs.Host.{Hosting}
+use Rattle.slurm_top.specs.Outside.{Outside, Beside}
 use Rattle.slurm_top.specs.Calls.{IsCaused, IsDecided, IsSpent}
 use Rattle.slurm_top.specs.Calls as calls
 use Rattle.slurm_top.specs.declared.call_end.CallEnd.{CallEnd}

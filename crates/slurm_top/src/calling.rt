@@ -3,7 +3,7 @@
 ghost use Rattle.std.specs.Prelude.{◌≡◌, None, option_copied};
 ghost use Rattle.slurm_client.specs.Requests.{FitsRequest, request};
 ghost use Rattle.slurm_top.specs.Calls.{IsCall, IsEnd, IsCaused, IsDecided, IsSpent};
-ghost use Rattle.slurm_top.specs.Outside.{hosting, beside, outside};
+ghost use Rattle.slurm_top.specs.Outside.{beside, outside};
 
 use crate::CallEnd;
 use crate::call_end::end_of;
@@ -28,12 +28,8 @@ fn call_over<L: Link, E: Sink, H: Host>(
     requires { FitsRequest call.now.user call.now.words (option_copied script) }
     ensures { IsCall (request call.now.user call.now.words (option_copied script.entry))
         (L.wire own.old) (L.wire own.new)
-        (beside (E.taken errors.old) (E.write_faults errors.old)
-        (hosting (H.host_faults host.old) (H.link_reads host.old) (H.link_writes host.old)
-        (H.next_left host.old) (H.last_taken host.old)))
-        (beside (E.taken errors.new) (E.write_faults errors.new)
-        (hosting (H.host_faults host.new) (H.link_reads host.new) (H.link_writes host.new)
-        (H.next_left host.new) (H.last_taken host.new))) result }
+        (beside (E.taken errors.old) (E.write_faults errors.old) (H.hosting host.old))
+        (beside (E.taken errors.new) (E.write_faults errors.new) (H.hosting host.new)) result }
 {
     let Ok(mut link) = host.dial(call.port) else {
         return Err(Failed);
@@ -64,12 +60,8 @@ fn read_and_call<Q: Shelf, L: Link, E: Sink, H: Host>(
     ensures { IsEnd call.now
         (outside (Q.files shelf.old) (Q.shelf_faults shelf.old) (L.wire own.old))
         (outside (Q.files shelf.new) (Q.shelf_faults shelf.new) (L.wire own.new))
-        (beside (E.taken errors.old) (E.write_faults errors.old)
-        (hosting (H.host_faults host.old) (H.link_reads host.old) (H.link_writes host.old)
-        (H.next_left host.old) (H.last_taken host.old)))
-        (beside (E.taken errors.new) (E.write_faults errors.new)
-        (hosting (H.host_faults host.new) (H.link_reads host.new) (H.link_writes host.new)
-        (H.next_left host.new) (H.last_taken host.new))) result }
+        (beside (E.taken errors.old) (E.write_faults errors.old) (H.hosting host.old))
+        (beside (E.taken errors.new) (E.write_faults errors.new) (H.hosting host.new)) result }
 {
     let place = script_place(call.command, &call.words);
     let script = match read_script(alloc, place, shelf, own) {
@@ -107,30 +99,20 @@ pub fn call_server<Q: Shelf, L: Link, E: Sink, H: Host>(
     ensures ended { IsEnd call.now
         (outside (Q.files shelf.old) (Q.shelf_faults shelf.old) (L.wire own.old))
         (outside (Q.files shelf.new) (Q.shelf_faults shelf.new) (L.wire own.new))
-        (beside (E.taken errors.old) (E.write_faults errors.old)
-        (hosting (H.host_faults host.old) (H.link_reads host.old) (H.link_writes host.old)
-        (H.next_left host.old) (H.last_taken host.old)))
-        (beside (E.taken errors.new) (E.write_faults errors.new)
-        (hosting (H.host_faults host.new) (H.link_reads host.new) (H.link_writes host.new)
-        (H.next_left host.new) (H.last_taken host.new))) result }
+        (beside (E.taken errors.old) (E.write_faults errors.old) (H.hosting host.old))
+        (beside (E.taken errors.new) (E.write_faults errors.new) (H.hosting host.new)) result }
 
     // A fault is told only where a count rose.
     ensures caused { IsCaused
         (outside (Q.files shelf.old) (Q.shelf_faults shelf.old) (L.wire own.old))
         (outside (Q.files shelf.new) (Q.shelf_faults shelf.new) (L.wire own.new))
-        (hosting (H.host_faults host.old) (H.link_reads host.old) (H.link_writes host.old)
-        (H.next_left host.old) (H.last_taken host.old))
-        (hosting (H.host_faults host.new) (H.link_reads host.new) (H.link_writes host.new)
-        (H.next_left host.new) (H.last_taken host.new)) result }
+        (H.hosting host.old) (H.hosting host.new) result }
 
     // Where the host tells what the link has left, that decides the end.
     ensures decided { IsDecided
         (outside (Q.files shelf.old) (Q.shelf_faults shelf.old) (L.wire own.old))
         (outside (Q.files shelf.new) (Q.shelf_faults shelf.new) (L.wire own.new))
-        (hosting (H.host_faults host.old) (H.link_reads host.old) (H.link_writes host.old)
-        (H.next_left host.old) (H.last_taken host.old))
-        (hosting (H.host_faults host.new) (H.link_reads host.new) (H.link_writes host.new)
-        (H.next_left host.new) (H.last_taken host.new)) result }
+        (H.hosting host.old) (H.hosting host.new) result }
 
     // A script or a configuration that is too long is told as that, and no other is.
     ensures spent { IsSpent call.now

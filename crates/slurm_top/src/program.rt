@@ -16,7 +16,7 @@ ghost use Rattle.program_words.specs.Words.{Fits, asked_of};
 ghost use Rattle.plain_data.specs.declared.period.Period.{Period};
 ghost use Rattle.program_words.specs.declared.call.Call.{Call};
 ghost use Rattle.session_laws.specs.ScriptInputs.{IsBroken, IsTooLong};
-ghost use Rattle.slurm_top.specs.Outside.{beside, hosting, outside};
+ghost use Rattle.slurm_top.specs.Outside.{beside, outside};
 ghost use Rattle.simulation.specs.Simulation.{Simulated, summary};
 ghost use Rattle.slurm_io.specs.Bytes.{Tells};
 ghost use Rattle.slurm_io.specs.Faults.{CountsNone, CountsOne};
@@ -59,12 +59,8 @@ where
     ensures { IsEndAsked (asked_of asked.now) (hosted (C.course clock.old) (H.closed host.new))
         (outside (Q.files shelf.old) (Q.shelf_faults shelf.old) (L.wire link.old))
         (outside (Q.files shelf.new) (Q.shelf_faults shelf.new) (L.wire link.new))
-        (beside (E.taken errors.old) (E.write_faults errors.old)
-        (hosting (H.host_faults host.old) (H.link_reads host.old) (H.link_writes host.old)
-        (H.next_left host.old) (H.last_taken host.old)))
-        (beside (E.taken errors.new) (E.write_faults errors.new)
-        (hosting (H.host_faults host.new) (H.link_reads host.new) (H.link_writes host.new)
-        (H.next_left host.new) (H.last_taken host.new))) result }
+        (beside (E.taken errors.old) (E.write_faults errors.old) (H.hosting host.old))
+        (beside (E.taken errors.new) (E.write_faults errors.new) (H.hosting host.new)) result }
 {
     match asked {
         Asked::Script(words) => run_on_files(alloc, words, shelf, link),
@@ -95,12 +91,8 @@ where
     ensures { IsEnd (map string_bytes words.now) (hosted (C.course clock.old) (H.closed host.new))
         (outside (Q.files shelf.old) (Q.shelf_faults shelf.old) (L.wire link.old))
         (outside (Q.files shelf.new) (Q.shelf_faults shelf.new) (L.wire link.new))
-        (beside (E.taken errors.old) (E.write_faults errors.old)
-        (hosting (H.host_faults host.old) (H.link_reads host.old) (H.link_writes host.old)
-        (H.next_left host.old) (H.last_taken host.old)))
-        (beside (E.taken errors.new) (E.write_faults errors.new)
-        (hosting (H.host_faults host.new) (H.link_reads host.new) (H.link_writes host.new)
-        (H.next_left host.new) (H.last_taken host.new))) result }
+        (beside (E.taken errors.old) (E.write_faults errors.old) (H.hosting host.old))
+        (beside (E.taken errors.new) (E.write_faults errors.new) (H.hosting host.new)) result }
 {
     let asked = match asked_in(alloc, words) {
         Ok(Some(asked)) => asked,
@@ -163,12 +155,8 @@ where
         × IsEnd (map string_bytes words.now) (hosted (C.course clock.old) (H.closed host.new))
         (outside (Q.files shelf.old) (Q.shelf_faults shelf.old) (L.wire link.old))
         (outside (Q.files shelf.new) (Q.shelf_faults shelf.new) (L.wire link.new))
-        (beside (E.taken errors.old) (E.write_faults errors.old)
-        (hosting (H.host_faults host.old) (H.link_reads host.old) (H.link_writes host.old)
-        (H.next_left host.old) (H.last_taken host.old)))
-        (beside errors_taken errors_faults
-        (hosting (H.host_faults host.new) (H.link_reads host.new) (H.link_writes host.new)
-        (H.next_left host.new) (H.last_taken host.new))) end }
+        (beside (E.taken errors.old) (E.write_faults errors.old) (H.hosting host.old))
+        (beside errors_taken errors_faults (H.hosting host.new)) end }
 
     // The words are off exactly where the status says so, but for want of memory.
     ensures usage { (result ≡ 2) → asked_in (map string_bytes words.now) ≡ None }
@@ -235,7 +223,7 @@ where
         → FilesOpen (Q.files shelf.old) named (Some (Ok opening))
         → CountsNone (Q.shelf_faults shelf.old) (Q.shelf_faults shelf.new)
         → CountsNone (L.wire link.old).writes (L.wire link.new).writes
-        → CountsNone (H.host_faults host.old) (H.host_faults host.new)
+        → CountsNone (H.hosting host.old).faults (H.hosting host.new).faults
         → (result ≡ 0) ⊎ ((result ≡ 8) ⊎ ((result ≡ 9) × (save ≡ true))) }
 
     // A server's 0 is that it was served until a shutdown was accepted, that the line and what is to be saved behind it
@@ -248,7 +236,7 @@ where
         (outside (Q.files shelf.new) (Q.shelf_faults shelf.new) (L.wire link.new)) }
     ensures unfailed { (named : Named) (port workers : ℕ) (save : Bool)
         → asked_in (map string_bytes words.now) ≡ Some (Serve named port workers save) → (result ≡ 0)
-        → H.host_faults host.new ≡ H.host_faults host.old }
+        → (H.hosting host.new).faults ≡ (H.hosting host.old).faults }
     ensures unsaved { (named : Named) (port workers : ℕ) (save : Bool)
         → asked_in (map string_bytes words.now) ≡ Some (Serve named port workers save) → (result ≡ 9)
         → IsUnsaved named port workers save (hosted (C.course clock.old) (H.closed host.new))
@@ -259,7 +247,7 @@ where
         → CountsOne (L.wire link.old).writes (L.wire link.new).writes }
     ensures door_fault { (named : Named) (port workers : ℕ) (save : Bool)
         → asked_in (map string_bytes words.now) ≡ Some (Serve named port workers save) → (result ≡ 10)
-        → CountsOne (H.host_faults host.old) (H.host_faults host.new) }
+        → CountsOne (H.hosting host.old).faults (H.hosting host.new).faults }
 
     // The script that the words' number stands for is written whole, unless a write fails, or memory is wanting and
     // nothing is written.
@@ -293,10 +281,7 @@ where
         → IsCallKnown call
         (outside (Q.files shelf.old) (Q.shelf_faults shelf.old) (L.wire link.old))
         (outside (Q.files shelf.new) (Q.shelf_faults shelf.new) (L.wire link.new))
-        (hosting (H.host_faults host.old) (H.link_reads host.old) (H.link_writes host.old)
-        (H.next_left host.old) (H.last_taken host.old))
-        (hosting (H.host_faults host.new) (H.link_reads host.new) (H.link_writes host.new)
-        (H.next_left host.new) (H.last_taken host.new)) result }
+        (H.hosting host.old) (H.hosting host.new) result }
 {
     whole_inputs_are_answered();
     broken_inputs_are_told();

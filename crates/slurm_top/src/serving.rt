@@ -4,7 +4,7 @@ ghost use Rattle.std.specs.Prelude.{◌≡◌, ◌<◌, ◌≤◌, ℕ, [], List
 ghost use Rattle.plain_data.specs.Files.{named_by};
 ghost use Rattle.saved_data.specs.Sizes.{longest_text};
 ghost use Rattle.script_run.specs.Behind.{saved_state};
-ghost use Rattle.slurm_top.specs.Outside.{beside, hosting, outside};
+ghost use Rattle.slurm_top.specs.Outside.{beside, outside};
 ghost use Rattle.slurm_top.specs.Run.{IsEndServing, hosted};
 ghost use Rattle.slurm_top.specs.Serving.{IsSavedBehind, IsServedUntil, IsServing, saved_by};
 
@@ -37,11 +37,11 @@ where
     requires fresh { book.entries ≡ [] }
     requires workers { (1 ≤ words.now.workers) × (words.now.workers ≤ 64) }
     ensures served { IsServedUntil book.opening words.now.port words.now.workers (C.course clock.old)
-        (H.closed host.new) (L.wire link.old) (L.wire link.new) (H.host_faults host.old) (H.host_faults host.new) result }
-    ensures counts { (H.link_reads host.new ≡ H.link_reads host.old)
-        × (H.link_writes host.new ≡ H.link_writes host.old) }
-    ensures kept { (H.next_left host.new ≡ H.next_left host.old)
-        × (H.last_taken host.new ≡ H.last_taken host.old) }
+        (H.closed host.new) (L.wire link.old) (L.wire link.new) (H.hosting host.old).faults (H.hosting host.new).faults result }
+    ensures counts { ((H.hosting host.new).link_reads ≡ (H.hosting host.old).link_reads)
+        × ((H.hosting host.new).link_writes ≡ (H.hosting host.old).link_writes) }
+    ensures kept { ((H.hosting host.new).next_left ≡ (H.hosting host.old).next_left)
+        × ((H.hosting host.new).last_taken ≡ (H.hosting host.old).last_taken) }
 {
     let Ok(gates) = no_gates(alloc, words.workers) else {
         return Err(End::Memory);
@@ -118,11 +118,11 @@ where
     requires fresh { book.entries ≡ [] }
     requires workers { (1 ≤ words.now.workers) × (words.now.workers ≤ 64) }
     ensures served { IsServing book.opening words.now.port words.now.workers words.now.save (C.course clock.old)
-        (H.closed host.new) (L.wire link.old) (L.wire link.new) (H.host_faults host.old) (H.host_faults host.new) result }
-    ensures counts { (H.link_reads host.new ≡ H.link_reads host.old)
-        × (H.link_writes host.new ≡ H.link_writes host.old) }
-    ensures kept { (H.next_left host.new ≡ H.next_left host.old)
-        × (H.last_taken host.new ≡ H.last_taken host.old) }
+        (H.closed host.new) (L.wire link.old) (L.wire link.new) (H.hosting host.old).faults (H.hosting host.new).faults result }
+    ensures counts { ((H.hosting host.new).link_reads ≡ (H.hosting host.old).link_reads)
+        × ((H.hosting host.new).link_writes ≡ (H.hosting host.old).link_writes) }
+    ensures kept { ((H.hosting host.new).next_left ≡ (H.hosting host.old).next_left)
+        × ((H.hosting host.new).last_taken ≡ (H.hosting host.old).last_taken) }
 {
     match serve_book(rt, alloc, book, words, link, clock, host) {
         Ok(book) => save_book(alloc, &book, words.save, link),
@@ -156,10 +156,8 @@ where
         words.now.workers words.now.save (hosted (C.course clock.old) (H.closed host.new))
         (outside (Q.files shelf.old) (Q.shelf_faults shelf.old) (L.wire link.old))
         (outside (Q.files shelf.new) (Q.shelf_faults shelf.new) (L.wire link.new))
-        (beside errors faults (hosting (H.host_faults host.old) (H.link_reads host.old) (H.link_writes host.old)
-        (H.next_left host.old) (H.last_taken host.old)))
-        (beside errors faults (hosting (H.host_faults host.new) (H.link_reads host.new) (H.link_writes host.new)
-        (H.next_left host.new) (H.last_taken host.new))) result }
+        (beside errors faults (H.hosting host.old))
+        (beside errors faults (H.hosting host.new)) result }
 {
     match open_named(alloc, &words.files, shelf) {
         Ok(desk) => serve_and_save(rt, alloc, desk.into_book(), words, link, clock, host),

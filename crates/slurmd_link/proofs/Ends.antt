@@ -23,12 +23,12 @@ use Rattle.slurmd_link.specs.declared.words.SlurmdWords.{SlurmdWords}
 
 -- a link was dialled, turns were made over it, and it was hung up
 pub is_over : (asked : SlurmdWords) (old new : Outside) (linked : LinkEnd) (came went : Wire) (before after : Daemon) (reads writes : ℕ)
-    → IsNewLink came → IfSome old.next_left (λ bytes. came.left ≡ Some bytes) → before ≡ started asked.node asked.boot
+    → IsNewLink came → IfSome old.host.next_left (λ bytes. came.left ≡ Some bytes) → before ≡ started asked.node asked.boot
     → IsLinked asked.user (scene came old.moments before) (scene went new.moments after) asked.turns linked
-    → IfSome new.last_taken (λ bytes. went.taken ≡ Some bytes)
-    → reads ≡ old.link_reads → writes ≡ old.link_writes
-    → CountsIf (nat_lt 0 went.reads) reads new.link_reads → CountsIf (nat_lt 0 went.writes) writes new.link_writes
-    → new.faults ≡ old.faults → HasRun asked old new (end.Linked linked)
+    → IfSome new.host.last_taken (λ bytes. went.taken ≡ Some bytes)
+    → reads ≡ old.host.link_reads → writes ≡ old.host.link_writes
+    → CountsIf (nat_lt 0 went.reads) reads new.host.link_reads → CountsIf (nat_lt 0 went.writes) writes new.host.link_writes
+    → new.host.faults ≡ old.host.faults → HasRun asked old new (end.Linked linked)
 is_over asked old new linked came went before after reads writes fresh left begun turned taken same same' counted counted' faults = record {
   came = came;
   went = went;
@@ -37,8 +37,8 @@ is_over asked old new linked came went before after reads writes fresh left begu
   left = left;
   turned = subst (λ d. IsLinked asked.user (scene came old.moments d) (scene went new.moments after) asked.turns linked) begun turned;
   taken = taken;
-  reads = subst (λ n. CountsIf (nat_lt 0 went.reads) n new.link_reads) same counted;
-  writes = subst (λ n. CountsIf (nat_lt 0 went.writes) n new.link_writes) same' counted';
+  reads = subst (λ n. CountsIf (nat_lt 0 went.reads) n new.host.link_reads) same counted;
+  writes = subst (λ n. CountsIf (nat_lt 0 went.writes) n new.host.link_writes) same' counted';
   faults = faults;
 }
 
@@ -79,7 +79,7 @@ told_off words old new end.Memory at at' status ended told off = inr told.status
 told_off words old new (end.Linked linked) at at' status (asked, is, over) told off = absurd (off asked is)
 
 pub dial_failed : (words : List (List ℕ)) (old new : Outside) (why : SlurmdEnd) (at at' : Sinks) (status : ℕ)
-    → HasEnded words old new why → IsTold why at at' status → status ≡ 10 → CountsOne old.faults new.faults
+    → HasEnded words old new why → IsTold why at at' status → status ≡ 10 → CountsOne old.host.faults new.host.faults
 dial_failed words old new end.Usage at at' status ended told is = let s = told.status_is in absurd (omega arith)
 dial_failed words old new end.DoorFault at at' status (asked, (counted, same)) told is = counted
 dial_failed words old new end.Memory at at' status ended told is = let s = told.status_is in absurd (omega arith)
@@ -133,16 +133,16 @@ read_how how.WriteFault made at at' status told is = let s = told.status_is in a
 read_how how.Memory made at at' status told is = let s = told.status_is in absurd (omega arith)
 
 over_read : (asked : SlurmdWords) (old new : Outside) (linked : LinkEnd) → IsOver asked old new linked → linked.how ≡ how.ReadFault
-    → CountsOne old.link_reads new.link_reads
+    → CountsOne old.host.link_reads new.host.link_reads
 over_read asked old new linked over is =
     let t = over.turned in
     let ended = subst (IsEndedBy asked.user t.mid (scene over.went new.moments over.after) t.turns asked.turns) is t.ended in
     let (was_asked, (read, consumed, less, counted)) = ended.0 in
-    risen over.went.reads old.link_reads new.link_reads
+    risen over.went.reads old.host.link_reads new.host.link_reads
     (subst (λ n. CountsOne n over.went.reads) (t.made.faultless.0 ∙ over.is_new.reads) counted) over.reads
 
 pub read_failed : (words : List (List ℕ)) (old new : Outside) (why : SlurmdEnd) (at at' : Sinks) (status : ℕ)
-    → HasEnded words old new why → IsTold why at at' status → status ≡ 5 → CountsOne old.link_reads new.link_reads
+    → HasEnded words old new why → IsTold why at at' status → status ≡ 5 → CountsOne old.host.link_reads new.host.link_reads
 read_failed words old new end.Usage at at' status ended told is = let s = told.status_is in absurd (omega arith)
 read_failed words old new end.DoorFault at at' status ended told is = let s = told.status_is in absurd (omega arith)
 read_failed words old new end.Memory at at' status ended told is = let s = told.status_is in absurd (omega arith)
@@ -160,17 +160,17 @@ write_how how.WriteFault made at at' status told is = inl refl
 write_how how.Memory made at at' status told is = let s = told.status_is in absurd (omega arith)
 
 over_write : (asked : SlurmdWords) (old new : Outside) (linked : LinkEnd) → IsOver asked old new linked → linked.how ≡ how.WriteFault
-    → CountsOne old.link_writes new.link_writes
+    → CountsOne old.host.link_writes new.host.link_writes
 over_write asked old new linked over is =
     let t = over.turned in
     let ended = subst (IsEndedBy asked.user t.mid (scene over.went new.moments over.after) t.turns asked.turns) is t.ended in
     let (moment, clock, after, sent, left, reads, counted) = ended.0 in
-    risen over.went.writes old.link_writes new.link_writes
+    risen over.went.writes old.host.link_writes new.host.link_writes
     (subst (λ n. CountsOne n over.went.writes) (t.made.faultless.1 ∙ over.is_new.writes) counted) over.writes
 
 pub write_failed : (words : List (List ℕ)) (old new : Outside) (why : SlurmdEnd) (at at' : Sinks) (status : ℕ)
     → HasEnded words old new why → IsTold why at at' status → status ≡ 6
-    → CountsOne old.link_writes new.link_writes ⊎ CountsOne at.output_faults at'.output_faults
+    → CountsOne old.host.link_writes new.host.link_writes ⊎ CountsOne at.output_faults at'.output_faults
 write_failed words old new end.Usage at at' status ended told is = let s = told.status_is in absurd (omega arith)
 write_failed words old new end.DoorFault at at' status ended told is = let s = told.status_is in absurd (omega arith)
 write_failed words old new end.Memory at at' status ended told is = let s = told.status_is in absurd (omega arith)
@@ -178,6 +178,6 @@ write_failed words old new (end.Linked linked) at at' status (asked, is_asked, o
     by (write_how linked.how linked.made at at' status told is)
   where
     by : (linked.how ≡ how.WriteFault) ⊎ CountsOne at.output_faults at'.output_faults
-        → CountsOne old.link_writes new.link_writes ⊎ CountsOne at.output_faults at'.output_faults
+        → CountsOne old.host.link_writes new.host.link_writes ⊎ CountsOne at.output_faults at'.output_faults
     by (inl same) = inl (over_write asked old new linked over same)
     by (inr counted) = inr counted

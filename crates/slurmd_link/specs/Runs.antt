@@ -3,7 +3,7 @@ use Rattle.std.specs.Prelude.{◌≡◌, ℕ, List, nat_lt, Option, Some, IfSome
 use Rattle.slurm_io.specs.Faults.{CountsOne}
 use Rattle.slurm_io.specs.Wire.{Wire}
 use Rattle.slurm_net.specs.Accepted.{IsNewLink}
-use Rattle.slurm_net.specs.Host.{CountsIf}
+use Rattle.slurm_net.specs.Host.{CountsIf, Hosting}
 use Rattle.node_daemon.specs.Daemon.{Daemon, started}
 use Rattle.slurmd_link.specs.Asked.{IsAsked}
 use Rattle.slurmd_link.specs.Links.{IsLinked}
@@ -13,25 +13,13 @@ use Rattle.slurmd_link.specs.declared.ending.SlurmdEnd.TheVariants as end
 use Rattle.slurmd_link.specs.declared.link.LinkEnd.{LinkEnd}
 use Rattle.slurmd_link.specs.declared.words.SlurmdWords.{SlurmdWords}
 
--- The outside of a run: the moments that its clock gave, the counts of its host, what the link of the next dial has left,
--- and what the link that was hung up last had taken, where these are told.
+-- The outside of a run: the moments that its clock gave, where they are told, and its host.
 pub record Outside : Type 0 where
   pub moments : Option (List ℕ)
-  pub faults : ℕ
-  pub link_reads : ℕ
-  pub link_writes : ℕ
-  pub next_left : Option (List ℕ)
-  pub last_taken : Option (List ℕ)
+  pub host : Hosting
 
-abbrev pub outside : Option (List ℕ) → ℕ → ℕ → ℕ → Option (List ℕ) → Option (List ℕ) → Outside
-outside moments faults link_reads link_writes next_left last_taken = record {
-  moments = moments;
-  faults = faults;
-  link_reads = link_reads;
-  link_writes = link_writes;
-  next_left = next_left;
-  last_taken = last_taken;
-}
+abbrev pub outside : Option (List ℕ) → Hosting → Outside
+outside moments host = record { moments = moments; host = host }
 
 -- A link was dialled, new and with what the host had told to be left; over it a daemon that runs nothing made its turns;
 -- and it was hung up: the host tells what it had taken, and counted it where a read or a write of it had failed.
@@ -40,16 +28,17 @@ pub record IsOver (asked : SlurmdWords) (old new : Outside) (linked : LinkEnd) :
   pub went : Wire
   pub after : Daemon
   pub is_new : IsNewLink came
-  pub left : IfSome old.next_left (λ bytes. came.left ≡ Some bytes)
+  pub left : IfSome old.host.next_left (λ bytes. came.left ≡ Some bytes)
   pub turned : IsLinked asked.user (scene came old.moments (started asked.node asked.boot)) (scene went new.moments after) asked.turns linked
-  pub taken : IfSome new.last_taken (λ bytes. went.taken ≡ Some bytes)
-  pub reads : CountsIf (nat_lt 0 went.reads) old.link_reads new.link_reads
-  pub writes : CountsIf (nat_lt 0 went.writes) old.link_writes new.link_writes
-  pub faults : new.faults ≡ old.faults
+  pub taken : IfSome new.host.last_taken (λ bytes. went.taken ≡ Some bytes)
+  pub reads : CountsIf (nat_lt 0 went.reads) old.host.link_reads new.host.link_reads
+  pub writes : CountsIf (nat_lt 0 went.writes) old.host.link_writes new.host.link_writes
+  pub faults : new.host.faults ≡ old.host.faults
 
 -- the host couldn't dial, and counted that alone
 abbrev pub IsUndialled : Outside → Outside → Type 0
-IsUndialled old new = CountsOne old.faults new.faults × (new ≡ record old { faults = new.faults })
+IsUndialled old new =
+    CountsOne old.host.faults new.host.faults × (new ≡ record old { host = record old.host { faults = new.host.faults } })
 
 -- what a run left of what was asked
 abbrev pub HasRun : SlurmdWords → Outside → Outside → SlurmdEnd → Type 0

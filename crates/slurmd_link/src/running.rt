@@ -31,10 +31,8 @@ fn run_over<C: Clock, H: Host>(
 ) -> SlurmdEnd
     requires { daemon.old ≡ started asked.now.node asked.now.boot }
     ensures { HasRun asked.now
-        (outside (C.moments clock.old) (H.host_faults host.old) (H.link_reads host.old) (H.link_writes host.old)
-        (H.next_left host.old) (H.last_taken host.old))
-        (outside (C.moments clock.new) (H.host_faults host.new) (H.link_reads host.new) (H.link_writes host.new)
-        (H.next_left host.new) (H.last_taken host.new)) result }
+        (outside (C.moments clock.old) (H.hosting host.old))
+        (outside (C.moments clock.new) (H.hosting host.new)) result }
 {
     let Ok(mut link) = host.dial(asked.port) else {
         return SlurmdEnd::DoorFault;
@@ -52,10 +50,8 @@ fn run_asked<C: Clock, H: Host>(
     host: &mut H,
 ) -> SlurmdEnd
     ensures { HasRun asked.now
-        (outside (C.moments clock.old) (H.host_faults host.old) (H.link_reads host.old) (H.link_writes host.old)
-        (H.next_left host.old) (H.last_taken host.old))
-        (outside (C.moments clock.new) (H.host_faults host.new) (H.link_reads host.new) (H.link_writes host.new)
-        (H.next_left host.new) (H.last_taken host.new)) result }
+        (outside (C.moments clock.old) (H.hosting host.old))
+        (outside (C.moments clock.new) (H.hosting host.new)) result }
 {
     match DaemonState::new(alloc, &asked.node, asked.boot) {
         Ok(daemon) => {
@@ -74,10 +70,8 @@ fn run_words<C: Clock, H: Host>(
     host: &mut H,
 ) -> SlurmdEnd
     ensures { HasEnded (map string_bytes words.now)
-        (outside (C.moments clock.old) (H.host_faults host.old) (H.link_reads host.old) (H.link_writes host.old)
-        (H.next_left host.old) (H.last_taken host.old))
-        (outside (C.moments clock.new) (H.host_faults host.new) (H.link_reads host.new) (H.link_writes host.new)
-        (H.next_left host.new) (H.last_taken host.new)) result }
+        (outside (C.moments clock.old) (H.hosting host.old))
+        (outside (C.moments clock.new) (H.hosting host.new)) result }
 {
     match read_words(alloc, words) {
         Ok(Some(asked)) => run_asked(alloc, &asked, clock, host),
@@ -127,10 +121,8 @@ pub fn slurmd_run<K: Sink, E: Sink, C: Clock, H: Host>(
 ) -> u8
     // The run has one of the ends, and leaves what that says; the status and what is told are that end's.
     ensures ran { (end : SlurmdEnd) × HasEnded (map string_bytes words.now)
-        (outside (C.moments clock.old) (H.host_faults host.old) (H.link_reads host.old) (H.link_writes host.old)
-        (H.next_left host.old) (H.last_taken host.old))
-        (outside (C.moments clock.new) (H.host_faults host.new) (H.link_reads host.new) (H.link_writes host.new)
-        (H.next_left host.new) (H.last_taken host.new)) end
+        (outside (C.moments clock.old) (H.hosting host.old))
+        (outside (C.moments clock.new) (H.hosting host.new)) end
         × IsTold end
         (sinks (K.taken output.old) (K.write_faults output.old) (E.taken errors.old) (E.write_faults errors.old))
         (sinks (K.taken output.new) (K.write_faults output.new) (E.taken errors.new) (E.write_faults errors.new))
@@ -145,10 +137,10 @@ pub fn slurmd_run<K: Sink, E: Sink, C: Clock, H: Host>(
         × Appends (K.taken output.old) (K.taken output.new) (turns_line asked.turns) }
 
     // A fault is told only where a count rose.
-    ensures read_fault { (result ≡ 5) → CountsOne (H.link_reads host.old) (H.link_reads host.new) }
-    ensures write_fault { (result ≡ 6) → CountsOne (H.link_writes host.old) (H.link_writes host.new)
+    ensures read_fault { (result ≡ 5) → CountsOne (H.hosting host.old).link_reads (H.hosting host.new).link_reads }
+    ensures write_fault { (result ≡ 6) → CountsOne (H.hosting host.old).link_writes (H.hosting host.new).link_writes
         ⊎ CountsOne (K.write_faults output.old) (K.write_faults output.new) }
-    ensures door_fault { (result ≡ 10) → CountsOne (H.host_faults host.old) (H.host_faults host.new) }
+    ensures door_fault { (result ≡ 10) → CountsOne (H.hosting host.old).faults (H.hosting host.new).faults }
 {
     let end = run_words(alloc, words, clock, host);
     tell_end(output, errors, end)

@@ -18,36 +18,32 @@ padded_behind start width old within =
     rw (take-add start width old, blanks_behind start width old within)
     (append_assoc (take start old) (take width (drop start old)) (padding width (take width (drop start old))))
 
--- the last part of a list moved before the one that stands behind its first bytes
-last_part_first : (first part last : List ℕ) (start count : ℕ) (whole : List ℕ)
+-- the part of a list that stands behind its first bytes moved to its end, with blanks before it
+blanks_first : (first part last : List ℕ) (start count : ℕ) (whole : List ℕ)
     → length first ≡ start → length last ≡ count → whole ≡ first ++ (part ++ last)
-    → (take start whole ++ drop (length whole - count) whole) ++ take (length whole - start - count) (drop start whole)
-    ≡ first ++ (last ++ part)
-last_part_first first part last start count whole starts counts parts =
+    → (take start whole ++ replicate count 32) ++ take (length whole - start - count) (drop start whole)
+    ≡ first ++ (replicate count 32 ++ part)
+blanks_first first part last start count whole starts counts parts =
     let long : length whole ≡ start + (length part + count) =
     rw parts (omega (arith, length-append first (part ++ last), length-append part last)) in
     let front : take start whole ≡ first = rw parts (take_at first (part ++ last) start starts) in
     let rest : drop start whole ≡ part ++ last = rw parts (drop_at first (part ++ last) start starts) in
     let middle : take (length whole - start - count) (drop start whole) ≡ part =
     rw rest (take_at part last (length whole - start - count) (omega arith)) in
-    let grouped : whole ≡ (first ++ part) ++ last = parts ∙ sym (append_assoc first part last) in
-    let back : drop (length whole - count) whole ≡ last =
-    ap (drop (length whole - count)) grouped
-    ∙ drop_at (first ++ part) last (length whole - count) (omega (arith, length-append first part)) in
-    rw (front, back, middle) (append_assoc first last part)
+    rw (front, middle) (append_assoc first (replicate count 32) part)
 
--- with the blanks moved to the front, it is padded before them
+-- with its blanks at the front, it is padded before them
 pub padded_before : (start width count : ℕ) (old whole moved : List ℕ) → start ≤ length old
     → count ≡ start + width - length old
     → whole ≡ take (start + width) old ++ replicate (start + width - length old) 32
-    → moved ≡ (take start whole ++ drop (length whole - count) whole)
-    ++ take (length whole - start - count) (drop start whole)
+    → moved ≡ (take start whole ++ replicate count 32) ++ take (length whole - start - count) (drop start whole)
     → moved ≡ take start old ++ (padding width (take width (drop start old)) ++ take width (drop start old))
 padded_before start width count old whole moved within counts padded moves =
     let part = take width (drop start old) in
     let starts : length (take start old) ≡ start = omega (arith, length-take start old) in
-    let blanks : length (padding width part) ≡ count =
-    length-replicate (width - length part) 32 ∙ sym (counts ∙ blanks_behind start width old within) in
+    let lacks : count ≡ width - length part = counts ∙ blanks_behind start width old within in
+    let blanks : length (padding width part) ≡ count = length-replicate (width - length part) 32 ∙ sym lacks in
     moves
-    ∙ last_part_first (take start old) part (padding width part) start count whole starts blanks
+    ∙ blanks_first (take start old) part (padding width part) start count whole starts blanks
     (padded ∙ padded_behind start width old within)
+    ∙ ap (λ many. take start old ++ (replicate many 32 ++ part)) lacks

@@ -19,7 +19,7 @@ pub fn fit(out: &mut Vec<u8>, start: usize, width: usize, dot: bool) -> Result<(
 {
     let blanks = set_end(out, start + width)?;
     if dot {
-        put_last_first(out, start, blanks);
+        put_blanks_first(out, start, blanks);
     }
     Ok(())
 }
@@ -34,33 +34,15 @@ fn set_end(out: &mut Vec<u8>, end: usize) -> Result<usize, Memory>
     Ok(blanks)
 }
 
-// Moves the last `count` bytes before the others that stand behind the first `start`.
-fn put_last_first(bytes: &mut [u8], start: usize, count: usize)
-    requires { start + count ≤ length bytes.old }
-    ensures { bytes.new ≡ take start bytes.old ++ drop (length bytes.old - count) bytes.old
-        ++ take (length bytes.old - start - count) (drop start bytes.old) }
+// Moves what stands behind the first `start` bytes to the end, over the last `count`, and puts so many blanks before it.
+fn put_blanks_first(out: &mut Vec<u8>, start: usize, count: usize)
+    requires { start + count ≤ length out.old.items }
+    ensures { out.new.items ≡ take start out.old.items ++ replicate count (byte " ")
+        ++ take (length out.old.items - start - count) (drop start out.old.items) }
 {
-    turn_right(&mut bytes[start..], count);
-}
-
-// Moves the last `count` bytes before the others, by reversals in place. The slice's own `rotate_right` clears a room
-// of some 100 KB on the stack at each call: with it that was two thirds of what squeue(1) cost.
-fn turn_right(bytes: &mut [u8], count: usize)
-    requires { count ≤ length bytes.old }
-    ensures { bytes.new ≡ drop (length bytes.old - count) bytes.old ++ take (length bytes.old - count) bytes.old }
-{
-    bytes.reverse();
-    reverse_apart(bytes, count);
-}
-
-// Reverses the first `count` bytes and the others, each part by itself.
-fn reverse_apart(bytes: &mut [u8], count: usize)
-    requires { count ≤ length bytes.old }
-    ensures { bytes.new ≡ reverse (take count bytes.old) ++ reverse (drop count bytes.old) }
-{
-    let (front, back) = bytes.split_at_mut(count);
-    front.reverse();
-    back.reverse();
+    let end = out.len() - count;
+    out.copy_within(start..end, start + count);
+    out[start..start + count].fill(b' ');
 }
 
 /// Makes what stands behind the first `start` bytes a field of the width, where there is one. "--format" of squeue(1).

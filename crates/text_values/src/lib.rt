@@ -1,5 +1,5 @@
-//! Values that texts give, of files and of commands alike: numbers, names, nodes, times, memory, lists of such; and why a
-//! text is no good.
+//! Values that texts give, of files and of commands alike: numbers, names, nodes, times, memory, lists of such; the options
+//! of any command and the keys of slurm.conf; and why a text is no good.
 #![tactic(auto)]
 
 pub mod arguments;

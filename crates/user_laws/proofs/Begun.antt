@@ -40,7 +40,8 @@ use Rattle.user_laws.proofs.Needing.{IsNeedOf}
 use Rattle.user_laws.proofs.Old.{found_by_pass, silenced_job}
 use Rattle.user_laws.proofs.Starting.{Passes, only_waits, silenced_raised}
 use Rattle.user_laws.proofs.States.{not_both}
-use Rattle.user_laws.proofs.Steps.{MakesBy, made_by, step_is}
+use Rattle.step_lemmas.proofs.Making.{MakesBy, made_by}
+use Rattle.step_lemmas.proofs.Steps.{step_is}
 use Rattle.user_laws.proofs.Turning.{left_turns}
 use Rattle.user_laws.proofs.Waiting.{WerePlanned, only_one}
 use Rattle.user_laws.proofs.Asked.{ArePlaced, IsPlannedFor, PlannedFor, has_asked, planned_for}

@@ -40,7 +40,8 @@ use Rattle.ctl_core.specs.Sizes.{size_of}
 use Rattle.ctl_core.specs.Step.{entered, raised, state_after}
 use Rattle.user_laws.specs.Planning.{plan_at, ranked_at}
 use Rattle.user_laws.proofs.Lists.{all_mapped}
-use Rattle.user_laws.proofs.Steps.{MakesBy, made_by, step_is}
+use Rattle.step_lemmas.proofs.Making.{MakesBy, made_by}
+use Rattle.step_lemmas.proofs.Steps.{step_is}
 use Rattle.user_laws.proofs.Turning.{IsNew, jobs_new}
 
 -- ---- what jobs hold that are left

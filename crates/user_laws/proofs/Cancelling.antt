@@ -8,7 +8,7 @@ use Rattle.reply_data.specs.declared.reply.Reply.{Reply}
 use Rattle.request_data.specs.declared.report.Done.{Done}
 use Rattle.request_data.specs.declared.report.Report.{Report as Told}
 use Rattle.request_data.specs.declared.request.Request.{Request}
-use Rattle.request_data.specs.declared.request.Request.TheVariants.{Submit, Cancel, Hold, Release, Requeue, UpdateJob, UpdateNode, UpdatePartition, CreateReservation, DeleteReservation, Report, Pass, Shutdown, Reconfigure, Show}
+use Rattle.request_data.specs.declared.request.Request.TheVariants.{Cancel, Pass}
 use Rattle.request_data.specs.declared.state.Final.{Final}
 use Rattle.request_data.specs.declared.state.Final.TheVariants as final
 use Rattle.request_data.specs.declared.state.JobState.{JobState}
@@ -32,18 +32,19 @@ use Rattle.ctl_pass.specs.Outcome.{outcome}
 use Rattle.ctl_pass.specs.Preempting.{preempted, victims_in}
 use Rattle.ctl_pass.specs.Readiness.{jobs_left, placements}
 use Rattle.ctl_pass.specs.Starting.{Started, begun, may_start, start_of, started}
-use Rattle.ctl_node_side.specs.Answering.{is_restarted, node_of}
+use Rattle.ctl_node_side.specs.Answering.{is_restarted}
 use Rattle.ctl_node_side.specs.Passes.{pass_is_idle}
 use Rattle.ctl_node_side.specs.Reporting.{after_told, done_of, final_of, is_at, is_batch_host, is_listed, reported, script_over}
 use Rattle.ctl_node_side.specs.Silence.{any_silent, silent_at, silenced}
 use Rattle.ctl_core.specs.Step.{raised, state_after}
+use Rattle.step_lemmas.proofs.Making.{AsksCancel, AsksRequeue, MakesBy, made_by}
+use Rattle.step_lemmas.proofs.Steps.{step_is}
 use Rattle.user_laws.specs.Cancelling.{Cancels, IsCancelledBy, is_cancelled}
 use Rattle.user_laws.proofs.Changes.{GoesOn, goes_itself, goes_on, leave_goes, loss_goes, mild_stays}
 use Rattle.user_laws.proofs.Lists.{all_mapped, any_weaker, turns_itself}
 use Rattle.user_laws.proofs.Old.{found_by_pass, silenced_job}
-use Rattle.user_laws.proofs.Staying.{becomes_after, becomes_goes, new_never}
-use Rattle.user_laws.proofs.Steps.{MakesBy, made_by, step_is}
-use Rattle.user_laws.proofs.Turning.{Becomes, HasCome, job_after, left_turns, met_job, step_turns, told_job}
+use Rattle.user_laws.proofs.Staying.{becomes_goes}
+use Rattle.user_laws.proofs.Turning.{Becomes, IsNew, left_turns, met_job, step_turns, Acted, Heard, Lost, Passed}
 
 -- who is cancelled then was so before
 abbrev Kept : JobRecord → JobRecord → Type 0
@@ -128,10 +129,9 @@ report-kept now node report job =
     cond_both (is_at node job) (after_told now node report job (done_of report job)) job (Kept job)
     (λ here. told-kept now node report job (done_of report job)) (λ off is. is)
 
-heard-kept : (s : State) (now : ℕ) (report : Told) (job : JobRecord) (found : Option ℕ)
-    → Kept job (told_job s now report job found)
-heard-kept s now report job None = λ is. is
-heard-kept s now report job (Some node) =
+heard-kept : (s : State) (now node : ℕ) (report : Told) (job : JobRecord)
+    → Kept job (reported now node report (met_job s now node report job))
+heard-kept s now node report job =
     let met = met_job s now node report job in
     let before : Kept job met =
     cond_both (is_restarted s report) (after_loss now (nat_eq node) job) job (Kept job)
@@ -143,36 +143,24 @@ heard-kept s now report job (Some node) =
 same-state : (state after : JobState) → is_cancelled after ≡ true → after ≡ state → is_cancelled state ≡ true
 same-state state after is same = subst (λ state. is_cancelled state ≡ true) same is
 
-after-was : (s : State) (now : ℕ) (user : List ℕ) (request : Request) (job : JobRecord)
-    → is_cancelled (job_after s now user request job).state ≡ true
+after-was : (s : State) (now : ℕ) (user : List ℕ) (request : Request) (job after : JobRecord) → request ≢ Pass
+    → Becomes s now user request job after → is_cancelled after.state ≡ true
     → (is_cancelled job.state ≡ true) ⊎ Cancels s user request job
-after-was s now user (Submit desc) job is = inl is
-after-was s now user (Cancel targets) job is =
+after-was s now user request job after other (Acted action named (AsksCancel targets)) is =
     cond_both (are_meant targets job && may_do s user act.Cancel job) (done_to now user act.Cancel job) job
     (λ (after : JobRecord). is_cancelled after.state ≡ true
     → (is_cancelled job.state ≡ true) ⊎ Cancels s user (Cancel targets) job)
     (λ meant cancelled. inr meant) (λ not cancelled. inl cancelled) is
-after-was s now user (Hold targets for_owner) job is =
-    inl (same-state job.state (job_after s now user (Hold targets for_owner) job).state is
-    (mild_stays s now user (act.Hold for_owner) (are_naming targets) job tt))
-after-was s now user (Release targets) job is =
-    inl (same-state job.state (job_after s now user (Release targets) job).state is
-    (mild_stays s now user act.Release (are_naming targets) job tt))
-after-was s now user (Requeue target) job is =
+after-was s now user request job after other (Acted action named (AsksRequeue target)) is =
     inl (cond_both (are_naming (target ∷ []) job && may_do s user act.Requeue job) (done_to now user act.Requeue job) job
     (Kept job) (λ meant. leave-kept final.Requeue now None job refl) (λ not cancelled. cancelled) is)
-after-was s now user (UpdateJob target limit nice) job is =
-    inl (same-state job.state (job_after s now user (UpdateJob target limit nice) job).state is
-    (mild_stays s now user (act.Update limit nice) (are_naming (target ∷ [])) job tt))
-after-was s now user (UpdateNode nodes state) job is = inl (loss-kept now (lost_by s.nodes nodes state) job is)
-after-was s now user (UpdatePartition name state) job is = inl is
-after-was s now user (CreateReservation desc) job is = inl is
-after-was s now user (DeleteReservation name) job is = inl is
-after-was s now user (Report report) job is = inl (heard-kept s now report job (node_of s report) is)
-after-was s now user Pass job is = inl is
-after-was s now user Shutdown job is = inl is
-after-was s now user (Reconfigure conf bytes) job is = inl is
-after-was s now user (Show query) job is = inl is
+after-was s now user request job after other (Acted action named asks) is =
+    inl (same-state job.state after.state is (mild_stays s now user action named job tt))
+after-was s now user request job after other (Lost nodes order) is =
+    inl (loss-kept now (lost_by s.nodes nodes order) job is)
+after-was s now user request job after other (Heard report node) is = inl (heard-kept s now node report job is)
+after-was s now user request job after other (Passed id) is = absurd (other refl)
+after-was s now user request job after other any is = inl is
 
 -- who is cancelled then was, or is by this
 abbrev Was : State → List ℕ → Request → JobRecord → Type 0
@@ -206,10 +194,9 @@ other-was : (s : State) (now : ℕ) (user : List ℕ) (request : Request) → re
     → All (Was s user request) (state_after s now user request).jobs
 other-was s now user request other =
     let moment = raised s now in
-    step_turns (All (Was s user request)) s now user request (itself-was s user request s.jobs)
-    (λ jobs turns. All-weaker
-    (λ (after : JobRecord). Any (λ (job : JobRecord). Becomes s moment user request job after) s.jobs
-    ⊎ HasCome s request after) (Was s user request)
+    All-weaker
+    (λ (after : JobRecord). Any (λ (job : JobRecord). Becomes s moment user request job after) s.jobs ⊎ IsNew s after)
+    (Was s user request)
     (λ after has is. elim has [
       | inl any ↦
           any_weaker (λ (job : JobRecord). Becomes s moment user request job after)
@@ -217,12 +204,10 @@ other-was s now user request other =
           (λ job becomes. let goes = becomes_goes s moment user request job after other becomes in
           record {
             same = record { id = sym goes.id; starts = sym goes.starts };
-            cancelled = after-was s moment user request job
-                (subst (λ (one : JobRecord). is_cancelled one.state ≡ true)
-                (becomes_after s moment user request job after other becomes) is);
+            cancelled = after-was s moment user request job after other becomes is;
           }) any
-      | inr new ↦ absurd (waits-on after.state (new_never s request after new).1 is)
-    ]) jobs turns.was)
+      | inr new ↦ absurd (waits-on after.state new.waits is)
+    ]) (state_after s now user request).jobs (step_turns s now user request).was
 
 -- ---- a pass
 

@@ -1,21 +1,16 @@
 -- No step changes what an association has used at its moment: whoever leaves Running is charged just that.
-use Rattle.std.proofs.Common.{ℕ, ◌≡◌, ◌≤◌, ◌<◌, ◌+◌, ◌-◌, ◌*◌, ◌∙◌, min, Bool, true, false, ◌&&◌, not, cond, List, [], ◌∷◌, map, length, Option, Some, None, refl, sym, ap, arith, nat_eq, slice_get}
+use Rattle.std.proofs.Common.{ℕ, ◌≡◌, ◌≤◌, ◌<◌, ◌+◌, ◌-◌, ◌*◌, ◌∙◌, min, Bool, true, false, ◌&&◌, not, cond, List, [], ◌∷◌, map, length, None, refl, sym, ap, arith, nat_eq, slice_get}
 use Rattle.std.specs.Prelude.{unwrap_or}
 use Rattle.std.specs.List.{list_any}
 use Rattle.std.proofs.Math.Nat.{mul-zero, sub_self}
 use Rattle.std.proofs.lemmas.Bool.{and_parts, cond_both, not-false}
 use Rattle.std.proofs.lemmas.List.Elements.{All-head, All-weaker}
 use Rattle.plain_data.specs.Confs.{ConfView}
-use Rattle.plain_data.specs.declared.conf.PartState.{PartState}
 use Rattle.plain_data.specs.declared.job.JobDesc.{JobDesc}
 use Rattle.backfill_planner.specs.declared.Placed.{Placed}
-use Rattle.reply_data.specs.declared.reply.Reply.{Reply}
-use Rattle.reply_data.specs.declared.reply.Reply.TheVariants.{Done}
 use Rattle.request_data.specs.declared.report.Report.{Report as Told}
 use Rattle.request_data.specs.declared.request.Request.{Request}
-use Rattle.request_data.specs.declared.request.Request.TheVariants.{Submit, Cancel, Hold, Release, Requeue, UpdateJob, UpdateNode, UpdatePartition, CreateReservation, DeleteReservation, Report, Pass, Shutdown, Reconfigure, Show}
 use Rattle.request_data.specs.declared.state.Final.TheVariants as final
-use Rattle.node_state.specs.Partitions.{place_meant}
 use Rattle.job_table.specs.declared.record.JobRecord.{JobRecord}
 use Rattle.job_table.specs.declared.record.Part.{Part}
 use Rattle.job_table.specs.declared.change.Change.TheVariants.{Leave, Start}
@@ -26,33 +21,30 @@ use Rattle.job_table.specs.Usage.{cpus_held, greatest_usage, used_by}
 use Rattle.ctl_state.specs.Events.{become, started_as}
 use Rattle.ctl_state.specs.Soundness.{IsSound}
 use Rattle.ctl_state.specs.State.{State, last_moment}
-use Rattle.ctl_state.specs.Verdicts.{Makes, Stays, stamped}
+use Rattle.ctl_state.specs.Verdicts.{stamped}
 use Rattle.ctl_waiting.specs.Usage.{running_usage, usage_at, used_running}
-use Rattle.ctl_jobs.specs.declared.action.Action.{Action}
-use Rattle.ctl_jobs.specs.declared.action.Action.TheVariants as act
-use Rattle.ctl_jobs.specs.Changing.{are_meant, are_naming, change_after, change_made, done_if, goes as changes}
+use Rattle.ctl_jobs.specs.Changing.{done_if}
 use Rattle.ctl_nodes.specs.Failing.{after_loss, lost_after}
-use Rattle.ctl_nodes.specs.Updating.{changes_any, lost_by, update_after}
+use Rattle.ctl_nodes.specs.Updating.{lost_by}
 use Rattle.ctl_pass.specs.Limits.{is_over, timed_out}
 use Rattle.ctl_pass.specs.Passing.{begun_in}
 use Rattle.ctl_pass.specs.Preempting.{preempted, victims_in}
 use Rattle.ctl_pass.specs.Readiness.{goes, jobs_left, placements}
 use Rattle.ctl_pass.specs.Starting.{Started, begun, may_start, start_of, started}
-use Rattle.ctl_node_side.specs.Answering.{is_restarted, node_of}
-use Rattle.ctl_node_side.specs.Passes.{after_pass, pass_is_idle}
-use Rattle.ctl_node_side.specs.Reporting.{reported}
-use Rattle.ctl_node_side.specs.Restarting.{made_by_report, met}
+use Rattle.ctl_node_side.specs.Answering.{is_restarted}
+use Rattle.ctl_node_side.specs.Passes.{after_pass}
+use Rattle.ctl_node_side.specs.Reporting.{report_after, reported}
+use Rattle.ctl_node_side.specs.Restarting.{met}
 use Rattle.ctl_node_side.specs.Silence.{any_silent, silent_at, silenced, without_silent}
-use Rattle.ctl_jobs.specs.Submission.{Basis, basis_of, made_under, new_jobs}
+use Rattle.ctl_jobs.specs.Submission.{Basis, new_arrays, new_jobs, submit_after}
 use Rattle.ctl_reconfigure.specs.Reconfiguring.{job_after as job_moved, reconfigured}
-use Rattle.ctl_reconfigure.specs.Same.{is_same}
-use Rattle.ctl_core.specs.Operating.{is_in_state, partition_after, partition_made}
-use Rattle.ctl_core.specs.Step.{made, raised, state_after}
+use Rattle.ctl_core.specs.Step.{raised, state_after}
+use Rattle.step_lemmas.proofs.Making.{ByAction, ByPass, ByReconfigure, ByReport, BySubmit, ByUpdateNode, MayMake}
+use Rattle.step_lemmas.proofs.Steps.{step_is}
 use Rattle.user_laws.specs.Using.{cpus_run_by}
 use Rattle.user_laws.proofs.Changes.{GoesOn, done_if_goes, goes_itself, leave_goes, loss_goes, moved_cpus, report_goes}
 use Rattle.user_laws.proofs.Starting.{MayStart, Passes, Waits, may_start_later, may_start_on, pass_may}
 use Rattle.user_laws.proofs.States.{ended_still, waits_still}
-use Rattle.user_laws.proofs.Steps.{MakesBy, made_by, step_is}
 use Rattle.user_laws.proofs.Turning.{IsNew, jobs_new}
 use Rattle.user_laws.proofs.Using.{append_same, charged_same, filter_same, grows_in_time, map_goes_on, map_same, shown, still_uses, usage_is, usage_of, uses}
 
@@ -81,32 +73,14 @@ used-on now s middle after one two = λ place. two place ∙ one place
 
 -- ---- each request
 
-abbrev UsedBy : ℕ → State → Reply → State → Type 0
-UsedBy now s reply after = IsUsed now s after
-
-change-used : (s : State) (now : ℕ) (user : List ℕ) (action : Action) (named : JobRecord → Bool)
-    → MakesBy (UsedBy now s) (change_made s now user action named)
-change-used s now user action named =
-    cond_both (list_any (changes s user action named) s.jobs) (Makes Done (change_after s now user action named)) Stays
-    (MakesBy (UsedBy now s))
-    (λ some. become-used now (done_if s now user action named) s (done_if_goes s now user action named)) (λ none. tt)
-
-submit-used : (s : State) (now : ℕ) (user : List ℕ) (desc : JobDesc) (basis : Option Basis)
-    → MakesBy (UsedBy now s) (made_under s now user desc basis)
-submit-used s now user desc None = tt
-submit-used s now user desc (Some basis) =
+submit-used : (s : State) (now : ℕ) (user : List ℕ) (desc : JobDesc) (basis : Basis)
+    → IsUsed now s (submit_after s (new_jobs s now user desc basis desc.array) (new_arrays s desc.array))
+submit-used s now user desc basis =
     let new = new_jobs s now user desc basis desc.array in
     λ place. ap (λ (n : ℕ). shown n (slice_get s.usage place))
     (append_same now place s.jobs new
     (All-weaker (IsNew s) (λ (job : JobRecord). is_running job.state ≡ false)
     (λ job is. waits_still job.state is.waits) new (jobs_new s now user desc basis desc.array)))
-
-partition-used : (s : State) (now : ℕ) (state : PartState) (place : Option ℕ)
-    → MakesBy (UsedBy now s) (partition_made s state place)
-partition-used s now state None = tt
-partition-used s now state (Some place) =
-    cond_both (is_in_state state (slice_get s.partitions place)) Stays (Makes Done (partition_after s place state))
-    (MakesBy (UsedBy now s)) (λ had. tt) (λ out. used-itself now s)
 
 -- jobs whose nodes are at other places hold what they held
 moved-used : (s : State) (now : ℕ) (conf : ConfView) → IsUsed now s (reconfigured s now conf)
@@ -123,10 +97,8 @@ met-used s now node report =
     cond_both (is_restarted s report) (stamped now (lost_after s now (nat_eq node))) s (IsUsed now s)
     (λ is. become-used now (after_loss now (nat_eq node)) s (loss_goes now (nat_eq node))) (λ not. used-itself now s)
 
-report-used : (s : State) (now : ℕ) (report : Told) (found : Option ℕ)
-    → MakesBy (UsedBy now s) (made_by_report s now report found)
-report-used s now report None = tt
-report-used s now report (Some node) =
+report-used : (s : State) (now node : ℕ) (report : Told) → IsUsed now s (report_after (met s now node report) now node report)
+report-used s now node report =
     let t = met s now node report in
     used-on now s t (become now (map (reported now node report) t.jobs) t) (met-used s now node report)
     (become-used now (reported now node report) t (report_goes now node report))
@@ -209,37 +181,18 @@ pass-used passes s now sound later in_time =
 
 -- ---- every request
 
-used-by : Passes → (s : State) (now : ℕ) (user : List ℕ) (request : Request) → IsSound s → s.moment ≤ now
-    → now ≤ last_moment → MakesBy (UsedBy now s) (made s now user request)
-used-by passes s now user (Submit desc) sound later in_time = submit-used s now user desc (basis_of s user desc)
-used-by passes s now user (Cancel targets) sound later in_time =
-    change-used s now user act.Cancel (are_meant targets)
-used-by passes s now user (Hold targets for_owner) sound later in_time =
-    change-used s now user (act.Hold for_owner) (are_naming targets)
-used-by passes s now user (Release targets) sound later in_time =
-    change-used s now user act.Release (are_naming targets)
-used-by passes s now user (Requeue target) sound later in_time =
-    change-used s now user act.Requeue (are_naming (target ∷ []))
-used-by passes s now user (UpdateJob target limit nice) sound later in_time =
-    change-used s now user (act.Update limit nice) (are_naming (target ∷ []))
-used-by passes s now user (UpdateNode nodes state) sound later in_time =
-    cond_both (changes_any s nodes state) (Makes Done (update_after s now nodes state)) Stays (MakesBy (UsedBy now s))
-    (λ some. become-used now (after_loss now (lost_by s.nodes nodes state)) s
-    (loss_goes now (lost_by s.nodes nodes state)))
-    (λ none. tt)
-used-by passes s now user (UpdatePartition name state) sound later in_time =
-    partition-used s now state (place_meant (Some name) s.partitions)
-used-by passes s now user (CreateReservation desc) sound later in_time = used-itself now s
-used-by passes s now user (DeleteReservation name) sound later in_time = used-itself now s
-used-by passes s now user (Report report) sound later in_time = report-used s now report (node_of s report)
-used-by passes s now user Pass sound later in_time =
-    cond_both (pass_is_idle s now) Stays _ (MakesBy (UsedBy now s)) (λ idle. tt)
-    (λ busy. pass-used passes s now sound later in_time)
-used-by passes s now user Shutdown sound later in_time = used-itself now s
-used-by passes s now user (Reconfigure conf bytes) sound later in_time =
-    cond_both (is_same s conf) Stays (Makes Done (reconfigured s now conf)) (MakesBy (UsedBy now s)) (λ same. tt)
-    (λ other. moved-used s now conf)
-used-by passes s now user (Show query) sound later in_time = tt
+used-by : Passes → (s : State) (now : ℕ) (user : List ℕ) (request : Request) (after : State) → IsSound s
+    → s.moment ≤ now → now ≤ last_moment → MayMake s now user request after → IsUsed now s after
+used-by passes s now user request after sound later in_time (BySubmit desc basis found) =
+    submit-used s now user desc basis
+used-by passes s now user request after sound later in_time (ByAction action named asks) =
+    become-used now (done_if s now user action named) s (done_if_goes s now user action named)
+used-by passes s now user request after sound later in_time (ByUpdateNode nodes order) =
+    become-used now (after_loss now (lost_by s.nodes nodes order)) s (loss_goes now (lost_by s.nodes nodes order))
+used-by passes s now user request after sound later in_time (ByReport report node found) = report-used s now node report
+used-by passes s now user request after sound later in_time ByPass = pass-used passes s now sound later in_time
+used-by passes s now user request after sound later in_time (ByReconfigure conf bytes) = moved-used s now conf
+used-by passes s now user request after sound later in_time other = used-itself now s
 
 -- A step leaves what each association has used at its moment.
 pub step_used : Passes → (s : State) (now : ℕ) (user : List ℕ) (request : Request) (place : ℕ) → IsSound s
@@ -247,8 +200,8 @@ pub step_used : Passes → (s : State) (now : ℕ) (user : List ℕ) (request : 
 step_used passes s now user request place sound =
     let moment = raised s now in
     let used = step_is (IsUsed moment s) s now user request (used-itself moment s)
-    (λ reply after is. made_by (UsedBy moment s)
-    (used-by passes s moment user request sound (omega arith) (omega (arith, sound.moment, is.in_time))) is.makes) in
+    (λ reply after is. used-by passes s moment user request after sound (omega arith)
+    (omega (arith, sound.moment, is.in_time)) is.kind) in
     usage_is (state_after s now user request) moment place ∙ used place ∙ sym (usage_is s moment place)
 
 -- From the state's moment to the step's it has grown by what ran.

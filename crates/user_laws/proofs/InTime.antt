@@ -35,7 +35,8 @@ use Rattle.ctl_node_side.specs.Passes.{after_pass, made_by_pass, pass_is_idle}
 use Rattle.ctl_node_side.specs.Silence.{any_silent, silent_at, silenced, without_silent}
 use Rattle.ctl_core.specs.Step.{is_entered, is_made, raised, reply_of, state_after}
 use Rattle.user_laws.proofs.Lists.{all_mapped}
-use Rattle.user_laws.proofs.Steps.{MakesBy, made_by, step_says}
+use Rattle.step_lemmas.proofs.Making.{MakesBy, made_by}
+use Rattle.step_lemmas.proofs.Steps.{step_says}
 
 -- the job's limit is in its range
 abbrev Limited : JobRecord → Type 0

@@ -1,6 +1,5 @@
 pub mod Lists
 pub mod States
-pub mod Steps
 pub mod Queries
 pub mod Changes
 pub mod Old

@@ -1,7 +1,7 @@
 -- Whoever is not privileged leaves others alone.
 use Rattle.std.proofs.Common.{ℕ, ◌≡◌, ◌∙◌, Bool, true, false, ◌&&◌, not, List, [], ◌∷◌, ◌++◌, map, filter, All, Option, Some, None, refl, sym, ap, inl, inr, rules}
 use Rattle.std.specs.Prelude.{bytes_eq}
-use Rattle.std.specs.List.{enumerate_from, list_any}
+use Rattle.std.specs.List.{enumerate_from}
 use Rattle.std.proofs.lemmas.Bool.{both_ways, cases_Bool, cond_both, not-false, not-true, not_from_true, or_cases, or_parts, and_parts}
 use Rattle.std.proofs.lemmas.List.{append-nil}
 use Rattle.std.proofs.lemmas.List.Elements.{All-cons, All-nil, All-weaker, filter-append}
@@ -11,23 +11,21 @@ use Rattle.plain_data.specs.declared.job.JobDesc.{JobDesc}
 use Rattle.reply_data.specs.declared.refusal.Refusal.{Refusal}
 use Rattle.reply_data.specs.declared.refusal.Refusal.TheVariants.{AccessDenied}
 use Rattle.reply_data.specs.declared.reply.Reply.{Reply}
-use Rattle.reply_data.specs.declared.reply.Reply.TheVariants.{Done}
 use Rattle.request_data.specs.declared.request.Request.{Request}
-use Rattle.request_data.specs.declared.request.Request.TheVariants.{Submit, Cancel, Hold, Release, Requeue, UpdateJob, UpdateNode, UpdatePartition, CreateReservation, DeleteReservation, Report, Pass, Shutdown, Reconfigure, Show}
+use Rattle.request_data.specs.declared.request.Request.TheVariants.{Submit}
 use Rattle.job_table.specs.declared.record.JobRecord.{JobRecord}
 use Rattle.ctl_state.specs.Refusals.{first_refusal, is_privileged, refused_if}
 use Rattle.ctl_state.specs.State.{State}
-use Rattle.ctl_state.specs.Verdicts.{Makes, Stays, Verdict}
 use Rattle.ctl_jobs.specs.declared.action.Action.{Action}
-use Rattle.ctl_jobs.specs.declared.action.Action.TheVariants as act
 use Rattle.ctl_jobs.specs.Actions.{done_to, is_denied, job_refusal, may_change}
-use Rattle.ctl_jobs.specs.Changing.{are_meant, are_naming, change_after, change_made, done_if, goes, may_do}
-use Rattle.ctl_jobs.specs.Submission.{Basis, basis_of, made_under, new_jobs, task}
-use Rattle.ctl_core.specs.Step.{made, raised, refusals_of, state_after}
+use Rattle.ctl_jobs.specs.Changing.{change_after, done_if, may_do}
+use Rattle.ctl_jobs.specs.Submission.{Basis, basis_of, made_under, new_arrays, new_jobs, submit_after, task}
+use Rattle.ctl_core.specs.Step.{raised, refusals_of, state_after}
+use Rattle.step_lemmas.proofs.Making.{ByAction, BySubmit, MakesBy, MayMake, made_by}
+use Rattle.step_lemmas.proofs.Steps.{step_is}
 use Rattle.user_laws.specs.Others.{AddsOwn, LeavesOthers}
 use Rattle.user_laws.proofs.Changes.{done_if_goes}
 use Rattle.user_laws.proofs.Lists.{none_is}
-use Rattle.user_laws.proofs.Steps.{MakesBy, made_by, step_is}
 
 -- ---- lists of which some members stay
 
@@ -73,9 +71,6 @@ stays-other s now user action named job plain other =
     (own-done s user action job plain (and_parts (named job) (may_do s user action job) is).1)))
     (λ not. refl)
 
-abbrev LeavesBy : List ℕ → State → Reply → State → Type 0
-LeavesBy user s reply after = LeavesOthers user s after
-
 leaves-all : (user : List ℕ) (s : State) → LeavesOthers user s s
 leaves-all user s = record {
   jobs = refl;
@@ -88,22 +83,18 @@ leaves-all user s = record {
 }
 
 change-leaves : (s : State) (now : ℕ) (user : List ℕ) (action : Action) (named : JobRecord → Bool)
-    → is_privileged s user ≡ false → MakesBy (LeavesBy user s) (change_made s now user action named)
-change-leaves s now user action named plain =
-    cond_both (list_any (goes s user action named) s.jobs) (Makes Done (change_after s now user action named)) Stays
-    (MakesBy (LeavesBy user s))
-    (λ some. record {
-      jobs = kept-map (λ (job : JobRecord). not (bytes_eq job.user user)) (done_if s now user action named) s.jobs
-          (λ job. ap (λ (name : List ℕ). not (bytes_eq name user)) (done_if_goes s now user action named job).user)
-          (λ job other. stays-other s now user action named job plain other);
-      nodes = refl;
-      partitions = refl;
-      reservations = refl;
-      settings = refl;
-      assocs = refl;
-      qos = refl;
-    })
-    (λ none. tt)
+    → is_privileged s user ≡ false → LeavesOthers user s (change_after s now user action named)
+change-leaves s now user action named plain = record {
+  jobs = kept-map (λ (job : JobRecord). not (bytes_eq job.user user)) (done_if s now user action named) s.jobs
+      (λ job. ap (λ (name : List ℕ). not (bytes_eq name user)) (done_if_goes s now user action named job).user)
+      (λ job other. stays-other s now user action named job plain other);
+  nodes = refl;
+  partitions = refl;
+  reservations = refl;
+  settings = refl;
+  assocs = refl;
+  qos = refl;
+}
 
 -- ---- submissions
 
@@ -121,10 +112,9 @@ jobs-own s now user desc basis None =
     All-cons (λ (job : JobRecord). job.user ≡ user) _ [] refl (All-nil (λ (job : JobRecord). job.user ≡ user))
 jobs-own s now user desc basis (Some array) = tasks-own s now user desc basis (enumerate_from 0 array.indices)
 
-submit-leaves : (s : State) (now : ℕ) (user : List ℕ) (desc : JobDesc) (basis : Option Basis)
-    → MakesBy (LeavesBy user s) (made_under s now user desc basis)
-submit-leaves s now user desc None = tt
-submit-leaves s now user desc (Some basis) =
+submit-leaves : (s : State) (now : ℕ) (user : List ℕ) (desc : JobDesc) (basis : Basis)
+    → LeavesOthers user s (submit_after s (new_jobs s now user desc basis desc.array) (new_arrays s desc.array))
+submit-leaves s now user desc basis =
     let new = new_jobs s now user desc basis desc.array in
     let other : JobRecord → Bool = λ job. not (bytes_eq job.user user) in
     record {
@@ -164,46 +154,26 @@ own_added s now user desc =
 -- ---- every request
 
 -- what is for privileged users alone is refused
-denied : (s : State) (user : List ℕ) (verdict : Verdict) (later : List (Option Refusal)) → is_privileged s user ≡ false
-    → first_refusal (refused_if (not (is_privileged s user)) AccessDenied ∷ later) ≡ None
-    → MakesBy (LeavesBy user s) verdict
-denied s user verdict later plain none =
+denied : (s after : State) (user : List ℕ) (later : List (Option Refusal)) → is_privileged s user ≡ false
+    → first_refusal (refused_if (not (is_privileged s user)) AccessDenied ∷ later) ≡ None → LeavesOthers user s after
+denied s after user later plain none =
     absurd (both_ways (is_privileged s user) plain
     (not-false (is_privileged s user) (not-first AccessDenied (not (is_privileged s user)) later none)))
 
-leaves-by : (s : State) (now : ℕ) (user : List ℕ) (request : Request) → is_privileged s user ≡ false
-    → first_refusal (refusals_of s now user request) ≡ None
-    → MakesBy (LeavesBy user s) (made s now user request)
-leaves-by s now user (Submit desc) plain none = submit-leaves s now user desc (basis_of s user desc)
-leaves-by s now user (Cancel targets) plain none = change-leaves s now user act.Cancel (are_meant targets) plain
-leaves-by s now user (Hold targets for_owner) plain none =
-    change-leaves s now user (act.Hold for_owner) (are_naming targets) plain
-leaves-by s now user (Release targets) plain none = change-leaves s now user act.Release (are_naming targets) plain
-leaves-by s now user (Requeue target) plain none =
-    change-leaves s now user act.Requeue (are_naming (target ∷ [])) plain
-leaves-by s now user (UpdateJob target limit nice) plain none =
-    change-leaves s now user (act.Update limit nice) (are_naming (target ∷ [])) plain
-leaves-by s now user (UpdateNode nodes state) plain none =
-    denied s user (made s now user (UpdateNode nodes state)) _ plain none
-leaves-by s now user (UpdatePartition name state) plain none =
-    denied s user (made s now user (UpdatePartition name state)) _ plain none
-leaves-by s now user (CreateReservation desc) plain none =
-    denied s user (made s now user (CreateReservation desc)) _ plain none
-leaves-by s now user (DeleteReservation name) plain none =
-    denied s user (made s now user (DeleteReservation name)) _ plain none
-leaves-by s now user (Report report) plain none = denied s user (made s now user (Report report)) _ plain none
-leaves-by s now user Pass plain none = denied s user (made s now user Pass) _ plain none
-leaves-by s now user Shutdown plain none = denied s user (made s now user Shutdown) _ plain none
-leaves-by s now user (Reconfigure conf bytes) plain none =
-    denied s user (made s now user (Reconfigure conf bytes)) _ plain none
-leaves-by s now user (Show query) plain none = tt
+leaves-by : (s : State) (now : ℕ) (user : List ℕ) (request : Request) (after : State) → is_privileged s user ≡ false
+    → first_refusal (refusals_of s now user request) ≡ None → MayMake s now user request after
+    → LeavesOthers user s after
+leaves-by s now user request after plain none (BySubmit desc basis found) = submit-leaves s now user desc basis
+leaves-by s now user request after plain none (ByAction action named asks) =
+    change-leaves s now user action named plain
+leaves-by s now user request after plain none other = denied s after user _ plain none
 
 pub others_left : (s : State) (now : ℕ) (user : List ℕ) (request : Request) → is_privileged s user ≡ false
     → LeavesOthers user s (state_after s now user request)
 others_left s now user request plain =
     step_is (LeavesOthers user s) s now user request (leaves-all user s)
     (λ reply after is.
-    let leaves = made_by (LeavesBy user s) (leaves-by s (raised s now) user request plain is.allowed) is.makes in
+    let leaves = leaves-by s (raised s now) user request after plain is.allowed is.kind in
     record {
       jobs = leaves.jobs;
       nodes = leaves.nodes;

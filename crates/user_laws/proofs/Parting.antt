@@ -33,7 +33,8 @@ use Rattle.user_laws.proofs.InTime.{idle_stays, unentered}
 use Rattle.user_laws.proofs.Lists.{any_here, any_mapped, any_of_all, any_passes, any_there, any_unmapped, any_weaker}
 use Rattle.user_laws.proofs.Starting.{MayStart, Waits, may_start_later, may_start_on, pass_may, waits_on}
 use Rattle.user_laws.proofs.States.{not_both}
-use Rattle.user_laws.proofs.Steps.{MakesBy, made_by, step_says}
+use Rattle.step_lemmas.proofs.Making.{MakesBy, made_by}
+use Rattle.step_lemmas.proofs.Steps.{step_says}
 
 -- ---- who runs
 

@@ -14,7 +14,7 @@ use Rattle.ctl_show.specs.Showing.{show_refusals, view_of}
 use Rattle.ctl_core.specs.Sizes.{has_room}
 use Rattle.ctl_core.specs.Step.{raised, reply_of, state_after, unless_full}
 use Rattle.user_laws.specs.Asking.{answer_to, shown_unless}
-use Rattle.user_laws.proofs.Steps.{step_is}
+use Rattle.step_lemmas.proofs.Steps.{step_is}
 
 pub query_stays : (s : State) (now : ℕ) (user : List ℕ) (query : Query) → state_after s now user (Show query) ≡ s
 query_stays s now user query =

@@ -43,7 +43,8 @@ use Rattle.user_laws.proofs.Lists.{any_of_all, any_weaker, none_is}
 use Rattle.user_laws.proofs.Old.{found_by_pass, pending_stays, silenced_job}
 use Rattle.user_laws.proofs.Starting.{IsStart, Passes, Waits, only_waits, pass_may, ready_rising, starts_was}
 use Rattle.user_laws.proofs.States.{not_both, not_ended}
-use Rattle.user_laws.proofs.Steps.{MakesBy, made_by, step_is}
+use Rattle.step_lemmas.proofs.Making.{MakesBy, made_by}
+use Rattle.step_lemmas.proofs.Steps.{step_is}
 use Rattle.user_laws.proofs.Turning.{left_turns}
 
 -- ---- what stands well

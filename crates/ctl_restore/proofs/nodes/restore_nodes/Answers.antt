@@ -5,7 +5,7 @@ use Rattle.node_state.specs.declared.record.NodeRecord.{NodeRecord}
 use Rattle.job_table.specs.Walks.{map_at}
 use Rattle.ctl_restore.specs.Restored.{restored_node}
 use Rattle.ctl_restore.specs.Steps.{IsUnheard}
-use Rattle.ctl_restore.proofs.Walking.{length-map_at, unwalked}
+use Rattle.ctl_nodes.proofs.Walked.{length_map_at, unwalked_at}
 use Rattle.ctl_restore.proofs.nodes.restore_nodes.Goals as goal
 
 pub stand_at-requires-clause-there : goal.stand_at-requires-clause-there
@@ -14,7 +14,7 @@ stand_at-requires-clause-there c = omega (arith, c.loop-place.invariant.long)
 pub stand_at-requires-clause-unheard : goal.stand_at-requires-clause-unheard
 stand_at-requires-clause-unheard c =
     rw c.loop-place.invariant.walk
-    (unwalked c.a_walk_changes_all.ensures.rest IsUnheard (restored_node c.args.lines.now) c.loop-place.place
+    (unwalked_at c.a_walk_changes_all.ensures.rest IsUnheard (restored_node c.args.lines.now) c.loop-place.place
     c.args.nodes.now.records (omega arith) (λ d. c.requires.unheard c.loop-place.place d (omega arith)))
 
 pub loop-place-preserved : goal.loop-place-preserved
@@ -26,7 +26,7 @@ loop-place-preserved c =
       walk = c.stand_at.ensures.records ∙ ap (map_at place change) held.walk
           ∙ c.a_walk_changes_all.ensures.goes_on change place c.args.nodes.now.records (omega arith);
       held = c.stand_at.ensures.held ∙ held.held;
-      long = ap length c.stand_at.ensures.records ∙ length-map_at change place c.loop-place.nodes.records ∙ held.long;
+      long = ap length c.stand_at.ensures.records ∙ length_map_at change place c.loop-place.nodes.records ∙ held.long;
       end = held.end;
     }
 

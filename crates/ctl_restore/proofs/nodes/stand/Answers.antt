@@ -6,7 +6,8 @@ use Rattle.job_table.specs.Walks.{map_at}
 use Rattle.ctl_restore.specs.Restored.{standing_as}
 use Rattle.ctl_restore.specs.Steps.{down_as, drained_as, heard_as}
 use Rattle.ctl_restore.proofs.Standing.{stands}
-use Rattle.ctl_restore.proofs.Walking.{four-changes, length-map_at}
+use Rattle.ctl_restore.proofs.Walking.{four-changes}
+use Rattle.ctl_nodes.proofs.Walked.{length_map_at}
 use Rattle.ctl_restore.proofs.nodes.stand.Goals as goal
 
 pub hear-requires : goal.hear-requires
@@ -15,7 +16,7 @@ hear-requires c =
       arith,
       c.requires.there,
       ap length c.change.ensures.records,
-      length-map_at (changed change.Resume) c.args.place c.args.nodes.now.records,
+      length_map_at (changed change.Resume) c.args.place c.args.nodes.now.records,
     )
 
 pub set_down-requires : goal.set_down-requires
@@ -24,9 +25,9 @@ set_down-requires c =
       arith,
       c.requires.there,
       ap length c.change.ensures.records,
-      length-map_at (changed change.Resume) c.args.place c.args.nodes.now.records,
+      length_map_at (changed change.Resume) c.args.place c.args.nodes.now.records,
       ap length c.hear.ensures.records,
-      length-map_at (heard_as c.args.line.now.heard false) c.args.place c.change.new.nodes.records,
+      length_map_at (heard_as c.args.line.now.heard false) c.args.place c.change.new.nodes.records,
     )
 
 pub drain-requires : goal.drain-requires
@@ -35,11 +36,11 @@ drain-requires c =
       arith,
       c.requires.there,
       ap length c.change.ensures.records,
-      length-map_at (changed change.Resume) c.args.place c.args.nodes.now.records,
+      length_map_at (changed change.Resume) c.args.place c.args.nodes.now.records,
       ap length c.hear.ensures.records,
-      length-map_at (heard_as c.args.line.now.heard false) c.args.place c.change.new.nodes.records,
+      length_map_at (heard_as c.args.line.now.heard false) c.args.place c.change.new.nodes.records,
       ap length c.set_down.ensures.records,
-      length-map_at (down_as c.args.line.now c.args.line.now.down) c.args.place c.hear.new.nodes.records,
+      length_map_at (down_as c.args.line.now c.args.line.now.down) c.args.place c.hear.new.nodes.records,
     )
 
 pub returns-clause-records : goal.returns-clause-records

@@ -1,6 +1,6 @@
 use Rattle.std.proofs.Common.{length, refl, ap, ◌∙◌}
 use Rattle.std.proofs.lemmas.List.{length-replicate}
-use Rattle.ctl_restore.proofs.Openings.{names-opened, sound-opening}
+use Rattle.ctl_core.proofs.Openings.{names-opened, sound-opening}
 use Rattle.ctl_restore.proofs.opening.opened.Goals as goal
 
 pub build-requires-2-clause-of_nodes : goal.build-requires-2-clause-of_nodes

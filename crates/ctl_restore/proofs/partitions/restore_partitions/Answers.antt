@@ -4,7 +4,7 @@ use Rattle.std.proofs.lemmas.List.Elements.{All-nil}
 use Rattle.node_state.specs.declared.partition_record.PartRecord.{PartRecord}
 use Rattle.job_table.specs.Walks.{map_at}
 use Rattle.ctl_restore.specs.Restored.{restored_partition}
-use Rattle.ctl_restore.proofs.Walking.{length-map_at}
+use Rattle.ctl_nodes.proofs.Walked.{length_map_at}
 use Rattle.ctl_restore.proofs.partitions.restore_partitions.Goals as goal
 
 pub restore_at-requires : goal.restore_at-requires
@@ -18,7 +18,7 @@ loop-place-preserved c =
     record {
       walk = c.restore_at.ensures ∙ ap (map_at place change) held.walk
           ∙ c.a_walk_changes_all.ensures.goes_on change place c.args.partitions.now (omega arith);
-      long = ap length c.restore_at.ensures ∙ length-map_at change place c.loop-place.partitions ∙ held.long;
+      long = ap length c.restore_at.ensures ∙ length_map_at change place c.loop-place.partitions ∙ held.long;
       end = held.end;
     }
 

@@ -3,8 +3,8 @@ use Rattle.std.proofs.Common.{◌∙◌, ℕ, Bool, length, sym}
 use Rattle.ctl_state.specs.Planning.{is_at}
 use Rattle.ctl_nodes.specs.Updating.{is_among}
 use Rattle.ctl_nodes.specs.Reserving.{places_among}
-use Rattle.ctl_restore.proofs.Rising.{filter-rises, has_id-up_to, same_rising}
-use Rattle.ctl_restore.proofs.Reserved.{none_past}
+use Rattle.ctl_nodes.proofs.Rising.{filter-rises, has_id-up_to, same_rising}
+use Rattle.ctl_nodes.proofs.Ways.{none_past}
 use Rattle.ctl_restore.proofs.reservations.places_among.Goals as goal
 
 pub returns : goal.returns

@@ -2,7 +2,8 @@ use Rattle.std.proofs.Common.{◌∙◌, [], map, refl, sym}
 use Rattle.std.proofs.lemmas.Bool.{both_ways}
 use Rattle.ctl_state.specs.Planning.{room_of}
 use Rattle.ctl_restore.proofs.Fitting.{parts-up, up-parts}
-use Rattle.ctl_restore.proofs.Openings.{none-held, shows-none}
+use Rattle.ctl_core.proofs.Openings.{shows-none}
+use Rattle.ctl_restore.proofs.Openings.{none-held}
 use Rattle.ctl_restore.proofs.restoring.hold_well.Goals.{else-hold_jobs, then-hold_jobs}
 use Rattle.ctl_restore.proofs.restoring.hold_well.Goals as goal
 

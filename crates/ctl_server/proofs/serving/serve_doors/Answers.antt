@@ -39,6 +39,6 @@ returns-in-Ok-clause-end g c = λ opening began.
     let shut = c.run_parts-worked.ensures.shut opening
     (split_began opening first c.split.result c.split.ensures.new began) in
     subst (λ (n : ℕ). EndsServing opening course n c.close.result (g.H.Host.closed c.close.new.host)
-    (g.H.Host.host_faults c.args.host.now) (g.H.Host.host_faults c.close.new.host)) (seats ∙ c.seat_all.ensures.len)
+    (g.H.Host.hosting c.args.host.now).faults (g.H.Host.hosting c.close.new.host).faults) (seats ∙ c.seat_all.ensures.len)
     (c.close.ensures.end opening course (still_began opening first c.seat_all.new.pass last began) shut
     (left opening course ready))

@@ -1,20 +1,35 @@
-use Rattle.std.proofs.Common.{◌≡◌, ◌-◌, ◌≤◌, length, get_or, ◌∙◌, sym}
-use Rattle.std.proofs.lemmas.List.{get_or_default}
-use Rattle.std.proofs.lemmas.List.Sorted.{IsPermutation-remove}
-use Rattle.resource_profile.proofs.EndEdits.{remove-sorted, last-at}
+use Rattle.std.proofs.Common.{◌-◌}
+use Rattle.resource_profile.proofs.EndEdits.{last-at, lowered-counts, remove-has, remove-counts}
 use Rattle.resource_profile.proofs.ends.drop_end.Goals as goal
 
-pub returns-clause-sorted : goal.returns-clause-sorted
-returns-clause-sorted c =
+pub overflow_sub-place : goal.overflow_sub-place
+overflow_sub-place c =
     let ends = c.args.ends.now.items in
-    let bound : c.passed-place.result ≤ length ends = rw c.deref.ensures.value at c.passed-place.ensures.bound in
-    let is = last-at ends c.passed-place.result c.args.end c.requires.sorted c.requires.has bound (rw c.deref.ensures.value at c.passed-place.ensures.before) (rw c.deref.ensures.value at c.passed-place.ensures.after) in
-    rw c.remove.ensures.items (remove-sorted ends (c.passed-place.result - 1) is.within c.requires.sorted)
+    let place = c.passed-place.result in
+    let is = last-at ends place c.args.moment c.requires.ends c.requires.has (rw c.deref.ensures.value at c.passed-place.ensures.bound)
+    (rw c.deref.ensures.value at c.passed-place.ensures.before) (rw c.deref.ensures.value at c.passed-place.ensures.after) in
+    is.some
 
-pub returns-clause-permutation : goal.returns-clause-permutation
-returns-clause-permutation c =
+pub returns-then-index-gt1-clause-counted : goal.returns-then-index-gt1-clause-counted
+returns-then-index-gt1-clause-counted c = λ other.
     let ends = c.args.ends.now.items in
-    let bound : c.passed-place.result ≤ length ends = rw c.deref.ensures.value at c.passed-place.ensures.bound in
-    let is = last-at ends c.passed-place.result c.args.end c.requires.sorted c.requires.has bound (rw c.deref.ensures.value at c.passed-place.ensures.before) (rw c.deref.ensures.value at c.passed-place.ensures.after) in
-    let there : c.args.end ≡ get_or ends (c.passed-place.result - 1) c.args.end = sym (get_or_default ends (c.passed-place.result - 1) c.args.end 0 is.within ∙ is.is) in
-    rw c.remove.ensures.items (IsPermutation-remove ends (c.passed-place.result - 1) c.args.end is.within there)
+    let place = c.passed-place.result in
+    let is = last-at ends place c.args.moment c.requires.ends c.requires.has (rw c.deref.ensures.value at c.passed-place.ensures.bound)
+    (rw c.deref.ensures.value at c.passed-place.ensures.before) (rw c.deref.ensures.value at c.passed-place.ensures.after) in
+    lowered-counts ends place c.args.moment other c.index_mut.result.now c.requires.ends is c.index_mut.ensures.value
+
+pub returns-clause-ends : goal.returns-clause-ends
+returns-clause-ends c =
+    let ends = c.args.ends.now.items in
+    let place = c.passed-place.result in
+    let is = last-at ends place c.args.moment c.requires.ends c.requires.has (rw c.deref.ensures.value at c.passed-place.ensures.bound)
+    (rw c.deref.ensures.value at c.passed-place.ensures.before) (rw c.deref.ensures.value at c.passed-place.ensures.after) in
+    rw c.remove.ensures.items (remove-has ends (place - 1) c.requires.ends is.within)
+
+pub returns-clause-counted : goal.returns-clause-counted
+returns-clause-counted c = λ other.
+    let ends = c.args.ends.now.items in
+    let place = c.passed-place.result in
+    let is = last-at ends place c.args.moment c.requires.ends c.requires.has (rw c.deref.ensures.value at c.passed-place.ensures.bound)
+    (rw c.deref.ensures.value at c.passed-place.ensures.before) (rw c.deref.ensures.value at c.passed-place.ensures.after) in
+    rw c.remove.ensures.items (remove-counts ends place c.args.moment other c.index.result.now c.requires.ends is c.index.ensures c.if-index-gt1.false)

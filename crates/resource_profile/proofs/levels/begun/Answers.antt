@@ -1,5 +1,6 @@
 use Rattle.std.proofs.Common.{◌+◌, ◌-◌, ◌/◌, ◌<◌, length, arith}
-use Rattle.resource_profile.proofs.LevelEdits.{before-middle, after-middle}
+use Rattle.resource_profile.specs.declared.levels.Level.{Level}
+use Rattle.resource_profile.proofs.Rising.{before-middle, after-middle}
 use Rattle.resource_profile.proofs.levels.begun.Goals as goal
 
 pub loop-low-preserved-then-levels-middle : goal.loop-low-preserved-then-levels-middle
@@ -10,7 +11,7 @@ loop-low-preserved-then-levels-middle c =
       some = omega arith;
       order = omega arith;
       bound = c.loop-low.invariant.bound;
-      before = before-middle c.args.levels.now middle c.args.moment _ c.requires within c.if-levels-middle.true;
+      before = before-middle (λ (one : Level). one.from) c.args.levels.now middle c.args.moment _ c.requires.rising within c.if-levels-middle.true;
       after = c.loop-low.invariant.after;
     }
 
@@ -22,5 +23,5 @@ loop-low-preserved c =
       order = omega arith;
       bound = omega (arith, c.loop-low.invariant.bound);
       before = c.loop-low.invariant.before;
-      after = after-middle c.args.levels.now middle c.args.moment _ c.requires c.if-levels-middle.false;
+      after = after-middle (λ (one : Level). one.from) c.args.levels.now middle c.args.moment _ c.requires.rising c.if-levels-middle.false;
     }

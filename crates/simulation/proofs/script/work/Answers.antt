@@ -14,7 +14,7 @@ returns-clause-go_on g c =
 
 pub returns-clause-alone : goal.returns-clause-alone
 returns-clause-alone g c =
-    let asked = c.args.asked.now in
+    let asked = c.args.asked in
     one_alone (IsWork asked c.args.tally.now c.take.new.self) g.D.Desk.sight c.args.desks.now c.take-place.result _
     c.decide.new.desk c.take-place.ensures.within
     (λ alone alone'. works asked c.in_ok-answer.answer.reply c.args.tally.now c.take.new.self c.take.ensures _ _

@@ -1,5 +1,5 @@
 use Rattle.std.proofs.Common.{◌∙◌}
-use Rattle.slurm_top.specs.Outside.{Beside, beside, hosting}
+use Rattle.slurm_top.specs.Outside.{Beside, beside}
 use Rattle.slurm_top.proofs.Carrying.{told_eq, side_eq, input_kept, is_over}
 use Rattle.slurm_top.proofs.calling.call_over.Goals as goal
 
@@ -12,11 +12,9 @@ returns g c =
     let tells = g.met.L.Link.wire_tells own in
     let tells' = g.met.L.Link.wire_tells own' in
     let before : Beside = beside (g.E.Sink.taken c.args.errors.now) (g.E.Sink.write_faults c.args.errors.now)
-    (hosting (g.H.Host.host_faults host) (g.H.Host.link_reads host) (g.H.Host.link_writes host)
-    (g.H.Host.next_left host) (g.H.Host.last_taken host)) in
+    (g.H.Host.hosting host) in
     let after : Beside = beside (g.E.Sink.taken c.client_run-called.new.errors) (g.E.Sink.write_faults c.client_run-called.new.errors)
-    (hosting (g.H.Host.host_faults host') (g.H.Host.link_reads host') (g.H.Host.link_writes host')
-    (g.H.Host.next_left host') (g.H.Host.last_taken host')) in
+    (g.H.Host.hosting host') in
     is_over _ (g.L.Link.wire own) (g.L.Link.wire own') before after c.client_run-called.result _ _ _ _ _ _
     c.in-Ok.ensures.new c.in-Ok.ensures.left
     (told_eq (g.L.Link.wire own) before _ _ _ _ tells) (told_eq (g.L.Link.wire own') after _ _ _ _ tells')

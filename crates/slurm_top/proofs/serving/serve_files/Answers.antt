@@ -1,7 +1,7 @@
 use Rattle.std.proofs.Common.{Ok, subst, sym}
 use Rattle.ctl_state.specs.State.{State}
 use Rattle.plain_data.specs.Files.{named_by}
-use Rattle.slurm_top.specs.Outside.{beside, hosting, outside}
+use Rattle.slurm_top.specs.Outside.{beside, outside}
 use Rattle.cluster_opening.specs.Files.{Opens}
 use Rattle.slurm_top.specs.Run.{hosted}
 use Rattle.slurm_top.proofs.Opened.{alone_so, served_end, stays_beside}
@@ -22,9 +22,6 @@ returns-in-Ok g c = λ errors faults.
     (outside files (g.Q.Shelf.shelf_faults c.args.shelf.now) (g.L.Link.wire c.args.link.now))
     (outside (g.Q.Shelf.files c.open_named.new.shelf) (g.Q.Shelf.shelf_faults c.open_named.new.shelf)
     (g.L.Link.wire c.serve_and_save.new.link))
-    (beside errors faults (hosting (g.H.Host.host_faults host) (g.H.Host.link_reads host) (g.H.Host.link_writes host)
-    (g.H.Host.next_left host) (g.H.Host.last_taken host)))
-    (beside errors faults (hosting (g.H.Host.host_faults host') (g.H.Host.link_reads host') (g.H.Host.link_writes host')
-    (g.H.Host.next_left host') (g.H.Host.last_taken host'))) c.serve_and_save.result c.into_book.result.opening opens
+    (beside errors faults (g.H.Host.hosting host)) (beside errors faults (g.H.Host.hosting host')) c.serve_and_save.result c.into_book.result.opening opens
     ran.served (alone_so _ _ _ _ (g.L.Link.wire c.args.link.now) (g.L.Link.wire c.serve_and_save.new.link) c.in-Ok.ensures.kept seated.2)
-    (stays_beside errors faults (g.H.Host.host_faults host) (g.H.Host.host_faults host') _ _ _ _ _ _ _ _ ran.counts.0 ran.counts.1 ran.kept.0 ran.kept.1)
+    (stays_beside errors faults (g.H.Host.hosting host) (g.H.Host.hosting host') ran.counts.0 ran.counts.1 ran.kept.0 ran.kept.1)

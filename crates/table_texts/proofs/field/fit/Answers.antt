@@ -1,5 +1,3 @@
-use Rattle.std.proofs.Common.{◌∙◌}
-use Rattle.std.proofs.lemmas.List.{with_items_is}
 use Rattle.table_texts.specs.Field.{field}
 use Rattle.table_texts.proofs.Fitting.{padded_behind, padded_before}
 use Rattle.table_texts.proofs.field.fit.Goals as goal
@@ -13,8 +11,7 @@ returns-else-dot c =
 pub returns-then-dot : goal.returns-then-dot
 unfolding field
 returns-then-dot c =
-    let turned = rw c.deref_mut.ensures.value at c.put_last_first.ensures in
-    with_items_is c.set_end.new.out c.put_last_first.new.bytes (c.put_last_first.auto.bytes ∙ c.deref_mut.ensures.len)
-    ∙ rw c.if-dot.true
+    rw c.if-dot.true
     (padded_before c.args.start c.args.width c.in_ok-blanks.blanks c.args.out.now.items c.set_end.new.out.items
-    c.put_last_first.new.bytes c.requires.within c.in_ok-blanks.ensures.blanks c.in_ok-blanks.ensures.items turned)
+    c.put_blanks_first.new.out.items c.requires.within c.in_ok-blanks.ensures.blanks c.in_ok-blanks.ensures.items
+    c.put_blanks_first.ensures)

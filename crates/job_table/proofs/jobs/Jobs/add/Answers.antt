@@ -1,8 +1,12 @@
 -- The numbers of those that are added are above all others.
-use Rattle.std.proofs.Common.{◌≡◌, ◌<◌, ◌++◌, map, ap, ◌∙◌}
+use Rattle.std.proofs.Common.{◌≡◌, ◌<◌, ◌++◌, false, map, ap, sym, ◌∙◌}
 use Rattle.std.specs.Map.{values_of}
 use Rattle.std.proofs.Math.Seq.{take-append_seam}
+use Rattle.std.proofs.lemmas.Bool.{or_parts}
+use Rattle.std.proofs.lemmas.List.Elements.{All-append}
+use Rattle.list_lemmas.proofs.Elements.{any-none}
 use Rattle.job_table.specs.declared.record.JobRecord.{JobRecord}
+use Rattle.job_table.specs.Behind.{one_waits_behind, waits_behind}
 use Rattle.job_table.specs.Table.{HaveRisingIds, JobsView, entry_of}
 use Rattle.job_table.proofs.Marks.{marked-front}
 use Rattle.job_table.proofs.Table.{pairs-append}
@@ -31,6 +35,13 @@ invariant_of-self-2 c =
       tallied = rw (ap values_of are ∙ values-entries (jobs ++ more))
           (rw c.as_slice-2.ensures.value
           at (c.add.ensures jobs (c.open.ensures jobs (rw same at c.self.invariant.tallied))));
+      behind = λ none.
+          let parts = or_parts c.self.inside.may_wait_behind c.one_waits_behind.result none in
+          rw (ap values_of are ∙ values-entries (jobs ++ more))
+          (All-append (λ (job : JobRecord). waits_behind job.terms ≡ false) jobs more
+          (rw same at (c.self.invariant.behind parts.0))
+          (any-none (λ (job : JobRecord). waits_behind job.terms) more
+          (ap one_waits_behind (sym c.as_slice-3.ensures.value) ∙ sym c.one_waits_behind.ensures ∙ parts.1)));
     }
 
 pub count_from-requires : goal.count_from-requires
@@ -87,4 +98,5 @@ invariant_of-self-in_err-open c =
       indices = c.self.invariant.indices;
       marked = c.self.invariant.marked;
       tallied = c.open.ensures (values_of c.self.inside.by_id.entries) c.self.invariant.tallied;
+      behind = c.self.invariant.behind;
     })

@@ -1,21 +1,23 @@
 -- The changed job keeps its number, its array and its index.
-use Rattle.std.proofs.Common.{◌≡◌, Some, length, slice_get, ap, arith, sym, ◌∙◌, map}
+use Rattle.std.proofs.Common.{◌≡◌, false, Some, length, slice_get, ap, arith, sym, ◌∙◌, map}
 use Rattle.std.proofs.lemmas.List.{length-map}
 use Rattle.std.specs.Map.{values_of}
 use Rattle.indexmap.specs.IndexMap.{set_value_at}
 use Rattle.job_table.specs.declared.record.JobRecord.{JobRecord}
+use Rattle.job_table.specs.Behind.{waits_behind}
 use Rattle.job_table.specs.Changes.{changed}
 use Rattle.job_table.specs.Tallies.{is_unended}
 use Rattle.job_table.specs.Table.{JobsView, entry_of}
 use Rattle.job_table.specs.Usage.{charged, charged_by}
 use Rattle.job_table.specs.Walks.{map_at}
-use Rattle.job_table.proofs.Awaiting.{changed-found}
+use Rattle.job_table.proofs.Awaiting.{changed-found, changed-terms}
 use Rattle.job_table.proofs.Charging.{Charges-at, start-charges}
 use Rattle.job_table.proofs.Entries.{change-table, table-entries, values-entries}
 use Rattle.job_table.proofs.Indices.{found-map_at, table-found}
 use Rattle.job_table.proofs.Counts.{one-changes}
 use Rattle.job_table.proofs.Marks.{get-changed, length-map_at, marked-but, same-one}
 use Rattle.job_table.proofs.Table.{rising-map_at}
+use Rattle.job_table.proofs.Walks.{all-map_at}
 use Rattle.job_table.proofs.jobs.Jobs.change_at.Goals as goal
 
 pub invariant_of-self : goal.invariant_of-self
@@ -36,13 +38,17 @@ invariant_of-self c =
     let changes : c.index-4.result.now ≡ change job =
     same-one (sym c.index-4.ensures ∙ ap (λ members. slice_get members place) all
     ∙ get-changed change place was job c.index.ensures) in
-    table-found after jobs was c.self.inside.by_index c.follow.new.blocks.items c.change.new.self table are
+    table-found after jobs was c.self.inside.by_index c.follow.new.blocks.items c.change.new.self
+    c.self.inside.may_wait_behind table are
     (found-map_at change (changed-found c.args.change) place was) c.self.invariant.indices
     (rw listed at c.follow.ensures)
     (c.change.ensures was jobs
     (one-changes c.pair_of-before.result c.pair_of-after.result place change was job c.index.ensures c.pair_of-before.ensures
     (λ test. c.pair_of-after.ensures test ∙ ap (is_unended test) changes))
     c.self.invariant.tallied)
+    (λ none.
+    all-map_at (λ (one : JobRecord). waits_behind one.terms ≡ false) change place was
+    (λ one waits. ap waits_behind (changed-terms c.args.change one) ∙ waits) (c.self.invariant.behind none))
 
 pub index-requires-4 : goal.index-requires-4
 index-requires-4 c =

@@ -1,13 +1,16 @@
 -- The records that stay are in the order of their numbers, and of their indices.
-use Rattle.std.proofs.Common.{◌≡◌, ◌∙◌, ap, sym, arith, rules, not, length, map, filter, Bool, ◌<◌, ◌≤◌, IfSome}
+use Rattle.std.proofs.Common.{◌≡◌, ◌∙◌, ◌&&◌, false, ap, sym, arith, rules, not, length, map, filter, Bool, ◌<◌, ◌≤◌, IfSome}
 use Rattle.std.specs.Map.{values_of}
+use Rattle.std.proofs.lemmas.List.Elements.{All-filter}
 use Rattle.std.proofs.lemmas.List.Kept.{AllPairs-filter}
 use Rattle.indexmap.proofs.CallerLemmas.{filter-RetainsPairs}
 use Rattle.job_table.specs.declared.record.JobRecord.{JobRecord}
 use Rattle.job_table.specs.Awaiting.{has_gone}
+use Rattle.job_table.specs.Behind.{one_waits_behind, waits_behind}
 use Rattle.job_table.specs.Table.{JobsView, entry_of}
 use Rattle.job_table.specs.Targets.{index_of}
 use Rattle.job_table.proofs.Counts.{all-kept, gone-ended, tallied-kept}
+use Rattle.job_table.proofs.Earlier.{none-left}
 use Rattle.job_table.proofs.Entries.{filter-table, table-entries, values-entries}
 use Rattle.job_table.proofs.jobs.Jobs.purge.Goals as goal
 
@@ -36,6 +39,13 @@ invariant_of-self c =
       tallied = rw same
           (tallied-kept c.self.inside.unended keep was
           (λ test job goes. gone-ended c.args.age c.args.now c.args.awaited.now test job goes) c.self.invariant.tallied);
+      behind = λ none.
+          let may_wait = c.self.inside.may_wait_behind in
+          rw same
+          (none-left may_wait (filter keep was)
+          (λ known. All-filter keep (λ (job : JobRecord). waits_behind job.terms ≡ false) was (c.self.invariant.behind known))
+          (ap (λ left. may_wait && one_waits_behind left) (sym listed) ∙ sym c.still_waits_behind-self-inside.ensures
+          ∙ none));
     }
 
 pub count_left-requires : goal.count_left-requires

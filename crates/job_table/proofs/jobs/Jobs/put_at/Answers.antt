@@ -1,9 +1,11 @@
 -- The record keeps its number.
-use Rattle.std.proofs.Common.{◌≡◌, ◌<◌, ◌∙◌, Some, length, slice_get, HoldsAt, ap, arith, map, sym, true≢false}
+use Rattle.std.proofs.Common.{◌≡◌, ◌<◌, ◌∙◌, false, Some, length, slice_get, HoldsAt, ap, arith, map, sym, true≢false}
 use Rattle.std.specs.Map.{values_of}
 use Rattle.indexmap.specs.IndexMap.{set_value_at}
+use Rattle.std.proofs.lemmas.Bool.{or_parts}
 use Rattle.std.proofs.lemmas.Option.{get_or_from_slice_get}
 use Rattle.job_table.specs.declared.record.JobRecord.{JobRecord}
+use Rattle.job_table.specs.Behind.{waits_behind}
 use Rattle.job_table.specs.Table.{HaveRisingIds, JobsView, entry_of}
 use Rattle.job_table.specs.Tallies.{is_unended}
 use Rattle.job_table.specs.Targets.{HaveRisingIndices, found_by}
@@ -13,6 +15,7 @@ use Rattle.job_table.proofs.Entries.{put-table, table-entries, values-entries}
 use Rattle.job_table.proofs.Indices.{found-alike, found-put_at, indices-same}
 use Rattle.job_table.proofs.Marks.{length-map_at, marked-but}
 use Rattle.job_table.proofs.Table.{id_of, map_at-by_number, rising-put}
+use Rattle.job_table.proofs.Walks.{all-map_at}
 use Rattle.job_table.proofs.jobs.Jobs.put_at.Goals as goal
 use Rattle.job_table.proofs.jobs.Jobs.put_at.Goals.{then-self, else-self}
 
@@ -55,6 +58,12 @@ invariant_of-self c =
           (one-changes c.pair_of-before.result c.pair_of-after.result place put was c.index.result.now c.index.ensures
           c.pair_of-before.ensures c.pair_of-after.ensures)
           c.self.invariant.tallied);
+      behind = λ none.
+          let parts = or_parts c.self.inside.may_wait_behind c.waits_behind.result none in
+          let waits : waits_behind one.terms ≡ false = ap waits_behind (sym c.terms.ensures) ∙ sym c.waits_behind.ensures ∙ parts.1 in
+          rw all
+          (all-map_at (λ (job : JobRecord). waits_behind job.terms ≡ false) put place was (λ job had. waits)
+          (c.self.invariant.behind parts.0));
     }
 
 pub returns-clause-records : goal.returns-clause-records

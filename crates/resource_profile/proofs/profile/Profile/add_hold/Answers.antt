@@ -1,8 +1,13 @@
 use Rattle.std.proofs.Common.{◌≡◌, ◌+◌, ◌-◌, ◌≤◌, arith}
 use Rattle.std.proofs.lemmas.List.Sorted.{IsPermutation-to_front, IsPermutation-sym}
 use Rattle.resource_profile.specs.Timelines.{IsTimeline}
-use Rattle.resource_profile.proofs.Keeping.{read-timeline, can-take, here-add, kept-add}
+use Rattle.resource_profile.proofs.Keeping.{read-timeline, can-take, ends-few, here-add, kept-add}
 use Rattle.resource_profile.proofs.profile.Profile.add_hold.Goals as goal
+
+pub add_end-requires-clause-count : goal.add_end-requires-clause-count
+add_end-requires-clause-count c =
+    let few = ends-few c.self.inside.rooms.items c.self.inside.holds.items c.self.inside.ends.items c.self.inside.timelines.items c.self.inside.room_for c.args.hold.now.until c.self.invariant.0 in
+    omega (arith, few, c.self.inside.holds.ok.0, c.self.inside.holds.ok.1, c.self.inside.holds.small)
 
 pub add-requires-clause-free : goal.add-requires-clause-free
 add-requires-clause-free c =
@@ -24,7 +29,7 @@ invariant_of-self c =
     let back : spare ≡ (spare - 1) + 1 = omega (arith, some) in
     let wide : IsTimeline rooms holds hold.node ((spare - 1) + 1) c.index_mut.result.now = rw (← back) is in
     let here = here-add rooms holds hold (spare - 1) c.index_mut.result.now c.add.new.self wide (record { kept = c.add.ensures.kept; holds = c.add.ensures.holds; len = c.add.ensures.len; capacity = c.add.ensures.capacity }) in (
-      rw pushed (kept-add rooms holds c.self.inside.ends.items c.add_end.new.ends.items c.self.inside.timelines.items spare (spare - 1) hold c.add.new.self c.self.invariant.0 free (omega arith) c.add_end.ensures.permutation c.add_end.ensures.sorted here),
+      rw pushed (kept-add rooms holds c.self.inside.ends.items c.add_end.new.ends.items c.self.inside.timelines.items spare (spare - 1) hold c.add.new.self c.self.invariant.0 free (omega arith) c.add_end.ensures.counted c.add_end.ensures.ends here),
       omega (arith, longer, some, c.push.ensures.capacity, c.self.invariant.1),
       omega (arith, some, c.add_end.ensures.len, c.add_end.ensures.capacity, c.self.invariant.2),
     )

@@ -1,7 +1,7 @@
 use Rattle.std.proofs.Common.{◌≡◌, ◌+◌, ◌*◌, ◌≤◌, ◌<◌, length, vec_len, vec_capacity, slice_set, arith, ◌∙◌}
 use Rattle.std.proofs.lemmas.List.{get_or-set_same}
 use Rattle.resource_profile.specs.Timelines.{IsTimeline, StaysAsItWas}
-use Rattle.resource_profile.proofs.Keeping.{read-timeline, can-take, here-add, kept-add, kept-reserve, stays, IsAdded}
+use Rattle.resource_profile.proofs.Keeping.{read-timeline, can-take, ends-few, here-add, kept-add, kept-reserve, stays, IsAdded}
 use Rattle.resource_profile.proofs.profile.Profile.hold.Goals as goal
 
 pub invariant_of-self-in_err-reserve-3 : goal.invariant_of-self-in_err-reserve-3
@@ -16,6 +16,11 @@ invariant_of-self-in_err-reserve-3 c =
       omega (arith, c.reserve.ensures.len, c.reserve.ensures.capacity, c.self.invariant.1),
       omega (arith, c.reserve-2.ensures.len, c.reserve-2.ensures.capacity, c.self.invariant.2),
     )
+
+pub add_end-requires-clause-count : goal.add_end-requires-clause-count
+add_end-requires-clause-count c =
+    let few = ends-few c.self.inside.rooms.items c.self.inside.holds.items c.self.inside.ends.items c.self.inside.timelines.items c.self.inside.room_for c.args.hold.now.until c.self.invariant.0 in
+    rw c.reserve-2.ensures.items (omega (arith, few, c.self.inside.holds.ok.0, c.self.inside.holds.ok.1, c.self.inside.holds.small))
 
 pub add-requires-clause-free : goal.add-requires-clause-free
 add-requires-clause-free c =
@@ -50,7 +55,7 @@ invariant_of-self-2 c =
     let there : c.index_mut-2.result.now ≡ reserved = c.index_mut-2.ensures.value ∙ get_or-set_same timelines hold.node reserved c.index_mut-2.result.now inside in
     let added : IsAdded hold c.index_mut-2.result.now c.add.new.self = record { kept = c.add.ensures.kept; holds = c.add.ensures.holds; len = c.add.ensures.len; capacity = c.add.ensures.capacity } in
     let here = here-add rooms holds hold spare reserved c.add.new.self wide (rw there at added) in (
-      rw pushed (rw c.reserve.ensures.items (kept-add rooms holds c.self.inside.ends.items c.add_end.new.ends.items (slice_set timelines hold.node reserved) spare spare hold c.add.new.self kept free (omega arith) (rw c.reserve-2.ensures.items at c.add_end.ensures.permutation) c.add_end.ensures.sorted here)),
+      rw pushed (rw c.reserve.ensures.items (kept-add rooms holds c.self.inside.ends.items c.add_end.new.ends.items (slice_set timelines hold.node reserved) spare spare hold c.add.new.self kept free (omega arith) (rw c.reserve-2.ensures.items at c.add_end.ensures.counted) c.add_end.ensures.ends here)),
       omega (arith, longer, c.push.ensures.capacity, c.in_ok-reserve.ensures.ok, c.from-more.ensures, c.self.invariant.1),
       omega (arith, c.add_end.ensures.len, c.add_end.ensures.capacity, c.in_ok-reserve-2.ensures.ok, c.from-more.ensures, c.self.invariant.2),
     )

@@ -1,5 +1,5 @@
 -- What a step comes to: the state as it was, or what an allowed request makes of it.
-use Rattle.std.proofs.Common.{ℕ, ◌≡◌, ◌≤◌, Bool, true, false, List, [], ◌∷◌, Option, Some, None, if◌then◌else◌, refl, subst}
+use Rattle.std.proofs.Common.{ℕ, ◌≡◌, ◌≤◌, Bool, true, false, List, [], ◌∷◌, Option, Some, None, if◌then◌else◌, refl}
 use Rattle.std.specs.Prelude.{nat_lt}
 use Rattle.std.proofs.lemmas.Bool.{cond_both, ltb-false}
 use Rattle.reply_data.specs.declared.refusal.Refusal.{Refusal}
@@ -13,32 +13,22 @@ use Rattle.ctl_state.specs.State.{State, last_moment}
 use Rattle.ctl_state.specs.Verdicts.{Verdict, Refuses, Tells, Stays, Makes, left_by, reply_by}
 use Rattle.ctl_core.specs.Sizes.{has_room, size_of}
 use Rattle.ctl_core.specs.Step.{entered, is_closed, is_entered, made, raised, refusals_of, reply_of, state_after, unless_full, verdict_of, worked}
+use Rattle.step_lemmas.proofs.Making.{MayMake, made_by, made_kind}
 
--- The request comes in time, none of its refusals stands, and it makes this.
+-- The request comes in time, none of its refusals stands, and it makes this, of one of the kinds.
 pub record IsMade (s : State) (now : ℕ) (user : List ℕ) (request : Request) (reply : Reply) (after : State)
     : Type 0 where
   pub in_time : now ≤ last_moment
   pub allowed : first_refusal (refusals_of s (raised s now) user request) ≡ None
   pub makes : made s (raised s now) user request ≡ Makes reply after
+  pub kind : MayMake s (raised s now) user request after
 
 -- The request comes in time, and changes nothing.
 pub record IsIdle (s : State) (now : ℕ) (user : List ℕ) (request : Request) : Type 0 where
   pub in_time : now ≤ last_moment
   pub stays : made s (raised s now) user request ≡ Stays
 
--- what holds of a verdict that makes a state
-abbrev pub MakesBy : (Reply → State → Type 0) → Verdict → Type 0
-MakesBy Q (Refuses refusal) = Unit {0}
-MakesBy Q (Tells view) = Unit {0}
-MakesBy Q Stays = Unit {0}
-MakesBy Q (Makes reply after) = Q reply after
-
--- it holds of the state that the verdict makes
-pub made_by : (Q : Reply → State → Type 0) {verdict : Verdict} {reply : Reply} {after : State} → MakesBy Q verdict
-    → verdict ≡ Makes reply after → Q reply after
-made_by Q by makes = subst (MakesBy Q) makes by
-
--- the same, and what holds where it leaves the state as it is
+-- what holds of what a verdict makes, and what holds where it leaves the state as it is
 abbrev ComesTo : (Reply → State → Type 0) → Type 0 → Verdict → Type 0
 ComesTo Q I (Refuses refusal) = Unit {0}
 ComesTo Q I (Tells view) = Unit {0}
@@ -80,7 +70,12 @@ by-early s now user request false false is =
     by-refusal Q I (first_refusal (refusals_of s moment user request)) _
     (λ none. by-room Q I (has_room s request) (made s moment user request)
     (by-itself Q I (made s moment user request) (λ stays. record { in_time = in_time; stays = stays })
-    (λ reply after makes. record { in_time = in_time; allowed = none; makes = makes })))
+    (λ reply after makes. record {
+      in_time = in_time;
+      allowed = none;
+      makes = makes;
+      kind = made_by (λ reply (after : State). MayMake s moment user request after) (made_kind s moment user request) makes;
+    })))
 
 by-left : (P : Reply → State → Type 0) (Q : Reply → State → Type 0) (I : Type 0) (s : State) (moment size : ℕ)
     (verdict : Verdict) → ((refusal : Refusal) → P (Refused refusal) s) → ((view : View) → P (Shown view) s)
