@@ -15,6 +15,7 @@ pub mod Parts
 pub mod Within
 pub mod Starts
 pub mod Sweeping
+pub mod Short
 pub mod Lessening
 pub mod Staying
 pub mod NoFreer
@@ -27,3 +28,4 @@ pub mod Rooms
 pub mod Dropping
 pub mod Walks
 pub mod Needs
+pub mod OneNode

@@ -1,14 +1,14 @@
 -- The least second at which some set fits.
 use Rattle.std.proofs.Common.{◌≡◌, ℕ, ◌+◌, ◌-◌, ◌≤◌, ◌<◌, zero, suc, Bool, true, false, List, arith, refl, ap, sym, ◌∙◌, inl, inr, Some, None, is_some, Option}
-use Rattle.std.specs.Prelude.{find}
+use Rattle.std.specs.Prelude.{find, option_map}
 use Rattle.std.proofs.lemmas.Bool.{cases_lt}
 use Rattle.resource_profile.specs.declared.NodeRoom.{NodeRoom}
 use Rattle.resource_profile.specs.declared.Hold.{Hold}
-use Rattle.backfill_planner.specs.LowerLaws.{LowerLaws}
-use Rattle.backfill_planner.specs.Giving.{window_end}
-use Rattle.backfill_planner.specs.Sweeps.{NoneEnds}
-use Rattle.backfill_planner.proofs.Rises.{none-until}
-use Rattle.resource_profile.specs.Choosing.{numbers_from}
+use Rattle.backfill_planner.specs.declared.sweep.Sweep.{Sweep}
+use Rattle.backfill_planner.specs.Giving.{capacities}
+use Rattle.backfill_planner.specs.Sweeps.{IsSwept}
+use Rattle.backfill_planner.proofs.Sweeping.{swept-at}
+use Rattle.resource_profile.specs.Choosing.{numbers_from, chosen}
 use Rattle.backfill_planner.specs.declared.Placed.{Placed}
 use Rattle.backfill_planner.specs.declared.job.PlanJob.{PlanJob}
 use Rattle.backfill_planner.specs.Plans.{placement_at, first_second, placed_of}
@@ -58,9 +58,22 @@ nothing_there : (placed : Option Placed) → is_some placed ≡ false → placed
 nothing_there None nothing = refl
 nothing_there (Some one) nothing = cc
 
--- none fits at a second, so none fits before the next end of a hold, or of a time at which the job may not have nodes
-pub NonePlaced-more : LowerLaws → (rooms : List NodeRoom) (holds : List Hold) (job : PlanJob) (lo hi start end : ℕ) (placed : Option Placed) → NonePlaced rooms holds job lo hi start → placed ≡ placement_at rooms holds job start → is_some placed ≡ false → start < window_end job start → hi ≤ LAST_START → NoneEnds holds job.barred start end → NonePlaced rooms holds job lo hi end
-NonePlaced-more laws rooms holds job lo hi start end placed none is nothing window last quiet n low within high = elim (cases_lt n start) [
+none-chosen : {X Y : Type 0} (found : Option X) (make : X → Y) → option_map make found ≡ None → found ≡ None
+none-chosen None make nothing = refl
+none-chosen (Some one) make nothing = absurd cc
+
+none-alike : (rooms : List NodeRoom) (holds : List Hold) (job : PlanJob) (start later : ℕ) → capacities rooms holds job later ≡ capacities rooms holds job start → placement_at rooms holds job start ≡ None → placement_at rooms holds job later ≡ None
+unfolding placement_at
+none-alike rooms holds job start later alike nothing =
+    let nowhere : chosen (capacities rooms holds job later) job.need ≡ None = ap (λ caps. chosen caps job.need) alike ∙ none-chosen (chosen (capacities rooms holds job start) job.need) _ nothing in
+    rw nowhere refl
+
+-- none fits at a second, so none fits before one of the nodes may give otherwise
+pub NonePlaced-more : (rooms : List NodeRoom) (holds : List Hold) (job : PlanJob) (lo hi start : ℕ) (sweep : Sweep) (placed : Option Placed) → NonePlaced rooms holds job lo hi start → placed ≡ placement_at rooms holds job start → is_some placed ≡ false → hi ≤ LAST_START → IsSwept rooms holds job sweep → sweep.second ≡ start → NonePlaced rooms holds job lo hi sweep.least
+NonePlaced-more rooms holds job lo hi start sweep placed none is nothing last swept at n low within high = elim (cases_lt n start) [
   | inl before ↦ none n low within before
-  | inr at ↦ none-until laws rooms holds job start end n quiet window at high (omega (arith, within, last)) (sym is ∙ nothing_there placed nothing)
+  | inr from ↦
+      let here = swept-at rooms holds job sweep start swept (omega (arith, at)) (omega (arith, from, high)) (omega (arith, from, within, last)) in
+      let later = swept-at rooms holds job sweep n swept (omega (arith, at, from)) high (omega (arith, within, last)) in
+      none-alike rooms holds job start n (sym later ∙ here) (sym is ∙ nothing_there placed nothing)
 ]

@@ -18,7 +18,8 @@ use Rattle.backfill_planner.specs.declared.job.Barred.{Barred}
 use Rattle.backfill_planner.specs.declared.job.PlanJob.{PlanJob}
 use Rattle.backfill_planner.proofs.Barring.{clear-later, barred-until}
 use Rattle.backfill_planner.specs.Giving.{window_end, bars, is_barred, tasks_given, capacities}
-use Rattle.backfill_planner.specs.Sweeps.{GivesUntil}
+use Rattle.backfill_planner.specs.declared.sweep.Sweep.{Sweep}
+use Rattle.backfill_planner.specs.Sweeps.{GivesUntil, IsSwept}
 use Rattle.backfill_planner.proofs.Holding.{capacity-give}
 use Rattle.backfill_planner.proofs.Dealing.{length-capacities}
 use Rattle.plain_data.specs.declared.seconds.TheConstants.{FOREVER, LAST_START}
@@ -88,6 +89,38 @@ swept-capacities rooms holds job second caps untils long each last =
     let gives = each k here in
     sym (capacity-give rooms holds job second k here ∙ gives.same second (omega arith) gives.later last))
 
+-- and before one of them may give otherwise it is what they can give
+pub swept-at : (rooms : List NodeRoom) (holds : List Hold) (job : PlanJob) (sweep : Sweep) (second : ℕ) → IsSwept rooms holds job sweep → sweep.second ≤ second → second < sweep.least → second ≤ LAST_START → sweep.caps.items ≡ capacities rooms holds job second
+swept-at rooms holds job sweep second swept order before last =
+    swept-capacities rooms holds job second sweep.caps.items sweep.untils.items swept.long
+    (λ i inside. gives-later rooms holds job sweep.second second _ _ _ order (omega (arith, before, swept.least i inside)) (swept.each i inside)) last
+
+-- so it may go on to such a second as it is
+pub swept-later : (rooms : List NodeRoom) (holds : List Hold) (job : PlanJob) (sweep : Sweep) (second : ℕ) → IsSwept rooms holds job sweep → sweep.second ≤ second → second < sweep.least → IsSwept rooms holds job (record sweep { second = second })
+swept-later rooms holds job sweep second swept order before = record {
+  long = swept.long;
+  until_long = swept.until_long;
+  each = λ i inside. gives-later rooms holds job sweep.second second _ _ _ order (omega (arith, before, swept.least i inside)) (swept.each i inside);
+  small = swept.small;
+  few = swept.few;
+  total = swept.total;
+  later = before;
+  least = swept.least;
+}
+
+-- the least of what the nodes so far hold until
+pub least-read : (untils : List ℕ) (least i : ℕ) → ((k : ℕ) → k < i → least ≤ get_or untils k 0) → (k : ℕ) → k < i + 1 → min least (get_or untils i 0) ≤ get_or untils k 0
+least-read untils least i each k below = elim (cases_eq k i) [
+  | inl at ↦ let e : k ≡ i = at in rw e (omega arith)
+  | inr apart ↦ omega (arith, each k (omega arith))
+]
+
+pub least-set : (untils : List ℕ) (least until i : ℕ) → i < length untils → ((k : ℕ) → k < i → least ≤ get_or untils k 0) → (k : ℕ) → k < i + 1 → min least until ≤ get_or (slice_set untils i until) k 0
+least-set untils least until i inside each k below = elim (cases_eq k i) [
+  | inl at ↦ let e : k ≡ i = at in rw (e, get_or-set_same untils i until 0 inside) (omega arith)
+  | inr apart ↦ rw (get_or-set_other untils i k until 0 apart) (omega (arith, each k (omega arith)))
+]
+
 -- one node is counted anew
 pub gives-set : (rooms : List NodeRoom) (holds : List Hold) (job : PlanJob) (second node i tasks until : ℕ) (caps untils : List ℕ) → i < length caps → i < length untils → GivesUntil rooms holds job second node tasks until → GivesUntil rooms holds job second node (get_or (slice_set caps i tasks) i 0) (get_or (slice_set untils i until) i 0)
 gives-set rooms holds job second node i tasks until caps untils caps_in untils_in gives =
@@ -129,6 +162,16 @@ gives-push rooms holds job second count tasks until node nodes caps untils long 
   | inr apart ↦
       let low : i < count = omega arith in
       rw (get_or_append_left caps (tasks ∷ []) 0 i (omega (arith, low, long)), get_or_append_left untils (until ∷ []) 0 i (omega (arith, low, until_long))) (each i low)
+]
+
+pub least-push : (untils : List ℕ) (least until count : ℕ) → length untils ≡ count → ((i : ℕ) → i < count → least ≤ get_or untils i 0) → (i : ℕ) → i < count + 1 → min least until ≤ get_or (untils ++ until ∷ []) i 0
+least-push untils least until count long each i below = elim (cases_eq i count) [
+  | inl at ↦
+      let e : i ≡ count = at in
+      rw (e, get_or_push untils until 0 count long) (omega arith)
+  | inr apart ↦
+      let low : i < count = omega arith in
+      rw (get_or_append_left untils (until ∷ []) 0 i (omega (arith, low, long))) (omega (arith, each i low))
 ]
 
 pub end-some : (job : PlanJob) (second seconds : ℕ) → job.seconds ≡ Some seconds → window_end job second ≡ second + seconds

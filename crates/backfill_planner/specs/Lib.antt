@@ -12,3 +12,4 @@ pub mod Stretches
 pub mod Going
 pub mod Sufficing
 pub mod Walking
+pub mod OneNode

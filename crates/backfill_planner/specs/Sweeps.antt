@@ -31,3 +31,5 @@ pub record IsSwept (rooms : List NodeRoom) (holds : List Hold) (job : PlanJob) (
   pub small : All (λ tasks. tasks * job.cpus_per_task < 2 ^ 32) sweep.caps.items
   pub few : length job.nodes < 2 ^ 32
   pub total : sweep.total ≡ sum sweep.caps.items
+  pub later : sweep.second < sweep.least
+  pub least : (i : ℕ) → i < length job.nodes → sweep.least ≤ slice_index sweep.untils.items i

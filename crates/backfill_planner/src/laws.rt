@@ -1,7 +1,8 @@
 // What holds of every plan. Each law is the contract of a function that does nothing.
-ghost use Rattle.std.specs.Prelude.{◌≡◌, ◌≢◌, ℕ, ◌+◌, ◌≤◌, ◌<◌, List, ◌++◌, false, length, take, map, slice_index_or, Some, None, All, AllPairs, Contains};
+ghost use Rattle.std.specs.Prelude.{◌≡◌, ◌≢◌, ℕ, ◌+◌, ◌≤◌, ◌<◌, List, [], ◌++◌, false, true, length, take, map, slice_index_or, is_some, Some, None, All, AllPairs, Contains};
 ghost use Rattle.resource_profile.specs.declared.NodeRoom.{NodeRoom};
 ghost use Rattle.resource_profile.specs.declared.Hold.{Hold};
+ghost use Rattle.resource_profile.specs.Free.{room_at};
 ghost use Rattle.resource_profile.specs.Profiles.{AreWithin};
 ghost use Rattle.backfill_planner.specs.declared.Share.{Share};
 ghost use Rattle.backfill_planner.specs.declared.Placed.{Placed};
@@ -13,6 +14,7 @@ ghost use Rattle.backfill_planner.specs.Plans.{holds_before, holds_of, placed_of
 ghost use Rattle.backfill_planner.specs.Lesser.{NoneBefore};
 ghost use Rattle.backfill_planner.specs.Staying.{EndsInTime, IsNoFreer, StaysBefore, StaysFrom};
 ghost use Rattle.backfill_planner.specs.LowerLaws.{LowerLaws};
+ghost use Rattle.backfill_planner.specs.OneNode.{AsksSomeMem, HasRoomForAll, MayBeOneNode};
 
 use plain_data::seconds::{FOREVER, LAST_START};
 use resource_profile::laws::free_amounts_fit;
@@ -166,3 +168,14 @@ pub fn plans_go_on()
         → holds_before base ranked now (place + 1)
         ≡ holds_before base ranked now place ++ holds_of job (placement_of base ranked now place job) }
 {}
+
+/// Where nothing is held and nothing is barred, a job begins at once that one node may be enough for, if one of its nodes
+/// has room for all its tasks together.
+pub fn one_node_is_enough()
+    ensures { (rooms : List NodeRoom) (job : PlanJob) (node : ℕ)
+        → job.barred ≡ [] → 1 ≤ job.cpus_per_task → AsksSomeMem job.mem_ask → MayBeOneNode job.need
+        → Contains job.nodes node → HasRoomForAll (room_at rooms node) job
+        → is_some (placed_of rooms [] job 0 0) ≡ true }
+{
+    lower_laws();
+}

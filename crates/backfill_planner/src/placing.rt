@@ -174,9 +174,9 @@ pub(crate) fn next_second(profile: &Profile, job: &PlanJob, start: u64, last: u6
 }
 
 /// Where and when the job begins at the earliest, from the second `lo` to `hi`, beside the profile's holds. It counts
-/// one step. None exactly where no set fits at any of these seconds. It tries `lo` and, after it, the ends of holds and
-/// of the job's barred times, since between these no set comes to fit; and from one second to the next it counts anew
-/// only what the nodes give that may have changed.
+/// one step. None exactly where no set fits at any of these seconds. It tries `lo` and, after it, the seconds from which
+/// on one of the job's nodes may give otherwise, since between these no set comes to fit; and at each it counts anew only
+/// what those nodes give.
 pub fn place<L>(
     alloc: Global,
     profile: &Profile,
@@ -211,7 +211,7 @@ pub fn place<L>(
         if placed.is_some() {
             return Ok(placed);
         }
-        start = next_second(profile, job, start, hi + 1);
+        start = sweep.least;
     }
     Ok(None)
 }

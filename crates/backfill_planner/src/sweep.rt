@@ -1,12 +1,13 @@
-ghost use Rattle.std.specs.Prelude.{◌≡◌, ◌≢◌, false, AllPairs, ◌+◌, ◌*◌, ◌^◌, ◌≤◌, ◌<◌, length, sum, slice_set, IfOk, All};
+ghost use Rattle.std.specs.Prelude.{◌≡◌, ◌≢◌, ◌⊎◌, ℕ, false, AllPairs, ◌+◌, ◌*◌, ◌^◌, ◌≤◌, ◌<◌, length, sum, slice_set, IfOk, All};
 ghost use Rattle.backfill_planner.specs.Giving;
 ghost use Rattle.backfill_planner.specs.Sweeps.{GivesUntil, IsSwept};
 
 use crate::barred_times::{barred_until, next_begin};
 use crate::job::PlanJob;
 use crate::placing::{tasks_given, window_end};
+use plain_data::mem_ask::MemAsk;
 use plain_data::seconds::LAST_START;
-use resource_profile::{NodeRoom, Profile};
+use resource_profile::{Amount, NodeRoom, Profile};
 use small_texts::memory_error::Memory;
 use std::alloc::Global;
 
@@ -26,6 +27,8 @@ pub(crate) struct Sweep {
     untils: Vec<u64>,
     // What the nodes give together.
     pub(crate) total: u64,
+    // A later second, before which all of these hold.
+    pub(crate) least: u64,
 }
 
 // What the node can give at the second and from it on, where the job may have it over the window that begins there.
@@ -60,7 +63,31 @@ fn given_from_free(
     Given { tasks, until }
 }
 
-// What the node can give at the second and from it on: nothing until a barred time of it is over.
+// What a task of the job takes of a node with this room at the least: where less is free the node gives none.
+fn least_for_one(job: &PlanJob, room: &NodeRoom) -> Amount
+    ensures { (cpus mem : ℕ) → (cpus < result.cpus) ⊎ (mem < result.mem)
+        → Giving.tasks_given job.now room.now cpus mem ≡ 0 }
+{
+    if job.exclusive {
+        return Amount {
+            cpus: room.cpus,
+            mem: room.mem,
+        };
+    }
+    let cpus = job.cpus_per_task.get();
+    let mem = match job.mem_ask {
+        MemAsk::All => room.mem,
+        MemAsk::PerNode(asked) => asked.get(),
+        MemAsk::PerCpu(asked) => asked.get() * cpus,
+    };
+    Amount {
+        cpus: cpus as u32,
+        mem,
+    }
+}
+
+// What the node can give at the second and from it on: nothing until a barred time of it is over, or what is too little
+// for one task.
 fn given_from(profile: &Profile, rooms: &[NodeRoom], job: &PlanJob, node: u32, second: u64) -> Given
     requires rooms { profile.now.rooms ≡ rooms.now }
     requires node { node < length rooms.now }
@@ -71,6 +98,10 @@ fn given_from(profile: &Profile, rooms: &[NodeRoom], job: &PlanJob, node: u32, s
 {
     let end = window_end(job, second);
     if let Some(until) = barred_until(&job.barred, node, second, end) {
+        return Given { tasks: 0, until };
+    }
+    let least = least_for_one(job, &rooms[node as usize]);
+    if let Some(until) = profile.short_until(node, second, end, least) {
         return Given { tasks: 0, until };
     }
     given_from_free(profile, rooms, job, node, second)
@@ -98,17 +129,20 @@ impl Sweep {
         let mut caps = Vec::with_capacity(alloc, nodes.len())?;
         let mut untils = Vec::with_capacity(alloc, nodes.len())?;
         let mut total = 0;
+        let mut least = u64::MAX;
         for node in nodes {
             let given = given_from(profile, rooms, job, *node, second);
             caps.push(given.tasks).unwrap();
             untils.push(given.until).unwrap();
             total += u64::from(given.tasks);
+            least = least.min(given.until);
         }
         Ok(Sweep {
             second,
             caps,
             untils,
             total,
+            least,
         })
     }
 
@@ -127,7 +161,31 @@ impl Sweep {
         self.untils[i] = given.until;
     }
 
-    // Goes on to the second. It counts anew only for the nodes for which what they give may have changed.
+    // Goes on to the second, and counts anew for the nodes for which what they give may have changed.
+    fn count_anew(&mut self, profile: &Profile, rooms: &[NodeRoom], job: &PlanJob, second: u64)
+        requires rooms { profile.now.rooms ≡ rooms.now }
+        requires nodes { All (λ node. node < length rooms.now) job.now.nodes }
+        requires second { second ≤ LAST_START }
+        requires swept { IsSwept rooms.now profile.now.holds job.now self.old }
+        requires order { self.old.second ≤ second }
+        ensures swept { IsSwept rooms.now profile.now.holds job.now self.new }
+        ensures second { self.new.second ≡ second }
+    {
+        let _ = job.cpus_per_task.get();
+        let nodes = job.nodes.as_slice();
+        let mut least = u64::MAX;
+        for i in 0..nodes.len() {
+            if self.untils[i] <= second {
+                let given = given_from(profile, rooms, job, nodes[i], second);
+                self.renew(i, given);
+            }
+            least = least.min(self.untils[i]);
+        }
+        self.least = least;
+        self.second = second;
+    }
+
+    // Goes on to the second. It looks at the nodes only where what one of them gives may have changed.
     pub(crate) fn go_to(
         &mut self,
         profile: &Profile,
@@ -147,14 +205,11 @@ impl Sweep {
         ensures capacities { self.new.caps.items ≡ Giving.capacities rooms.now profile.now.holds job.now second }
     {
         let _ = window_end(job, second);
-        let _ = job.cpus_per_task.get();
-        let nodes = job.nodes.as_slice();
-        for i in 0..nodes.len() {
-            if self.untils[i] <= second {
-                let given = given_from(profile, rooms, job, nodes[i], second);
-                self.renew(i, given);
-            }
+        let _ = job.nodes.as_slice();
+        if self.least <= second {
+            self.count_anew(profile, rooms, job, second);
+        } else {
+            self.second = second;
         }
-        self.second = second;
     }
 }

@@ -10,3 +10,4 @@ pub mod Deciding
 pub mod SubmissionKeeping
 mod Unended
 pub mod Named
+pub mod OneNode

@@ -1,5 +1,6 @@
 pub mod Actions
 pub mod Changing
 pub mod Submission
+pub mod OneNode
 pub mod Drafts
 pub mod Tallied

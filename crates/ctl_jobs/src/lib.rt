@@ -11,6 +11,7 @@ pub mod handed;
 pub mod laws;
 mod leaving;
 mod limits;
+mod one_node;
 mod placeable;
 mod refusals;
 mod settled;

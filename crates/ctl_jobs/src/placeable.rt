@@ -7,6 +7,7 @@ ghost use Rattle.ctl_state.specs.State.{state_of};
 ghost use Rattle.ctl_state.specs.Soundness.{IsSound};
 ghost use Rattle.ctl_jobs.specs.Submission;
 
+use crate::one_node::one_node_could_run;
 use backfill_planner::{BarredList, NodeList, fits_empty_nodes};
 use ctl_state::cluster::Cluster;
 use ctl_state::laws::jobs_get_nodes_that_are_there;
@@ -19,7 +20,7 @@ use small_texts::memory_error::Memory;
 use std::alloc::Global;
 
 // How many nodes a job may have by itself, at least and at most. `--nodes` in sbatch(1).
-fn own_bounds(terms: &Terms) -> (u32, u32)
+pub(crate) fn own_bounds(terms: &Terms) -> (u32, u32)
     ensures { result ≡ Submission.own_bounds terms.now }
 {
     let tasks = terms.tasks.get() as u32;
@@ -50,8 +51,9 @@ fn places_for(
     }
 }
 
-/// Whether some nodes of the partition could run the job if all were free and available (own). Linear in all nodes; it
-/// sorts the partition's nodes where they don't stand in order.
+/// Whether some nodes of the partition could run the job if all were free and available (own). It looks at the
+/// partition's nodes up to the first that could run it alone. Where none could, or the job names a reservation or nodes
+/// that it must have, it is linear in all nodes; then it sorts the partition's where they don't stand in order.
 #[tactic(auto, unfolding(crate::specs::Submission::is_placeable))]
 pub(crate) fn is_placeable(
     alloc: Global,
@@ -63,6 +65,9 @@ pub(crate) fn is_placeable(
     requires there { IsOnNodes (length cluster.now.nodes.records) partition.now }
     ensures { IfOk result (λ could. could ≡ Submission.is_placeable (state_of cluster.now) partition.now job.now) }
 {
+    if one_node_could_run(cluster, partition, job) {
+        return Ok(true);
+    }
     jobs_get_nodes_that_are_there();
     let nodes = cluster.nodes.records();
     let places = places_for(alloc, cluster, partition, job.terms())?;

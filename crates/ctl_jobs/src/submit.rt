@@ -40,9 +40,10 @@ fn decide_in(
     }
 }
 
-/// Why the submission is refused, or the jobs that it makes; the cluster stays as it is. Linear in the partitions, in all
-/// nodes, in the tasks that it makes, and in the associations from the user's first to his last; it sorts the partition's
-/// nodes where they don't stand in order. sbatch(1).
+/// Why the submission is refused, or the jobs that it makes; the cluster stays as it is. Linear in the partitions, in the
+/// tasks that it makes, in the associations from the user's first to his last, and in the partition's nodes up to the
+/// first that could run the job alone. Where none could, or it names a reservation or nodes that it must have, linear in
+/// all nodes; then it sorts the partition's where they don't stand in order. sbatch(1).
 pub fn decide(
     alloc: Global,
     cluster: &Cluster,

@@ -22,8 +22,8 @@ fn has(names: &Items<Name>, name: &Name) -> bool
     names.iter().any(|one| name.is(one))
 }
 
-// Whether the job may run on the node, as far as it says.
-fn may_run(terms: &Terms, node: &NodeRecord) -> bool
+/// Whether a job on these terms may run on the node, as far as they say.
+pub fn may_run(terms: &Terms, node: &NodeRecord) -> bool
     ensures { result ≡ may_run terms.now node.now }
 {
     let may = !has(&terms.excluded, &node.conf.name);

@@ -5,7 +5,7 @@
 pub mod cluster;
 pub mod counting;
 pub mod holds;
-mod job_nodes;
+pub mod job_nodes;
 pub mod jobs;
 pub mod laws;
 pub mod limits;

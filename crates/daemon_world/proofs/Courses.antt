@@ -14,8 +14,8 @@ use Rattle.simulation.specs.Simulation.{Simulated, behind, counted, daemon_behin
 use Rattle.daemon_world.specs.Courses.{Comes, Shows}
 use Rattle.daemon_world.specs.Turns.{Leads}
 use Rattle.daemon_world.specs.Worlds.{AllCanHappen, Event, World, world_after, world_after_all}
-use Rattle.daemon_world.proofs.Numbers.{same_name}
 use Rattle.daemon_world.proofs.Turns.{AreDueAnswers, reply_leads}
+use Rattle.ctl_reconfigure.proofs.NameLists.{bytes-same as same_name}
 
 -- ---- events one after the other
 

@@ -20,8 +20,8 @@ use Rattle.ctl_reconfigure.specs.Names.{conf_names}
 use Rattle.ctl_reconfigure.specs.Reconfiguring.{dropped_after, dropped_as, dropped_by, is_before, keeps_places, leaves}
 use Rattle.daemon_world.proofs.Lists.{find_kept, find_none, find_place}
 use Rattle.daemon_world.proofs.Naming.{first_named}
-use Rattle.daemon_world.proofs.Numbers.{same_name}
 use Rattle.list_lemmas.proofs.Pairs.{pairs-head, pairs-tail}
+use Rattle.ctl_reconfigure.proofs.NameLists.{bytes-same as same_name}
 
 -- one that went had this name
 abbrev was_named : List ℕ → DroppedNode → Bool

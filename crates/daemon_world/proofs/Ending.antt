@@ -38,7 +38,8 @@ use Rattle.ctl_core.specs.Sizes.{size_of}
 use Rattle.ctl_core.specs.Step.{raised, state_after}
 use Rattle.step_lemmas.proofs.Making.{ByAction, ByPass, ByReconfigure, ByReport, BySubmit, ByUpdateNode, MayMake}
 use Rattle.step_lemmas.proofs.Steps.{step_is}
-use Rattle.daemon_world.proofs.Requests.{Passes, pass_may, silenced_raised}
+use Rattle.ctl_node_side.proofs.Silent.{silenced_raised}
+use Rattle.daemon_world.proofs.Requests.{Passes, pass_may}
 use Rattle.daemon_world.proofs.Settling.{Settles, done_settles, gone_settles, loss_settles, moved_settles, over_settles, report_settles, settles_itself}
 use Rattle.daemon_world.proofs.Starting.{MayStart, starts_all}
 

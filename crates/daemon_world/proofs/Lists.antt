@@ -2,7 +2,7 @@
 use Rattle.std.proofs.Common.{ℕ, zero, suc, ◌≡◌, ◌≤◌, ◌+◌, ◌∙◌, Bool, true, false, ltb, List, [], ◌∷◌, ◌++◌, map, length, count_by, filter, find, get_or, position, slice_get, cond, All, Any, Option, Some, None, is_some, ◌||◌, option_and_then, refl, sym, ap, subst, arith, inl, inr, ◌⊎◌}
 use Rattle.std.specs.List.{list_any, position_or_len}
 use Rattle.std.proofs.lemmas.Bool.{cases_Bool, cond_both, both_ways, ltb-false, or_from}
-use Rattle.std.proofs.lemmas.List.Elements.{All-cons, All-head, All-nil, All-tail}
+use Rattle.std.proofs.lemmas.List.Elements.{All-head, All-tail}
 use Rattle.std.proofs.lemmas.List.Folds.{find_at}
 use Rattle.std.proofs.lemmas.List.Quantifiers.{position-Some}
 use Rattle.std.proofs.lemmas.List.Sums.{sum_by-append}
@@ -59,12 +59,6 @@ any_right P [] ys any = any
 any_right P (x ∷ xs) ys any = any_there P x (xs ++ ys) (any_right P xs ys any)
 
 -- ---- what all members have
-
-pub all_unmap : {X Y : Type 0} (P : Y → Type 0) (f : X → Y) (xs : List X) → All P (map f xs) → All (λ x. P (f x)) xs
-all_unmap P f [] all = All-nil (λ x. P (f x))
-all_unmap P f (x ∷ xs) all =
-    All-cons (λ x. P (f x)) x xs (All-head P (f x) (map f xs) all)
-    (all_unmap P f xs (All-tail P (f x) (map f xs) all))
 
 -- what holds of all and of one that has something holds of one
 pub any_of_all : {X : Type 0} (R P : X → Type 0) (Q : Type 0) (xs : List X) → ((x : X) → R x → P x → Q) → All R xs

@@ -18,7 +18,7 @@ use Rattle.ctl_state.specs.State.{State}
 use Rattle.ctl_reconfigure.specs.Names.{conf_names, new_place, node_names, place_of, places_of, same_names}
 use Rattle.ctl_reconfigure.specs.Reconfiguring.{nodes_after}
 use Rattle.daemon_world.proofs.Lists.{any_is, found_in}
-use Rattle.daemon_world.proofs.Numbers.{named, same_name}
+use Rattle.ctl_reconfigure.proofs.NameLists.{bytes-same as same_name, same-bytes as named}
 
 -- ---- names and places
 

@@ -1,10 +1,10 @@
 -- Boot numbers and the numbers of reports, in their order; the names of nodes; orders that are due.
 use Rattle.std.proofs.Common.{ℕ, ◌≡◌, ◌<◌, ◌+◌, true, false, not, List, Option, Some, None, sym, arith, bytes_eq, nat_eq}
 use Rattle.std.proofs.lemmas.Bool.{and_parts, both_ways, eqb-true, not-true}
-use Rattle.std.proofs.lemmas.Slice.Eq.{bytes_eq-Decides}
 use Rattle.reply_data.specs.declared.orders.Orders.{Orders}
 use Rattle.node_daemon.specs.Daemon.{Daemon, are_due}
 use Rattle.daemon_world.specs.Together.{HeardBefore, HeardNoLife, HeardSince, HeardUpTo, IsAfter, IsUpTo, Pair}
+use Rattle.ctl_reconfigure.proofs.NameLists.{bytes-same as same_name, same-bytes as named}
 
 pub same : (boot number : ℕ) → IsUpTo boot number boot number
 same boot number = record { boot = omega arith; number = λ is. omega arith }
@@ -88,12 +88,6 @@ heard_in_life (Some pair) boot number boot' up later =
     later_life pair.boot pair.number boot number boot' up later
 
 -- ---- names
-
-pub same_name : (one other : List ℕ) → bytes_eq one other ≡ true → one ≡ other
-same_name one other is = (bytes_eq-Decides one other).0 is
-
-pub named : (one other : List ℕ) → one ≡ other → bytes_eq one other ≡ true
-named one other is = (bytes_eq-Decides one other).1 is
 
 pub other_name : (one other : List ℕ) → bytes_eq one other ≡ false → one ≡ other → ⊥
 other_name one other differ is = both_ways (bytes_eq one other) differ (named one other is)

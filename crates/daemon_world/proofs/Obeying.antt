@@ -14,9 +14,10 @@ use Rattle.node_daemon.specs.declared.running.Running.{Running}
 use Rattle.daemon_world.specs.Claims.{Claim, IsHeldAt, claim_launch, claim_run, claims_of, claims_ordered}
 use Rattle.daemon_world.specs.Together.{Fit, HeardBefore, HeardNoLife, HeardSince, InStep, IsUpTo, RunsNothing, Tells, kept_of}
 use Rattle.daemon_world.proofs.Claimed.{fit_less}
-use Rattle.daemon_world.proofs.Lists.{all_unmap, count_append, count_filter, count_kept}
+use Rattle.daemon_world.proofs.Lists.{count_append, count_filter, count_kept}
 use Rattle.daemon_world.proofs.Numbers.{due, since_before, since_life, up_to}
 use Rattle.list_lemmas.proofs.Elements.{all-left as all_left, all-right as all_right}
+use Rattle.ctl_pass.proofs.Beside.{all-back as all_unmap}
 
 -- what runs once they are taken: what isn't killed, and what is launched
 claims-launched : (now : ℕ) (launches : List Launch)

@@ -14,9 +14,10 @@ use Rattle.node_daemon.specs.declared.running.Script.{Script}
 use Rattle.daemon_world.specs.Claims.{Claim, IsHeldAt, claim_run, claims_of, claims_ordered, times_claiming, times_over}
 use Rattle.daemon_world.specs.Together.{Fit, HeardBefore, HeardSince, InStep, IsUpTo, Tells, kept_of, tells_over}
 use Rattle.daemon_world.proofs.Claimed.{all_among, each_claims, fit_less, fit_none, not_told}
-use Rattle.daemon_world.proofs.Lists.{all_unmap, count_append, count_filter}
+use Rattle.daemon_world.proofs.Lists.{count_append, count_filter}
 use Rattle.daemon_world.proofs.Numbers.{due, heard_in_life, heard_on, later_life, next, not_next, since_up, up_to}
 use Rattle.list_lemmas.proofs.Sums.{count-cons as count_cons}
+use Rattle.ctl_pass.proofs.Beside.{all-back as all_unmap}
 
 -- what is told of one that is over, if it is
 told-one : (start other : Start) (script : Option Script) (rest : List Done)

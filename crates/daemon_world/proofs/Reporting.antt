@@ -20,9 +20,10 @@ use Rattle.daemon_world.specs.Worlds.{with_reply}
 use Rattle.daemon_world.proofs.Accepting.{Comes, Lower, accepts_on, answers}
 use Rattle.daemon_world.proofs.Delivering.{IsAccepted, comes}
 use Rattle.daemon_world.proofs.LeftAlone.{left_on, left_same}
-use Rattle.daemon_world.proofs.Numbers.{other_name, same_name}
+use Rattle.daemon_world.proofs.Numbers.{other_name}
 use Rattle.daemon_world.proofs.Others.{others_left}
 use Rattle.daemon_world.proofs.Sending.{more_orders}
+use Rattle.ctl_reconfigure.proofs.NameLists.{bytes-same as same_name}
 
 -- the state and the orders that a verdict on a report leaves
 abbrev pub left : State → ℕ → Report → Verdict → State

@@ -53,6 +53,7 @@ use Rattle.daemon_world.proofs.LeftAlone.{leaves_on, left_same, placed}
 use Rattle.daemon_world.proofs.Lists.{any_filter, any_left, any_map, any_none}
 use Rattle.daemon_world.proofs.Reconfiguring.{reconfigured_leaves}
 use Rattle.daemon_world.proofs.Starting.{MayStart, Plans, plans_start, starts_any}
+use Rattle.ctl_node_side.proofs.Silent.{silenced_raised}
 
 -- the nodes stay, and what is held of them
 pub left_held : (s s' : State) (node : List ℕ) → s'.nodes ≡ s.nodes → s'.dropped ≡ s.dropped
@@ -231,11 +232,6 @@ pub pass_may : Passes → (s : State) (now : ℕ) → IsSound s → s.moment ≤
     → MayStart (ready s now).jobs (placements s now)
 pass_may passes s now sound raised in_time =
     plans_start passes.plans s now (passes.planned s now sound raised in_time).rising
-
-pub silenced_raised : (s : State) (now : ℕ) → s.moment ≤ now → (silenced s now).moment ≤ now
-silenced_raised s now raised =
-    cond_both (any_silent s now) (without_silent s now) s (λ (t : State). t.moment ≤ now) (λ some. omega arith)
-    (λ none. raised)
 
 whole-pass-left : Passes → (s : State) (now : ℕ) (node : List ℕ) → IsSound s → s.moment ≤ now → now ≤ last_moment
     → LeavesNode s (after_pass s now) node

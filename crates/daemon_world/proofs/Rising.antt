@@ -13,11 +13,12 @@ use Rattle.daemon_world.specs.Worlds.{AllCanHappen, CanHappen, Event, HasComeAbo
 use Rattle.daemon_world.proofs.Accepting.{Lower, after, kept_after}
 use Rattle.daemon_world.proofs.Delivering.{IsAccepted, comes}
 use Rattle.daemon_world.proofs.LeftAlone.{left_same}
-use Rattle.daemon_world.proofs.Numbers.{after_up, other_name, same, same_name, up_to}
+use Rattle.daemon_world.proofs.Numbers.{after_up, other_name, same, up_to}
 use Rattle.daemon_world.proofs.Others.{others_left}
 use Rattle.daemon_world.proofs.Reporting.{left}
 use Rattle.daemon_world.proofs.Requests.{asked_leaves}
 use Rattle.daemon_world.proofs.Whole.{EventsKeep, Promises, came_together}
+use Rattle.ctl_reconfigure.proofs.NameLists.{bytes-same as same_name}
 
 -- ---- pairs
 

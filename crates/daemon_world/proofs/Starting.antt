@@ -1,16 +1,11 @@
 -- The starts of a pass: each is of a job that waits, so what is held stays held.
-use Rattle.std.proofs.Common.{ℕ, suc, ◌≡◌, ◌≢◌, ◌∙◌, true, false, ◌&&◌, List, [], ◌∷◌, map, filter, filter_map, All, AllPairs, Any, Option, Some, None, IfSome, is_none, get_or, refl, sym, ap, arith, inl, inr, nat_eq}
-use Rattle.std.specs.List.{cons_option}
+use Rattle.std.proofs.Common.{ℕ, suc, ◌≡◌, ◌≢◌, ◌∙◌, true, false, ◌&&◌, List, [], ◌∷◌, map, All, AllPairs, Any, is_none, get_or, refl, sym, ap, arith, inl, inr, nat_eq}
 use Rattle.std.proofs.lemmas.Bool.{and_parts, both_ways, cond_both, eqb-true}
-use Rattle.std.proofs.lemmas.List.Elements.{All-cons, All-head, All-map, All-nil, All-tail, All-weaker}
-use Rattle.std.proofs.lemmas.List.Kept.{AllPairs-cons, AllPairs-filter}
-use Rattle.small_texts.specs.Options.{◌>>=◌}
+use Rattle.std.proofs.lemmas.List.Elements.{All-cons, All-head, All-map, All-tail, All-weaker}
 use Rattle.backfill_planner.specs.declared.Placed.{Placed}
 use Rattle.backfill_planner.specs.declared.job.PlanJob.{PlanJob}
 use Rattle.backfill_planner.specs.Bases.{BaseView}
 use Rattle.backfill_planner.specs.Plans.{plan_of}
-use Rattle.node_state.specs.declared.partition_record.PartRecord.{PartRecord}
-use Rattle.node_state.specs.Reservations.{lasting}
 use Rattle.job_table.specs.declared.record.JobRecord.{JobRecord}
 use Rattle.job_table.specs.declared.record.Part.{Part}
 use Rattle.job_table.specs.declared.change.Change.TheVariants.{Start}
@@ -19,14 +14,13 @@ use Rattle.job_table.specs.JobStates.{is_pending}
 use Rattle.job_table.specs.Table.{HaveRisingIds, has_id}
 use Rattle.ctl_state.specs.Events.{started_as}
 use Rattle.ctl_state.specs.Laws.{OrderKeepsApart}
-use Rattle.ctl_state.specs.Planning.{bounds_in, plan_job}
-use Rattle.ctl_state.specs.State.{State, partition_of}
-use Rattle.ctl_waiting.specs.Rank.{is_higher}
-use Rattle.ctl_waiting.specs.Candidates.{candidates, is_candidate, need_in, needs_of, ranked}
+use Rattle.ctl_state.specs.State.{State}
+use Rattle.ctl_waiting.specs.Candidates.{is_candidate, ranked}
 use Rattle.ctl_waiting.specs.Reasons.{hindrance}
 use Rattle.ctl_pass.specs.Readiness.{base_of, placements, planned, ready}
 use Rattle.ctl_pass.specs.Starting.{JobStart, Started, begun, may_start, start_of, started}
 use Rattle.daemon_world.proofs.Lists.{any_cases, any_map, any_none, any_weaker}
+use Rattle.ctl_pass.proofs.Ranks.{ranked-apart}
 
 -- whoever has the number waits
 abbrev pub Waits : List JobRecord → ℕ → Type 0
@@ -49,7 +43,7 @@ other-waits now id parts names other job differ waits =
     (λ (after : JobRecord). has_id other after ≡ true → is_pending after.state ≡ true)
     (λ is has. absurd (differ (sym (eqb-true job.id id is) ∙ eqb-true job.id other has))) (λ not. waits)
 
-waits-on : (now id : ℕ) (parts : List Part) (names : List (List ℕ)) (other : ℕ) (jobs : List JobRecord) → id ≢ other
+pub waits-on : (now id : ℕ) (parts : List Part) (names : List (List ℕ)) (other : ℕ) (jobs : List JobRecord) → id ≢ other
     → Waits jobs other → Waits (map (started_as now id parts names) jobs) other
 waits-on now id parts names other jobs differ waits =
     All-map (λ (job : JobRecord). has_id other job ≡ true → is_pending job.state ≡ true)
@@ -118,7 +112,7 @@ starts_all Q s now keeps jobs (placed ∷ later) may all =
 -- ---- what a pass plans may start
 
 -- of jobs whose numbers rise, one that waits is the only one with its number
-only-waits : (id : ℕ) (jobs : List JobRecord) → HaveRisingIds jobs
+pub only-waits : (id : ℕ) (jobs : List JobRecord) → HaveRisingIds jobs
     → Any (λ (job : JobRecord). (job.id ≡ id) × (is_pending job.state ≡ true)) jobs → Waits jobs id
 only-waits id [] rising any =
     absurd (any_none (λ (job : JobRecord). (job.id ≡ id) × (is_pending job.state ≡ true)) any)
@@ -151,66 +145,6 @@ only-waits id (job ∷ jobs) rising any =
           has.0,
           same,
         )
-
--- the needs of jobs bear their numbers
-needs-of : (s : State) (now : ℕ) (job : JobRecord) → IfSome (needs_of s now job) (λ (need : PlanJob). need.id ≡ job.id)
-unfolding needs_of plan_job
-needs-of s now job = by (partition_of s job)
-  where
-    by_bounds : (partition : PartRecord) (some : Option (ℕ × ℕ))
-        → IfSome (some >>= λ bounds. Some (need_in s (lasting now s.reservations) partition bounds job))
-        (λ (need : PlanJob). need.id ≡ job.id)
-    by_bounds partition None = tt
-    by_bounds partition (Some bounds) = refl
-
-    by : (some : Option PartRecord)
-        → IfSome (some >>= λ partition. bounds_in partition job.terms >>= λ bounds.
-        Some (need_in s (lasting now s.reservations) partition bounds job)) (λ (need : PlanJob). need.id ≡ job.id)
-    by None = tt
-    by (Some partition) = by_bounds partition (bounds_in partition job.terms)
-
-cons-all : (number id : ℕ) (need : Option PlanJob) (rest : List PlanJob) → number ≢ id
-    → IfSome need (λ (need : PlanJob). need.id ≡ id) → All (λ (one : PlanJob). number ≢ one.id) rest
-    → All (λ (one : PlanJob). number ≢ one.id) (cons_option need rest)
-cons-all number id None rest differ is all = all
-cons-all number id (Some need) rest differ is all =
-    All-cons (λ (one : PlanJob). number ≢ one.id) need rest (λ same. differ (same ∙ is)) all
-
-others-need : (s : State) (now number : ℕ) (jobs : List JobRecord) → All (λ (job : JobRecord). number ≢ job.id) jobs
-    → All (λ (one : PlanJob). number ≢ one.id) (filter_map (needs_of s now) jobs)
-others-need s now number [] all = All-nil (λ (one : PlanJob). number ≢ one.id)
-others-need s now number (job ∷ jobs) all =
-    let Other = λ (job : JobRecord). number ≢ job.id in
-    cons-all number job.id (needs_of s now job) (filter_map (needs_of s now) jobs) (All-head Other job jobs all)
-    (needs-of s now job) (others-need s now number jobs (All-tail Other job jobs all))
-
-cons-apart : (id : ℕ) (need : Option PlanJob) (rest : List PlanJob) → IfSome need (λ (need : PlanJob). need.id ≡ id)
-    → All (λ (one : PlanJob). id ≢ one.id) rest → AllPairs (λ (one other : PlanJob). one.id ≢ other.id) rest
-    → AllPairs (λ (one other : PlanJob). one.id ≢ other.id) (cons_option need rest)
-cons-apart id None rest is all apart = apart
-cons-apart id (Some need) rest is all apart =
-    AllPairs-cons (λ (one other : PlanJob). one.id ≢ other.id) need rest
-    (λ k d below same. all k d below (sym is ∙ same)) apart
-
-needs-apart : (s : State) (now : ℕ) (jobs : List JobRecord)
-    → AllPairs (λ (one other : JobRecord). one.id ≢ other.id) jobs
-    → AllPairs (λ (one other : PlanJob). one.id ≢ other.id) (filter_map (needs_of s now) jobs)
-needs-apart s now [] apart = λ i j d before within. absurd (omega (arith, within))
-needs-apart s now (job ∷ jobs) apart =
-    cons-apart job.id (needs_of s now job) (filter_map (needs_of s now) jobs) (needs-of s now job)
-    (others-need s now job.id jobs (λ k d below. apart 0 (suc k) d (omega arith) (omega (arith, below))))
-    (needs-apart s now jobs (λ i j d before within. apart (suc i) (suc j) d (omega (arith, before))
-    (omega (arith, within))))
-
-ranked-apart : OrderKeepsApart JobRecord → (s : State) (now : ℕ) → HaveRisingIds s.jobs
-    → AllPairs (λ (one other : PlanJob). one.id ≢ other.id) (ranked s now)
-unfolding ranked candidates
-ranked-apart keeps s now rising =
-    let apart : AllPairs (λ (one other : JobRecord). one.id ≢ other.id) s.jobs =
-    λ i j d before within same. omega (arith, rising i j d before within, same) in
-    needs-apart s now (candidates s now)
-    (keeps (is_higher s now) (λ (job : JobRecord). job.id) (filter (is_candidate s now) s.jobs)
-    (AllPairs-filter (λ (one other : JobRecord). one.id ≢ other.id) (is_candidate s now) s.jobs apart))
 
 -- what the crates below promise of plans
 pub record Plans : Type 0 where

@@ -13,7 +13,7 @@ use Rattle.node_daemon.specs.Turn.{AnswersReport, IsCutTurn, after_reply, report
 use Rattle.daemon_world.specs.Together.{Together}
 use Rattle.daemon_world.specs.Turns.{IsAskedIn, Leads, state_told}
 use Rattle.daemon_world.specs.Worlds.{Event, World, with_daemon, with_reply}
-use Rattle.daemon_world.proofs.Numbers.{named, same_name}
+use Rattle.ctl_reconfigure.proofs.NameLists.{bytes-same as same_name, same-bytes as named}
 
 -- ---- the daemons, of which one has become another
 

@@ -25,12 +25,13 @@ use Rattle.daemon_world.specs.Worlds.{AllCanHappen, CanHappen, Event, HasComeAbo
 use Rattle.daemon_world.proofs.Accepting.{Lower}
 use Rattle.daemon_world.proofs.Claimed.{fit_none}
 use Rattle.daemon_world.proofs.LeftAlone.{left_on}
-use Rattle.daemon_world.proofs.Numbers.{other_name, same_name}
+use Rattle.daemon_world.proofs.Numbers.{other_name}
 use Rattle.daemon_world.proofs.Obeying.{obeys_on}
 use Rattle.daemon_world.proofs.Polling.{polls_on, restarts_on}
 use Rattle.daemon_world.proofs.Reporting.{reports_on}
 use Rattle.daemon_world.proofs.Requests.{Passes, asked_leaves}
 use Rattle.daemon_world.proofs.Sending.{more_reports}
+use Rattle.ctl_reconfigure.proofs.NameLists.{bytes-same as same_name}
 
 -- the daemon of the node has become another, the others are as they were
 pub by_name : (P : List ℕ → Daemon → Type 0) (node : List ℕ) (daemon : Daemon) (daemons : List ℕ → Daemon)

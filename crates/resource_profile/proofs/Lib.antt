@@ -5,6 +5,7 @@ pub mod Rising
 pub mod LevelEdits
 pub mod LevelChanges
 pub mod LevelLeast
+pub mod Short
 pub mod EndEdits
 pub mod Keeping
 pub mod NextEnds

@@ -1,5 +1,5 @@
 -- What a node has free over windows that begin and end near to one another.
-use Rattle.std.specs.Prelude.{◌≡◌, ℕ, ◌≤◌, ◌<◌, List}
+use Rattle.std.specs.Prelude.{◌≡◌, ◌⊎◌, ℕ, ◌≤◌, ◌<◌, List}
 use Rattle.resource_profile.specs.declared.NodeRoom.{NodeRoom}
 use Rattle.resource_profile.specs.declared.Hold.{Hold}
 use Rattle.resource_profile.specs.declared.levels.Amount.{Amount}
@@ -22,3 +22,11 @@ pub record IsSteady (free : ℕ → Amount) (from until : ℕ) (window : Window)
   pub mem : (begin end : ℕ)
       → from ≤ begin → begin < window.begins_before → until ≤ end → end ≤ window.ends_up_to → begin < end
       → window.free.mem ≡ least_over (λ moment. (free moment).mem) begin end
+
+-- less than the amount is free at some moment of each window that begins from `from` on and before `bound`, and ends no
+-- earlier than `until`
+pub record IsShort (free : ℕ → Amount) (amount : Amount) (from until bound : ℕ) : Type 0 where
+  pub later : from < bound
+  pub less : (begin end : ℕ) → from ≤ begin → begin < bound → until ≤ end → begin < end
+      → (least_over (λ moment. (free moment).cpus) begin end < amount.cpus)
+      ⊎ (least_over (λ moment. (free moment).mem) begin end < amount.mem)

@@ -1,5 +1,5 @@
-ghost use Rattle.std.specs.Prelude.{◌≡◌, ℕ, ◌+◌, ◌-◌, ◌^◌, ◌≤◌, ◌<◌, min, nat_le, if◌then◌else◌, length, slice_index_or, vec_len, vec_capacity};
-ghost use Rattle.resource_profile.specs.Windows.{IsSteady};
+ghost use Rattle.std.specs.Prelude.{◌≡◌, ◌⊎◌, ◌↔◌, ℕ, ◌+◌, ◌-◌, ◌^◌, ◌≤◌, ◌<◌, min, nat_le, if◌then◌else◌, length, slice_index_or, vec_len, vec_capacity, IsTrue, IfSome};
+ghost use Rattle.resource_profile.specs.Windows.{IsShort, IsSteady};
 ghost use Rattle.resource_profile.specs.Levels.{HasLevels, IsLevelled, AreEnds, AreChanged, CanTake, CanGive, less, more, taken, given, amount_of};
 ghost use Rattle.resource_profile.specs.declared.levels.Amount.{Amount};
 ghost use Rattle.resource_profile.specs.declared.levels.Level.{Level};
@@ -307,4 +307,32 @@ pub(crate) fn least_free(levels: &[Level], from: u64, until: u64) -> Window
         begins_before,
         ends_up_to: begin_of(levels, end),
     }
+}
+
+// Whether one of the two is less than the amount's.
+fn is_short(free: Amount, amount: Amount) -> bool
+    ensures { IsTrue result ↔ ((free.cpus < amount.cpus) ⊎ (free.mem < amount.mem)) }
+{
+    free.cpus < amount.cpus || free.mem < amount.mem
+}
+
+// Where the last level ends that says less than the amount within the window; None where none does.
+pub(crate) fn short_until(levels: &[Level], from: u64, until: u64, amount: Amount) -> Option<u64>
+    requires levels { HasLevels levels.now }
+    requires window { from < until }
+    ensures { IfSome result (λ bound. (free : ℕ → Amount) → IsLevelled free levels.now
+        → IsShort free amount from until bound) }
+{
+    let mut place = begun(levels, until - 1);
+    while place > 0 {
+        let level = levels[place - 1];
+        if is_short(level.free, amount) {
+            return Some(begin_of(levels, place));
+        }
+        if level.from <= from {
+            return None;
+        }
+        place -= 1;
+    }
+    None
 }

@@ -2,12 +2,12 @@ ghost use Rattle.std.specs.Prelude.{◌≡◌, ◌≢◌, ℕ, ◌+◌, ◌*◌,
 ghost use Rattle.std.specs.List.Sorted.{IsPermutation};
 ghost use Rattle.resource_profile.specs.Free.{free_cpus, free_mem, least_over};
 ghost use Rattle.resource_profile.specs.Profiles.{AreWithin, HasFree, IsNextEnd};
-ghost use Rattle.resource_profile.specs.Windows.{free_of, IsSteady};
+ghost use Rattle.resource_profile.specs.Windows.{free_of, IsShort, IsSteady};
 ghost use Rattle.resource_profile.specs.Timelines.{IsTimeline, StaysAsItWas};
 ghost use Rattle.resource_profile.specs.declared.timeline.Timeline.{Timeline as OneTimeline};
 
 use crate::ends::{End, add_end, drop_end, next_end};
-use crate::levels::{Window, least_free};
+use crate::levels::{Amount, Window, least_free, short_until};
 use crate::timeline::Timeline;
 use crate::{Hold, NodeRoom};
 use small_texts::memory_error::Memory;
@@ -200,6 +200,18 @@ impl Profile {
         ensures { IsSteady (λ moment. free_of self.now.rooms self.now.holds node moment) from until result }
     {
         least_free(&self.timelines[node as usize].levels, from, until)
+    }
+
+    /// Where the last part of the window ends in which the node has less free than the amount; None where it has no less
+    /// throughout. Before that, and for windows that end no earlier, it is too little. Logarithmic in the holds of the
+    /// node, and linear in those that begin or end within the window behind it.
+    pub fn short_until(&self, node: u32, from: u64, until: u64, amount: Amount) -> Option<u64>
+        requires node { node < length self.now.rooms }
+        requires window { from < until }
+        ensures { IfSome result
+            (IsShort (λ moment. free_of self.now.rooms self.now.holds node moment) amount from until) }
+    {
+        short_until(&self.timelines[node as usize].levels, from, until, amount)
     }
 
     /// The least processors and the least megabytes that the node has free over every second of the window; none where

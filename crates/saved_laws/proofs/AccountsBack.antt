@@ -15,8 +15,9 @@ use Rattle.saved_data.specs.declared.parts.SavedUsage.{SavedUsage}
 use Rattle.ctl_saved.specs.Saving.{saved_usage, saved_usages}
 use Rattle.ctl_restore.specs.Fits.{AreOfOthers}
 use Rattle.ctl_restore.specs.Restored.{is_usage_of, restored_usage, restored_usages}
-use Rattle.saved_laws.proofs.Named.{own_name, same_name}
+use Rattle.saved_laws.proofs.Named.{own_name}
 use Rattle.saved_laws.proofs.Positions.{all_at, one_place, position_only, there, within}
+use Rattle.ctl_reconfigure.proofs.NameLists.{bytes-same as same_name}
 
 -- ---- names lead to one association
 

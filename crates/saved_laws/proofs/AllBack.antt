@@ -36,11 +36,12 @@ use Rattle.saved_laws.specs.Gone.{NamesEachGone}
 use Rattle.saved_laws.specs.Kept.{IsAsOpened, IsKept, IsOfItsNames, IsOnNodes, confs_of}
 use Rattle.saved_laws.proofs.AccountsBack.{association_back, usage_back}
 use Rattle.saved_laws.proofs.JobsBack.{IsFound, IsWithin, jobs_back, plan_back}
-use Rattle.saved_laws.proofs.Named.{find_own, same_name}
+use Rattle.saved_laws.proofs.Named.{find_own}
 use Rattle.saved_laws.proofs.NodesBack.{IsNodeFound, nodes_back, partitions_back}
 use Rattle.saved_laws.proofs.PlacesBack.{NodesApart, PartitionsApart, gone_same, none_gone, part_confs, same_part_confs, same_places}
 use Rattle.saved_laws.proofs.Positions.{pairs_unmap}
 use Rattle.saved_laws.proofs.ReservationsBack.{reservations_back}
+use Rattle.ctl_reconfigure.proofs.NameLists.{bytes-same as same_name}
 
 -- ---- what differs in its name
 

@@ -34,12 +34,13 @@ use Rattle.saved_laws.proofs.NamesKept.{fixed_stays, names_fixed, new_names}
 use Rattle.saved_laws.proofs.NumbersWalk.{Numbered, made_numbered}
 use Rattle.saved_laws.proofs.Opened.{LeavesFiles, left_dropped, left_gone, made_opened, same_force}
 use Rattle.saved_laws.proofs.PlanKept.{PlanLaws, Plans, made_plan}
-use Rattle.saved_laws.proofs.Renewed.{RenewalLaws, blocks_none, confs_opened, force_after, lines_opened, renewed_force, renewed_kept}
+use Rattle.saved_laws.proofs.Renewed.{RenewalLaws, confs_opened, force_after, lines_opened, renewed_force, renewed_kept}
 use Rattle.saved_laws.proofs.ReservationsKept.{AreReserved, made_reserved}
 use Rattle.saved_laws.proofs.StandingKept.{Standing, all_later, made_standing}
 use Rattle.saved_laws.proofs.TimesKept.{new_timed, timed_stays}
 use Rattle.saved_laws.proofs.UsageKept.{of_users, made_use}
 use Rattle.saved_laws.proofs.Walks.{made_true}
+use Rattle.ctl_reconfigure.proofs.Refused.{unblocked as blocks_none}
 
 -- what is known of plans and of new files
 pub record KeepLaws : Type 0 where

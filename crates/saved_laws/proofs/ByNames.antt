@@ -19,9 +19,10 @@ use Rattle.ctl_nodes.specs.Reserving.{places_among}
 use Rattle.ctl_nodes.specs.Updating.{is_among}
 use Rattle.ctl_reconfigure.specs.Names.{node_names}
 use Rattle.ctl_state.specs.Planning.{is_at}
-use Rattle.saved_laws.proofs.Named.{own_name, same_name}
+use Rattle.saved_laws.proofs.Named.{own_name}
 use Rattle.saved_laws.proofs.Positions.{position-first, position_map, there}
 use Rattle.saved_laws.proofs.ReservationsBack.{agreeing, kept-there}
+use Rattle.ctl_reconfigure.proofs.NameLists.{bytes-same as same_name}
 
 -- ---- tests that agree
 

@@ -5,9 +5,7 @@ use Rattle.std.proofs.lemmas.Bool.{false_from_ne_true}
 use Rattle.std.proofs.lemmas.List.Elements.{All-cons, All-head, All-nil, All-tail}
 use Rattle.std.proofs.lemmas.Slice.Eq.{bytes_eq-Decides}
 use Rattle.list_lemmas.proofs.Pairs.{pairs-head, pairs-tail}
-
-pub same_name : (one other : List ℕ) → bytes_eq one other ≡ true → one ≡ other
-same_name one other same = (bytes_eq-Decides one other).0 same
+use Rattle.ctl_reconfigure.proofs.NameLists.{bytes-same as same_name}
 
 pub own_name : (name : List ℕ) → bytes_eq name name ≡ true
 own_name name = (bytes_eq-Decides name name).1 refl

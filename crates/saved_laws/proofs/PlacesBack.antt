@@ -20,8 +20,9 @@ use Rattle.saved_data.specs.declared.parts.SavedShare.{SavedShare}
 use Rattle.ctl_saved.specs.Saving.{named_part, named_parts, partition_name, planned_name, saved_placed, saved_share, saved_shares}
 use Rattle.ctl_restore.specs.Restored.{gone_names, planned_place, restored_part, restored_share, restored_shares, strangers}
 use Rattle.saved_laws.specs.Kept.{AreGone, IsOnNodes, confs_of, without_states}
-use Rattle.saved_laws.proofs.Named.{own_name, same_name}
+use Rattle.saved_laws.proofs.Named.{own_name}
 use Rattle.saved_laws.proofs.Positions.{all_at, one_place, position_map, position_named, position_only, there}
+use Rattle.ctl_reconfigure.proofs.NameLists.{bytes-same as same_name}
 
 -- ---- nodes
 

@@ -20,9 +20,10 @@ use Rattle.saved_data.specs.declared.parts.SavedShare.{SavedShare}
 use Rattle.ctl_saved.specs.Saving.{planned_name, saved_placed, saved_share, saved_shares}
 use Rattle.ctl_restore.specs.Restored.{gone_names, planned_place, restored_placed, restored_share, restored_shares, strangers}
 use Rattle.saved_laws.specs.Kept.{AreGone, IsOnNodes, confs_of}
-use Rattle.saved_laws.proofs.Named.{own_name, same_name}
+use Rattle.saved_laws.proofs.Named.{own_name}
 use Rattle.saved_laws.proofs.PlacesBack.{named-behind, named-there}
 use Rattle.saved_laws.proofs.Positions.{position-first, within}
+use Rattle.ctl_reconfigure.proofs.NameLists.{bytes-same as same_name}
 
 -- ---- names, each once
 

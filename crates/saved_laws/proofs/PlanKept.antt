@@ -39,6 +39,7 @@ use Rattle.ctl_node_side.specs.Silence.{any_silent, silenced}
 use Rattle.step_lemmas.proofs.Making.{ByAction, ByPass, ByReconfigure, ByReport, MayMake}
 use Rattle.saved_laws.specs.Kept.{IsOnNodes, is_reconfigure}
 use Rattle.saved_laws.proofs.Positions.{all_at}
+use Rattle.ctl_node_side.proofs.Silent.{silenced_raised as silenced-moment}
 
 -- what is known of plans
 pub record PlanLaws : Type 0 where
@@ -167,10 +168,6 @@ silenced-count : (s : State) (now : ℕ) → length (silenced s now).nodes ≡ l
 silenced-count s now =
     cond_both (any_silent s now) _ s (λ (t : State). length t.nodes ≡ length s.nodes)
     (λ some. length-map s.nodes _) (λ none. refl)
-
-silenced-moment : (s : State) (now : ℕ) → s.moment ≤ now → (silenced s now).moment ≤ now
-silenced-moment s now later =
-    cond_both (any_silent s now) _ s (λ (t : State). t.moment ≤ now) (λ some. omega arith) (λ none. later)
 
 pub made_plan : PlanLaws → (count : ℕ) (s : State) (moment : ℕ) (user : List ℕ) (request : Request) (after : State)
     → is_reconfigure request ≡ false → IsSound s → s.moment ≤ moment → moment ≤ last_moment → length s.nodes ≤ count

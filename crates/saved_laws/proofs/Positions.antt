@@ -7,7 +7,8 @@ use Rattle.std.proofs.lemmas.List.{length-map}
 use Rattle.std.proofs.lemmas.List.Elements.{All-cons, All-head, All-map, All-nil, All-tail}
 use Rattle.std.proofs.lemmas.List.Kept.{AllPairs-cons}
 use Rattle.list_lemmas.proofs.Pairs.{pairs-head, pairs-tail}
-use Rattle.saved_laws.proofs.Named.{own_name, same_name}
+use Rattle.saved_laws.proofs.Named.{own_name}
+use Rattle.ctl_reconfigure.proofs.NameLists.{bytes-same as same_name}
 
 -- ---- what stands at a place
 

@@ -8,7 +8,6 @@ use Rattle.std.proofs.lemmas.List.Elements.{All-append, All-cons, All-filter, Al
 use Rattle.std.proofs.lemmas.List.Kept.{AllPairs-cons, AllPairs-filter}
 use Rattle.std.proofs.lemmas.List.Quantifiers.{position-Some}
 use Rattle.std.proofs.lemmas.Option.{slice_get-get_or, slice_get-map}
-use Rattle.std.proofs.lemmas.Slice.Eq.{bytes_eq-Decides, slice_eq-Decides}
 use Rattle.list_lemmas.proofs.Pairs.{pairs-append, pairs-head, pairs-tail}
 use Rattle.plain_data.specs.Assocs.{AssocView}
 use Rattle.plain_data.specs.Confs.{ConfView}
@@ -17,7 +16,6 @@ use Rattle.plain_data.specs.declared.conf.PartConf.{PartConf}
 use Rattle.plain_data.specs.declared.conf.PartState.TheVariants.{Up}
 use Rattle.plain_data.specs.declared.conf.Settings.{Settings}
 use Rattle.request_data.specs.declared.report.Heard.{Heard}
-use Rattle.reply_data.specs.declared.refusal.Refusal.TheVariants.{AccessDenied, CannotShrink}
 use Rattle.backfill_planner.specs.declared.Placed.{Placed}
 use Rattle.backfill_planner.specs.declared.Share.{Share}
 use Rattle.plain_data.specs.Rows.{has_id}
@@ -34,26 +32,27 @@ use Rattle.job_table.specs.declared.record.JobRecord.{JobRecord}
 use Rattle.job_table.specs.Changes.{is_on}
 use Rattle.ctl_state.specs.Holding.{parts_of}
 use Rattle.ctl_state.specs.Ordered.{ordered_by}
-use Rattle.ctl_state.specs.Refusals.{first_refusal, is_privileged, refused_if}
 use Rattle.ctl_state.specs.Soundness.{IsSound}
 use Rattle.ctl_state.specs.State.{State, opening}
 use Rattle.run_limits.specs.Accounts.{qos_meant}
 use Rattle.ctl_jobs.specs.Submission.{account_at}
 use Rattle.ctl_reconfigure.specs.Blocking.{blocked, is_needed}
 use Rattle.ctl_reconfigure.specs.Files.{IsFile}
-use Rattle.ctl_reconfigure.specs.Names.{conf_names, node_names, same_names}
+use Rattle.ctl_reconfigure.specs.Names.{conf_names, node_names}
 use Rattle.ctl_reconfigure.specs.Naming.{node_planned}
 use Rattle.ctl_reconfigure.specs.Reconfiguring.{dropped_after, dropped_as, gone_after, is_before, job_after, keeps_places, leaves, nodes_after, origins, partitions_after, plan_after, planned_names, reconfigured, reservations_after, settings_after, share_after, share_names}
-use Rattle.ctl_reconfigure.specs.Refusing.{reconfigure_refusals}
 use Rattle.ctl_core.specs.Step.{entered}
 use Rattle.saved_data.specs.Order.{IsNotBehind}
 use Rattle.saved_laws.specs.Kept.{AreDropped, AreFiles, AreGone, IsKept, IsKeptOver, IsOfItsNames, IsOnNodes, IsReserved, IsTimed, OnlyUsersUse, confs_of, in_force, most_jobs, numbers_of, part_confs_of, without_states}
 use Rattle.saved_laws.proofs.Arranged.{else_second, less_first, not_behind_on, order_all, order_ordered, order_pairs}
 use Rattle.saved_laws.proofs.ByNames.{all_there, among, among_names, has_kept, is_there, moved_row, none_named, not_named, of_each, place_by_names, same_named, same_places_of}
-use Rattle.saved_laws.proofs.Named.{own_name, same_name}
+use Rattle.saved_laws.proofs.Named.{own_name}
 use Rattle.saved_laws.proofs.NumbersWalk.{Numbered}
 use Rattle.saved_laws.proofs.Positions.{pairs_map, there, within}
 use Rattle.saved_laws.proofs.StandingKept.{Standing}
+use Rattle.ctl_reconfigure.proofs.NameLists.{bytes-same as same_name, names-same as names-are}
+use Rattle.ctl_reconfigure.proofs.Places.{names-after}
+use Rattle.job_table.proofs.Marks.{same-one as some-is}
 
 -- what is known of new files
 pub record RenewalLaws : Type 0 where
@@ -109,11 +108,6 @@ pub confs_opened : (confs : List NodeConf) → confs_of (map opened_node confs) 
 confs_opened [] = refl
 confs_opened (conf ∷ confs) = ap (λ (later : List NodeConf). conf ∷ later) (confs_opened confs)
 
--- the new nodes have the names of the file, and so have those that open with it
-names-after : (s : State) (moment : ℕ) (conf : ConfView) → node_names (nodes_after s moment conf) ≡ conf_names conf.nodes
-names-after s moment conf =
-    names-by (nodes_after s moment conf) ∙ ap conf_names (confs_renewed s.nodes s.dropped moment conf.nodes)
-
 names-opened : (confs : List NodeConf) → node_names (map opened_node confs) ≡ conf_names confs
 names-opened confs = names-by (map opened_node confs) ∙ ap conf_names (confs_opened confs)
 
@@ -127,10 +121,6 @@ shapes one other same (line ∷ lines) =
 
 -- ---- what stays of names
 
--- names that are the same in each place
-names-are : (one other : List (List ℕ)) → same_names one other ≡ true → one ≡ other
-names-are one other same = (slice_eq-Decides bytes_eq-Decides one other (same_names one other) refl).0 same
-
 any-there : {X : Type 0} (test : X → Bool) (xs : List X) (k : ℕ) (d : X) → k < length xs → test (get_or xs k d) ≡ true
     → list_any test xs ≡ true
 any-there test [] k d below is = absurd (omega (arith, below))
@@ -139,16 +129,6 @@ any-there test (x ∷ xs) (suc k) d below is =
     or_right (test x) (list_any test xs) (any-there test xs k d (omega (arith, below)) is)
 
 -- ---- what stands against a file
-
-pub blocks_none : (s : State) (user : List ℕ) (conf : ConfView)
-    → first_refusal (reconfigure_refusals s user conf) ≡ None → blocked s conf ≡ None
-blocks_none s user conf none = by (not (is_privileged s user)) (blocked s conf) none
-  where
-    by : (plain : Bool) (name : Option (List ℕ))
-        → first_refusal (refused_if plain AccessDenied ∷ option_map CannotShrink name ∷ []) ≡ None → name ≡ None
-    by true name none = absurd (cc)
-    by false None none = refl
-    by false (Some name) none = absurd (cc)
 
 -- ---- reservations
 
@@ -160,9 +140,6 @@ all-of test (name ∷ names) each =
     and_from (test name) (list_all test names)
     (each name (or_left (bytes_eq name name) (has names name) (own_name name)))
     (all-of test names (λ other is. each other (or_right (bytes_eq other name) (has names other) is)))
-
-some-is : {X : Type 0} {x y : X} → Some x ≡ Some y → x ≡ y
-some-is {x = x} same = ap (λ (found : Option _). unwrap_or found x) same
 
 -- the nodes with the names of a reservation have lines
 reserved-stays : RenewalLaws → (s : State) (conf : ConfView) (k : ℕ) (d : Reservation) (name : List ℕ)

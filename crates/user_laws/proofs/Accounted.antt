@@ -20,6 +20,7 @@ use Rattle.sacct_book.specs.Windows.{seconds_in}
 use Rattle.user_laws.specs.Accounting.{all_until}
 use Rattle.user_laws.specs.Using.{cpus_run_by}
 use Rattle.user_laws.proofs.Remaining.{assocs_stay}
+use Rattle.ctl_desk.proofs.Entering.{after_all-push as pushed}
 
 -- what the laws below say
 pub record Grows : Type 0 where
@@ -42,11 +43,6 @@ next s (e ∷ es) zero inside legal = (e, refl, legal.0)
 next s (e ∷ es) (suc n) inside legal =
     let rest = next (state_after s e.moment e.user e.request) es n (omega (arith, inside)) legal.1 in
     (rest.0, ap (λ l. e ∷ l) rest.1, rest.2)
-
-pushed : (s : State) (es : List Entry) (e : Entry)
-    → after_all s (es ++ e ∷ []) ≡ state_after (after_all s es) e.moment e.user e.request
-pushed s [] e = refl
-pushed s (a ∷ es) e = pushed (state_after s a.moment a.user a.request) es e
 
 assocs-all : (s : State) (es : List Entry) → (after_all s es).assocs ≡ s.assocs
 assocs-all s [] = refl

@@ -30,8 +30,9 @@ use Rattle.ctl_pass.specs.Readiness.{base_of, planned}
 use Rattle.ctl_pass.specs.Starting.{IsAsPlanned}
 use Rattle.user_laws.specs.Asked.{HasTasks, HasWhatWasAsked, IsForJob, cpus_for, mem_for, room_under}
 use Rattle.user_laws.proofs.Granting.{IsGranted, IsShare, placement_grants}
-use Rattle.user_laws.proofs.Lists.{any_weaker, sum_mapped, zip_all, zip_any, zip_long, zip_mapped}
+use Rattle.user_laws.proofs.Lists.{sum_mapped, zip_all, zip_any, zip_long, zip_mapped}
 use Rattle.user_laws.proofs.Needing.{IsNeedOf, IsNeeded, IsPlace, NeededBy, need_places, ranked_needed, required_are_first}
+use Rattle.daemon_world.proofs.Lists.{any_weaker}
 
 -- ---- what a job has that is granted what it needs
 

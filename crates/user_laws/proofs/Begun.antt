@@ -35,16 +35,19 @@ use Rattle.ctl_node_side.specs.Silence.{any_silent, silent_at, silenced}
 use Rattle.ctl_core.specs.Sizes.{size_of}
 use Rattle.ctl_core.specs.Step.{entered, raised, state_after}
 use Rattle.user_laws.specs.Asked.{HasBegun, HasTasks, HasWhatWasAsked, IsForJob, room_under}
-use Rattle.user_laws.proofs.Lists.{any_of_all, any_passes, any_unmapped, any_weaker}
+use Rattle.user_laws.proofs.Lists.{any_passes, any_unmapped}
 use Rattle.user_laws.proofs.Needing.{IsNeedOf}
 use Rattle.user_laws.proofs.Old.{found_by_pass, silenced_job}
-use Rattle.user_laws.proofs.Starting.{Passes, only_waits, silenced_raised}
+use Rattle.user_laws.proofs.Starting.{Passes}
 use Rattle.user_laws.proofs.States.{not_both}
 use Rattle.step_lemmas.proofs.Making.{MakesBy, made_by}
 use Rattle.step_lemmas.proofs.Steps.{step_is}
 use Rattle.user_laws.proofs.Turning.{left_turns}
 use Rattle.user_laws.proofs.Waiting.{WerePlanned, only_one}
 use Rattle.user_laws.proofs.Asked.{ArePlaced, IsPlannedFor, PlannedFor, has_asked, planned_for}
+use Rattle.ctl_node_side.proofs.Silent.{silenced_raised}
+use Rattle.daemon_world.proofs.Lists.{any_weaker, any_of_all}
+use Rattle.daemon_world.proofs.Starting.{only-waits as only_waits}
 
 -- ---- what the first steps of a pass leave of a job
 

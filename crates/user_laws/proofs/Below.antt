@@ -42,7 +42,7 @@ use Rattle.user_laws.specs.Planning.{plan_at, ranked_at}
 use Rattle.user_laws.proofs.Lists.{all_mapped}
 use Rattle.step_lemmas.proofs.Making.{MakesBy, made_by}
 use Rattle.step_lemmas.proofs.Steps.{step_is}
-use Rattle.user_laws.proofs.Turning.{IsNew, jobs_new}
+use Rattle.user_laws.proofs.Turning.{jobs_new, IsNew}
 
 -- ---- what jobs hold that are left
 

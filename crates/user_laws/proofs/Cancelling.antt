@@ -41,10 +41,11 @@ use Rattle.step_lemmas.proofs.Making.{AsksCancel, AsksRequeue, MakesBy, made_by}
 use Rattle.step_lemmas.proofs.Steps.{step_is}
 use Rattle.user_laws.specs.Cancelling.{Cancels, IsCancelledBy, is_cancelled}
 use Rattle.user_laws.proofs.Changes.{GoesOn, goes_itself, goes_on, leave_goes, loss_goes, mild_stays}
-use Rattle.user_laws.proofs.Lists.{all_mapped, any_weaker, turns_itself}
+use Rattle.user_laws.proofs.Lists.{all_mapped, turns_itself}
 use Rattle.user_laws.proofs.Old.{found_by_pass, silenced_job}
 use Rattle.user_laws.proofs.Staying.{becomes_goes}
 use Rattle.user_laws.proofs.Turning.{Becomes, IsNew, left_turns, met_job, step_turns, Acted, Heard, Lost, Passed}
+use Rattle.daemon_world.proofs.Lists.{any_weaker}
 
 -- who is cancelled then was so before
 abbrev Kept : JobRecord → JobRecord → Type 0

@@ -26,6 +26,7 @@ use Rattle.ctl_jobs.specs.Changing.{done_if, may_do}
 use Rattle.ctl_nodes.specs.Failing.{after_loss, failed, failing, loses, off_lost, parts_kept}
 use Rattle.ctl_reconfigure.specs.Reconfiguring.{job_after as job_moved, part_after}
 use Rattle.ctl_node_side.specs.Reporting.{after_told, done_of, final_of, is_at, is_batch_host, is_listed, reported, script_over}
+use Rattle.ctl_nodes.proofs.Lost.{failed_stops as failed-stopped}
 
 -- it holds as many processors as it held, since the same moment
 pub record Holds (job after : JobRecord) : Type 0 where
@@ -159,12 +160,6 @@ off-goes now node job Running is = goes_itself job
 off-goes now node job (Completing end) is =
     left-goes now end (parts_off node job.parts) job (ap is_running is)
 off-goes now node job (Ended end) is = goes_itself job
-
--- who has failed doesn't run
-failed-stopped : (now : ℕ) (job : JobRecord) → is_running (failed now job).state ≡ false
-failed-stopped now job =
-    cond_both (is_running job.state) (record job { state = Completing (failing job); ended = Some now; exit = None })
-    job (λ (after : JobRecord). is_running after.state ≡ false) (λ ran. refl) (λ other. other)
 
 lost-goes : (now : ℕ) (lost : ℕ → Bool) (job : JobRecord) (state : JobState) → job.state ≡ state
     → GoesOn job (off_lost now lost job state)

@@ -43,10 +43,11 @@ use Rattle.step_lemmas.proofs.Making.{ByAction, ByPass, ByReconfigure, ByReport,
 use Rattle.step_lemmas.proofs.Steps.{step_is}
 use Rattle.user_laws.specs.Using.{cpus_run_by}
 use Rattle.user_laws.proofs.Changes.{GoesOn, done_if_goes, goes_itself, leave_goes, loss_goes, moved_cpus, report_goes}
-use Rattle.user_laws.proofs.Starting.{MayStart, Passes, Waits, may_start_later, may_start_on, pass_may}
+use Rattle.user_laws.proofs.Starting.{Passes, pass_may}
 use Rattle.user_laws.proofs.States.{ended_still, waits_still}
-use Rattle.user_laws.proofs.Turning.{IsNew, jobs_new}
+use Rattle.user_laws.proofs.Turning.{jobs_new, IsNew}
 use Rattle.user_laws.proofs.Using.{append_same, charged_same, filter_same, grows_in_time, map_goes_on, map_same, shown, still_uses, usage_is, usage_of, uses}
+use Rattle.daemon_world.proofs.Starting.{Waits, MayStart, may_start_later, may_start_on}
 
 -- each association has used as much at the moment
 abbrev IsUsed : ℕ → State → State → Type 0

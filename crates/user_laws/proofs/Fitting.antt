@@ -25,7 +25,7 @@ use Rattle.backfill_planner.specs.Giving.{bars, capacities, give, is_barred, may
 use Rattle.backfill_planner.specs.Placements.{FitsAt, IsPlacement}
 use Rattle.backfill_planner.specs.Plans.{holds_before, holds_of, placed_of, placement_of, plan_beside, plan_holds_beside, plan_holds_of, plan_of}
 use Rattle.user_laws.specs.Planning.{AreOver, BeginsBy, FitsAlone, HoldNoMore, RoomsStay}
-use Rattle.user_laws.proofs.Lists.{any_here, any_right}
+use Rattle.daemon_world.proofs.Lists.{any_here, any_right}
 
 -- ---- more gives more
 

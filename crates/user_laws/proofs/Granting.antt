@@ -1,8 +1,7 @@
 -- What a placement gives its job: the tasks that are dealt to its nodes, and what they ask for there.
-use Rattle.std.proofs.Common.{zero, suc, ℕ, ◌≡◌, ◌≤◌, ◌<◌, ◌-◌, ◌*◌, ◌/◌, ◌∙◌, min, Bool, true, false, ◌&&◌, ◌||◌, not, cond, List, [], ◌∷◌, map, All, Any, Contains, length, get_or, sum_by, slice_index, refl, sym, ap, arith, inl, inr, nat_eq}
+use Rattle.std.proofs.Common.{suc, ℕ, ◌≡◌, ◌≤◌, ◌<◌, ◌-◌, ◌*◌, ◌/◌, ◌∙◌, min, Bool, true, false, ◌&&◌, ◌||◌, not, cond, List, [], ◌∷◌, map, All, Any, Contains, length, sum_by, slice_index, refl, sym, ap, arith, inl, inr, nat_eq}
 use Rattle.std.specs.Prelude.{nat_le}
-use Rattle.std.proofs.Math.Nat.{div-mul-le_self, mul_assoc, mul_comm}
-use Rattle.std.proofs.lemmas.Nat.{mul-le}
+use Rattle.std.proofs.Math.Nat.{mul_assoc, mul_comm}
 use Rattle.std.proofs.lemmas.Bool.{and_parts, cases_Bool, cases_lt, eqb-true, leb-true}
 use Rattle.std.proofs.lemmas.List.{get_or_past, length-map}
 use Rattle.std.proofs.lemmas.List.Elements.{All-cons, All-contains_itself, All-head, All-map, All-nil, All-tail, All-weaker}
@@ -20,7 +19,11 @@ use Rattle.backfill_planner.specs.declared.job.PlanJob.{PlanJob}
 use Rattle.backfill_planner.specs.Giving.{asked_mem, capacities, give, is_barred, may_have, taken_cpus, taken_mem, tasks_by_mem, tasks_given, window_end}
 use Rattle.backfill_planner.specs.Placements.{IsPlacement}
 use Rattle.backfill_planner.specs.Plans.{share_of}
-use Rattle.user_laws.proofs.Lists.{any_cases, any_here, any_mapped, any_none, any_there, any_weaker, sum_mapped}
+use Rattle.user_laws.proofs.Lists.{any_mapped, sum_mapped}
+use Rattle.backfill_planner.proofs.Dealing.{length-capacities as long-caps}
+use Rattle.backfill_planner.proofs.Holding.{capacity-give}
+use Rattle.backfill_planner.proofs.Takes.{within_quotient as within-quotient}
+use Rattle.daemon_world.proofs.Lists.{any_none, any_here, any_there, any_cases, any_weaker}
 
 -- ---- what is dealt
 
@@ -107,10 +110,6 @@ pub record CanTake (job : PlanJob) (room : NodeRoom) (tasks : ℕ) : Type 0 wher
   pub enough_cpus : tasks * job.cpus_per_task ≤ taken_cpus job room tasks
   pub enough_mem : asked_mem job.mem_ask room (tasks * job.cpus_per_task) ≤ taken_mem job room tasks
 
-within-quotient : (tasks whole part : ℕ) → tasks ≤ whole / part → tasks * part ≤ whole
-within-quotient tasks whole part most =
-    omega (arith, mul-le tasks part (whole / part) part most (omega arith), div-mul-le_self whole part)
-
 record Takes (ask : MemAsk) (cpus_per_task : ℕ) (room : NodeRoom) (mem most tasks : ℕ) : Type 0 where
   pub few : tasks ≤ most
   pub free : asked_mem ask room (tasks * cpus_per_task) ≤ mem
@@ -168,24 +167,6 @@ pub record IsShare (rooms : List NodeRoom) (job : PlanJob) (share : Share) : Typ
   pub cpus : share.cpus ≡ taken_cpus job (room_at rooms share.node) share.tasks
   pub mem : share.mem ≡ taken_mem job (room_at rooms share.node) share.tasks
   pub takes : CanTake job (room_at rooms share.node) share.tasks
-
-long-caps : (rooms : List NodeRoom) (holds : List Hold) (job : PlanJob) (start : ℕ)
-    → length (capacities rooms holds job start) ≡ length job.nodes
-unfolding capacities
-long-caps rooms holds job start = simp length-map
-
-capacity-give : (rooms : List NodeRoom) (holds : List Hold) (job : PlanJob) (start place : ℕ)
-    → place < length job.nodes
-    → capacity (capacities rooms holds job start) place ≡ give rooms holds job start (slice_index job.nodes place)
-unfolding capacities
-capacity-give rooms holds job start place below = at_place job.nodes place below
-  where
-    at_place : (nodes : List ℕ) (place : ℕ) → place < length nodes
-        → get_or (map (λ node. give rooms holds job start node) nodes) place 0
-        ≡ give rooms holds job start (get_or nodes place 0)
-    at_place [] place below = absurd (omega arith)
-    at_place (node ∷ nodes) zero below = refl
-    at_place (node ∷ nodes) (suc place) below = at_place nodes place (omega (arith, below))
 
 unbarred : (barred : Bool) (given tasks : ℕ) → 1 ≤ tasks → tasks ≤ cond barred 0 given → tasks ≤ given
 unbarred true given tasks some few = absurd (omega (arith, some, few))

@@ -1,38 +1,12 @@
 -- Lists of which each member becomes one of another list, or goes, and each of the other was one or has come.
-use Rattle.std.proofs.Common.{zero, suc, ℕ, ◌≡◌, ◌+◌, ◌∙◌, Bool, true, false, List, [], ◌∷◌, ◌++◌, map, filter, length, sum_by, All, Any, Option, Some, None, is_none, refl, sym, ap, subst, arith, inl, inr, ◌⊎◌}
+use Rattle.std.proofs.Common.{suc, ℕ, ◌≡◌, ◌+◌, ◌∙◌, Bool, true, false, List, [], ◌∷◌, ◌++◌, map, filter, length, sum_by, All, Any, Option, Some, None, is_none, refl, sym, ap, inl, inr, ◌⊎◌}
 use Rattle.std.specs.List.{AllZip}
 use Rattle.std.proofs.lemmas.Bool.{both_ways, cond_both}
 use Rattle.std.proofs.lemmas.List.Elements.{All-cons, All-head, All-map, All-nil, All-tail, All-weaker}
 use Rattle.std.proofs.lemmas.List.Sums.{sum_by-cons}
+use Rattle.daemon_world.proofs.Lists.{any_none, any_here, any_there, any_cases, any_weaker, any_of_all}
 
 -- ---- a member that has something
-
-pub any_none : {X : Type 0} (P : X → Type 0) → Any P [] → ⊥
-any_none P (k, y, below, is, has) = omega (arith, below)
-
-pub any_here : {X : Type 0} (P : X → Type 0) (x : X) (xs : List X) → P x → Any P (x ∷ xs)
-any_here P x xs has = (0, x, omega arith, refl, has)
-
-pub any_there : {X : Type 0} (P : X → Type 0) (x : X) (xs : List X) → Any P xs → Any P (x ∷ xs)
-any_there P x xs (k, y, below, is, has) = (suc k, y, omega (arith, below), is, has)
-
-pub any_cases : {X : Type 0} (P : X → Type 0) (x : X) (xs : List X) → Any P (x ∷ xs) → P x ⊎ Any P xs
-any_cases P x xs (zero, y, below, is, has) = inl (subst P (sym is) has)
-any_cases P x xs (suc k, y, below, is, has) = inr (k, y, omega (arith, below), is, has)
-
-pub any_weaker : {X : Type 0} (P Q : X → Type 0) (xs : List X) → ((x : X) → P x → Q x) → Any P xs → Any Q xs
-any_weaker P Q xs on (k, y, below, is, has) = (k, y, below, is, on y has)
-
-pub any_left : {X : Type 0} (P : X → Type 0) (xs ys : List X) → Any P xs → Any P (xs ++ ys)
-any_left P [] ys any = absurd (any_none P any)
-any_left P (x ∷ xs) ys any = elim (any_cases P x xs any) [
-  | inl here ↦ any_here P x (xs ++ ys) here
-  | inr later ↦ any_there P x (xs ++ ys) (any_left P xs ys later)
-]
-
-pub any_right : {X : Type 0} (P : X → Type 0) (xs ys : List X) → Any P ys → Any P (xs ++ ys)
-any_right P [] ys any = any
-any_right P (x ∷ xs) ys any = any_there P x (xs ++ ys) (any_right P xs ys any)
 
 -- one that is mapped, and one that a test keeps
 pub any_mapped : {X Y : Type 0} (P : Y → Type 0) (f : X → Y) (xs : List X) → Any (λ (x : X). P (f x)) xs
@@ -78,15 +52,6 @@ any_passes {X} P test (x ∷ xs) any =
       | inr later ↦ any_there Passing x xs (any_passes P test xs later)
     ])
     (λ out any. any_there Passing x xs (any_passes P test xs any)) any
-
--- what holds of all and of one that has something holds of one
-pub any_of_all : {X : Type 0} (R P : X → Type 0) (Q : Type 0) (xs : List X) → ((x : X) → R x → P x → Q) → All R xs
-    → Any P xs → Q
-any_of_all R P Q [] on all any = absurd (any_none P any)
-any_of_all R P Q (x ∷ xs) on all any = elim (any_cases P x xs any) [
-  | inl here ↦ on x (All-head R x xs all) here
-  | inr later ↦ any_of_all R P Q xs on (All-tail R x xs all) later
-]
 
 -- what all members have once each is mapped
 pub all_mapped : {X : Type 0} (P Q : X → Type 0) (f : X → X) (xs : List X) → ((x : X) → P x → Q (f x)) → All P xs

@@ -22,7 +22,8 @@ use Rattle.ctl_state.specs.Planning.{are_there, barred_of, bounds_in, is_at, is_
 use Rattle.ctl_state.specs.State.{State, partition_of}
 use Rattle.ctl_waiting.specs.Candidates.{candidates, is_candidate, need_in, needs_of, ranked}
 use Rattle.ctl_waiting.specs.Rank.{is_higher}
-use Rattle.user_laws.proofs.Lists.{any_kept, any_weaker}
+use Rattle.user_laws.proofs.Lists.{any_kept}
+use Rattle.daemon_world.proofs.Lists.{any_weaker}
 
 -- ---- lists in order
 

@@ -30,11 +30,13 @@ use Rattle.user_laws.specs.Planning.{plan_at}
 use Rattle.user_laws.specs.Whole.{IsParted, runs}
 use Rattle.user_laws.proofs.Begun.{WholePasses, stays_waits}
 use Rattle.user_laws.proofs.InTime.{idle_stays, unentered}
-use Rattle.user_laws.proofs.Lists.{any_here, any_mapped, any_of_all, any_passes, any_there, any_unmapped, any_weaker}
-use Rattle.user_laws.proofs.Starting.{MayStart, Waits, may_start_later, may_start_on, pass_may, waits_on}
+use Rattle.user_laws.proofs.Lists.{any_mapped, any_passes, any_unmapped}
+use Rattle.user_laws.proofs.Starting.{pass_may}
 use Rattle.user_laws.proofs.States.{not_both}
 use Rattle.step_lemmas.proofs.Making.{MakesBy, made_by}
 use Rattle.step_lemmas.proofs.Steps.{step_says}
+use Rattle.daemon_world.proofs.Lists.{any_here, any_there, any_weaker, any_of_all}
+use Rattle.daemon_world.proofs.Starting.{Waits, MayStart, waits-on as waits_on, may_start_later, may_start_on}
 
 -- ---- who runs
 

@@ -19,9 +19,9 @@ use Rattle.ctl_core.specs.Step.{raised, state_after}
 use Rattle.step_lemmas.proofs.Making.{AsksCancel, AsksRequeue}
 use Rattle.user_laws.specs.Staying.{HasGone, IsSame, RunsThere, may_end}
 use Rattle.user_laws.proofs.Changes.{GoesOn, done_if_goes, goes_itself, goes_on, loss_goes, mild_stays, moved_goes, report_goes}
-use Rattle.user_laws.proofs.Lists.{any_weaker}
 use Rattle.user_laws.proofs.States.{waits_still}
 use Rattle.user_laws.proofs.Turning.{Becomes, IsNew, met_job, step_turns, Acted, Heard, Lost, Moved, Passed, Same}
+use Rattle.daemon_world.proofs.Lists.{any_weaker}
 
 -- ---- each job goes on, but through passes
 

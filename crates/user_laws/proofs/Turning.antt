@@ -1,6 +1,6 @@
 -- What becomes of the jobs at each request.
 use Rattle.std.proofs.Common.{ℕ, ◌≡◌, ◌≤◌, ◌∙◌, Bool, true, ◌&&◌, not, List, [], ◌∷◌, map, All, Option, Some, None, if◌then◌else◌, refl, ap, subst, sym, arith, nat_eq}
-use Rattle.std.specs.List.{enumerate_from, list_any}
+use Rattle.std.specs.List.{enumerate_from}
 use Rattle.std.proofs.lemmas.Bool.{cond_both, not-false}
 use Rattle.std.proofs.lemmas.List.Elements.{All-cons, All-nil}
 use Rattle.plain_data.specs.declared.array.ArraySpec.{ArraySpec}
@@ -43,6 +43,7 @@ use Rattle.user_laws.specs.Staying.{HasGone}
 use Rattle.user_laws.proofs.Changes.{leave_goes, loss_goes}
 use Rattle.user_laws.proofs.Lists.{Turns, turns_append, turns_filter, turns_itself, turns_map, turns_on}
 use Rattle.user_laws.proofs.Old.{found_by_pass, gone_was_old, silenced_job}
+use Rattle.ctl_pass.proofs.Preempted.{preempted-id as gone-id}
 
 -- ---- what each request makes of a job
 
@@ -181,11 +182,6 @@ found-id s now job =
     (λ is. (leave_goes final.Timeout now None lost).id) (λ not. refl) in
     over ∙ cond_both (any_silent s now) (after_loss now (silent_at s now) job) job (SameId job)
     (λ is. (loss_goes now (silent_at s now) job).id) (λ not. refl)
-
-gone-id : (now : ℕ) (gone : List ℕ) (job : JobRecord) → (preempted now gone job).id ≡ job.id
-gone-id now gone job =
-    cond_both (list_any (λ id. has_id id job) gone) (changed (Leave final.Requeue now None) job) job (SameId job)
-    (λ is. (leave_goes final.Requeue now None job).id) (λ not. refl)
 
 pass-turns : (s : State) (now : ℕ) (user : List ℕ) → JobsTurn s now user Pass (after_pass s now).jobs
 pass-turns s now user =

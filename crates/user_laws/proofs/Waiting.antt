@@ -39,13 +39,15 @@ use Rattle.ctl_node_side.specs.Passes.{after_pass, pass_is_idle}
 use Rattle.ctl_node_side.specs.Silence.{any_silent, silent_at, silenced}
 use Rattle.ctl_core.specs.Step.{raised, state_after}
 use Rattle.user_laws.specs.Waiting.{AreCompleted, FoundOk, IsRunningThere, ItemsCompleted}
-use Rattle.user_laws.proofs.Lists.{any_of_all, any_weaker, none_is}
+use Rattle.user_laws.proofs.Lists.{none_is}
 use Rattle.user_laws.proofs.Old.{found_by_pass, pending_stays, silenced_job}
-use Rattle.user_laws.proofs.Starting.{IsStart, Passes, Waits, only_waits, pass_may, ready_rising, starts_was}
+use Rattle.user_laws.proofs.Starting.{IsStart, Passes, pass_may, ready_rising, starts_was}
 use Rattle.user_laws.proofs.States.{not_both, not_ended}
 use Rattle.step_lemmas.proofs.Making.{MakesBy, made_by}
 use Rattle.step_lemmas.proofs.Steps.{step_is}
 use Rattle.user_laws.proofs.Turning.{left_turns}
+use Rattle.daemon_world.proofs.Lists.{any_weaker, any_of_all}
+use Rattle.daemon_world.proofs.Starting.{Waits, only-waits as only_waits}
 
 -- ---- what stands well
 

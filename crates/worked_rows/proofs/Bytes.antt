@@ -12,7 +12,8 @@ use Rattle.std.proofs.lemmas.List.Kept.{AllPairs-cons}
 use Rattle.host_lists.specs.Hosts.{has}
 use Rattle.host_lists.specs.Folding.{in_byte_order}
 use Rattle.worked_rows.specs.Folds.{IsBelow}
-use Rattle.worked_rows.proofs.Pairs.{pairs-head, pairs-tail}
+use Rattle.host_lists.proofs.NameSets.{or_assoc}
+use Rattle.list_lemmas.proofs.Pairs.{pairs-head, pairs-tail}
 
 abbrev put : List (List ℕ) → List ℕ → List (List ℕ)
 put = insert_key (slice_cmp nat_cmp)
@@ -60,10 +61,6 @@ unfolding in_byte_order
 names-in_order names = fold-order names [] (λ i j d before below. absurd (omega (arith, below)))
 
 -- ---- the same names
-
-or_assoc : (a b c : Bool) → ((a || b) || c) ≡ (a || (b || c))
-or_assoc true b c = refl
-or_assoc false b c = refl
 
 or_swap : (a b : Bool) → (a || b) ≡ (b || a)
 or_swap true true = refl

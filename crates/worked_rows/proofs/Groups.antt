@@ -9,8 +9,9 @@ use Rattle.std.proofs.lemmas.List.Quantifiers.{all_pairs_push}
 use Rattle.std.proofs.lemmas.List.Sorted.{IsPermutation-refl, IsPermutation-sym, IsPermutation-trans, IsPermutation-middle, IsPermutation-append_left, IsPermutation-append_right}
 use Rattle.host_lists.specs.Folding.{prefix_of, digits_len, same_group, is_of_group, with_grouped, grouped}
 use Rattle.worked_rows.specs.Folds.{first_of, AreAlike}
-use Rattle.worked_rows.proofs.Modes.{both-left, both-right, not-true}
-use Rattle.worked_rows.proofs.Pairs.{pairs-head, pairs-tail}
+use Rattle.worked_rows.proofs.Modes.{not-true}
+use Rattle.line_words.proofs.WordLemmas.{both-left, both-right}
+use Rattle.list_lemmas.proofs.Pairs.{pairs-head, pairs-tail}
 
 abbrev Group : Type 0
 Group = List (List ℕ)

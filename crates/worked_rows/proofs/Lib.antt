@@ -4,6 +4,5 @@ pub mod Groups
 pub mod Meaning
 pub mod Modes
 pub mod Numbers
-pub mod Pairs
 pub mod Reading
 pub mod Runs

@@ -4,15 +4,8 @@ use Rattle.std.specs.List.{list_all}
 use Rattle.std.proofs.lemmas.List.{append-nil}
 use Rattle.line_words.specs.Words.{is_blank, may_end, prepend, words_from, words_in, open_place}
 use Rattle.worked_rows.specs.Sentences.{Item, Itself, Marked, Both, Piece, Bare, Escaped, Single, Double, Word, Sentence, IsWord, AreWords, IsSentence, is_marked, is_item, is_piece, item_written, item_meant, piece_written, piece_meant, pieces_written, words_written, word_meant, sentence_written}
-use Rattle.worked_rows.proofs.Modes.{Mode, between, within, in_single, in_double, end_mode, both-left, both-right, not-true, neither-left, neither-right, blank, IsBlank, bare, IsBare, closed}
-
-pub prepend-prepend : (w bytes : List ℕ) (ws : List (List ℕ)) → prepend w (prepend bytes ws) ≡ prepend (w ++ bytes) ws
-prepend-prepend w bytes [] = refl
-prepend-prepend w bytes (x ∷ ws) = ap (λ (y : List ℕ). y ∷ ws) (sym (append_assoc w bytes x))
-
-pub prepend-nil : (ws : List (List ℕ)) → prepend [] ws ≡ ws
-prepend-nil [] = refl
-prepend-nil (x ∷ ws) = refl
+use Rattle.worked_rows.proofs.Modes.{Mode, between, within, in_single, in_double, end_mode, not-true, neither-left, neither-right, blank, IsBlank, bare, IsBare, closed}
+use Rattle.line_words.proofs.WordLemmas.{both-left, both-right, prepend-prepend, prepend-nil}
 
 -- a text gives the bytes of a word and leaves the line outside quotes
 record Gives (from : Mode) (text word rest : List ℕ) : Type 0 where

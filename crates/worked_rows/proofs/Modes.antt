@@ -1,5 +1,5 @@
 -- Where a line stands behind a text, and what a byte does outside quotes.
-use Rattle.std.proofs.Common.{ℕ, suc, ◌≡◌, ◌&&◌, ◌||◌, ◌==◌, not, if◌then◌else◌, Bool, true, false, None, Some, List, [], ◌∷◌, refl, sym}
+use Rattle.std.proofs.Common.{ℕ, suc, ◌≡◌, ◌||◌, ◌==◌, not, if◌then◌else◌, Bool, true, false, None, Some, List, [], ◌∷◌, refl, sym}
 use Rattle.line_words.specs.Words.{is_blank, mode_outside, mode_after, written_outside, opens, may_end, open_from, open_place, words_from}
 
 -- Where a line may stand, each place named by a byte that leads to it: the crate of the words keeps its names of these.
@@ -54,14 +54,6 @@ ends-from (b ∷ text) mode opened place h = ends-from text (mode_after mode b)
 pub ends : (line : List ℕ) → open_place line ≡ None → may_end (end_mode between line) ≡ true
 unfolding open_place
 ends line h = ends-from line between 0 0 h
-
-pub both-left : (a b : Bool) → (a && b) ≡ true → a ≡ true
-both-left true b h = refl
-both-left false b h = h
-
-pub both-right : (a b : Bool) → (a && b) ≡ true → b ≡ true
-both-right true b h = h
-both-right false b h = cc
 
 pub not-true : (t : Bool) → not t ≡ true → t ≡ false
 not-true true h = sym h

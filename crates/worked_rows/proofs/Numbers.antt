@@ -11,9 +11,10 @@ use Rattle.std.proofs.lemmas.List.{length-drop, get_or-drop, get_or-reverse, tak
 use Rattle.std.proofs.lemmas.List.Sums.{suffix_len-le-length, prefix_len_passes, list_all-from_AllPass}
 use Rattle.host_lists.specs.Folding.{in_byte_order, prefix_of, digits_of, digits_len, number_of, grouped}
 use Rattle.worked_rows.specs.Folds.{AreAlike, IsBelow, first_of}
-use Rattle.worked_rows.proofs.Modes.{both-left, both-right}
 use Rattle.worked_rows.proofs.Bytes.{names-in_order}
 use Rattle.worked_rows.proofs.Groups.{groups-alike, order-within}
+use Rattle.line_words.proofs.WordLemmas.{both-left, both-right}
+use Rattle.host_lists.proofs.FoldingLemmas.{length-digits_of as length-digits}
 
 -- ---- digits
 
@@ -112,13 +113,6 @@ passes-drop p xs k h =
 name-digits : (name : List ℕ) → AreDigits (digits_of name)
 unfolding digits_len
 name-digits name = passes-drop is_ascii_digit name (min 9 (suffix_len is_ascii_digit name)) (omega arith)
-
-few-digits : (name : List ℕ) → digits_len name ≤ length name
-unfolding digits_len
-few-digits name = omega (arith, suffix_len-le-length is_ascii_digit name)
-
-length-digits : (name : List ℕ) → length (digits_of name) ≡ digits_len name
-length-digits name = omega (arith, length-drop (length name - digits_len name) name, few-digits name)
 
 name-parts : (name : List ℕ) → prefix_of name ++ digits_of name ≡ name
 name-parts name = take-append-drop (length name - digits_len name) name

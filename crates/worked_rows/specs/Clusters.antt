@@ -1,5 +1,5 @@
 -- The clusters of the rows.
-use Rattle.std.specs.Prelude.{ℕ, true, false, List, [], ◌∷◌, Option, Some, None, codes}
+use Rattle.std.specs.Prelude.{ℕ, true, false, List, [], ◌∷◌, Some, None, codes}
 use Rattle.plain_data.specs.declared.conf.Settings.{Settings}
 use Rattle.plain_data.specs.declared.conf.NodeConf.{NodeConf}
 use Rattle.plain_data.specs.declared.conf.PartConf.{PartConf}
@@ -8,7 +8,6 @@ use Rattle.plain_data.specs.declared.conf.PartState.TheVariants.{Up}
 use Rattle.plain_data.specs.declared.limit.Limit.TheVariants.{Minutes, Unlimited}
 use Rattle.plain_data.specs.declared.mem_ask.MemAsk.TheVariants.{PerCpu}
 use Rattle.plain_data.specs.declared.assoc.AssocConf.{AssocConf}
-use Rattle.plain_data.specs.declared.assoc.QosConf.{QosConf}
 use Rattle.plain_data.specs.Assocs.{AssocView}
 use Rattle.plain_data.specs.Confs.{ConfView}
 use Rattle.run_limits.specs.Accounts.{no_limits, no_qos_limits}

@@ -1,5 +1,6 @@
 use Rattle.std.proofs.Common.{◌≡◌, ◌+◌, true, false, is_some, arith}
 use Rattle.backfill_planner.specs.Plans.{placement_at}
+use Rattle.backfill_planner.specs.Sweeps.{IsSwept}
 use Rattle.backfill_planner.proofs.Seconds.{placed-none, placed-some, NonePlaced-more}
 use Rattle.backfill_planner.proofs.placing.place.Goals as goal
 
@@ -18,12 +19,13 @@ loop-start-preserved g c =
     let nothing : is_some c.in_ok-placed.placed ≡ false = cc in
     let is : c.in_ok-placed.placed ≡ placement_at c.args.base.now.rooms c.args.profile.now.holds c.args.job.now c.loop-start.start =
     rw rooms_are at c.in_ok-placed.ensures.placement in
+    let swept : IsSwept c.args.base.now.rooms c.args.profile.now.holds c.args.job.now c.placement_at.new.sweep = rw rooms_are at c.placement_at.ensures.swept in
     record {
-      none_placed = NonePlaced-more c.lower_laws.ensures c.args.base.now.rooms c.args.profile.now.holds c.args.job.now c.args.lo c.args.hi c.loop-start.start c.next_second-start.result c.in_ok-placed.placed
-          c.loop-start.invariant.none_placed is nothing c.placement_at.ensures.window c.requires.last c.next_second-start.ensures.quiet;
-      from = omega (arith, c.loop-start.invariant.from, c.next_second-start.ensures.later);
-      swept = rw rooms_are at c.placement_at.ensures.swept;
-      order = omega (arith, c.placement_at.ensures.second, c.next_second-start.ensures.later);
+      none_placed = NonePlaced-more c.args.base.now.rooms c.args.profile.now.holds c.args.job.now c.args.lo c.args.hi c.loop-start.start c.placement_at.new.sweep c.in_ok-placed.placed
+          c.loop-start.invariant.none_placed is nothing c.requires.last swept c.placement_at.ensures.second;
+      from = omega (arith, c.loop-start.invariant.from, swept.later, c.placement_at.ensures.second);
+      swept = swept;
+      order = omega (arith, swept.later);
     }
 
 pub returns-clause-placed : goal.returns-clause-placed

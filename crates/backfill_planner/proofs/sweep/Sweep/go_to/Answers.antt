@@ -1,66 +1,16 @@
-use Rattle.std.proofs.Common.{◌≡◌, ◌^◌, ◌<◌, length, get_or, arith, ◌∙◌, inl, inr}
-use Rattle.std.proofs.lemmas.Bool.{cases_eq}
-use Rattle.std.proofs.lemmas.List.{length-set}
-use Rattle.std.proofs.lemmas.Grind.{get_or_default_zero}
-use Rattle.backfill_planner.proofs.Sweeping.{gives-set, gives-other, gives-later, small-set, swept-capacities, total-room}
+use Rattle.std.proofs.Common.{arith}
+use Rattle.backfill_planner.proofs.Sweeping.{swept-at, swept-later}
 use Rattle.backfill_planner.proofs.sweep.Sweep.go_to.Goals as goal
-use Rattle.backfill_planner.proofs.sweep.Sweep.go_to.Goals.{then-index-second, else-index-second}
 
-pub renew-requires-clause-bound : goal.renew-requires-clause-bound
-renew-requires-clause-bound c = total-room c.loop-i.self.caps.items c.loop-i.self.total c.args.job.now.cpus_per_task (omega (arith, c.loop-i.invariant.long, c.loop-i.invariant.few)) c.loop-i.invariant.small (omega (arith, c.get.ensures.range.0, c.get.ensures.value)) c.loop-i.invariant.total
+pub returns-then-self-second-clause-capacities : goal.returns-then-self-second-clause-capacities
+returns-then-self-second-clause-capacities c =
+    let swept = c.count_anew.ensures.swept in
+    swept-at c.args.rooms.now c.args.profile.now.holds c.args.job.now c.count_anew.new.self c.args.second swept (omega (arith, c.count_anew.ensures.second)) (omega (arith, swept.later, c.count_anew.ensures.second)) c.requires.second
 
-pub returns-clause-capacities : goal.returns-clause-capacities
-returns-clause-capacities c =
-    let long = rw c.as_slice-nodes.ensures.nodes at c.loop-i.invariant.long in
-    let past = rw c.as_slice-nodes.ensures.nodes at c.loop-i-test.false in
-    swept-capacities c.args.rooms.now c.args.profile.now.holds c.args.job.now c.args.second c.loop-i.self.caps.items c.loop-i.self.untils.items long
-    (λ i inside. rw c.as_slice-nodes.ensures.nodes at (c.loop-i.invariant.done i (omega (arith, inside, past)))) c.requires.second
+pub returns-else-self-second-clause-capacities : goal.returns-else-self-second-clause-capacities
+returns-else-self-second-clause-capacities c =
+    swept-at c.args.rooms.now c.args.profile.now.holds c.args.job.now c.args.self.now c.args.second c.requires.swept c.requires.order c.if-self-second.false c.requires.second
 
-pub loop-i-preserved : goal.loop-i-preserved
-loop-i-preserved c =
-    let rooms = c.args.rooms.now in
-    let holds = c.args.profile.now.holds in
-    let job = c.args.job.now in
-    let i = c.loop-i.i in
-    let old = c.loop-i.self in
-    let kept = c.loop-i.invariant in
-    let inside : i < length c.as_slice-nodes.result.now = c.loop-i-test.true in
-    let caps_in : i < length old.caps.items = omega (arith, inside, kept.long) in
-    let untils_in : i < length old.untils.items = omega (arith, inside, kept.until_long) in
-    elim c.if-index-second.branch [
-      | then-index-second w ↦
-          let given = w.given_from-given.result in
-          rw w.self-is (record {
-            long = rw w.renew.ensures.caps (length-set old.caps.items i given.tasks ∙ kept.long);
-            until_long = rw w.renew.ensures.untils (length-set old.untils.items i given.until ∙ kept.until_long);
-            before = w.renew.ensures.second ∙ kept.before;
-            done = λ k low. elim (cases_eq k i) [
-              | inl at ↦
-                  let e : k ≡ i = at in
-                  rw (e, w.renew.ensures.caps, w.renew.ensures.untils) (gives-set rooms holds job c.args.second _ i given.tasks given.until old.caps.items old.untils.items caps_in untils_in w.given_from-given.ensures.gives)
-              | inr apart ↦ rw (w.renew.ensures.caps, w.renew.ensures.untils) (gives-other rooms holds job c.args.second _ i k given.tasks given.until old.caps.items old.untils.items apart (kept.done k (omega arith)))
-            ];
-            rest = λ k high within. rw (w.renew.ensures.caps, w.renew.ensures.untils, w.renew.ensures.second) (gives-other rooms holds job old.second _ i k given.tasks given.until old.caps.items old.untils.items (omega arith) (kept.rest k (omega arith) within));
-            small = rw w.renew.ensures.caps (small-set old.caps.items i given.tasks job.cpus_per_task (2 ^ 32) kept.small w.given_from-given.ensures.small);
-            few = kept.few;
-            total = w.renew.ensures.total;
-          })
-      | else-index-second w ↦
-          let read : c.index.result.now ≡ get_or old.untils.items i 0 = c.index.ensures ∙ get_or_default_zero old.untils.items i c.index.result.now untils_in in
-          let fresh : c.args.second < get_or old.untils.items i 0 = rw read at w.if-index-second.false in
-          rw w.self-is (record {
-            long = kept.long;
-            until_long = kept.until_long;
-            before = kept.before;
-            done = λ k low. elim (cases_eq k i) [
-              | inl at ↦
-                  let e : k ≡ i = at in
-                  rw e (gives-later rooms holds job old.second c.args.second _ _ _ (omega (arith, kept.before, c.requires.order)) fresh (kept.rest i (omega arith) inside))
-              | inr apart ↦ kept.done k (omega arith)
-            ];
-            rest = λ k high within. kept.rest k (omega arith) within;
-            small = kept.small;
-            few = kept.few;
-            total = kept.total;
-          })
-    ]
+pub returns-else-self-second-clause-swept : goal.returns-else-self-second-clause-swept
+returns-else-self-second-clause-swept c =
+    swept-later c.args.rooms.now c.args.profile.now.holds c.args.job.now c.args.self.now c.args.second c.requires.swept c.requires.order c.if-self-second.false

@@ -1,7 +1,7 @@
 use Rattle.std.proofs.Common.{◌≡◌, ◌∷◌, [], ◌++◌, ◌*◌, ◌^◌, ◌<◌, arith, refl}
 use Rattle.std.proofs.lemmas.Grind.{common_steps}
 use Rattle.std.proofs.lemmas.List.Elements.{All-push}
-use Rattle.backfill_planner.proofs.Sweeping.{gives-push}
+use Rattle.backfill_planner.proofs.Sweeping.{gives-push, least-push}
 use Rattle.backfill_planner.proofs.sweep.Sweep.new.Goals as goal
 
 pub loop-node-preserved : goal.loop-node-preserved
@@ -16,6 +16,8 @@ loop-node-preserved c =
       each = rw (caps_are, untils_are) (gives-push c.args.rooms.now c.args.profile.now.holds c.args.job.now c.args.second c.loop-node.node-index given.tasks given.until _ c.as_slice-nodes.result.now c.loop-node.caps.items c.loop-node.untils.items kept.long kept.until_long refl kept.each c.given_from-given.ensures.gives);
       small = rw caps_are (All-push (λ tasks. tasks * c.args.job.now.cpus_per_task < 2 ^ 32) c.loop-node.caps.items given.tasks kept.small c.given_from-given.ensures.small);
       total = grind (arith, common_steps);
+      later = omega (arith, c.min-least.ensures, kept.later, c.given_from-given.ensures.gives.later);
+      least = rw (untils_are, c.min-least.ensures) (least-push c.loop-node.untils.items c.loop-node.least given.until c.loop-node.node-index kept.until_long kept.least);
       bound = omega (arith, kept.bound, c.from-total.ensures, c.given_from-given.ensures.word);
       few = kept.few;
       caps_count = grind (arith, common_steps);

@@ -10,6 +10,8 @@ invariant-loop-node l = record {
   each : (i : ℕ) → i < l.node-index → GivesUntil l.rooms l.profile.holds l.job l.second (slice_index l.nodes i) (slice_index l.caps.items i) (slice_index l.untils.items i);
   small : All (λ tasks. tasks * l.job.cpus_per_task < 2 ^ 32) l.caps.items;
   total : l.total ≡ sum l.caps.items;
+  later : l.second < l.least;
+  least : (i : ℕ) → i < l.node-index → l.least ≤ slice_index l.untils.items i;
   bound : l.total ≤ l.node-index * (2 ^ 32 - 1);
   few : length l.nodes < 2 ^ 32;
   caps_count : vec_len l.caps ≡ l.node-index;

@@ -1,6 +1,6 @@
 use Rattle.std.proofs.Common.{◌≡◌, ℕ, ◌*◌, ◌^◌, ◌≤◌, ◌<◌, length, slice_index, sum, All}
 use Rattle.backfill_planner.specs.Sweeps.{GivesUntil}
-use Rattle.backfill_planner.proofs.sweep.Sweep.go_to.Given as goal
+use Rattle.backfill_planner.proofs.sweep.Sweep.count_anew.Given as goal
 
 -- what the nodes so far can give at the second, and the others at the one before
 abbrev pub invariant-loop-i : goal.invariant-loop-i
@@ -13,4 +13,6 @@ invariant-loop-i l = record {
   small : All (λ tasks. tasks * l.job.cpus_per_task < 2 ^ 32) l.self.caps.items;
   few : length l.nodes < 2 ^ 32;
   total : l.self.total ≡ sum l.self.caps.items;
+  later : l.second < l.least;
+  least : (i : ℕ) → i < l.i → l.least ≤ slice_index l.self.untils.items i;
 }
