@@ -54,24 +54,26 @@ impl Searches {
         None
     }
 
-    // A second, `now` or a later one, before which no set of the job fits, since none did of a job that asks no more
-    // among those that are known by this place.
-    fn bound_among(&self, ranked: &[PlanJob], alike: usize, job: &PlanJob, now: u64) -> u64
+    // The bound of the first search that is kept of a job that asks no more, among those that are known by this place,
+    // where it is `least` or a later second: no set of the job fits before it. Those that tell most come first.
+    fn told_from(&self, ranked: &[PlanJob], alike: usize, job: &PlanJob, least: u64) -> Option<u64>
         requires there { All (λ (one : OneSeen). one.place < length ranked.now) self.now.seen.items }
         requires alike { (d : AJob) → HaveSameNodes (slice_index_or ranked.now alike d) job.now }
-        ensures from { now ≤ result }
-        ensures none { (rooms : List Room) (holds : List Hold)
+        ensures least { IfSome result (λ bound. least ≤ bound) }
+        ensures none { IfSome result (λ bound. (rooms : List Room) (holds : List Hold) (now : ℕ)
             → All (IsSeen rooms holds ranked.now now) self.now.seen.items
-            → NoneBefore rooms holds job.now now result }
+            → NoneBefore rooms holds job.now now bound) }
     {
         lower_laws();
-        let mut bound = now;
         for one in self.seen.as_slice() {
-            if one.bound > bound && one.alike == alike && is_lesser(&ranked[one.place], job) {
-                bound = one.bound;
+            if one.bound < least {
+                return None;
+            }
+            if one.alike == alike && is_lesser(&ranked[one.place], job) {
+                return Some(one.bound);
             }
         }
-        bound
+        None
     }
 
     // A second, `now` or a later one, before which no set of the job fits, since none did of a job that asks no more. It
@@ -84,10 +86,10 @@ impl Searches {
             → All (IsSeen rooms holds ranked.now now) self.now.seen.items
             → NoneBefore rooms holds job.now now result }
     {
-        match self.first_alike(ranked, job) {
-            Some(alike) => self.bound_among(ranked, alike, job, now),
-            None => now,
-        }
+        let Some(alike) = self.first_alike(ranked, job) else {
+            return now;
+        };
+        self.told_from(ranked, alike, job, now).unwrap_or(now)
     }
 
     // Keeps in mind that none of the sets of the job at the place fits before the bound, where those searches that are
@@ -112,7 +114,7 @@ impl Searches {
             Some(alike) => alike,
             None => place,
         };
-        if self.bound_among(ranked, alike, job, now) >= bound {
+        if self.told_from(ranked, alike, job, bound).is_some() {
             return Ok(());
         }
         self.put(Seen {
@@ -122,33 +124,28 @@ impl Searches {
         })
     }
 
-    // Puts one search more among those that are kept. Where there are many, the one goes that tells least.
+    // Puts one search more among those that are kept, before those that tell less. Where there are many, the last one
+    // goes.
     fn put(&mut self, one: Seen) -> Result<(), Memory>
         ensures { (rooms : List Room) (holds : List Hold) (ranked : List AJob) (now : ℕ)
             → All (IsSeen rooms holds ranked now) self.old.seen.items → IsSeen rooms holds ranked now one
             → All (IsSeen rooms holds ranked now) self.new.seen.items }
     {
-        if self.seen.len() < MOST {
-            self.seen.reserve(1)?;
-            self.seen.push(one).unwrap();
-            return Ok(());
-        }
-        let place = self.least();
-        self.seen[place] = one;
+        self.seen.truncate(MOST - 1);
+        let place = self.place_of(one.bound);
+        self.seen.insert(place, one)?;
         Ok(())
     }
 
-    // The place of the least bound.
-    fn least(&self) -> usize
-        requires { 0 < length self.now.seen.items }
-        ensures { result < length self.now.seen.items }
+    // The place of the first search that tells less than the bound, and else the end.
+    fn place_of(&self, bound: u64) -> usize
+        ensures { result ≤ length self.now.seen.items }
     {
-        let mut least = 0;
-        for place in 1..self.seen.len() {
-            if self.seen[place].bound < self.seen[least].bound {
-                least = place;
+        for place in 0..self.seen.len() {
+            if self.seen[place].bound < bound {
+                return place;
             }
         }
-        least
+        self.seen.len()
     }
 }

@@ -108,9 +108,14 @@ fn put(alloc: Global, cluster: &mut Cluster, made: Made)
 {
     follow(alloc, cluster, made.moves);
     move_jobs(&mut cluster.jobs, &made.places);
-    cluster.settings = made.lines.settings;
-    cluster.nodes = made.lines.nodes;
-    cluster.partitions = made.lines.partitions;
+    let Lines {
+        settings,
+        nodes,
+        partitions,
+    } = made.lines;
+    cluster.settings = settings;
+    cluster.nodes = nodes;
+    cluster.partitions = partitions;
 }
 
 /// Puts a new slurm.conf into force at this moment, which nothing stands against. Linear in both files, in the jobs and

@@ -7,6 +7,9 @@ use crate::{Hold, NodeRoom};
 use small_texts::memory_error::Memory;
 use std::alloc::Global;
 
+// How many levels a timeline has place for at first: most never have more.
+const FIRST_LEVELS: usize = 16;
+
 // What a node has free over time, and how many holds are on it.
 #[derive(Drop)]
 pub(crate) struct Timeline {
@@ -22,7 +25,7 @@ impl Timeline {
         ensures holds { IfOk result (λ timeline. timeline.holds ≡ 0) }
         ensures room { IfOk result (λ timeline. vec_len timeline.levels ≤ vec_capacity timeline.levels) }
     {
-        let mut levels = Vec::with_capacity(alloc, 1)?;
+        let mut levels = Vec::with_capacity(alloc, FIRST_LEVELS)?;
         levels
             .push(Level {
                 from: 0,

@@ -6,3 +6,4 @@ pub mod Moment
 pub mod Name
 pub mod Options
 pub mod Refusals
+pub mod Texts

@@ -11,3 +11,4 @@ pub mod memory_error;
 pub mod moment;
 pub mod name;
 pub mod pieces;
+mod text;

@@ -10,6 +10,7 @@ ghost use Rattle.std.specs.Cmp.Lexicographic.{slice_cmp, nat_list_eq_equiv, nat_
 ghost use Rattle.std.specs.Cmp.Rules.{hashing};
 
 use crate::memory_error::{self, Memory};
+use crate::text::Text;
 use std::alloc::{AllocError, AllocFailed, Global};
 use std::cmp::Ordering;
 use std::error::Error;
@@ -25,7 +26,7 @@ const LONGEST_JOB_NAME: usize = 128;
 /// A name of a node, a partition, a user, an account and the like (own).
 #[derive(Drop)]
 pub struct Name {
-    text: Vec<u8>,
+    text: Text,
 }
 
 impl Model for Name {
@@ -34,9 +35,9 @@ impl Model for Name {
 
     ghost Value = { List ℕ };
 
-    ghost view = { λ n. n.text.items };
+    ghost view = { λ n. n.text };
 
-    ghost invariant = { λ n. IsTrue (is_name n.text.items) };
+    ghost invariant = { λ n. IsTrue (is_name n.text) };
 }
 
 impl PartialEq for Name {
@@ -45,7 +46,7 @@ impl PartialEq for Name {
     ghost laws = { partial_equiv_from_equiv nat_list_eq_equiv };
 
     fn eq(&self, other: &Name) -> bool {
-        self.text.as_slice() == other.text.as_slice()
+        self.text.as_bytes() == other.text.as_bytes()
     }
 }
 
@@ -73,7 +74,7 @@ impl Ord for Name {
     ghost matches_eq = { texts_ties };
 
     fn cmp(&self, other: &Name) -> Ordering {
-        self.text.as_slice().cmp(other.text.as_slice())
+        self.text.as_bytes().cmp(other.text.as_bytes())
     }
 }
 
@@ -83,14 +84,14 @@ impl Hash for Name {
     ghost respects_eq = { Prim.search (hashing, rules) };
 
     fn hash<H: Hasher>(&self, state: &mut H) {
-        self.text.as_slice().hash(state);
+        self.text.as_bytes().hash(state);
     }
 }
 
 /// A name of a job, which may have blanks (own).
 #[derive(Drop)]
 pub struct JobName {
-    text: Vec<u8>,
+    text: Text,
 }
 
 impl Model for JobName {
@@ -99,9 +100,9 @@ impl Model for JobName {
 
     ghost Value = { List ℕ };
 
-    ghost view = { λ n. n.text.items };
+    ghost view = { λ n. n.text };
 
-    ghost invariant = { λ n. IsTrue (is_job_name n.text.items) };
+    ghost invariant = { λ n. IsTrue (is_job_name n.text) };
 }
 
 impl PartialEq for JobName {
@@ -110,7 +111,7 @@ impl PartialEq for JobName {
     ghost laws = { partial_equiv_from_equiv nat_list_eq_equiv };
 
     fn eq(&self, other: &JobName) -> bool {
-        self.text.as_slice() == other.text.as_slice()
+        self.text.as_bytes() == other.text.as_bytes()
     }
 }
 
@@ -120,13 +121,13 @@ impl Eq for JobName {
 
 impl fmt::Debug for Name {
     fn fmt<W: fmt::Write>(&self, f: &mut fmt::Formatter<W>) -> fmt::Result {
-        write_quoted(f, self.text.as_slice())
+        write_quoted(f, self.text.as_bytes())
     }
 }
 
 impl fmt::Debug for JobName {
     fn fmt<W: fmt::Write>(&self, f: &mut fmt::Formatter<W>) -> fmt::Result {
-        write_quoted(f, self.text.as_slice())
+        write_quoted(f, self.text.as_bytes())
     }
 }
 
@@ -234,7 +235,7 @@ impl Name {
         if !is_name(text) {
             return Err(NameRefusal::BadName);
         }
-        let text = Vec::from_slice(alloc, text)?;
+        let text = Text::of(alloc, text)?;
         Ok(Name { text })
     }
 
@@ -243,14 +244,14 @@ impl Name {
         ensures value { result.now ≡ self.now }
         ensures named { IsTrue (is_name self.now) }
     {
-        self.text.as_slice()
+        self.text.as_bytes()
     }
 
     /// An equal name.
     pub fn copy(&self) -> Result<Name, Memory>
         ensures { IfOk result (λ name. name ≡ self.now) }
     {
-        let text = Vec::from_slice(*self.text.allocator(), self.text.as_slice())?;
+        let text = self.text.copy()?;
         Ok(Name { text })
     }
 
@@ -259,7 +260,7 @@ impl Name {
         ensures equal { IsTrue result ↔ (self.now ≡ other.now) }
         ensures test { result ≡ bytes_eq self.now other.now }
     {
-        self.text.as_slice() == other.text.as_slice()
+        self.text.as_bytes() == other.text.as_bytes()
     }
 }
 
@@ -273,7 +274,7 @@ impl JobName {
         if !is_job_name(text) {
             return Err(NameRefusal::BadName);
         }
-        let text = Vec::from_slice(alloc, text)?;
+        let text = Text::of(alloc, text)?;
         Ok(JobName { text })
     }
 
@@ -282,14 +283,14 @@ impl JobName {
         ensures value { result.now ≡ self.now }
         ensures named { IsTrue (is_job_name self.now) }
     {
-        self.text.as_slice()
+        self.text.as_bytes()
     }
 
     /// An equal name.
     pub fn copy(&self) -> Result<JobName, Memory>
         ensures { IfOk result (λ name. name ≡ self.now) }
     {
-        let text = Vec::from_slice(*self.text.allocator(), self.text.as_slice())?;
+        let text = self.text.copy()?;
         Ok(JobName { text })
     }
 
@@ -298,6 +299,6 @@ impl JobName {
         ensures equal { IsTrue result ↔ (self.now ≡ other.now) }
         ensures test { result ≡ bytes_eq self.now other.now }
     {
-        self.text.as_slice() == other.text.as_slice()
+        self.text.as_bytes() == other.text.as_bytes()
     }
 }

@@ -6,7 +6,7 @@ ghost use Rattle.table_texts.specs.Squeue.{id_of};
 ghost use Rattle.table_texts.specs.Sprio.{sprio_text, sprio_titles, sprio_row, priority_line, job_cells, number_cell, nice_end, nice_text};
 
 use crate::columns::push_id;
-use crate::field::{fit, push_cell, push_field};
+use crate::field::{push_cell, push_field};
 use itoa::Buffer;
 use plain_data::nice::Nice;
 use reply_data::priority::PriorityRow;
@@ -27,9 +27,10 @@ pub fn push_sprio(out: &mut Vec<u8>, titles: bool, view: &View) -> Result<(), Me
 fn push_rows(out: &mut Vec<u8>, rows: &[Row]) -> Result<(), Memory>
     ensures { OnOk result (out.new.items ≡ out.old.items ++ flat_map sprio_row rows.now) }
 {
+    let mut room = Vec::new(*out.allocator());
     for row in rows {
         if let Row::Priority(priority) = row {
-            push_priority(out, priority)?;
+            push_priority(out, &mut room, priority)?;
         }
     }
     Ok(())
@@ -59,11 +60,12 @@ fn push_last(out: &mut Vec<u8>, title: &[u8]) -> Result<(), Memory>
     push_text(out, b"\n")
 }
 
+// `room` is for what a column tells, so that no memory is taken for each.
 #[tactic(auto, unfolding(crate::specs::Sprio::priority_line))]
-fn push_priority(out: &mut Vec<u8>, row: &PriorityRow) -> Result<(), Memory>
+fn push_priority(out: &mut Vec<u8>, room: &mut Vec<u8>, row: &PriorityRow) -> Result<(), Memory>
     ensures { OnOk result (out.new.items ≡ out.old.items ++ priority_line row.now) }
 {
-    push_job(out, row)?;
+    push_job(out, room, row)?;
     let parts = &row.parts;
     push_numbers(
         out,
@@ -76,31 +78,30 @@ fn push_priority(out: &mut Vec<u8>, row: &PriorityRow) -> Result<(), Memory>
             parts.qos,
         ],
     )?;
-    push_nice(out, parts.nice)
+    push_nice(out, room, parts.nice)
 }
 
-fn push_job(out: &mut Vec<u8>, row: &PriorityRow) -> Result<(), Memory>
+fn push_job(out: &mut Vec<u8>, room: &mut Vec<u8>, row: &PriorityRow) -> Result<(), Memory>
     ensures { OnOk result (out.new.items ≡ out.old.items
         ++ job_cells (id_of row.now.id row.now.array row.now.index) row.now.partition row.now.user) }
 {
-    push_id_cell(out, row.id, row.array, row.index)?;
+    push_id_cell(out, room, row.id, row.array, row.index)?;
     push_cell(out, 9, row.partition.as_bytes())?;
     push_cell(out, 8, row.user.as_bytes())
 }
 
-#[tactic(auto, unfolding(crate::specs::Field::cell))]
 fn push_id_cell(
     out: &mut Vec<u8>,
+    room: &mut Vec<u8>,
     id: u32,
     array: Option<u32>,
     index: Option<u32>,
 ) -> Result<(), Memory>
     ensures { OnOk result (out.new.items ≡ out.old.items ++ cell 18 (id_of id array index)) }
 {
-    let start = out.len();
-    push_id(out, id, array, index)?;
-    fit(out, start, 18, true)?;
-    push_text(out, b" ")
+    room.clear();
+    push_id(room, id, array, index)?;
+    push_cell(out, 18, room.as_slice())
 }
 
 fn push_numbers(out: &mut Vec<u8>, numbers: &[u64]) -> Result<(), Memory>
@@ -119,14 +120,12 @@ fn push_number_cell(out: &mut Vec<u8>, number: u64) -> Result<(), Memory>
     push_cell(out, 10, buffer.format(number).as_bytes())
 }
 
-#[tactic(auto, unfolding(crate::specs::Sprio::nice_end))]
-fn push_nice(out: &mut Vec<u8>, nice: Nice) -> Result<(), Memory>
+fn push_nice(out: &mut Vec<u8>, room: &mut Vec<u8>, nice: Nice) -> Result<(), Memory>
     ensures { OnOk result (out.new.items ≡ out.old.items ++ nice_end (nice_text nice)) }
 {
-    let start = out.len();
-    push_nice_number(out, nice)?;
-    fit(out, start, 11, true)?;
-    push_text(out, b"\n")
+    room.clear();
+    push_nice_number(room, nice)?;
+    push_last(out, room.as_slice())
 }
 
 /// Writes a nice value.

@@ -4,7 +4,7 @@ ghost use Rattle.std.specs.Prelude.{◌≡◌, ◌++◌, flat_map, OnOk};
 ghost use Rattle.table_texts.specs.Squeue.{squeue_text, lines_of, line, row_line, piece_text, told, title};
 
 use crate::columns::{push_told, title};
-use crate::field::fit_if_sized;
+use crate::field::push_field;
 use operands::format::usual_format;
 use reply_data::view::{JobRow, Row, View};
 use request_data::query::{JobQuery, Piece};
@@ -48,9 +48,10 @@ fn push_lines(
 fn push_rows(alloc: Global, out: &mut Vec<u8>, pieces: &[Piece], rows: &[Row]) -> Result<(), Memory>
     ensures { OnOk result (out.new.items ≡ out.old.items ++ flat_map (row_line pieces.now) rows.now) }
 {
+    let mut room = Vec::new(alloc);
     for row in rows {
         if let Row::Job(job) = row {
-            push_job(alloc, out, pieces, job)?;
+            push_job(alloc, out, &mut room, pieces, job)?;
         }
     }
     Ok(())
@@ -70,34 +71,64 @@ fn push_title(out: &mut Vec<u8>, piece: Piece) -> Result<(), Memory>
     ensures { OnOk result (out.new.items ≡ out.old.items ++ piece_text title piece) }
 {
     match piece {
-        Piece::Plain(byte) => push_text(out, &[byte]),
-        Piece::Column { column, width, dot } => {
-            let start = out.len();
-            push_text(out, title(column))?;
-            fit_if_sized(out, start, width, dot)
-        }
+        Piece::Plain(byte) => out.push(byte)?,
+        Piece::Column {
+            column,
+            width: None,
+            ..
+        } => push_text(out, title(column))?,
+        Piece::Column {
+            column,
+            width: Some(width),
+            dot,
+        } => push_field(out, width.get() as usize, dot, title(column))?,
     }
+    Ok(())
 }
 
+// `room` is for what a column tells, so that no memory is taken for each.
 #[tactic(auto, unfolding(crate::specs::Squeue::line))]
-fn push_job(alloc: Global, out: &mut Vec<u8>, pieces: &[Piece], row: &JobRow) -> Result<(), Memory>
+fn push_job(
+    alloc: Global,
+    out: &mut Vec<u8>,
+    room: &mut Vec<u8>,
+    pieces: &[Piece],
+    row: &JobRow,
+) -> Result<(), Memory>
     ensures { OnOk result (out.new.items ≡ out.old.items ++ line (told row.now) pieces.now) }
 {
     for piece in pieces {
-        push_piece(alloc, out, *piece, row)?;
+        push_piece(alloc, out, room, *piece, row)?;
     }
-    push_text(out, b"\n")
+    out.push(b'\n')?;
+    Ok(())
 }
 
-fn push_piece(alloc: Global, out: &mut Vec<u8>, piece: Piece, row: &JobRow) -> Result<(), Memory>
+fn push_piece(
+    alloc: Global,
+    out: &mut Vec<u8>,
+    room: &mut Vec<u8>,
+    piece: Piece,
+    row: &JobRow,
+) -> Result<(), Memory>
     ensures { OnOk result (out.new.items ≡ out.old.items ++ piece_text (told row.now) piece) }
 {
     match piece {
-        Piece::Plain(byte) => push_text(out, &[byte]),
-        Piece::Column { column, width, dot } => {
-            let start = out.len();
-            push_told(alloc, out, row, column)?;
-            fit_if_sized(out, start, width, dot)
+        Piece::Plain(byte) => out.push(byte)?,
+        Piece::Column {
+            column,
+            width: None,
+            ..
+        } => push_told(alloc, out, row, column)?,
+        Piece::Column {
+            column,
+            width: Some(width),
+            dot,
+        } => {
+            room.clear();
+            push_told(alloc, room, row, column)?;
+            push_field(out, width.get() as usize, dot, room.as_slice())?;
         }
     }
+    Ok(())
 }

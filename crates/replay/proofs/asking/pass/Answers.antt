@@ -1,6 +1,6 @@
 use Rattle.request_data.specs.declared.request.Request.TheVariants.{Pass}
 use Rattle.node_daemon.specs.Turn.{root}
-use Rattle.replay.proofs.Telling.{is_told}
+use Rattle.replay.proofs.Telling.{is_told, passed_on}
 use Rattle.replay.proofs.asking.pass.Goals as goal
 
 pub returns-clause-reply : goal.returns-clause-reply
@@ -16,3 +16,7 @@ returns-clause-state c =
     Pass c.in_ok-answer.answer c.in_ok-root.ensures c.keeps_history.ensures c.in_ok-answer.ensures.goes_on
     c.in_ok-answer.ensures.answered in
     told.leads
+
+pub returns-in_err-answer-clause-state : goal.returns-in_err-answer-clause-state
+returns-in_err-answer-clause-state c =
+    passed_on _ _ c.from_residual-in_err-answer.result c.from_residual-in_err-answer.ensures.1
