@@ -17,7 +17,7 @@ use ctl_state::cluster::Cluster;
 use node_state::nodes::Nodes;
 use node_state::reservation_record::Reservation;
 use plain_data::items::Items;
-use plain_data::ranged::Ranged;
+use plain_data::ranged::LongRanged;
 use reply_data::refusal::Refusal;
 use request_data::reservation::ReservationDesc;
 use small_texts::memory_error::Memory;
@@ -80,8 +80,8 @@ fn reservation_of(nodes: &Nodes, desc: &ReservationDesc) -> Result<Reservation, 
 {
     Ok(Reservation {
         name: desc.name.copy()?,
-        start: Ranged::new(desc.start.get()),
-        end: Ranged::new(desc.end.get()),
+        start: LongRanged::new(desc.start.get()),
+        end: LongRanged::new(desc.end.get()),
         nodes: places_among(nodes, desc.nodes.as_slice()),
         names: desc.nodes.copy()?,
         users: desc.users.copy()?,

@@ -11,7 +11,7 @@ use node_state::nodes::Nodes;
 use node_state::reservation_record::Reservation;
 use node_state::reservations::Reservations;
 use plain_data::NodePlaces;
-use plain_data::ranged::Ranged;
+use plain_data::ranged::LongRanged;
 use saved_data::parts::SavedReservation;
 use small_texts::memory_error::Memory;
 use small_texts::name::Name;
@@ -36,7 +36,10 @@ fn restored_reservation(
     ensures some { IfOk result (λ found. IsSome found ↔ HasSeconds line.now) }
     ensures value { IfOk result (λ found. IfSome found (λ restored. restored ≡ spec.restored_reservation nodes.now.records line.now)) }
 {
-    let (Some(start), Some(end)) = (Ranged::try_new(line.start), Ranged::try_new(line.end)) else {
+    let (Some(start), Some(end)) = (
+        LongRanged::try_new(line.start),
+        LongRanged::try_new(line.end),
+    ) else {
         return Ok(None);
     };
     Ok(Some(Reservation {

@@ -4,7 +4,7 @@ ghost use Rattle.std.specs.Prelude.{◌≡◌, IfOk, length};
 ghost use Rattle.run_limits.specs.Accounts.{account_of};
 ghost use Rattle.ctl_saved.specs.Saving as spec;
 
-use plain_data::ranged::Ranged;
+use plain_data::ranged::LongRanged;
 use run_limits::assocs::Assocs;
 use run_limits::record::AssocRecord;
 use saved_data::parts::SavedUsage;
@@ -35,7 +35,7 @@ fn saved_usage(
     Ok(Some(SavedUsage {
         account: account_name(alloc, assocs, assoc)?,
         user: assoc.conf.name.copy()?,
-        total: Ranged::new(total),
+        total: LongRanged::new(total),
     }))
 }
 

@@ -17,7 +17,7 @@ use ctl_state::jobs::is_pending;
 use ctl_waiting::{Factors, highest_beside, measure};
 use job_table::behind::Behind;
 use job_table::record::JobRecord;
-use plain_data::ranged::Ranged;
+use plain_data::ranged::LongRanged;
 use plain_data::seconds::Second;
 use run_limits::tally::Tally;
 use small_texts::memory_error::Memory;
@@ -61,7 +61,7 @@ fn starts_of(alloc: Global, plan: &[Placed]) -> Result<HashMap<u32, Second>, Mem
 {
     let mut starts = HashMap::with_capacity(alloc, plan.len())?;
     for placed in plan {
-        starts.insert(placed.id, Ranged::new(placed.start))?;
+        starts.insert(placed.id, LongRanged::new(placed.start))?;
     }
     Ok(starts)
 }

@@ -15,7 +15,7 @@ use backfill_planner::Placed;
 use ctl_state::cluster::Cluster;
 use ctl_waiting::{Factors, hindrance_beside, is_highest};
 use job_table::record::JobRecord;
-use plain_data::ranged::Ranged;
+use plain_data::ranged::LongRanged;
 use plain_data::seconds::Second;
 use request_data::state::Reason;
 
@@ -98,7 +98,7 @@ fn start_in(plan: &[Placed], id: u32) -> Option<Second>
     ensures { result ≡ Showing.planned_start plan.now id }
 {
     match placement_of(plan, id) {
-        Some(placed) => Some(Ranged::new(placed.start)),
+        Some(placed) => Some(LongRanged::new(placed.start)),
         None => None,
     }
 }

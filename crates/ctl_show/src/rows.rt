@@ -23,7 +23,7 @@ use job_table::usage::cpus_in;
 use plain_data::Plain;
 use plain_data::items::Items;
 use plain_data::limit::Limit;
-use plain_data::ranged::Ranged;
+use plain_data::ranged::LongRanged;
 use plain_data::seconds::{FOREVER, Second};
 use reply_data::view::{EndAt, JobRow, Row};
 use request_data::query::JobQuery;
@@ -33,7 +33,7 @@ use small_texts::name::Name;
 use std::alloc::Global;
 
 // How long a job runs or ran, in seconds.
-type Elapsed = Ranged<0, FOREVER>;
+type Elapsed = LongRanged<0, FOREVER>;
 
 /// The name of the job's partition.
 pub(crate) fn partition_name(cluster: &Cluster, job: &JobRecord) -> Result<Name, Memory>
@@ -50,8 +50,8 @@ fn since(start: Option<u64>, end: u64) -> Elapsed
     ensures { result ≡ Showing.since start end }
 {
     match start {
-        Some(start) => Ranged::new(end.saturating_sub(start)),
-        None => Ranged::new(0),
+        Some(start) => LongRanged::new(end.saturating_sub(start)),
+        None => LongRanged::new(0),
     }
 }
 
@@ -62,7 +62,7 @@ fn elapsed_of(moment: u64, job: &JobRecord) -> Elapsed
     ensures { result ≡ Showing.elapsed_of moment job.now }
 {
     match job.state {
-        JobState::Pending => Ranged::new(0),
+        JobState::Pending => LongRanged::new(0),
         JobState::Running | JobState::Completing(_) => since(job.started, moment),
         JobState::Ended(_) => since(job.started, job.ended.unwrap_or(0)),
     }
@@ -140,7 +140,7 @@ fn start_shown(cluster: &Cluster, outlook: &Outlook, job: &JobRecord) -> Option<
         };
     }
     match job.started {
-        Some(start) => Some(Ranged::new(start)),
+        Some(start) => Some(LongRanged::new(start)),
         None => None,
     }
 }
@@ -151,7 +151,7 @@ fn limit_end(start: u64, limit: Limit) -> EndAt
     ensures { result ≡ Showing.limit_end start limit }
 {
     match limit {
-        Limit::Minutes(minutes) => EndAt::At(Ranged::new(start + minutes.get() * 60)),
+        Limit::Minutes(minutes) => EndAt::At(LongRanged::new(start + minutes.get() * 60)),
         Limit::Unlimited => EndAt::Unknown,
     }
 }
@@ -162,7 +162,7 @@ fn ended_at(ended: Option<u64>) -> EndAt
     ensures { result ≡ Showing.ended_at ended }
 {
     match ended {
-        Some(end) => EndAt::At(Ranged::new(end)),
+        Some(end) => EndAt::At(LongRanged::new(end)),
         None => EndAt::Nothing,
     }
 }
@@ -226,8 +226,8 @@ fn row_of(
         requeue: terms.requeue,
         restarts: job.starts.saturating_sub(1),
         exit: job.exit,
-        submit: Ranged::new(job.submit),
-        eligible: Ranged::new(job.eligible),
+        submit: LongRanged::new(job.submit),
+        eligible: LongRanged::new(job.eligible),
         end: end_shown(job),
         parts: named_parts(alloc, cluster.nodes.records(), job.parts.as_slice())?,
     })

@@ -9,7 +9,7 @@ use ctl_state::cluster::Cluster;
 use node_state::record::NodeRecord;
 use node_state::reservation_record::Reservation;
 use plain_data::items::Items;
-use plain_data::ranged::Ranged;
+use plain_data::ranged::LongRanged;
 use reply_data::view::{ResRow, Row};
 use small_texts::memory_error::Memory;
 use small_texts::name::Name;
@@ -38,8 +38,8 @@ fn reservation_row(
     let names = names_at(alloc, nodes, places.as_slice())?;
     Ok(ResRow {
         name: reservation.name.copy()?,
-        start: Ranged::new(reservation.start.get()),
-        end: Ranged::new(reservation.end.get()),
+        start: LongRanged::new(reservation.start.get()),
+        end: LongRanged::new(reservation.end.get()),
         nodes: Items::from_vec(names),
         users: reservation.users.copy()?,
         accounts: reservation.accounts.copy()?,

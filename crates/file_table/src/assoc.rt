@@ -5,7 +5,7 @@ use crate::repeats::expand;
 use crate::shown::{show_limit, show_name, show_names, show_numbers};
 use assoc_reader::read_assocs;
 use plain_data::assoc::{AssocConf, AssocFile, AssocLimits, QosConf, QosLimits};
-use plain_data::ranged::Ranged;
+use plain_data::ranged::LongRanged;
 use std::alloc::Global;
 use std::io;
 
@@ -106,7 +106,7 @@ fn show_qos_limits(rt: &impl Print, limits: &QosLimits) -> io::Result<()> {
 // The limits that there are, each behind its key.
 fn show_counts(
     rt: &impl Print,
-    counts: &[(&str, Option<Ranged<0, 9999999999>>)],
+    counts: &[(&str, Option<LongRanged<0, 9999999999>>)],
 ) -> io::Result<()> {
     for &(key, count) in counts {
         if let Some(count) = count {

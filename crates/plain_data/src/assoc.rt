@@ -2,7 +2,7 @@
 
 use crate::items::Items;
 use crate::limit::Limit;
-use crate::ranged::Ranged;
+use crate::ranged::{LongRanged, Ranged};
 use small_texts::name::Name;
 use std::marker::Model;
 
@@ -10,15 +10,15 @@ use std::marker::Model;
 #[derive(Clone, Copy, PartialEq, Eq, Debug)]
 pub struct AssocLimits {
     /// `GrpJobs`: how many jobs may hold processors at once, of it and of all below it.
-    pub grp_jobs: Option<Ranged<0, 9999999999>>,
+    pub grp_jobs: Option<LongRanged<0, 9999999999>>,
     /// `GrpSubmitJobs`: how many jobs may be that haven't ended, of it and of all below it.
-    pub grp_submit: Option<Ranged<0, 9999999999>>,
+    pub grp_submit: Option<LongRanged<0, 9999999999>>,
     /// `GrpTRES=cpu=N`: how many processors its jobs and those of all below it may have at once.
-    pub grp_cpus: Option<Ranged<0, 9999999999>>,
+    pub grp_cpus: Option<LongRanged<0, 9999999999>>,
     /// `MaxJobs`: how many jobs of one user may hold processors at once; for each user below it that has none nearer.
-    pub max_jobs: Option<Ranged<0, 9999999999>>,
+    pub max_jobs: Option<LongRanged<0, 9999999999>>,
     /// `MaxSubmitJobs`: how many jobs of one user may be that haven't ended, in the same way.
-    pub max_submit: Option<Ranged<0, 9999999999>>,
+    pub max_submit: Option<LongRanged<0, 9999999999>>,
 }
 
 /// An association: an account or a user of it. sacctmgr(1), "Flat file".
@@ -40,17 +40,17 @@ pub struct AssocConf {
 #[derive(Clone, Copy, PartialEq, Eq, Debug)]
 pub struct QosLimits {
     /// `GrpJobs`: how many of its jobs may hold processors at once.
-    pub grp_jobs: Option<Ranged<0, 9999999999>>,
+    pub grp_jobs: Option<LongRanged<0, 9999999999>>,
     /// `GrpSubmitJobs`: how many of its jobs may be that haven't ended.
-    pub grp_submit: Option<Ranged<0, 9999999999>>,
+    pub grp_submit: Option<LongRanged<0, 9999999999>>,
     /// `GrpTRES=cpu=N`: how many processors its jobs may have at once.
-    pub grp_cpus: Option<Ranged<0, 9999999999>>,
+    pub grp_cpus: Option<LongRanged<0, 9999999999>>,
     /// `MaxJobsPerUser`: the same as GrpJobs, for each user by name.
-    pub user_jobs: Option<Ranged<0, 9999999999>>,
+    pub user_jobs: Option<LongRanged<0, 9999999999>>,
     /// `MaxSubmitJobsPerUser`.
-    pub user_submit: Option<Ranged<0, 9999999999>>,
+    pub user_submit: Option<LongRanged<0, 9999999999>>,
     /// `MaxTRESPerUser=cpu=N`.
-    pub user_cpus: Option<Ranged<0, 9999999999>>,
+    pub user_cpus: Option<LongRanged<0, 9999999999>>,
     /// `MaxWall`: the longest limit that one of its jobs may have.
     pub max_wall: Option<Limit>,
 }

@@ -8,7 +8,7 @@ use plain_data::dependency::DepSpec;
 use plain_data::items::Items;
 use plain_data::limit::Limit;
 use plain_data::nice::Nice;
-use plain_data::ranged::Ranged;
+use plain_data::ranged::LongRanged;
 use plain_data::seconds::{FOREVER, Second};
 use plain_data::{CpuIds, Plain};
 use request_data::report::Heard;
@@ -61,7 +61,7 @@ pub struct JobRow {
     pub qos: Name,
     pub state: JobState,
     /// The seconds since its start, or those between its start and its end.
-    pub elapsed: Ranged<0, FOREVER>,
+    pub elapsed: LongRanged<0, FOREVER>,
     /// How many nodes it has, or needs at least.
     pub nodes: u64,
     pub node_names: Items<Name>,

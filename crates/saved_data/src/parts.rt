@@ -3,7 +3,7 @@
 use node_state::record::DownBy;
 use plain_data::conf::PartState;
 use plain_data::items::Items;
-use plain_data::ranged::Ranged;
+use plain_data::ranged::LongRanged;
 use request_data::report::Heard;
 use small_texts::name::Name;
 
@@ -33,7 +33,7 @@ pub struct SavedUsage {
     pub account: Name,
     pub user: Name,
     /// In seconds of one processor.
-    pub total: Ranged<1, 18446744073709551615>,
+    pub total: LongRanged<1, 18446744073709551615>,
 }
 
 /// A reservation. "RESERVATIONS" in scontrol(1).

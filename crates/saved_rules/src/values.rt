@@ -6,7 +6,7 @@ use crate::typed::Typed;
 use plain_data::limit::Limit;
 use plain_data::mem_ask::MemAsk;
 use plain_data::nice::Nice;
-use plain_data::ranged::Ranged;
+use plain_data::ranged::{LongRanged, Ranged};
 use small_texts::name::{JobName, Name};
 
 impl Typed for u32 {
@@ -25,7 +25,15 @@ impl Typed for u64 {
     }
 }
 
-impl<const LEAST: u64, const MOST: u64> Typed for Ranged<LEAST, MOST> {
+impl<const LEAST: u32, const MOST: u32> Typed for Ranged<LEAST, MOST> {
+    ghost typed = { IsWithin LEAST MOST };
+
+    fn tell(&self) {
+        let _ = self.get();
+    }
+}
+
+impl<const LEAST: u64, const MOST: u64> Typed for LongRanged<LEAST, MOST> {
     ghost typed = { IsWithin LEAST MOST };
 
     fn tell(&self) {

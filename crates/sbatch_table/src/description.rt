@@ -22,7 +22,7 @@ impl Show for Nodes<'_> {
 }
 
 // A number, where it isn't the usual one.
-fn push_number<const LEAST: u64, const MOST: u64>(
+fn push_number<const LEAST: u32, const MOST: u32>(
     out: &mut Vec<u8>,
     name: &str,
     number: Ranged<LEAST, MOST>,

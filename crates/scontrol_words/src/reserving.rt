@@ -10,7 +10,7 @@ use operands::names::{read_few_names, read_few_nodes, read_name};
 use operands::pairs::{Pairs, put, read_pairs};
 use plain_data::items::Items;
 use plain_data::limit::Limit;
-use plain_data::ranged::Ranged;
+use plain_data::ranged::LongRanged;
 use plain_data::seconds::Moment;
 use request_data::boxed::Boxed;
 use request_data::request::Request;
@@ -168,7 +168,7 @@ fn whole(alloc: Global, end: usize, said: Reserved) -> Result<Result<Request, Ba
             let desc = ReservationDesc {
                 name,
                 start,
-                end: Ranged::new(second_of_end(start, until)),
+                end: LongRanged::new(second_of_end(start, until)),
                 nodes,
                 users: names_or_none(alloc, said.users),
                 accounts: names_or_none(alloc, said.accounts),

@@ -5,7 +5,7 @@ ghost use Rattle.state_save.specs.Meanings.{u32_in, u64_in, ranged_in};
 ghost use Rattle.state_save.specs.Fitting.{FitsU32, FitsU64, IsWithin};
 
 use crate::word::Word;
-use plain_data::ranged::Ranged;
+use plain_data::ranged::{LongRanged, Ranged};
 use small_texts::digits::parse_number;
 use small_texts::memory_error::Memory;
 use small_texts::pieces::push_number;
@@ -29,12 +29,27 @@ pub fn read_u64(text: &[u8]) -> Option<u64>
 
 /// A number of a range, in at most twenty digits.
 #[tactic(auto, unfolding(crate::specs::Meanings::ranged_in))]
-pub fn read_ranged<const LEAST: u64, const MOST: u64>(text: &[u8]) -> Option<Ranged<LEAST, MOST>>
+pub fn read_ranged<const LEAST: u32, const MOST: u32>(text: &[u8]) -> Option<Ranged<LEAST, MOST>>
+    ensures { result ≡ ranged_in LEAST MOST text.now }
+{
+    let number = parse_number(text, 20, u64::from(MOST))?;
+    if u64::from(LEAST) <= number {
+        Some(Ranged::new(number))
+    } else {
+        None
+    }
+}
+
+// A number of a range whose end may be above what 32 bits hold, in at most twenty digits.
+#[tactic(auto, unfolding(crate::specs::Meanings::ranged_in))]
+fn read_long_ranged<const LEAST: u64, const MOST: u64>(
+    text: &[u8],
+) -> Option<LongRanged<LEAST, MOST>>
     ensures { result ≡ ranged_in LEAST MOST text.now }
 {
     let number = parse_number(text, 20, MOST)?;
     if LEAST <= number {
-        Some(Ranged::new(number))
+        Some(LongRanged::new(number))
     } else {
         None
     }
@@ -78,7 +93,7 @@ impl Word for u64 {
     fn tell_fits() {}
 }
 
-impl<const LEAST: u64, const MOST: u64> Word for Ranged<LEAST, MOST> {
+impl<const LEAST: u32, const MOST: u32> Word for Ranged<LEAST, MOST> {
     ghost text = { decimal };
 
     ghost meaning = { ranged_in LEAST MOST };
@@ -91,6 +106,25 @@ impl<const LEAST: u64, const MOST: u64> Word for Ranged<LEAST, MOST> {
 
     fn read_word(_alloc: Global, word: &[u8]) -> Result<Ranged<LEAST, MOST>, ValueRefusal> {
         read_ranged(word).ok_or(ValueRefusal::BadValue)
+    }
+
+    #[tactic(auto, using(crate::proofs::Values::ranged_sound))]
+    fn tell_fits() {}
+}
+
+impl<const LEAST: u64, const MOST: u64> Word for LongRanged<LEAST, MOST> {
+    ghost text = { decimal };
+
+    ghost meaning = { ranged_in LEAST MOST };
+
+    ghost fits = { IsWithin LEAST MOST };
+
+    fn push_word(&self, out: &mut Vec<u8>) -> Result<(), Memory> {
+        push_number(out, self.get())
+    }
+
+    fn read_word(_alloc: Global, word: &[u8]) -> Result<LongRanged<LEAST, MOST>, ValueRefusal> {
+        read_long_ranged(word).ok_or(ValueRefusal::BadValue)
     }
 
     #[tactic(auto, using(crate::proofs::Values::ranged_sound))]

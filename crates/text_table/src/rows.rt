@@ -1,12 +1,12 @@
 // Jobs as squeue shows them.
 
-use crate::numbers::{number_or_none, ranged};
+use crate::numbers::{long_ranged, number_or_none};
 use host_lists::hosts::expand_hosts;
 use plain_data::items::Items;
 use plain_data::limit::Limit;
 use plain_data::nice::Nice;
 use plain_data::parse_limit;
-use plain_data::ranged::Ranged;
+use plain_data::ranged::{LongRanged, Ranged};
 use plain_data::seconds::{FOREVER, Second};
 use reply_data::view::{EndAt, JobRow};
 use request_data::state::{Final, JobState, Reason};
@@ -36,7 +36,7 @@ fn start(text: &[u8]) -> Result<Option<Second>, Unanswered> {
     if text == b"-".as_slice() {
         return Ok(None);
     }
-    let second = ranged(text)?;
+    let second = long_ranged(text)?;
     Ok(Some(second))
 }
 
@@ -116,7 +116,7 @@ struct Standing {
     id: u32,
     state: JobState,
     reason: Option<Reason>,
-    elapsed: Ranged<0, FOREVER>,
+    elapsed: LongRanged<0, FOREVER>,
     nodes: u64,
     start: Option<Second>,
 }
@@ -126,7 +126,7 @@ fn standing_of(words: [&[u8]; 5]) -> Result<Standing, Unanswered> {
     let [id, word, seconds, nodes, second] = words;
     let id = narrow_number(id)?;
     let (state, reason) = state(word)?;
-    let elapsed = ranged(seconds)?;
+    let elapsed = long_ranged(seconds)?;
     let nodes = number(nodes)?;
     let start = start(second)?;
     Ok(Standing {
@@ -204,8 +204,8 @@ fn joined(alloc: Global, standing: Standing, names: Names, extras: Extras) -> Jo
         requeue: false,
         restarts: 0,
         exit: None,
-        submit: Ranged::new(0),
-        eligible: Ranged::new(0),
+        submit: LongRanged::new(0),
+        eligible: LongRanged::new(0),
         end: EndAt::Nothing,
         parts: Items::from_vec(Vec::new(alloc)),
     }

@@ -6,7 +6,7 @@ ghost use Rattle.small_texts.specs.Moment.{moment_of};
 
 use plain_data::limit::Limit;
 use plain_data::parse_limit;
-use plain_data::ranged::Ranged;
+use plain_data::ranged::LongRanged;
 use plain_data::seconds::Moment;
 use small_texts::moment::parse_moment;
 
@@ -25,7 +25,7 @@ pub fn read_moment(text: &[u8], now: u64) -> Option<Moment>
     ensures { result ≡ moment_of text.now now }
 {
     match parse_moment(text, now) {
-        Ok(moment) => Some(Ranged::new(moment)),
+        Ok(moment) => Some(LongRanged::new(moment)),
         Err(_) => None,
     }
 }

@@ -6,7 +6,7 @@ ghost use Rattle.trace_text.specs.Handing.{asked_memory, is_cancelled, memory_of
 use crate::submission::{LeftOut, Sizes};
 use crate::{Outcome, TraceJob, TraceMemory, TraceNeeds, TraceTimes};
 use plain_data::mem_ask::MemAsk;
-use plain_data::ranged::Ranged;
+use plain_data::ranged::{LongRanged, Ranged};
 use plain_data::seconds::Moment;
 
 /// The last moment that a request can have.
@@ -28,7 +28,7 @@ fn moment_of(times: TraceTimes) -> Result<Moment, LeftOut>
 {
     match times.submit {
         None => Err(LeftOut::NoSubmit),
-        Some(moment) if moment <= LAST_MOMENT => Ok(Ranged::new(moment)),
+        Some(moment) if moment <= LAST_MOMENT => Ok(LongRanged::new(moment)),
         Some(_) => Err(LeftOut::OutOfRange),
     }
 }
