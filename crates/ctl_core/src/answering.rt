@@ -9,6 +9,7 @@ ghost use Rattle.ctl_core.specs.Sizes.{has_room};
 ghost use Rattle.ctl_core.specs.Step.{reply_of, state_after, kept_after, entered, is_closed, is_entered, nearest, raised, takes_memory, worked};
 
 use crate::changing::{cancel_jobs, change_job, change_jobs};
+use crate::entered::Entered;
 use crate::laws::a_step_keeps_all_sound;
 use crate::operating::{shut_down, update_nodes, update_partition};
 use crate::passing::pass;
@@ -145,7 +146,7 @@ pub(crate) fn done() -> Answered
 {
     Answered {
         reply: Reply::Done,
-        entered: Some(Reply::Done),
+        entered: Some(Entered::done()),
     }
 }
 

@@ -4,6 +4,7 @@
 mod answering;
 mod changing;
 pub mod controller;
+pub mod entered;
 mod inputs;
 pub mod laws;
 mod operating;

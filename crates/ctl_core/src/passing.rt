@@ -12,6 +12,7 @@ ghost use Rattle.ctl_core.specs.Answering.{Answers};
 ghost use Rattle.ctl_core.specs.Step.{is_made, nearest, unless_full};
 
 use crate::answering::{idle, refused};
+use crate::entered::Entered;
 use crate::reply::Answered;
 use backfill_planner::Planned;
 use ctl_node_side::{PassMade, PassOutcome};
@@ -34,11 +35,7 @@ fn passed(ended: u32, started: u32, planned: u32) -> Answered
             started,
             planned,
         },
-        entered: Some(Reply::Passed {
-            ended,
-            started,
-            planned,
-        }),
+        entered: Some(Entered::passed(ended, started, planned)),
     }
 }
 

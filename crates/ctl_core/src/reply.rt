@@ -1,5 +1,6 @@
 //! What the controller decides.
 
+use crate::entered::Entered;
 use reply_data::reply::Reply;
 
 /// What was decided on a request.
@@ -8,7 +9,7 @@ pub struct Decided {
     /// The answer.
     pub reply: Reply,
     /// The answer once more, for the history, where it makes an entry there.
-    pub entered: Option<Reply>,
+    pub entered: Option<Entered>,
     /// The moment at which it was decided: the one handed in, or the last one where that is later.
     pub moment: u64,
 }
@@ -18,5 +19,5 @@ pub struct Decided {
 pub(crate) struct Answered {
     pub(crate) reply: Reply,
     // The reply once more, where it makes an entry.
-    pub(crate) entered: Option<Reply>,
+    pub(crate) entered: Option<Entered>,
 }

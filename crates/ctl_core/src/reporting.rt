@@ -11,6 +11,7 @@ ghost use Rattle.ctl_core.specs.Answering.{Answers};
 ghost use Rattle.ctl_core.specs.Step.{unless_full};
 
 use crate::answering::refused;
+use crate::entered::Entered;
 use crate::reply::Answered;
 use ctl_node_side::report::{node_of, refusal_of};
 use ctl_node_side::{accept, orders};
@@ -51,10 +52,10 @@ pub(crate) fn report(
         return Ok(refused(Refusal::HistoryFull));
     }
     let orders = orders(alloc, cluster, node, report)?;
-    let entered = orders.copy()?;
+    let entered = Entered::ordered(alloc, &orders)?;
     accept(cluster, moment, node, report);
     Ok(Answered {
         reply: Reply::Orders(orders),
-        entered: Some(Reply::Orders(entered)),
+        entered: Some(entered),
     })
 }

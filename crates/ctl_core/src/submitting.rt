@@ -10,6 +10,7 @@ ghost use Rattle.ctl_core.specs.Answering.{Answers};
 ghost use Rattle.ctl_core.specs.Step.{unless_full};
 
 use crate::answering::refused;
+use crate::entered::Entered;
 use crate::reply::Answered;
 use ctl_jobs::submit::{accept, decide};
 use ctl_state::cluster::Cluster;
@@ -45,7 +46,7 @@ pub(crate) fn submit(
             accept(cluster, handed)?;
             Ok(Answered {
                 reply: Reply::Submitted { id },
-                entered: Some(Reply::Submitted { id }),
+                entered: Some(Entered::submitted(id)),
             })
         }
     }

@@ -1,5 +1,6 @@
 //! What the history keeps of an accepted request, and what a session is told.
 
+use ctl_core::entered::Entered;
 use reply_data::reply::Reply;
 use request_data::request::Request;
 use small_texts::name::Name;
@@ -13,7 +14,7 @@ pub struct Entry {
     pub moment: u64,
     pub user: Name,
     pub request: Request,
-    pub reply: Reply,
+    pub reply: Entered,
 }
 
 /// Lets entries go.

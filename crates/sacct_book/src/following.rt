@@ -40,8 +40,8 @@ fn is_still(request: &Request, reply: &Reply) -> bool
 fn let_go(decided: Decided) {
     let Decided { reply, entered, .. } = decided;
     Answer { reply, place: 0 }.let_go();
-    if let Some(reply) = entered {
-        Answer { reply, place: 0 }.let_go();
+    if let Some(entered) = entered {
+        entered.let_go();
     }
 }
 

@@ -16,7 +16,7 @@ use crate::timeline::Timeline;
 use crate::timelines::begin;
 use crate::window::Window;
 use ctl_core::controller::Ctl;
-use ctl_desk::entry::{Answer, Entry, let_all_go};
+use ctl_desk::entry::{Entry, let_all_go};
 use run_limits::assocs::Assocs;
 use small_texts::memory_error::Memory;
 use small_texts::name::Name;
@@ -100,7 +100,7 @@ fn prepare(
 fn let_go(entry: Entry) {
     let Entry { request, reply, .. } = entry;
     request.let_go();
-    Answer { reply, place: 0 }.let_go();
+    reply.let_go();
 }
 
 // Puts an entry behind the others, which have room for it.
