@@ -14,6 +14,7 @@ use job_table::jobs::Jobs;
 use job_table::record::JobRecord;
 use job_table::targets::is_named;
 use plain_data::array::{ArraySpec, Indices};
+use plain_data::boxed::Boxed;
 use plain_data::dependency::{DepId, DepItem, DepKind, DepSpec};
 use request_data::target::Target;
 
@@ -45,7 +46,7 @@ fn has_indices(arrays: &[ArrayRecord], id: u32, indices: &Indices) -> bool
 }
 
 // Whether each task of the array that is handed in has one of its index to wait for.
-fn corresponds(arrays: &[ArrayRecord], array: &Option<ArraySpec>, id: &DepId) -> bool
+fn corresponds(arrays: &[ArrayRecord], array: &Option<Boxed<ArraySpec>>, id: &DepId) -> bool
     ensures { result ≡ Submission.corresponds arrays.now array.now id.now }
 {
     match array {
@@ -55,7 +56,12 @@ fn corresponds(arrays: &[ArrayRecord], array: &Option<ArraySpec>, id: &DepId) ->
 }
 
 // Whether the number names no job, or an array that has other tasks.
-fn is_bad_number(cluster: &Cluster, array: &Option<ArraySpec>, kind: DepKind, id: &DepId) -> bool
+fn is_bad_number(
+    cluster: &Cluster,
+    array: &Option<Boxed<ArraySpec>>,
+    kind: DepKind,
+    id: &DepId,
+) -> bool
     requires { AreTogether cluster.now.jobs.records }
     ensures { result ≡ Submission.is_bad_number (state_of cluster.now) array.now kind id.now }
 {
@@ -66,7 +72,7 @@ fn is_bad_number(cluster: &Cluster, array: &Option<ArraySpec>, kind: DepKind, id
 }
 
 // Whether a number of the item is such.
-fn is_bad_item(cluster: &Cluster, array: &Option<ArraySpec>, item: &DepItem) -> bool
+fn is_bad_item(cluster: &Cluster, array: &Option<Boxed<ArraySpec>>, item: &DepItem) -> bool
     requires { AreTogether cluster.now.jobs.records }
     ensures { result
         ≡ list_any (Submission.is_bad_number (state_of cluster.now) array.now item.now.kind) item.now.ids }
@@ -77,7 +83,7 @@ fn is_bad_item(cluster: &Cluster, array: &Option<ArraySpec>, item: &DepItem) -> 
 }
 
 // Whether an item is such.
-fn has_bad_item(cluster: &Cluster, array: &Option<ArraySpec>, items: &[DepItem]) -> bool
+fn has_bad_item(cluster: &Cluster, array: &Option<Boxed<ArraySpec>>, items: &[DepItem]) -> bool
     requires { AreTogether cluster.now.jobs.records }
     ensures { result ≡ list_any (λ (item : OneItem).
         list_any (Submission.is_bad_number (state_of cluster.now) array.now item.kind) item.ids) items.now }
@@ -90,8 +96,8 @@ fn has_bad_item(cluster: &Cluster, array: &Option<ArraySpec>, items: &[DepItem])
 /// for tasks by their indices linear in the arrays besides.
 pub(crate) fn is_bad_dependency(
     cluster: &Cluster,
-    array: &Option<ArraySpec>,
-    dependency: &Option<DepSpec>,
+    array: &Option<Boxed<ArraySpec>>,
+    dependency: &Option<Boxed<DepSpec>>,
 ) -> bool
     requires { AreTogether cluster.now.jobs.records }
     ensures { result ≡ Submission.is_bad_dependency (state_of cluster.now) array.now dependency.now }

@@ -19,6 +19,7 @@ use ctl_state::cluster::Cluster;
 use job_table::record::JobRecord;
 use node_state::reservation_record::may_use;
 use plain_data::array::ArraySpec;
+use plain_data::boxed::Boxed;
 use plain_data::conf::PartState;
 use plain_data::job::JobDesc;
 use plain_data::nice::Nice;
@@ -75,7 +76,7 @@ fn has_index_from(bound: u64, indices: &[u32]) -> bool
 }
 
 // Whether an index is MaxArraySize or more. Linear in the indices.
-fn is_too_large(cluster: &Cluster, array: &Option<ArraySpec>) -> bool
+fn is_too_large(cluster: &Cluster, array: &Option<Boxed<ArraySpec>>) -> bool
     ensures { result ≡ Submission.is_too_large (state_of cluster.now) array.now }
 {
     let bound = cluster.settings.max_array_size.get();
@@ -86,7 +87,7 @@ fn is_too_large(cluster: &Cluster, array: &Option<ArraySpec>) -> bool
 }
 
 // How many jobs a submission makes.
-fn count_of_jobs(array: &Option<ArraySpec>) -> u64
+fn count_of_jobs(array: &Option<Boxed<ArraySpec>>) -> u64
     ensures count { result ≡ Submission.count_of_jobs array.now }
     ensures few { result ≤ 10_001 }
 {
@@ -116,7 +117,7 @@ fn no_room(cluster: &Cluster, count: u64) -> Option<Refusal>
 fn refusal_of_count(
     cluster: &Cluster,
     job: &JobRecord,
-    array: &Option<ArraySpec>,
+    array: &Option<Boxed<ArraySpec>>,
 ) -> Option<Refusal>
     requires { AreTogether cluster.now.jobs.records }
     ensures { result ≡ first_refusal (Submission.refusals_of_count (state_of cluster.now) job.now array.now) }

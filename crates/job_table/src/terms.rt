@@ -2,6 +2,7 @@
 
 ghost use Rattle.std.specs.Prelude.{◌≡◌, IfOk};
 
+use plain_data::boxed::Boxed;
 use plain_data::dependency::DepSpec;
 use plain_data::features::FeatureExpr;
 use plain_data::items::Items;
@@ -40,14 +41,14 @@ pub struct Terms {
     pub begin: Option<Moment>,
     /// Whether it waits again where a node of it fails.
     pub requeue: bool,
-    pub features: Option<FeatureExpr>,
+    pub features: Option<Boxed<FeatureExpr>>,
     /// Nodes that it must have.
     pub required: Items<Name>,
     /// Nodes that it mustn't have.
     pub excluded: Items<Name>,
     /// How many tasks of its array hold processors at once, at most: the number after `%`.
     pub at_once: Option<Ranged<1, 4294967295>>,
-    pub dependency: Option<DepSpec>,
+    pub dependency: Option<Boxed<DepSpec>>,
     /// How many seconds its script takes, where nothing ends it before (own).
     pub run: Ranged<1, 2000000000>,
     /// The exit code of its script (own).

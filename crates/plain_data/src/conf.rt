@@ -208,3 +208,9 @@ impl Conf {
         })
     }
 }
+
+impl Plain for Conf {
+    fn copy(&self) -> Result<Conf, Memory> {
+        self.copy()
+    }
+}

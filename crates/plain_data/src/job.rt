@@ -4,6 +4,7 @@ ghost use Rattle.std.specs.Prelude.{◌≡◌, IfOk};
 
 use crate::Plain;
 use crate::array::ArraySpec;
+use crate::boxed::Boxed;
 use crate::dependency::DepSpec;
 use crate::features::FeatureExpr;
 use crate::items::Items;
@@ -44,13 +45,13 @@ pub struct JobDesc {
     pub held: bool,
     /// Whether it waits again where a node of it fails.
     pub requeue: Option<bool>,
-    pub features: Option<FeatureExpr>,
+    pub features: Option<Boxed<FeatureExpr>>,
     /// Nodes that it must have.
     pub required: Items<Name>,
     /// Nodes that it mustn't have.
     pub excluded: Items<Name>,
-    pub array: Option<ArraySpec>,
-    pub dependency: Option<DepSpec>,
+    pub array: Option<Boxed<ArraySpec>>,
+    pub dependency: Option<Boxed<DepSpec>>,
     /// How many seconds its script takes, where nothing ends it before (own).
     pub run: Ranged<1, 2000000000>,
     /// The exit code of its script (own).
@@ -91,5 +92,11 @@ impl JobDesc {
             exit: self.exit,
             parsable: self.parsable,
         })
+    }
+}
+
+impl Plain for JobDesc {
+    fn copy(&self) -> Result<JobDesc, Memory> {
+        self.copy()
     }
 }

@@ -9,6 +9,7 @@ use small_texts::name::Name;
 
 pub mod array;
 pub mod assoc;
+pub mod boxed;
 pub mod conf;
 pub mod dependency;
 mod elapsed;

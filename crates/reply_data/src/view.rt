@@ -3,6 +3,7 @@
 ghost use Rattle.std.specs.Prelude.{◌≡◌, IfOk};
 
 use crate::priority::PriorityRow;
+use plain_data::boxed::Boxed;
 use plain_data::conf::PartState;
 use plain_data::dependency::DepSpec;
 use plain_data::items::Items;
@@ -78,7 +79,7 @@ pub struct JobRow {
     pub tasks: u64,
     pub nice: Nice,
     /// What it waits for.
-    pub dependency: Option<DepSpec>,
+    pub dependency: Option<Boxed<DepSpec>>,
     /// Whether it may be started again.
     pub requeue: bool,
     /// How often it was started again.

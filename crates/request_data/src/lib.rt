@@ -5,13 +5,14 @@ use crate::report::{Done, Start};
 use plain_data::Plain;
 use small_texts::memory_error::Memory;
 
-pub mod boxed;
 pub mod query;
 pub mod report;
 pub mod request;
 pub mod reservation;
 pub mod state;
 pub mod target;
+
+pub use plain_data::boxed;
 
 impl Plain for Start {
     fn copy(&self) -> Result<Start, Memory> {

@@ -2,9 +2,9 @@
 
 ghost use Rattle.std.specs.Prelude.{◌≡◌, IfOk};
 
-use crate::boxed::Boxed;
 use crate::target::Target;
 use plain_data::Plain;
+use plain_data::boxed::Boxed;
 use plain_data::items::Items;
 use plain_data::ranged::Ranged;
 use small_texts::memory_error::Memory;
@@ -171,9 +171,9 @@ impl JobQuery {
     }
 }
 
-impl Plain for Boxed<JobQuery> {
-    fn copy(&self) -> Result<Boxed<JobQuery>, Memory> {
-        Boxed::new(self.allocator(), self.value().copy()?)
+impl Plain for JobQuery {
+    fn copy(&self) -> Result<JobQuery, Memory> {
+        self.copy()
     }
 }
 

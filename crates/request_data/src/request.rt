@@ -2,12 +2,12 @@
 
 ghost use Rattle.std.specs.Prelude.{◌≡◌, IfOk};
 
-use crate::boxed::Boxed;
 use crate::query::Query;
 use crate::report::Report;
 use crate::reservation::ReservationDesc;
 use crate::target::{Target, Targets};
 use plain_data::Plain;
+use plain_data::boxed::Boxed;
 use plain_data::conf::{Conf, PartState};
 use plain_data::items::Items;
 use plain_data::job::JobDesc;
@@ -86,24 +86,6 @@ pub enum Request {
     Shutdown,
     /// Asks for records. squeue(1), sinfo(1), sprio(1), "show" in scontrol(1).
     Show(Query),
-}
-
-impl Plain for Boxed<JobDesc> {
-    fn copy(&self) -> Result<Boxed<JobDesc>, Memory> {
-        Boxed::new(self.allocator(), self.value().copy()?)
-    }
-}
-
-impl Plain for Boxed<Conf> {
-    fn copy(&self) -> Result<Boxed<Conf>, Memory> {
-        Boxed::new(self.allocator(), self.value().copy()?)
-    }
-}
-
-impl Plain for Boxed<ReservationDesc> {
-    fn copy(&self) -> Result<Boxed<ReservationDesc>, Memory> {
-        Boxed::new(self.allocator(), self.value().copy()?)
-    }
 }
 
 impl Request {

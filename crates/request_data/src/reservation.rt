@@ -2,6 +2,7 @@
 
 ghost use Rattle.std.specs.Prelude.{◌≡◌, IfOk};
 
+use plain_data::Plain;
 use plain_data::items::Items;
 use plain_data::seconds::{Moment, ReservationEnd};
 use small_texts::memory_error::Memory;
@@ -35,5 +36,11 @@ impl ReservationDesc {
             users: self.users.copy()?,
             accounts: self.accounts.copy()?,
         })
+    }
+}
+
+impl Plain for ReservationDesc {
+    fn copy(&self) -> Result<ReservationDesc, Memory> {
+        self.copy()
     }
 }

@@ -11,6 +11,7 @@ use crate::values::{
     NodeRange, read_job_name, read_mem_per_cpu, read_mem_per_node, read_node_range,
 };
 use plain_data::array::ArraySpec;
+use plain_data::boxed::Boxed;
 use plain_data::dependency::DepSpec;
 use plain_data::features::FeatureExpr;
 use plain_data::limit::Limit;
@@ -55,11 +56,11 @@ pub enum Entry {
     Parsable,
     /// `--requeue` and `--no-requeue`, of which the later counts.
     Requeue(bool),
-    Features(FeatureExpr),
+    Features(Boxed<FeatureExpr>),
     Required(NodeNames),
     Excluded(NodeNames),
-    Array(ArraySpec),
-    Dependency(DepSpec),
+    Array(Boxed<ArraySpec>),
+    Dependency(Boxed<DepSpec>),
     Wrap,
     /// How many seconds the script takes, and its exit code.
     Run(Ranged<1, 2000000000>, Ranged<0, 255>),
@@ -85,11 +86,11 @@ pub struct JobWords {
     pub nice: Nice,
     pub held: bool,
     pub requeue: Option<bool>,
-    pub features: Option<FeatureExpr>,
+    pub features: Option<Boxed<FeatureExpr>>,
     pub required: NodeNames,
     pub excluded: NodeNames,
-    pub array: Option<ArraySpec>,
-    pub dependency: Option<DepSpec>,
+    pub array: Option<Boxed<ArraySpec>>,
+    pub dependency: Option<Boxed<DepSpec>>,
     /// Whether a command stands for the script.
     pub wrap: bool,
     pub run: Ranged<1, 2000000000>,
@@ -139,11 +140,17 @@ fn read_value(
         ValueOption::Limit => Ok(Entry::TimeLimit(read_limit(text).ok_or(bad)?)),
         ValueOption::Begin => Ok(Entry::Begin(read_moment(text, now).ok_or(bad)?)),
         ValueOption::Nice => Ok(Entry::NiceValue(read_nice(text).ok_or(bad)?)),
-        ValueOption::Features => Ok(Entry::Features(read_features(alloc, text)?)),
+        ValueOption::Features => Ok(Entry::Features(Boxed::new(
+            alloc,
+            read_features(alloc, text)?,
+        )?)),
         ValueOption::Required => Ok(Entry::Required(read_few_nodes(alloc, text)?)),
         ValueOption::Excluded => Ok(Entry::Excluded(read_few_nodes(alloc, text)?)),
-        ValueOption::Array => Ok(Entry::Array(read_array(alloc, text)?)),
-        ValueOption::Dependency => Ok(Entry::Dependency(read_dependency(alloc, text)?)),
+        ValueOption::Array => Ok(Entry::Array(Boxed::new(alloc, read_array(alloc, text)?)?)),
+        ValueOption::Dependency => Ok(Entry::Dependency(Boxed::new(
+            alloc,
+            read_dependency(alloc, text)?,
+        )?)),
         ValueOption::Wrap => Ok(Entry::Wrap),
         ValueOption::WithoutEffect => Ok(Entry::WithoutEffect),
     }

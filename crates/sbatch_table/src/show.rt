@@ -1,5 +1,6 @@
 //! How values are shown.
 
+use plain_data::boxed::Boxed;
 use plain_data::ranged::{LongRanged, Ranged};
 use std::fmt::Debug;
 use table_lines::answer::{Unanswered, push};
@@ -113,5 +114,11 @@ impl<const LEAST: u32, const MOST: u32> Show for Ranged<LEAST, MOST> {
 impl<const LEAST: u64, const MOST: u64> Show for LongRanged<LEAST, MOST> {
     fn show(&self, out: &mut Vec<u8>) -> Result<(), Unanswered> {
         push(out, &self.get())
+    }
+}
+
+impl<T: Show> Show for Boxed<T> {
+    fn show(&self, out: &mut Vec<u8>) -> Result<(), Unanswered> {
+        self.value().show(out)
     }
 }

@@ -6,6 +6,7 @@ ghost use Rattle.state_save.specs.Groups.{behind_blanks, ids_words, ids_in, IdsF
 use crate::line_fields::{read_field, read_hosts_field, read_list_field};
 use crate::writer::Writer;
 use line_words::words::Words;
+use plain_data::boxed::Boxed;
 use plain_data::dependency::DepSpec;
 use plain_data::features::FeatureExpr;
 use plain_data::items::Items;
@@ -65,11 +66,11 @@ pub struct JobWish {
 /// What it needs of nodes and of other jobs.
 #[derive(Drop)]
 pub struct JobNeeds {
-    pub features: Option<FeatureExpr>,
+    pub features: Option<Boxed<FeatureExpr>>,
     pub required: Items<Name>,
     pub excluded: Items<Name>,
     pub at_once: Option<Ranged<1, 4294967295>>,
-    pub dependency: Option<DepSpec>,
+    pub dependency: Option<Boxed<DepSpec>>,
 }
 
 /// Its script, and how it waits.

@@ -5,6 +5,7 @@ ghost use Rattle.state_save.specs.Texts.{optional};
 ghost use Rattle.state_save.specs.Meanings.{optional_in};
 ghost use Rattle.state_save.specs.Fitting.{FitsOptional};
 
+use plain_data::boxed::Boxed;
 use small_texts::memory_error::Memory;
 use std::alloc::Global;
 use text_values::refusal::ValueRefusal;
@@ -57,6 +58,28 @@ impl<T: Word> Word for Option<T> {
     }
 
     #[tactic(auto, using(crate::proofs::ListWords::optional_sound))]
+    fn tell_fits() {
+        T::tell_fits();
+    }
+}
+
+impl<T: Word> Word for Boxed<T> {
+    ghost text = { T.text };
+
+    ghost meaning = { T.meaning };
+
+    ghost fits = { T.fits };
+
+    fn push_word(&self, out: &mut Vec<u8>) -> Result<(), Memory> {
+        self.value().push_word(out)
+    }
+
+    fn read_word(alloc: Global, word: &[u8]) -> Result<Boxed<T>, ValueRefusal> {
+        let value = T::read_word(alloc, word)?;
+        let boxed = Boxed::new(alloc, value)?;
+        Ok(boxed)
+    }
+
     fn tell_fits() {
         T::tell_fits();
     }

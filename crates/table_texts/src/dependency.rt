@@ -3,13 +3,14 @@
 ghost use Rattle.std.specs.Prelude.{◌≡◌, ◌++◌, flat_map, OnOk};
 ghost use Rattle.table_texts.specs.Dependency.{kind_word, index_text, id_text, item_text, mark, later_item, items_text, dependency_text};
 
+use plain_data::boxed::Boxed;
 use plain_data::dependency::{DepId, DepItem, DepKind, DepSpec};
 use small_texts::memory_error::Memory;
 use small_texts::pieces::{push_labelled, push_text};
 
 /// Writes what a job waits for, as `--dependency` of sbatch(1) takes it.
 #[tactic(auto, unfolding(crate::specs::Dependency::dependency_text))]
-pub fn push_dependency(out: &mut Vec<u8>, dependency: &Option<DepSpec>) -> Result<(), Memory>
+pub fn push_dependency(out: &mut Vec<u8>, dependency: &Option<Boxed<DepSpec>>) -> Result<(), Memory>
     ensures { OnOk result (out.new.items ≡ out.old.items ++ dependency_text dependency.now) }
 {
     match dependency {

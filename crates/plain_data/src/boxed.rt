@@ -2,6 +2,7 @@
 
 ghost use Rattle.std.specs.Prelude.{◌≡◌, IfOk};
 
+use crate::Plain;
 use small_texts::memory_error::Memory;
 use std::alloc::Global;
 use std::fmt;
@@ -70,5 +71,11 @@ impl<T: Drop> Boxed<T> {
     /// Where it has its memory from.
     pub fn allocator(&self) -> Global {
         *Box::allocator(&self.value)
+    }
+}
+
+impl<T: Plain> Plain for Boxed<T> {
+    fn copy(&self) -> Result<Boxed<T>, Memory> {
+        Boxed::new(self.allocator(), self.value().copy()?)
     }
 }
