@@ -55,16 +55,16 @@ pub struct JobRecord {
     pub array: Option<u32>,
     /// Its index in its array.
     pub index: Option<u32>,
-    /// Who handed it in.
-    pub user: Name,
-    /// What was settled for it when it was handed in.
-    pub terms: SharedTerms,
     /// The place of its association in the list of associations: its user's, of its account.
     pub assoc: u32,
     /// The place of its quality of service in the list of these.
     pub qos: u32,
     /// The place of its partition in the list of partitions.
     pub partition: u32,
+    /// Who handed it in.
+    pub user: Name,
+    /// What was settled for it when it was handed in.
+    pub terms: SharedTerms,
     /// The second at which it was handed in.
     pub submit: u64,
     /// The second from which it counts as waiting.
@@ -107,11 +107,11 @@ impl JobRecord {
             id: self.id,
             array: self.array,
             index: self.index,
-            user: self.user.copy()?,
-            terms: self.terms.share()?,
             assoc: self.assoc,
             qos: self.qos,
             partition: self.partition,
+            user: self.user.copy()?,
+            terms: self.terms.share()?,
             submit: self.submit,
             eligible: self.eligible,
             limit: self.limit,

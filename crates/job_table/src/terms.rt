@@ -37,10 +37,10 @@ pub struct Terms {
     pub mem: MemAsk,
     /// Whether it has its nodes for itself.
     pub exclusive: bool,
-    /// The second before which it doesn't start.
-    pub begin: Option<Moment>,
     /// Whether it waits again where a node of it fails.
     pub requeue: bool,
+    /// The second before which it doesn't start.
+    pub begin: Option<Moment>,
     pub features: Option<Boxed<FeatureExpr>>,
     /// Nodes that it must have.
     pub required: Items<Name>,

@@ -34,17 +34,19 @@ pub struct JobDesc {
     /// How many nodes it has, at most.
     pub max_nodes: Option<Ranged<1, 1024>>,
     pub mem_ask: Option<MemAsk>,
-    /// Whether it has its nodes for itself.
-    pub exclusive: bool,
     /// How long it may run.
     pub limit: Option<Limit>,
     /// The second before which it doesn't start.
     pub begin: Option<Moment>,
     pub nice: Nice,
+    /// Whether it has its nodes for itself.
+    pub exclusive: bool,
     /// Whether it is held from the start.
     pub held: bool,
     /// Whether it waits again where a node of it fails.
     pub requeue: Option<bool>,
+    /// Whether the answer is its number alone.
+    pub parsable: bool,
     pub features: Option<Boxed<FeatureExpr>>,
     /// Nodes that it must have.
     pub required: Items<Name>,
@@ -56,8 +58,6 @@ pub struct JobDesc {
     pub run: Ranged<1, 2000000000>,
     /// The exit code of its script (own).
     pub exit: Ranged<0, 255>,
-    /// Whether the answer is its number alone.
-    pub parsable: bool,
 }
 
 impl JobDesc {
@@ -77,12 +77,13 @@ impl JobDesc {
             min_nodes: self.min_nodes,
             max_nodes: self.max_nodes,
             mem_ask: self.mem_ask,
-            exclusive: self.exclusive,
             limit: self.limit,
             begin: self.begin,
             nice: self.nice,
+            exclusive: self.exclusive,
             held: self.held,
             requeue: self.requeue,
+            parsable: self.parsable,
             features: self.features.copy()?,
             required: self.required.copy()?,
             excluded: self.excluded.copy()?,
@@ -90,7 +91,6 @@ impl JobDesc {
             dependency: self.dependency.copy()?,
             run: self.run,
             exit: self.exit,
-            parsable: self.parsable,
         })
     }
 }
