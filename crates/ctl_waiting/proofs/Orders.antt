@@ -1,15 +1,18 @@
 -- Elements in order and the first of them, and so jobs in the order of their ranks.
 use Rattle.std.proofs.Common.{◌≡◌, ◌⊎◌, ℕ, ◌+◌, ◌≤◌, ◌<◌, Bool, false, ◌&&◌, ◌||◌, cond, eqb, ltb, List, [], ◌∷◌, ◌++◌, length, map, filter, take, get_or, true, Option, Some, None, arith, refl, ap, sym, ◌∙◌, inl, inr}
-use Rattle.std.specs.Prelude.{slice_get}
+use Rattle.std.specs.Prelude.{slice_get, IfSome, option_map}
+use Rattle.std.specs.Option.{option_map_or}
 use Rattle.std.specs.Cmp.{IsStrictWeakOrder}
 use Rattle.std.proofs.lemmas.Bool.{cases_Bool}
 use Rattle.std.proofs.lemmas.Bool.Decides.{nat_tests}
 use Rattle.std.proofs.lemmas.List.{append-nil}
 use Rattle.std.proofs.lemmas.List.Elements.{filter_more}
 use Rattle.job_table.specs.declared.record.JobRecord.{JobRecord}
+use Rattle.job_table.specs.JobStates.{is_pending}
 use Rattle.ctl_state.specs.Ordered.{put, ordered_by}
 use Rattle.ctl_state.specs.State.{State}
 use Rattle.ctl_waiting.specs.declared.rank_keys.RankKey.{RankKey}
+use Rattle.ctl_waiting.specs.declared.ranking.Candidate.{Candidate}
 use Rattle.ctl_waiting.specs.Rank.{is_above, is_higher, key_of}
 use Rattle.ctl_waiting.specs.Candidates.{is_candidate, candidates}
 
@@ -145,3 +148,76 @@ highest-more s now i job within is =
 pub highest-is : (s : State) (now : ℕ) → highest_of s now s.jobs ≡ slice_get (candidates s now) 0
 unfolding highest_of candidates
 highest-is s now = refl
+
+-- whether what is ranked by a key is above the candidate that is found, where one is
+abbrev pub above_found : RankKey → Option Candidate → Bool
+above_found key found = option_map_or (λ (one : Candidate). is_above key one.key) found true
+
+chosen : {X : Type 0} (a b : Bool) (x y : X) → cond a (cond b x y) y ≡ cond (a && b) x y
+chosen true b x y = refl
+chosen false b x y = refl
+
+-- the highest with one job more, by the candidate that is found among those before it, with its key
+pub highest-found : (s : State) (now i : ℕ) (job : JobRecord) (found : Option Candidate) → i < length s.jobs
+    → job ≡ get_or s.jobs i job
+    → option_map (λ (one : Candidate). one.job.now) found ≡ highest_of s now (take i s.jobs)
+    → IfSome found (λ (one : Candidate). one.key ≡ key_of s now one.job.now)
+    → highest_of s now (take (i + 1) s.jobs) ≡ cond (is_candidate s now job && above_found (key_of s now job) found)
+    (Some job) (option_map (λ (one : Candidate). one.job.now) found)
+unfolding is_higher
+highest-found s now i job found within is held keyed =
+    let can = is_candidate s now job in
+    highest-more s now i job within is
+    ∙ ap (λ was. cond can (higher (is_higher s now) job was) was) (sym held) ∙ by found keyed where
+      by : (found : Option Candidate) → IfSome found (λ (one : Candidate). one.key ≡ key_of s now one.job.now)
+          → cond (is_candidate s now job)
+          (higher (is_higher s now) job (option_map (λ (one : Candidate). one.job.now) found))
+          (option_map (λ (one : Candidate). one.job.now) found)
+          ≡ cond (is_candidate s now job && above_found (key_of s now job) found) (Some job)
+          (option_map (λ (one : Candidate). one.job.now) found)
+      by None keyed = chosen (is_candidate s now job) true (Some job) None
+      by (Some one) keyed =
+          chosen (is_candidate s now job) (is_above (key_of s now job) (key_of s now one.job.now)) (Some job) (Some one.job.now)
+          ∙ ap (λ key. cond (is_candidate s now job && is_above (key_of s now job) key) (Some job) (Some one.job.now)) (sym keyed)
+
+-- it stays where that job is no candidate, and where it isn't above the one that is found; else it is that job
+pub highest-kept : (s : State) (now i : ℕ) (job : JobRecord) (found : Option Candidate) → i < length s.jobs
+    → job ≡ get_or s.jobs i job
+    → option_map (λ (one : Candidate). one.job.now) found ≡ highest_of s now (take i s.jobs)
+    → IfSome found (λ (one : Candidate). one.key ≡ key_of s now one.job.now)
+    → is_candidate s now job ≡ false
+    → option_map (λ (one : Candidate). one.job.now) found ≡ highest_of s now (take (i + 1) s.jobs)
+highest-kept s now i job found within is held keyed other =
+    sym (highest-found s now i job found within is held keyed
+    ∙ ap (λ b. cond (b && above_found (key_of s now job) found) (Some job) (option_map (λ (one : Candidate). one.job.now) found)) other)
+
+pub highest-below : (s : State) (now i : ℕ) (job : JobRecord) (found : Option Candidate) (key : RankKey) → i < length s.jobs
+    → job ≡ get_or s.jobs i job
+    → option_map (λ (one : Candidate). one.job.now) found ≡ highest_of s now (take i s.jobs)
+    → IfSome found (λ (one : Candidate). one.key ≡ key_of s now one.job.now)
+    → key ≡ key_of s now job → above_found key found ≡ false
+    → option_map (λ (one : Candidate). one.job.now) found ≡ highest_of s now (take (i + 1) s.jobs)
+highest-below s now i job found key within is held keyed own below =
+    let was = option_map (λ (one : Candidate). one.job.now) found in
+    sym (highest-found s now i job found within is held keyed
+    ∙ ap (λ b. cond (is_candidate s now job && b) (Some job) was) (ap (λ key. above_found key found) (sym own) ∙ below)
+    ∙ sym (chosen (is_candidate s now job) false (Some job) was) ∙ same (is_candidate s now job) was) where
+      same : (b : Bool) (x : Option JobRecord) → cond b x x ≡ x
+      same true x = refl
+      same false x = refl
+
+pub highest-raised : (s : State) (now i : ℕ) (job : JobRecord) (found : Option Candidate) (key : RankKey) → i < length s.jobs
+    → job ≡ get_or s.jobs i job
+    → option_map (λ (one : Candidate). one.job.now) found ≡ highest_of s now (take i s.jobs)
+    → IfSome found (λ (one : Candidate). one.key ≡ key_of s now one.job.now)
+    → key ≡ key_of s now job → is_candidate s now job ≡ true → above_found key found ≡ true
+    → Some job ≡ highest_of s now (take (i + 1) s.jobs)
+highest-raised s now i job found key within is held keyed own can above =
+    let was = option_map (λ (one : Candidate). one.job.now) found in
+    sym (highest-found s now i job found within is held keyed
+    ∙ ap (λ b. cond (b && above_found (key_of s now job) found) (Some job) was) can
+    ∙ ap (λ b. cond b (Some job) was) (ap (λ key. above_found key found) (sym own) ∙ above))
+
+-- a job that isn't pending is no candidate
+pub not_pending : (s : State) (now : ℕ) (job : JobRecord) → is_pending job.state ≡ false → is_candidate s now job ≡ false
+not_pending s now job other = rw other refl

@@ -1,6 +1,7 @@
 //! The jobs that can be planned, by rank, and what they need.
 
 ghost use Rattle.std.specs.Prelude.{◌≡◌, ◌≤◌, ◌<◌, ◌↔◌, All, Contains, IfOk, IfSome, IsTrue, length, map, filter, filter_map, option_map, slice_get, None, Some, true};
+ghost use Rattle.std.specs.Option.{option_map_or};
 ghost use Rattle.std.specs.Ordering.{is_lt};
 ghost use Rattle.backfill_planner.specs.declared.job.PlanJob.{PlanJob};
 ghost use Rattle.job_table.specs.declared.record.JobRecord.{JobRecord};
@@ -279,16 +280,14 @@ pub fn rank(
     needs_of(alloc, cluster, &grounds, candidates.as_slice())
 }
 
-// Whether one job is higher in rank than another.
-#[tactic(auto, unfolding(crate::specs::Rank::is_higher))]
-fn is_higher(cluster: &Cluster, factors: &Factors, one: &JobRecord, other: &JobRecord) -> bool
-    requires { IsMeasured (state_of cluster.now) factors.now }
-    ensures { result ≡ Rank.is_higher (state_of cluster.now) factors.now.moment one.now other.now }
+// Whether what is ranked by this key is higher in rank than the candidate, where there is one.
+fn is_above_first(key: RankKey, first: &Option<Candidate>) -> bool
+    ensures { result ≡ option_map_or (λ (one : Candidate). Rank.is_above key one.key) first.now true }
 {
-    is_above(
-        key_of(factors, cluster, one),
-        key_of(factors, cluster, other),
-    )
+    match first {
+        Some(candidate) => is_above(key, candidate.key),
+        None => true,
+    }
 }
 
 /// The number of the candidate that is highest in rank at the factors' moment, None where there is no candidate then.
@@ -319,17 +318,18 @@ pub fn highest_beside(
     ensures { result ≡ option_map (λ (job : JobRecord). job.id)
         (slice_get (Candidates.candidates (state_of cluster.now) factors.now.moment) 0) }
 {
-    let mut highest: Option<&JobRecord> = None;
+    let mut highest: Option<Candidate> = None;
     for job in cluster.jobs.records() {
-        let comes_first = match highest {
-            Some(first) => is_pending(job) && is_higher(cluster, factors, job, first),
-            None => true,
-        };
-        if comes_first && is_candidate(cluster, tally, behind, factors.moment, job) {
-            highest = Some(job);
+        if is_pending(job) {
+            let key = key_of(factors, cluster, job);
+            if is_above_first(key, &highest)
+                && is_candidate(cluster, tally, behind, factors.moment, job)
+            {
+                highest = Some(Candidate { job, key });
+            }
         }
     }
-    Some(highest?.id)
+    Some(highest?.job.id)
 }
 
 // Whether a job comes before this candidate in rank.
