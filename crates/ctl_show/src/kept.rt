@@ -5,7 +5,7 @@ ghost use Rattle.ctl_state.specs.State.{state_of, last_moment};
 ghost use Rattle.ctl_state.specs.Soundness.{IsSound};
 ghost use Rattle.ctl_show.specs.Showing;
 
-use crate::rows::row_at;
+use crate::rows::push_row_at;
 use crate::spans::{extent_of, places_meant};
 use ctl_state::cluster::Cluster;
 use job_table::record::JobRecord;
@@ -43,8 +43,15 @@ pub(crate) fn kept_rows(
     let extent = extent_of(places);
     for place in places.first..places.end {
         if is_meant(target, &cluster.jobs.records()[place]) {
-            let row = row_at(alloc, cluster, moment, extent, &mut outlook, place)?;
-            rows.push(Row::Job(row))?;
+            push_row_at(
+                alloc,
+                cluster,
+                moment,
+                extent,
+                &mut outlook,
+                &mut rows,
+                place,
+            )?;
         }
     }
     Ok(rows)

@@ -110,7 +110,7 @@ pub(crate) fn planned_start(cluster: &Cluster, waiting: &Waiting, job: &JobRecor
         → result ≡ Showing.planned_start cluster.now.plan.items job.now.id }
 {
     match &waiting.shared {
-        Some(shared) => shared.starts.get(&job.id).copied(),
-        None => start_in(&cluster.plan, job.id),
+        Some(shared) if !cluster.plan.is_empty() => shared.starts.get(&job.id).copied(),
+        _ => start_in(&cluster.plan, job.id),
     }
 }

@@ -1,11 +1,12 @@
 //! The rows of jobs.
 
-ghost use Rattle.std.specs.Prelude.{◌≡◌, ◌≤◌, ◌<◌, ℕ, All, Contains, IfOk, IfSome, OnOk, length, unwrap_or};
+ghost use Rattle.std.specs.Prelude.{◌≡◌, ◌≤◌, ◌<◌, ◌++◌, ◌∷◌, [], ℕ, All, Contains, IfOk, IfSome, OnOk, length, unwrap_or};
 ghost use Rattle.std.specs.List.{HoldsAt};
 ghost use Rattle.backfill_planner.specs.declared.Placed.{Placed};
 ghost use Rattle.ctl_state.specs.State.{state_of, last_moment, last_second};
 ghost use Rattle.ctl_state.specs.Soundness.{IsSound};
 ghost use Rattle.job_table.specs.Targets.{AreTogether};
+ghost use Rattle.reply_data.specs.declared.view.Row.TheVariants.{Job};
 ghost use Rattle.ctl_show.specs.Found.{IsOutlook, HasFound};
 ghost use Rattle.ctl_show.specs.Showing;
 
@@ -19,6 +20,7 @@ use ctl_state::jobs::is_pending;
 use ctl_state::planning::names_of;
 use ctl_waiting::priority_of;
 use job_table::record::JobRecord;
+use job_table::targets::Places;
 use job_table::usage::cpus_in;
 use plain_data::Plain;
 use plain_data::items::Items;
@@ -180,14 +182,16 @@ fn end_shown(job: &JobRecord) -> EndAt
     }
 }
 
-// What is shown of the job. Linear in its parts, beside what it costs to tell why it waits.
-fn row_of(
+// Adds what is shown of the job to the rows. It is made there, since a row is large. Linear in its parts, beside what it
+// costs to tell why it waits.
+fn push_row(
     alloc: Global,
     cluster: &Cluster,
     moment: u64,
     outlook: &Outlook,
+    rows: &mut Vec<Row>,
     job: &JobRecord,
-) -> Result<JobRow, Memory>
+) -> Result<(), Memory>
     requires in_time { moment ≤ last_moment }
     requires together { AreTogether cluster.now.jobs.records }
     requires outlook { IsOutlook (state_of cluster.now) moment outlook.now }
@@ -199,10 +203,11 @@ fn row_of(
     requires ended { unwrap_or job.now.ended 0 ≤ last_moment }
     requires submitted { job.now.submit ≤ last_moment }
     requires eligible { job.now.eligible ≤ last_moment }
-    ensures { IfOk result (λ row. row ≡ Showing.row_of (state_of cluster.now) moment job.now) }
+    ensures { OnOk result (rows.new.items
+        ≡ rows.old.items ++ Job (Showing.row_of (state_of cluster.now) moment job.now) ∷ []) }
 {
     let terms = job.terms();
-    Ok(JobRow {
+    rows.push(Row::Job(JobRow {
         id: job.id,
         array: job.array,
         index: job.index,
@@ -230,34 +235,51 @@ fn row_of(
         eligible: LongRanged::new(job.eligible),
         end: end_shown(job),
         parts: named_parts(alloc, cluster.nodes.records(), job.parts.as_slice())?,
-    })
+    }))?;
+    Ok(())
 }
 
-/// What is shown of the job at a place. Linear in its parts, beside what `look` costs, and where it is pending what it
-/// costs to tell why it waits.
-pub(crate) fn row_at(
+/// Adds what is shown of the job at a place to the rows. Linear in its parts, beside what `look` costs, and where it is
+/// pending what it costs to tell why it waits.
+pub(crate) fn push_row_at(
     alloc: Global,
     cluster: &Cluster,
     moment: u64,
     extent: Extent,
     outlook: &mut Option<Outlook>,
+    rows: &mut Vec<Row>,
     place: usize,
-) -> Result<JobRow, Memory>
+) -> Result<(), Memory>
     requires sound { IsSound (state_of cluster.now) }
     requires in_time { moment ≤ last_moment }
     requires outlook { IfSome outlook.old (IsOutlook (state_of cluster.now) moment) }
     requires there { place < length cluster.now.jobs.records }
-    ensures row { IfOk result (λ row.
-        HoldsAt (λ job. row ≡ Showing.row_of (state_of cluster.now) moment job) cluster.now.jobs.records place) }
+    ensures rows { OnOk result (HoldsAt (λ job. rows.new.items
+        ≡ rows.old.items ++ Job (Showing.row_of (state_of cluster.now) moment job) ∷ [])
+        cluster.now.jobs.records place) }
     ensures outlook { OnOk result (IfSome outlook.new (IsOutlook (state_of cluster.now) moment)) }
 {
     let job = &cluster.jobs.records()[place];
     look(alloc, cluster, moment, extent, outlook, job)?;
-    row_of(alloc, cluster, moment, outlook.as_ref().unwrap(), job)
+    push_row(alloc, cluster, moment, outlook.as_ref().unwrap(), rows, job)
+}
+
+// How many of the jobs at these places a user's query shows.
+fn count_shown(cluster: &Cluster, asker: &Name, query: &JobQuery, places: Places) -> usize
+    requires sound { IsSound (state_of cluster.now) }
+    requires there { places.end ≤ length cluster.now.jobs.records }
+{
+    let mut count = 0;
+    for place in places.first..places.end {
+        if is_shown(cluster, asker, query, &cluster.jobs.records()[place]) {
+            count += 1;
+        }
+    }
+    count
 }
 
 /// The rows of the jobs that a user's query shows, in the order of their numbers. It walks the places between which the
-/// jobs lie that the query names.
+/// jobs lie that the query names, once to count them: rows are large, and memory is taken for no more of them.
 pub(crate) fn job_rows(
     alloc: Global,
     cluster: &Cluster,
@@ -270,14 +292,21 @@ pub(crate) fn job_rows(
     ensures { IfOk result (λ rows.
         rows.items ≡ Showing.job_rows (state_of cluster.now) moment asker.now query.now) }
 {
-    let mut outlook = None;
-    let mut rows = Vec::new(alloc);
     let places = places_among(&cluster.jobs, &query.jobs);
     let extent = extent_of(places);
+    let mut outlook = None;
+    let mut rows = Vec::with_capacity(alloc, count_shown(cluster, asker, query, places))?;
     for place in places.first..places.end {
         if is_shown(cluster, asker, query, &cluster.jobs.records()[place]) {
-            let row = row_at(alloc, cluster, moment, extent, &mut outlook, place)?;
-            rows.push(Row::Job(row))?;
+            push_row_at(
+                alloc,
+                cluster,
+                moment,
+                extent,
+                &mut outlook,
+                &mut rows,
+                place,
+            )?;
         }
     }
     Ok(rows)

@@ -6,7 +6,7 @@ use Rattle.ctl_show.specs.Showing.{row_of, is_meant}
 use Rattle.ctl_show.proofs.Gathered.{map-filter-more}
 use Rattle.ctl_show.proofs.Walked.{filter-before, filter-past}
 use Rattle.ctl_show.proofs.kept.kept_rows.Goals as goal
-use Rattle.ctl_show.proofs.kept.kept_rows.Goals.{then-is_meant+in_ok-row+in_ok-push, else-is_meant}
+use Rattle.ctl_show.proofs.kept.kept_rows.Goals.{then-is_meant+in_ok-push_row_at, else-is_meant}
 
 pub loop-place-init : goal.loop-place-init
 loop-place-init c =
@@ -32,9 +32,9 @@ loop-place-preserved c =
     let is : job ≡ get_or s.jobs place job = rw c.records.ensures.value at c.index-records-place.is in
     let more = rw (← c.is_meant.ensures) at (map-filter-more row (is_meant c.args.target.now) s.jobs place job inside is) in
     elim c.if-is_meant.branch [
-      | then-is_meant+in_ok-row+in_ok-push w ↦ record {
-        rows = rw (w.rows-is, w.in_ok-push.ensures.items, held.rows, rw (← is) at (w.in_ok-row.ensures.row job), more, w.if-is_meant.true) refl;
-        outlook = rw w.outlook-is w.in_ok-row.ensures.outlook;
+      | then-is_meant+in_ok-push_row_at w ↦ record {
+        rows = rw (w.rows-is, rw (← is) at (w.in_ok-push_row_at.ensures.rows job), held.rows, more, w.if-is_meant.true) refl;
+        outlook = rw w.outlook-is w.in_ok-push_row_at.ensures.outlook;
         within = omega (arith, inside);
         end = held.end;
       }

@@ -6,7 +6,7 @@ use Rattle.ctl_show.specs.Showing.{row_of, is_shown}
 use Rattle.ctl_show.proofs.Gathered.{map-filter-more}
 use Rattle.ctl_show.proofs.Walked.{filter-before, filter-past, shown-lie}
 use Rattle.ctl_show.proofs.rows.job_rows.Goals as goal
-use Rattle.ctl_show.proofs.rows.job_rows.Goals.{then-is_shown+in_ok-row+in_ok-push, else-is_shown}
+use Rattle.ctl_show.proofs.rows.job_rows.Goals.{then-is_shown+in_ok-push_row_at, else-is_shown}
 
 pub loop-place-init : goal.loop-place-init
 loop-place-init c =
@@ -15,7 +15,7 @@ loop-place-init c =
     let lie = shown-lie s c.args.asker.now c.args.query.now places.result places.ensures in
     let row = λ (job : JobRecord). Job (row_of s c.args.moment job) in
     record {
-      rows = c.new-rows.ensures.items ∙ ap (map row) (sym (filter-before (is_shown s c.args.asker.now c.args.query.now) s.jobs places.result lie));
+      rows = c.in_ok-rows.ensures.items ∙ ap (map row) (sym (filter-before (is_shown s c.args.asker.now c.args.query.now) s.jobs places.result lie));
       outlook = tt;
       within = lie.within.0;
       end = lie.within.1;
@@ -32,9 +32,9 @@ loop-place-preserved c =
     let is : job ≡ get_or s.jobs place job = rw c.records.ensures.value at c.index-records-place.is in
     let more = rw (← c.is_shown.ensures) at (map-filter-more row (is_shown s c.args.asker.now c.args.query.now) s.jobs place job inside is) in
     elim c.if-is_shown.branch [
-      | then-is_shown+in_ok-row+in_ok-push w ↦ record {
-        rows = rw (w.rows-is, w.in_ok-push.ensures.items, held.rows, rw (← is) at (w.in_ok-row.ensures.row job), more, w.if-is_shown.true) refl;
-        outlook = rw w.outlook-is w.in_ok-row.ensures.outlook;
+      | then-is_shown+in_ok-push_row_at w ↦ record {
+        rows = rw (w.rows-is, rw (← is) at (w.in_ok-push_row_at.ensures.rows job), held.rows, more, w.if-is_shown.true) refl;
+        outlook = rw w.outlook-is w.in_ok-push_row_at.ensures.outlook;
         within = omega (arith, inside);
         end = held.end;
       }
