@@ -1,5 +1,5 @@
 -- The lines of squeue.
-use Rattle.std.specs.Prelude.{ℕ, ◌*◌, Bool, if◌then◌else◌, List, [], ◌∷◌, ◌++◌, flat_map, Option, Some, None, codes, decimal}
+use Rattle.std.specs.Prelude.{ℕ, ◌*◌, Bool, true, false, if◌then◌else◌, List, [], ◌∷◌, ◌++◌, flat_map, Option, Some, None, codes, decimal}
 use Rattle.plain_data.specs.Elapsed.{elapsed_text}
 use Rattle.host_lists.specs.Folding.{folded}
 use Rattle.small_texts.specs.Moment.{moment_text}
@@ -20,6 +20,8 @@ use Rattle.reply_data.specs.declared.view.Row.{Row}
 use Rattle.reply_data.specs.declared.view.Row.TheVariants as shown
 use Rattle.reply_data.specs.declared.view.View.{View}
 use Rattle.operands.specs.Format.{usual}
+use Rattle.table_texts.specs.declared.told.Content.{Content}
+use Rattle.table_texts.specs.declared.told.Content.TheVariants as content
 use Rattle.table_texts.specs.Field.{field}
 
 -- "JOB STATE CODES" in squeue(1)
@@ -69,14 +71,22 @@ reason_name ReqNodeNotAvail = codes "ReqNodeNotAvail"
 reason_name Resources = codes "Resources"
 reason_name Priority = codes "Priority"
 
+-- a reason in parentheses
+abbrev pub reason_text : Reason → List ℕ
+reason_text reason = codes "(" ++ reason_name reason ++ codes ")"
+
 -- the reason in parentheses, or the nodes
 abbrev pub place_of : Option Reason → List (List ℕ) → List ℕ
 place_of None names = folded names
-place_of (Some reason) names = codes "(" ++ reason_name reason ++ codes ")"
+place_of (Some reason) names = reason_text reason
+
+-- `ARRAY_INDEX`
+abbrev pub task_of : ℕ → ℕ → List ℕ
+task_of array index = decimal array ++ codes "_" ++ decimal index
 
 -- `ARRAY_INDEX` of a task, else the job's number
 abbrev pub id_of : ℕ → Option ℕ → Option ℕ → List ℕ
-id_of id (Some array) (Some index) = decimal array ++ codes "_" ++ decimal index
+id_of id (Some array) (Some index) = task_of array index
 id_of id array index = decimal id
 
 abbrev pub start_of : Option ℕ → List ℕ
@@ -105,6 +115,16 @@ told row column.Priority = decimal row.priority
 told row column.Limit = limit_of row.limit
 told row column.Cpus = decimal row.cpus
 
+-- what a column tells, written
+abbrev pub written : Content → List ℕ
+written (content.Text text) = text.now
+written (content.Number number) = decimal number
+written (content.Task array index) = task_of array index
+written (content.Elapsed seconds) = elapsed_text seconds
+written (content.Moment second) = moment_text second
+written (content.Reason reason) = reason_text reason
+written (content.Nodes row) = folded row.now.node_names
+
 -- what stands above it
 unfoldable pub title : JobColumn → List ℕ
 title column.Id = codes "JOBID"
@@ -132,6 +152,15 @@ sized (Some width) dot text = field width dot text
 abbrev pub piece_text : (JobColumn → List ℕ) → Piece → List ℕ
 piece_text tells (Plain byte) = byte ∷ []
 piece_text tells (Column column width dot) = sized width dot (tells column)
+
+-- a piece that tells nothing
+abbrev pub blank : Piece → List ℕ
+blank = piece_text (λ column. [])
+
+-- whether a piece takes as many bytes whatever the columns tell
+abbrev pub is_fixed : Piece → Bool
+is_fixed (Column column None dot) = false
+is_fixed piece = true
 
 unfoldable pub line : (JobColumn → List ℕ) → List Piece → List ℕ
 line tells pieces = flat_map (piece_text tells) pieces ++ codes "\n"

@@ -1,49 +1,27 @@
-//! What the columns of squeue(1) tell of a job.
+//! The texts of the columns of squeue(1).
 
 ghost use Rattle.std.specs.Prelude.{◌≡◌, ◌≤◌, ◌++◌, OnOk};
 ghost use Rattle.plain_data.specs.Elapsed.{elapsed_text};
 ghost use Rattle.small_texts.specs.Moment.{moment_text};
 ghost use Rattle.table_texts.specs.Squeue;
 
-use host_lists::folding::fold_hosts;
 use plain_data::limit::Limit;
 use plain_data::print_elapsed;
 use plain_data::seconds::{FOREVER, Second};
-use reply_data::view::JobRow;
 use request_data::query::JobColumn;
 use request_data::state::{Final, JobState, Reason};
 use small_texts::memory_error::Memory;
 use small_texts::moment::print_moment;
 use small_texts::pieces::{push_labelled, push_number, push_text};
-use std::alloc::Global;
 
-/// Writes what the column tells of a job. The names of its nodes take memory beside `out` while they are folded.
-#[tactic(auto, unfolding(crate::specs::Squeue::told))]
-pub fn push_told(
-    alloc: Global,
-    out: &mut Vec<u8>,
-    row: &JobRow,
-    column: JobColumn,
-) -> Result<(), Memory>
-    ensures { OnOk result (out.new.items ≡ out.old.items ++ Squeue.told row.now column) }
+/// Writes a reason in parentheses.
+pub fn push_reason(out: &mut Vec<u8>, reason: Reason) -> Result<(), Memory>
+    ensures { OnOk result (out.new.items ≡ out.old.items ++ Squeue.reason_text reason) }
 {
-    match column {
-        JobColumn::Id => push_id(out, row.id, row.array, row.index),
-        JobColumn::Partition => push_text(out, row.partition.as_bytes()),
-        JobColumn::JobName => push_text(out, row.name.as_bytes()),
-        JobColumn::User => push_text(out, row.user.as_bytes()),
-        JobColumn::Account => push_text(out, row.account.as_bytes()),
-        JobColumn::Qos => push_text(out, row.qos.as_bytes()),
-        JobColumn::Code => push_text(out, state_code(row.state)),
-        JobColumn::State => push_text(out, state_word(row.state)),
-        JobColumn::Time => push_elapsed(out, row.elapsed.get()),
-        JobColumn::Nodes => push_number(out, row.nodes),
-        JobColumn::Place => push_place(alloc, out, row),
-        JobColumn::Start => push_start(out, row.start),
-        JobColumn::Priority => push_number(out, u64::from(row.priority)),
-        JobColumn::Limit => push_limit(out, row.limit),
-        JobColumn::Cpus => push_number(out, row.cpus),
-    }
+    out.push(b'(')?;
+    push_text(out, reason_name(reason))?;
+    out.push(b')')?;
+    Ok(())
 }
 
 /// The title of a column.
@@ -70,6 +48,14 @@ pub fn title(column: JobColumn) -> &'static [u8]
     }
 }
 
+/// Writes the number of an array and the index of its task.
+pub fn push_task(out: &mut Vec<u8>, array: u32, index: u32) -> Result<(), Memory>
+    ensures { OnOk result (out.new.items ≡ out.old.items ++ Squeue.task_of array index) }
+{
+    push_number(out, u64::from(array))?;
+    push_labelled(out, b"_", u64::from(index))
+}
+
 /// Writes the job's number; a task of an array is named by the array and its index.
 pub fn push_id(
     out: &mut Vec<u8>,
@@ -80,10 +66,7 @@ pub fn push_id(
     ensures { OnOk result (out.new.items ≡ out.old.items ++ Squeue.id_of id array index) }
 {
     match (array, index) {
-        (Some(array), Some(index)) => {
-            push_number(out, u64::from(array))?;
-            push_labelled(out, b"_", u64::from(index))
-        }
+        (Some(array), Some(index)) => push_task(out, array, index),
         _ => push_number(out, u64::from(id)),
     }
 }
@@ -96,15 +79,6 @@ pub fn push_elapsed(out: &mut Vec<u8>, seconds: u64) -> Result<(), Memory>
     let mut text = [0; 32];
     let len = print_elapsed(seconds, &mut text);
     push_text(out, &text[..len])
-}
-
-fn push_start(out: &mut Vec<u8>, start: Option<Second>) -> Result<(), Memory>
-    ensures { OnOk result (out.new.items ≡ out.old.items ++ Squeue.start_of start) }
-{
-    match start {
-        Some(start) => push_moment(out, start),
-        None => push_text(out, b"N/A"),
-    }
 }
 
 /// Writes a moment.
@@ -126,23 +100,8 @@ pub fn push_limit(out: &mut Vec<u8>, limit: Limit) -> Result<(), Memory>
     }
 }
 
-fn push_place(alloc: Global, out: &mut Vec<u8>, row: &JobRow) -> Result<(), Memory>
-    ensures { OnOk result (out.new.items ≡ out.old.items ++ Squeue.place_of row.now.reason row.now.node_names) }
-{
-    match row.reason {
-        Some(reason) => {
-            push_text(out, b"(")?;
-            push_text(out, reason_name(reason))?;
-            push_text(out, b")")
-        }
-        None => push_text(
-            out,
-            fold_hosts(alloc, row.node_names.as_slice())?.as_slice(),
-        ),
-    }
-}
-
-fn state_code(state: JobState) -> &'static [u8]
+/// The code of a state.
+pub fn state_code(state: JobState) -> &'static [u8]
     ensures { result.now ≡ Squeue.state_code state }
 {
     match state {

@@ -1,6 +1,6 @@
 //! Fields of a fixed width.
 
-ghost use Rattle.std.specs.Prelude.{◌≡◌, ◌≤◌, ◌++◌, OnOk, replicate};
+ghost use Rattle.std.specs.Prelude.{◌≡◌, ◌≤◌, ◌++◌, OnOk, length, replicate};
 ghost use Rattle.std.specs.Str.{byte};
 ghost use Rattle.table_texts.specs.Field.{field, cell, left_cell};
 
@@ -37,6 +37,17 @@ pub fn push_field(out: &mut Vec<u8>, width: usize, dot: bool, text: &[u8]) -> Re
         push_text(out, text)?;
         push_blanks(out, blanks)
     }
+}
+
+/// Writes the text over blanks as a field of their width.
+#[tactic(auto, unfolding(crate::specs::Field::field))]
+pub fn put_field(blanks: &mut [u8], dot: bool, text: &[u8])
+    requires { blanks.old ≡ replicate (length blanks.old) (byte " ") }
+    ensures { blanks.new ≡ field (length blanks.old) dot text.now }
+{
+    let text = &text[..text.len().min(blanks.len())];
+    let from = if dot { blanks.len() - text.len() } else { 0 };
+    blanks[from..from + text.len()].copy_from_slice(text);
 }
 
 /// Writes the text with the padding on the left, and a blank behind it.

@@ -5,6 +5,7 @@
 mod columns;
 mod dependency;
 mod field;
+mod form;
 pub mod ranges;
 pub mod show;
 mod show_job;
@@ -14,4 +15,5 @@ mod show_reservation;
 pub mod sinfo;
 pub mod sprio;
 pub mod squeue;
+mod told;
 pub mod values;

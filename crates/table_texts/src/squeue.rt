@@ -1,10 +1,12 @@
 //! The lines of squeue(1).
 
-ghost use Rattle.std.specs.Prelude.{◌≡◌, ◌++◌, flat_map, OnOk};
-ghost use Rattle.table_texts.specs.Squeue.{squeue_text, lines_of, line, row_line, piece_text, told, title};
+ghost use Rattle.std.specs.Prelude.{◌≡◌, ◌++◌, true, All, flat_map, OnOk};
+ghost use Rattle.table_texts.specs.Squeue.{squeue_text, lines_of, line, row_line, piece_text, blank, is_fixed, told, title};
 
-use crate::columns::{push_told, title};
+use crate::columns::title;
 use crate::field::push_field;
+use crate::form::{Form, fill_line, form_of};
+use crate::told::push_told;
 use operands::format::usual_format;
 use reply_data::view::{JobRow, Row, View};
 use request_data::query::{JobQuery, Piece};
@@ -48,10 +50,11 @@ fn push_lines(
 fn push_rows(alloc: Global, out: &mut Vec<u8>, pieces: &[Piece], rows: &[Row]) -> Result<(), Memory>
     ensures { OnOk result (out.new.items ≡ out.old.items ++ flat_map (row_line pieces.now) rows.now) }
 {
+    let form = form_of(alloc, pieces)?;
     let mut room = Vec::new(alloc);
     for row in rows {
         if let Row::Job(job) = row {
-            push_job(alloc, out, &mut room, pieces, job)?;
+            push_job(alloc, out, &mut room, &form, job)?;
         }
     }
     Ok(())
@@ -86,21 +89,40 @@ fn push_title(out: &mut Vec<u8>, piece: Piece) -> Result<(), Memory>
     Ok(())
 }
 
-// `room` is for what a column tells, so that no memory is taken for each.
+// Writes the line of a job: a copy of the form's, which is filled in, and what follows.
 #[tactic(auto, unfolding(crate::specs::Squeue::line))]
 fn push_job(
+    alloc: Global,
+    out: &mut Vec<u8>,
+    room: &mut Vec<u8>,
+    form: &Form,
+    row: &JobRow,
+) -> Result<(), Memory>
+    requires fixed { All (λ piece. is_fixed piece ≡ true) form.now.fixed.now }
+    requires blank { form.now.blank.items ≡ flat_map blank form.now.fixed.now }
+    ensures { OnOk result (out.new.items
+        ≡ out.old.items ++ line (told row.now) (form.now.fixed.now ++ form.now.rest.now)) }
+{
+    let start = out.len();
+    push_text(out, form.blank.as_slice())?;
+    fill_line(alloc, room, &mut out[start..], form.fixed, row)?;
+    push_pieces(alloc, out, room, form.rest, row)?;
+    out.push(b'\n')?;
+    Ok(())
+}
+
+fn push_pieces(
     alloc: Global,
     out: &mut Vec<u8>,
     room: &mut Vec<u8>,
     pieces: &[Piece],
     row: &JobRow,
 ) -> Result<(), Memory>
-    ensures { OnOk result (out.new.items ≡ out.old.items ++ line (told row.now) pieces.now) }
+    ensures { OnOk result (out.new.items ≡ out.old.items ++ flat_map (piece_text (told row.now)) pieces.now) }
 {
     for piece in pieces {
         push_piece(alloc, out, room, *piece, row)?;
     }
-    out.push(b'\n')?;
     Ok(())
 }
 

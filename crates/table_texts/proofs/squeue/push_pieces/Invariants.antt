@@ -1,6 +1,6 @@
 use Rattle.std.proofs.Common.{◌≡◌, ◌++◌, take, flat_map}
 use Rattle.table_texts.specs.Squeue.{piece_text, told}
-use Rattle.table_texts.proofs.squeue.push_job.Given as goal
+use Rattle.table_texts.proofs.squeue.push_pieces.Given as goal
 
 abbrev pub invariant-loop-piece : goal.invariant-loop-piece
 invariant-loop-piece l =
