@@ -88,7 +88,13 @@ fn least_for_one(job: &PlanJob, room: &NodeRoom) -> Amount
 
 // What the node can give at the second and from it on: nothing until a barred time of it is over, or what is too little
 // for one task.
-fn given_from(profile: &Profile, rooms: &[NodeRoom], job: &PlanJob, node: u32, second: u64) -> Given
+fn given_from_held(
+    profile: &Profile,
+    rooms: &[NodeRoom],
+    job: &PlanJob,
+    node: u32,
+    second: u64,
+) -> Given
     requires rooms { profile.now.rooms ≡ rooms.now }
     requires node { node < length rooms.now }
     requires second { second ≤ LAST_START }
@@ -105,6 +111,22 @@ fn given_from(profile: &Profile, rooms: &[NodeRoom], job: &PlanJob, node: u32, s
         return Given { tasks: 0, until };
     }
     given_from_free(profile, rooms, job, node, second)
+}
+
+// What the node can give at the second and from it on: nothing where it is known up to when no processor of it is free.
+fn given_from(profile: &Profile, rooms: &[NodeRoom], job: &PlanJob, node: u32, second: u64) -> Given
+    requires rooms { profile.now.rooms ≡ rooms.now }
+    requires node { node < length rooms.now }
+    requires second { second ≤ LAST_START }
+    ensures gives { GivesUntil rooms.now profile.now.holds job.now second node result.tasks result.until }
+    ensures small { result.tasks * job.now.cpus_per_task < 2 ^ 32 }
+    ensures word { result.tasks < 2 ^ 32 }
+{
+    let _ = job.cpus_per_task.get();
+    match profile.full_until(node, second, window_end(job, second)) {
+        Some(until) => Given { tasks: 0, until },
+        None => given_from_held(profile, rooms, job, node, second),
+    }
 }
 
 impl Sweep {

@@ -13,10 +13,10 @@ use Rattle.resource_profile.specs.declared.levels.Amount.{Amount}
 use Rattle.resource_profile.specs.declared.levels.Level.{Level}
 use Rattle.resource_profile.specs.declared.ends.End.{End}
 use Rattle.resource_profile.specs.declared.timeline.Timeline.{Timeline}
-use Rattle.resource_profile.specs.Free.{room_at, covers, free_cpus, free_mem}
+use Rattle.resource_profile.specs.Free.{room_at, covers, free_cpus, free_mem, held_cpus, held_mem}
 use Rattle.resource_profile.specs.Profiles.{AreWithin, HasFree}
 use Rattle.resource_profile.specs.Levels.{IsLevelled, CanTake, CanGive, taken, given}
-use Rattle.resource_profile.specs.Windows.{free_of}
+use Rattle.resource_profile.specs.Windows.{free_of, IsFull}
 use Rattle.resource_profile.specs.Ends.{HasEnds, ends_at}
 use Rattle.resource_profile.specs.Timelines.{holds_on, holds_until, IsTimeline, AreKept, StaysAsItWas}
 use Rattle.resource_profile.proofs.EndEdits.{counted-some, some-counted, tests-eq}
@@ -31,8 +31,26 @@ levelled-same free other levels same levelled = record {
   said = λ i moment d inside low high. levelled.said i moment d inside low high ∙ same moment;
 }
 
+full-same : (free other : ℕ → Amount) (from until : ℕ) → ((moment : ℕ) → free moment ≡ other moment) → IsFull free from until → IsFull other from until
+full-same free other from until same full = λ moment low high. ap (λ (a : Amount). a.cpus) (sym (same moment)) ∙ full moment low high
+
 amounts-same : (one other : Amount) → one.cpus ≡ other.cpus → one.mem ≡ other.mem → one ≡ other
 amounts-same one other cpus mem = ap (λ n. amount n one.mem) cpus ∙ ap (λ n. amount other.cpus n) mem
+
+-- the timeline of a node on which nothing is held
+pub nothing-held : (rooms : List NodeRoom) (node : ℕ) (timeline : Timeline) → IsLevelled (λ _. record { cpus = (room_at rooms node).cpus; mem = (room_at rooms node).mem }) timeline.levels.items → timeline.holds ≡ 0 → vec_len timeline.levels ≤ vec_capacity timeline.levels → ((free : ℕ → Amount) → IsFull free timeline.full.from timeline.full.until) → IsTimeline rooms [] node 0 timeline
+nothing-held rooms node timeline levelled none room full =
+    let whole : Amount = record { cpus = (room_at rooms node).cpus; mem = (room_at rooms node).mem } in
+    let same : (moment : ℕ) → whole ≡ free_of rooms [] node moment = λ moment.
+    let no_cpus : held_cpus [] node moment ≡ 0 = refl in
+    let no_mem : held_mem [] node moment ≡ 0 = refl in
+    amounts-same whole (free_of rooms [] node moment) (omega (arith, no_cpus)) (omega (arith, no_mem)) in
+    record {
+      levelled = levelled-same (λ m. whole) (λ m. free_of rooms [] node m) timeline.levels.items same levelled;
+      count = none;
+      full = full (λ m. free_of rooms [] node m);
+      room = omega (arith, none, room);
+    }
 
 -- a hold that isn't on the node covers nothing there
 covers-elsewhere : (node moment : ℕ) (hold : Hold) → hold.node ≢ node → covers node moment hold ≡ false
@@ -71,12 +89,14 @@ pub elsewhere-add : (rooms : List NodeRoom) (holds : List Hold) (hold : Hold) (n
 elsewhere-add rooms holds hold node spare less_spare timeline apart fewer is = record {
   levelled = levelled-same (λ m. free_of rooms holds node m) (λ m. free_of rooms (holds ++ hold ∷ []) node m) timeline.levels.items (λ m. free-push-elsewhere rooms holds hold node m apart) is.levelled;
   count = rw (sum_by_push (λ (one : Hold). cond (eqb one.node node) 1 0) holds hold, eqb-apart hold.node node apart) (omega (arith, is.count));
+  full = full-same (λ m. free_of rooms holds node m) (λ m. free_of rooms (holds ++ hold ∷ []) node m) timeline.full.from timeline.full.until (λ m. free-push-elsewhere rooms holds hold node m apart) is.full;
   room = omega (arith, is.room, fewer);
 }
 
 -- what the edits of a timeline give
 pub record IsAdded (hold : Hold) (timeline after : Timeline) : Type 0 where
   pub kept : (free : ℕ → Amount) → IsLevelled free timeline.levels.items → IsLevelled (taken hold free) after.levels.items
+  pub full : (free : ℕ → Amount) → IsLevelled free after.levels.items → IsFull free after.full.from after.full.until
   pub holds : after.holds ≡ timeline.holds + 1
   pub len : vec_len after.levels ≤ vec_len timeline.levels + 2
   pub capacity : vec_capacity timeline.levels ≤ vec_capacity after.levels
@@ -84,8 +104,10 @@ pub record IsAdded (hold : Hold) (timeline after : Timeline) : Type 0 where
 pub here-add : (rooms : List NodeRoom) (holds : List Hold) (hold : Hold) (spare : ℕ) (timeline after : Timeline) → IsTimeline rooms holds hold.node (spare + 1) timeline → IsAdded hold timeline after → IsTimeline rooms (holds ++ hold ∷ []) hold.node spare after
 here-add rooms holds hold spare timeline after is added =
     let on : eqb hold.node hold.node ≡ true = eq-eqb hold.node hold.node refl in
+    let levelled = levelled-same (taken hold (λ m. free_of rooms holds hold.node m)) (λ m. free_of rooms (holds ++ hold ∷ []) hold.node m) after.levels.items (free-push-here rooms holds hold) (added.kept _ is.levelled) in
     record {
-      levelled = levelled-same (taken hold (λ m. free_of rooms holds hold.node m)) (λ m. free_of rooms (holds ++ hold ∷ []) hold.node m) after.levels.items (free-push-here rooms holds hold) (added.kept _ is.levelled);
+      levelled = levelled;
+      full = added.full _ levelled;
       count = rw (sum_by_push (λ (one : Hold). cond (eqb one.node hold.node) 1 0) holds hold, on) (omega (arith, is.count, added.holds));
       room = omega (arith, is.room, added.holds, added.len, added.capacity);
     }
@@ -104,6 +126,7 @@ pub stays : (rooms : List NodeRoom) (holds : List Hold) (node spare more : ℕ) 
 stays rooms holds node spare more timeline after same room is = record {
   levelled = rw same.levels is.levelled;
   count = same.holds ∙ is.count;
+  full = rw same.full is.full;
   room = room;
 }
 
@@ -185,12 +208,14 @@ elsewhere-drop rooms holds rest hold node spare timeline moved apart is =
     let counted = sum_by-cons (λ (one : Hold). cond (eqb one.node node) 1 0) hold rest in
     record {
       levelled = levelled-same (λ m. free_of rooms holds node m) (λ m. free_of rooms rest node m) timeline.levels.items (λ m. free-drop-elsewhere rooms holds rest hold node m moved apart) is.levelled;
+      full = full-same (λ m. free_of rooms holds node m) (λ m. free_of rooms rest node m) timeline.full.from timeline.full.until (λ m. free-drop-elsewhere rooms holds rest hold node m moved apart) is.full;
       count = omega (arith, is.count, counted, nothing, sum_by-IsPermutation (λ (one : Hold). cond (eqb one.node node) 1 0) holds (hold ∷ rest) moved);
       room = is.room;
     }
 
 pub record IsDropped (hold : Hold) (timeline after : Timeline) : Type 0 where
   pub kept : (free : ℕ → Amount) → IsLevelled free timeline.levels.items → IsLevelled (given hold free) after.levels.items
+  pub full : (free : ℕ → Amount) → IsLevelled free after.levels.items → IsFull free after.full.from after.full.until
   pub holds : after.holds + 1 ≡ timeline.holds
   pub len : vec_len after.levels ≤ vec_len timeline.levels + 2
   pub capacity : vec_capacity timeline.levels ≤ vec_capacity after.levels
@@ -204,11 +229,14 @@ counted-on holds rest hold moved =
     omega (arith, counted, here, sum_by-IsPermutation (λ (one : Hold). cond (eqb one.node hold.node) 1 0) holds (hold ∷ rest) moved)
 
 pub here-drop : (rooms : List NodeRoom) (holds rest : List Hold) (hold : Hold) (spare : ℕ) (timeline after : Timeline) → AreWithin rooms holds → IsPermutation holds (hold ∷ rest) → IsTimeline rooms holds hold.node spare timeline → IsDropped hold timeline after → IsTimeline rooms rest hold.node spare after
-here-drop rooms holds rest hold spare timeline after within moved is dropped = record {
-  levelled = levelled-same (given hold (λ m. free_of rooms holds hold.node m)) (λ m. free_of rooms rest hold.node m) after.levels.items (λ m. free-drop-here rooms holds rest hold m within moved) (dropped.kept _ is.levelled);
-  count = omega (arith, is.count, dropped.holds, counted-on holds rest hold moved);
-  room = omega (arith, is.room, dropped.holds, dropped.len, dropped.capacity);
-}
+here-drop rooms holds rest hold spare timeline after within moved is dropped =
+    let levelled = levelled-same (given hold (λ m. free_of rooms holds hold.node m)) (λ m. free_of rooms rest hold.node m) after.levels.items (λ m. free-drop-here rooms holds rest hold m within moved) (dropped.kept _ is.levelled) in
+    record {
+      levelled = levelled;
+      full = dropped.full _ levelled;
+      count = omega (arith, is.count, dropped.holds, counted-on holds rest hold moved);
+      room = omega (arith, is.room, dropped.holds, dropped.len, dropped.capacity);
+    }
 
 -- without the hold no more than the room is free
 pub can-give : (rooms : List NodeRoom) (holds rest : List Hold) (hold : Hold) (spare : ℕ) (timeline : Timeline) (room : NodeRoom) → AreWithin rooms holds → IsPermutation holds (hold ∷ rest) → room_at rooms hold.node ≡ room → IsTimeline rooms holds hold.node spare timeline → CanGive timeline.levels.items hold room

@@ -5,7 +5,7 @@ use Rattle.resource_profile.specs.declared.levels.Amount.{Amount}
 use Rattle.resource_profile.specs.declared.levels.Level.{Level}
 use Rattle.resource_profile.specs.Free.{least_over}
 use Rattle.resource_profile.specs.Levels.{IsLevelled}
-use Rattle.resource_profile.specs.Windows.{IsShort}
+use Rattle.resource_profile.specs.Windows.{IsFull, IsShort}
 use Rattle.resource_profile.proofs.Least.{least_over-le}
 
 abbrev IsLess : Amount → Amount → Type 0
@@ -43,3 +43,13 @@ short-window free levels amount from until place bound read levelled some within
             less-here free read.free amount begin end begin (omega arith) window (free_is ∙ says) less
       ];
     }
+
+-- a window that crosses moments at which no processor is free
+pub full-window : (free : ℕ → Amount) (from until first last : ℕ) → IsFull free first last → from < last → first < until → first < last → IsShort free (record { cpus = 1; mem = 0 }) from until last
+full-window free from until first last full later early order = record {
+  later = later;
+  less = λ begin end low high end_low window. elim (cases_lt begin first) [
+    | inl before ↦ inl (omega (arith, least_over-le (λ m. (free m).cpus) begin end first (omega (arith, before)) (omega (arith, early, end_low)), full first (omega arith) order))
+    | inr begun ↦ inl (omega (arith, least_over-le (λ m. (free m).cpus) begin end begin (omega arith) window, full begin (omega (arith, begun)) high))
+  ];
+}

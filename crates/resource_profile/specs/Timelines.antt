@@ -5,7 +5,7 @@ use Rattle.resource_profile.specs.declared.NodeRoom.{NodeRoom}
 use Rattle.resource_profile.specs.declared.Hold.{Hold}
 use Rattle.resource_profile.specs.declared.ends.End.{End}
 use Rattle.resource_profile.specs.declared.timeline.Timeline.{Timeline}
-use Rattle.resource_profile.specs.Windows.{free_of}
+use Rattle.resource_profile.specs.Windows.{free_of, IsFull}
 use Rattle.resource_profile.specs.Levels.{IsLevelled}
 use Rattle.resource_profile.specs.Ends.{HasEnds, ends_at}
 use Rattle.resource_profile.specs.Profiles.{AreWithin}
@@ -18,11 +18,12 @@ holds_on holds node = sum_by (λ (hold : Hold). if nat_eq hold.node node then 1 
 abbrev pub holds_until : List Hold → ℕ → ℕ
 holds_until holds moment = sum_by (λ (hold : Hold). if nat_eq hold.until moment then 1 else 0) holds
 
--- The levels say what the node has free. There is place for those that so many more holds and the end of every hold can
+-- The levels say what the node has free, and some moments are known at which that is no processor. There is place for those that so many more holds and the end of every hold can
 -- make, two for each.
 pub record IsTimeline (rooms : List NodeRoom) (holds : List Hold) (node spare : ℕ) (timeline : Timeline) : Type 0 where
   pub levelled : IsLevelled (λ moment. free_of rooms holds node moment) timeline.levels.items
   pub count : timeline.holds ≡ holds_on holds node
+  pub full : IsFull (λ moment. free_of rooms holds node moment) timeline.full.from timeline.full.until
   pub room : vec_len timeline.levels + (2 * timeline.holds + 4 * spare) ≤ vec_capacity timeline.levels
 
 -- the profile's parts agree
@@ -39,5 +40,6 @@ pub record AreKept (rooms : List NodeRoom) (holds : List Hold) (ends : List End)
 pub record StaysAsItWas (timeline after : Timeline) : Type 0 where
   pub levels : after.levels.items ≡ timeline.levels.items
   pub holds : after.holds ≡ timeline.holds
+  pub full : after.full ≡ timeline.full
   pub len : vec_len after.levels ≡ vec_len timeline.levels
   pub capacity : vec_capacity timeline.levels ≤ vec_capacity after.levels

@@ -23,6 +23,10 @@ pub record IsSteady (free : ℕ → Amount) (from until : ℕ) (window : Window)
       → from ≤ begin → begin < window.begins_before → until ≤ end → end ≤ window.ends_up_to → begin < end
       → window.free.mem ≡ least_over (λ moment. (free moment).mem) begin end
 
+-- no processor is free from the one moment on and before the other
+abbrev pub IsFull : (ℕ → Amount) → ℕ → ℕ → Type 0
+IsFull free from until = (moment : ℕ) → from ≤ moment → moment < until → (free moment).cpus ≡ 0
+
 -- less than the amount is free at some moment of each window that begins from `from` on and before `bound`, and ends no
 -- earlier than `until`
 pub record IsShort (free : ℕ → Amount) (amount : Amount) (from until bound : ℕ) : Type 0 where

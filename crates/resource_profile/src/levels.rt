@@ -212,7 +212,7 @@ pub(crate) fn give(levels: &mut Vec<Level>, hold: &Hold, room: NodeRoom)
 }
 
 // Where the level at the place begins; after all moments where there is none.
-fn begin_of(levels: &[Level], place: usize) -> u64
+pub(crate) fn begin_of(levels: &[Level], place: usize) -> u64
     ensures inside { (d : Level) → place < length levels.now → result ≡ (slice_index_or levels.now place d).from }
     ensures past { length levels.now ≤ place → result ≡ 2 ^ 64 - 1 }
 {

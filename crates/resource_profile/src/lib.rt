@@ -4,6 +4,7 @@
 mod choice;
 mod dealing;
 mod ends;
+mod full;
 pub mod laws;
 mod levels;
 pub mod pick_laws;

@@ -96,11 +96,19 @@ impl Profile {
         ensures rooms { IfOk result (λ profile. profile.rooms ≡ rooms.now) }
         ensures holds { IfOk result (λ profile. profile.holds ≡ []) }
     {
+        Profile::with_list(alloc, rooms, 0)
+    }
+
+    // These rooms with no holds, whose list has place for so many.
+    fn with_list(alloc: Global, rooms: &[NodeRoom], count: usize) -> Result<Self, Memory>
+        ensures rooms { IfOk result (λ profile. profile.rooms ≡ rooms.now) }
+        ensures holds { IfOk result (λ profile. profile.holds ≡ []) }
+    {
         let timelines = fresh(alloc, rooms)?;
         Ok(Profile {
             rooms: Vec::from_slice(alloc, rooms)?,
-            holds: Vec::new(alloc),
-            ends: Vec::new(alloc),
+            holds: Vec::with_capacity(alloc, count)?,
+            ends: Vec::with_capacity(alloc, count)?,
             timelines,
             room_for: 0,
         })
@@ -112,7 +120,7 @@ impl Profile {
         ensures rooms { IfOk result (λ profile. profile.rooms ≡ rooms.now) }
         ensures holds { IfOk result (λ profile. profile.holds ≡ holds.now) }
     {
-        let mut profile = Profile::new(alloc, rooms)?;
+        let mut profile = Profile::with_list(alloc, rooms, holds.len())?;
         for hold in holds {
             profile.hold(hold)?;
         }
@@ -212,6 +220,22 @@ impl Profile {
             (IsShort (λ moment. free_of self.now.rooms self.now.holds node moment) amount from until) }
     {
         short_until(&self.timelines[node as usize].levels, from, until, amount)
+    }
+
+    /// Up to when no processor of the node is free, where that is so at some second of the window; before that, every
+    /// window that ends no earlier has such a second. None where none is known: of each node the last such seconds are.
+    /// Constant time.
+    pub fn full_until(&self, node: u32, from: u64, until: u64) -> Option<u64>
+        requires { node < length self.now.rooms }
+        ensures { IfSome result (IsShort (λ moment. free_of self.now.rooms self.now.holds node moment)
+            (record { cpus = 1; mem = 0 }) from until) }
+    {
+        let full = &self.timelines[node as usize].full;
+        if full.crosses(from, until) {
+            Some(full.until)
+        } else {
+            None
+        }
     }
 
     /// The least processors and the least megabytes that the node has free over every second of the window; none where

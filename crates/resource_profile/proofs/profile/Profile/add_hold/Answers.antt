@@ -28,7 +28,7 @@ invariant_of-self c =
     let is = read-timeline rooms holds c.self.inside.ends.items c.self.inside.timelines.items spare hold.node c.index_mut.result.now c.self.invariant.0 free.node c.index_mut.ensures.value in
     let back : spare ≡ (spare - 1) + 1 = omega (arith, some) in
     let wide : IsTimeline rooms holds hold.node ((spare - 1) + 1) c.index_mut.result.now = rw (← back) is in
-    let here = here-add rooms holds hold (spare - 1) c.index_mut.result.now c.add.new.self wide (record { kept = c.add.ensures.kept; holds = c.add.ensures.holds; len = c.add.ensures.len; capacity = c.add.ensures.capacity }) in (
+    let here = here-add rooms holds hold (spare - 1) c.index_mut.result.now c.add.new.self wide (record { kept = c.add.ensures.kept; full = c.add.ensures.full; holds = c.add.ensures.holds; len = c.add.ensures.len; capacity = c.add.ensures.capacity }) in (
       rw pushed (kept-add rooms holds c.self.inside.ends.items c.add_end.new.ends.items c.self.inside.timelines.items spare (spare - 1) hold c.add.new.self c.self.invariant.0 free (omega arith) c.add_end.ensures.counted c.add_end.ensures.ends here),
       omega (arith, longer, some, c.push.ensures.capacity, c.self.invariant.1),
       omega (arith, some, c.add_end.ensures.len, c.add_end.ensures.capacity, c.self.invariant.2),

@@ -51,7 +51,7 @@ invariant_of-self c =
     let inside = rw c.deref.ensures.value at c.place_of-place.ensures.inside in
     let moved = dropped-moved c.self.inside.holds.items c.swap_remove.new.self.items c.place_of-place.result c.swap_remove.result c.args.hold.now inside place c.swap_remove.ensures.value c.swap_remove.ensures.items in
     let here = here-drop c.self.inside.rooms.items c.self.inside.holds.items c.swap_remove.new.self.items c.args.hold.now c.self.inside.room_for c.index_mut.result.now c.drop_hold.new.self c.self.invariant.0.within moved is
-    (record { kept = c.drop_hold.ensures.kept; holds = c.drop_hold.ensures.holds; len = c.drop_hold.ensures.len; capacity = c.drop_hold.ensures.capacity }) in (
+    (record { kept = c.drop_hold.ensures.kept; full = c.drop_hold.ensures.full; holds = c.drop_hold.ensures.holds; len = c.drop_hold.ensures.len; capacity = c.drop_hold.ensures.capacity }) in (
       kept-drop c.self.inside.rooms.items c.self.inside.holds.items c.swap_remove.new.self.items c.self.inside.ends.items c.drop_end.new.ends.items c.self.inside.timelines.items c.self.inside.room_for c.args.hold.now c.drop_hold.new.self c.self.invariant.0 moved c.drop_end.ensures.counted c.drop_end.ensures.ends here,
       omega (arith, c.swap_remove.ensures.len, c.swap_remove.ensures.capacity, c.self.invariant.1),
       omega (arith, c.drop_end.ensures.len, c.drop_end.ensures.capacity, c.self.invariant.2),

@@ -11,7 +11,7 @@ invariant_of-self-in_err-reserve-3 c =
     let spare = c.self.inside.room_for in
     let hold = c.args.hold.now in
     let inside : hold.node < length rooms = rw (← c.self.view_is) at c.requires.node in
-    let same : StaysAsItWas c.index_mut.result.now c.reserve-3.new.self = record { levels = c.reserve-3.ensures.levels; holds = c.reserve-3.ensures.holds; len = c.reserve-3.ensures.len; capacity = c.reserve-3.ensures.capacity } in (
+    let same : StaysAsItWas c.index_mut.result.now c.reserve-3.new.self = record { levels = c.reserve-3.ensures.levels; holds = c.reserve-3.ensures.holds; full = c.reserve-3.ensures.full; len = c.reserve-3.ensures.len; capacity = c.reserve-3.ensures.capacity } in (
       rw c.reserve.ensures.items (rw c.reserve-2.ensures.items (kept-reserve rooms holds c.self.inside.ends.items c.self.inside.timelines.items spare hold.node c.index_mut.result.now c.reserve-3.new.self c.self.invariant.0 inside c.index_mut.ensures.value same)),
       omega (arith, c.reserve.ensures.len, c.reserve.ensures.capacity, c.self.invariant.1),
       omega (arith, c.reserve-2.ensures.len, c.reserve-2.ensures.capacity, c.self.invariant.2),
@@ -29,7 +29,7 @@ add-requires-clause-free c =
     let timelines = c.self.inside.timelines.items in
     let hold = c.args.hold.now in
     let free = rw (← c.self.view_is) at c.requires in
-    let same : StaysAsItWas c.index_mut.result.now c.reserve-3.new.self = record { levels = c.reserve-3.ensures.levels; holds = c.reserve-3.ensures.holds; len = c.reserve-3.ensures.len; capacity = c.reserve-3.ensures.capacity } in
+    let same : StaysAsItWas c.index_mut.result.now c.reserve-3.new.self = record { levels = c.reserve-3.ensures.levels; holds = c.reserve-3.ensures.holds; full = c.reserve-3.ensures.full; len = c.reserve-3.ensures.len; capacity = c.reserve-3.ensures.capacity } in
     let kept = kept-reserve rooms holds c.self.inside.ends.items timelines c.self.inside.room_for hold.node c.index_mut.result.now c.reserve-3.new.self c.self.invariant.0 free.node c.index_mut.ensures.value same in
     let is = read-timeline rooms holds c.self.inside.ends.items (slice_set timelines hold.node c.reserve-3.new.self) c.self.inside.room_for hold.node c.index_mut-2.result.now kept free.node c.index_mut-2.ensures.value in
     can-take rooms holds hold c.self.inside.room_for c.index_mut-2.result.now is free
@@ -46,14 +46,14 @@ invariant_of-self-2 c =
     let longer = rw c.unwrap.ensures at c.push.ensures.len in
     let read = c.index_mut.result.now in
     let reserved = c.reserve-3.new.self in
-    let same : StaysAsItWas read reserved = record { levels = c.reserve-3.ensures.levels; holds = c.reserve-3.ensures.holds; len = c.reserve-3.ensures.len; capacity = c.reserve-3.ensures.capacity } in
+    let same : StaysAsItWas read reserved = record { levels = c.reserve-3.ensures.levels; holds = c.reserve-3.ensures.holds; full = c.reserve-3.ensures.full; len = c.reserve-3.ensures.len; capacity = c.reserve-3.ensures.capacity } in
     let kept = kept-reserve rooms holds c.self.inside.ends.items timelines spare hold.node read reserved c.self.invariant.0 free.node c.index_mut.ensures.value same in
     let was = read-timeline rooms holds c.self.inside.ends.items timelines spare hold.node read c.self.invariant.0 free.node c.index_mut.ensures.value in
     let room : vec_len reserved.levels + (2 * reserved.holds + 4 * (spare + 1)) ≤ vec_capacity reserved.levels = rw (same.holds, ← c.from-more.ensures) c.in_ok-reserve-3.ensures.room in
     let wide : IsTimeline rooms holds hold.node (spare + 1) reserved = stays rooms holds hold.node spare (spare + 1) read reserved same room was in
     let inside : hold.node < length timelines = omega (arith, free.node, c.self.invariant.0.long) in
     let there : c.index_mut-2.result.now ≡ reserved = c.index_mut-2.ensures.value ∙ get_or-set_same timelines hold.node reserved c.index_mut-2.result.now inside in
-    let added : IsAdded hold c.index_mut-2.result.now c.add.new.self = record { kept = c.add.ensures.kept; holds = c.add.ensures.holds; len = c.add.ensures.len; capacity = c.add.ensures.capacity } in
+    let added : IsAdded hold c.index_mut-2.result.now c.add.new.self = record { kept = c.add.ensures.kept; full = c.add.ensures.full; holds = c.add.ensures.holds; len = c.add.ensures.len; capacity = c.add.ensures.capacity } in
     let here = here-add rooms holds hold spare reserved c.add.new.self wide (rw there at added) in (
       rw pushed (rw c.reserve.ensures.items (kept-add rooms holds c.self.inside.ends.items c.add_end.new.ends.items (slice_set timelines hold.node reserved) spare spare hold c.add.new.self kept free (omega arith) (rw c.reserve-2.ensures.items at c.add_end.ensures.counted) c.add_end.ensures.ends here)),
       omega (arith, longer, c.push.ensures.capacity, c.in_ok-reserve.ensures.ok, c.from-more.ensures, c.self.invariant.1),
