@@ -1,9 +1,9 @@
 -- What a node gives stays while its window's bounds meet no change.
-use Rattle.std.proofs.Common.{◌≡◌, ◌≢◌, true, false, ℕ, ◌+◌, ◌-◌, ◌*◌, ◌^◌, ◌≤◌, ◌<◌, min, List, [], ◌∷◌, ◌++◌, length, get_or, sum, All, slice_set, arith, refl, sym, ap, ◌∙◌, inl, inr, Some, None}
+use Rattle.std.proofs.Common.{◌≡◌, ◌≢◌, true, false, ℕ, ◌+◌, ◌-◌, ◌*◌, ◌^◌, ◌≤◌, ◌<◌, min, List, [], ◌∷◌, ◌++◌, length, get_or, replicate, sum, All, slice_set, arith, refl, sym, ap, ◌∙◌, inl, inr, Some, None}
 use Rattle.std.proofs.Common.{suc-mul}
 use Rattle.std.specs.Prelude.{find, option_map}
-use Rattle.std.proofs.lemmas.Bool.{cases_eq}
-use Rattle.std.proofs.lemmas.List.{get_or-set_same, get_or-set_other, length-set, get_or_push, get_or_append_left}
+use Rattle.std.proofs.lemmas.Bool.{cases_eq, cases_lt}
+use Rattle.std.proofs.lemmas.List.{get_or-set_same, get_or-set_other, get_or-replicate, get_or_past, length-replicate, length-set, get_or_push, get_or_append_left}
 use Rattle.std.proofs.lemmas.List.Elements.{All-head, All-tail}
 use Rattle.std.proofs.lemmas.List.Sums.{sum_by-cons}
 use Rattle.std.proofs.lemmas.Nat.{mul-le}
@@ -19,7 +19,7 @@ use Rattle.backfill_planner.specs.declared.job.PlanJob.{PlanJob}
 use Rattle.backfill_planner.proofs.Barring.{clear-later, barred-until}
 use Rattle.backfill_planner.specs.Giving.{window_end, bars, is_barred, tasks_given, capacities}
 use Rattle.backfill_planner.specs.declared.sweep.Sweep.{Sweep}
-use Rattle.backfill_planner.specs.Sweeps.{GivesUntil, IsSwept}
+use Rattle.backfill_planner.specs.Sweeps.{GivesUntil, HasLeasts, IsHalfway, IsSwept}
 use Rattle.backfill_planner.proofs.Holding.{capacity-give}
 use Rattle.backfill_planner.proofs.Dealing.{length-capacities}
 use Rattle.plain_data.specs.declared.seconds.TheConstants.{FOREVER, LAST_START}
@@ -106,7 +106,84 @@ swept-later rooms holds job sweep second swept order before = record {
   total = swept.total;
   later = before;
   least = swept.least;
+  rows = swept.rows;
+  few_rows = swept.few_rows;
+  leasts = swept.leasts;
 }
+
+-- or set out for one, go past a row for which nothing has changed, and arrive
+pub swept-halfway : (rooms : List NodeRoom) (holds : List Hold) (job : PlanJob) (sweep : Sweep) (second : ℕ) → IsSwept rooms holds job sweep → sweep.second ≤ second → IsHalfway rooms holds job sweep second 0
+swept-halfway rooms holds job sweep second swept order = record {
+  long = swept.long;
+  until_long = swept.until_long;
+  order = order;
+  done = λ i below inside. absurd (omega (arith, below));
+  rest = λ i low inside. swept.each i inside;
+  small = swept.small;
+  few = swept.few;
+  total = swept.total;
+  rows = swept.rows;
+  few_rows = swept.few_rows;
+  leasts = swept.leasts;
+}
+
+pub halfway-row : (rooms : List NodeRoom) (holds : List Hold) (job : PlanJob) (sweep : Sweep) (second row : ℕ) → IsHalfway rooms holds job sweep second (row * 8) → second < get_or sweep.leasts.items row 0 → IsHalfway rooms holds job sweep second (row * 8 + 8)
+halfway-row rooms holds job sweep second row half fresh = record {
+  long = half.long;
+  until_long = half.until_long;
+  order = half.order;
+  done = λ i below inside. elim (cases_lt i (row * 8)) [
+    | inl passed ↦ half.done i passed inside
+    | inr here ↦
+        let least = half.leasts row i (omega (arith, here)) below (omega (arith, inside, half.until_long)) in
+        gives-later rooms holds job sweep.second second _ _ _ half.order (omega (arith, fresh, least)) (half.rest i (omega (arith, here)) inside)
+  ];
+  rest = λ i low inside. half.rest i (omega (arith, low)) inside;
+  small = half.small;
+  few = half.few;
+  total = half.total;
+  rows = half.rows;
+  few_rows = half.few_rows;
+  leasts = half.leasts;
+}
+
+pub halfway-swept : (rooms : List NodeRoom) (holds : List Hold) (job : PlanJob) (sweep : Sweep) (second place least : ℕ) → IsHalfway rooms holds job sweep second place → length job.nodes ≤ place → second < least → ((i : ℕ) → i < length job.nodes → least ≤ get_or sweep.untils.items i 0) → IsSwept rooms holds job (record sweep { least = least; second = second })
+halfway-swept rooms holds job sweep second place least half all later each = record {
+  long = half.long;
+  until_long = half.until_long;
+  each = λ i inside. half.done i (omega (arith, inside, all)) inside;
+  small = half.small;
+  few = half.few;
+  total = half.total;
+  later = later;
+  least = each;
+  rows = half.rows;
+  few_rows = half.few_rows;
+  leasts = half.leasts;
+}
+
+-- the seconds of the rows once that of one is another, once a node holds longer, and where all are the least
+pub leasts-set : (leasts untils : List ℕ) (row least : ℕ) → row < length leasts → HasLeasts leasts untils → ((i : ℕ) → row * 8 ≤ i → i < row * 8 + 8 → i < length untils → least ≤ get_or untils i 0) → HasLeasts (slice_set leasts row least) untils
+leasts-set leasts untils row least there each here = λ other i low below inside. elim (cases_eq other row) [
+  | inl at ↦
+      let e : other ≡ row = at in
+      rw (e, get_or-set_same leasts row least 0 there) (here i (omega (arith, low, e)) (omega (arith, below, e)) inside)
+  | inr apart ↦ rw (get_or-set_other leasts row other least 0 apart) (each other i low below inside)
+]
+
+pub leasts-later : (leasts untils : List ℕ) (i until : ℕ) → i < length untils → get_or untils i 0 ≤ until → HasLeasts leasts untils → HasLeasts leasts (slice_set untils i until)
+leasts-later leasts untils i until there later each = λ row k low below inside. elim (cases_eq k i) [
+  | inl at ↦
+      let e : k ≡ i = at in
+      rw (e, get_or-set_same untils i until 0 there) (omega (arith, later, each row i (omega (arith, low, e)) (omega (arith, below, e)) there))
+  | inr apart ↦ rw (get_or-set_other untils i k until 0 apart) (each row k low below (omega (arith, inside, length-set untils i until)))
+]
+
+pub leasts-alike : (count least : ℕ) (untils : List ℕ) → ((i : ℕ) → i < length untils → least ≤ get_or untils i 0) → HasLeasts (replicate count least) untils
+leasts-alike count least untils each = λ row i low below inside. elim (cases_lt row count) [
+  | inl there ↦ rw (get_or-replicate count row least 0 there) (each i inside)
+  | inr past ↦ rw (get_or_past (replicate count least) row 0 (omega (arith, past, length-replicate count least))) (omega arith)
+]
 
 -- the least of what the nodes so far hold until
 pub least-read : (untils : List ℕ) (least i : ℕ) → ((k : ℕ) → k < i → least ≤ get_or untils k 0) → (k : ℕ) → k < i + 1 → min least (get_or untils i 0) ≤ get_or untils k 0

@@ -1,6 +1,6 @@
-ghost use Rattle.std.specs.Prelude.{◌≡◌, ◌≢◌, ◌⊎◌, ℕ, false, AllPairs, ◌+◌, ◌*◌, ◌^◌, ◌≤◌, ◌<◌, length, sum, slice_set, IfOk, All};
+ghost use Rattle.std.specs.Prelude.{◌≡◌, ◌≢◌, ◌⊎◌, ℕ, false, AllPairs, ◌+◌, ◌*◌, ◌^◌, ◌≤◌, ◌<◌, length, sum, slice_index, slice_set, IfOk, All};
 ghost use Rattle.backfill_planner.specs.Giving;
-ghost use Rattle.backfill_planner.specs.Sweeps.{GivesUntil, IsSwept};
+ghost use Rattle.backfill_planner.specs.Sweeps.{GivesUntil, IsHalfway, IsSwept};
 
 use crate::barred_times::{barred_until, next_begin};
 use crate::job::PlanJob;
@@ -10,6 +10,9 @@ use plain_data::seconds::LAST_START;
 use resource_profile::{Amount, NodeRoom, Profile};
 use small_texts::memory_error::Memory;
 use std::alloc::Global;
+
+// How many nodes are looked at together, where what one of them gives may have changed.
+const ROW: usize = 8;
 
 // What a node can give, and the second before which that holds.
 #[derive(Clone, Copy)]
@@ -25,6 +28,8 @@ pub(crate) struct Sweep {
     pub(crate) caps: Vec<u32>,
     // The seconds before which these hold.
     untils: Vec<u64>,
+    // Of each row of nodes a second before which all of these hold.
+    leasts: Vec<u64>,
     // What the nodes give together.
     pub(crate) total: u64,
     // A later second, before which all of these hold.
@@ -159,10 +164,12 @@ impl Sweep {
             total += u64::from(given.tasks);
             least = least.min(given.until);
         }
+        let leasts = vec![in alloc; least; nodes.len() / ROW + 1]?;
         Ok(Sweep {
             second,
             caps,
             untils,
+            leasts,
             total,
             least,
         })
@@ -175,12 +182,49 @@ impl Sweep {
         requires total { self.old.total ≡ sum self.old.caps.items }
         ensures caps { self.new.caps.items ≡ slice_set self.old.caps.items i given.tasks }
         ensures untils { self.new.untils.items ≡ slice_set self.old.untils.items i given.until }
+        ensures leasts { self.new.leasts.items ≡ self.old.leasts.items }
         ensures total { self.new.total ≡ sum self.new.caps.items }
         ensures second { self.new.second ≡ self.old.second }
     {
         self.total = self.total - u64::from(self.caps[i]) + u64::from(given.tasks);
         self.caps[i] = given.tasks;
         self.untils[i] = given.until;
+    }
+
+    // Counts anew, for the second, for those nodes of a row for which what they give may have changed.
+    fn count_row(
+        &mut self,
+        profile: &Profile,
+        rooms: &[NodeRoom],
+        job: &PlanJob,
+        row: usize,
+        second: u64,
+    )
+        requires rooms { profile.now.rooms ≡ rooms.now }
+        requires nodes { All (λ node. node < length rooms.now) job.now.nodes }
+        requires second { second ≤ LAST_START }
+        requires there { row < length self.old.leasts.items }
+        requires few { row < 2 ^ 32 }
+        requires halfway { IsHalfway rooms.now profile.now.holds job.now self.old second (row * 8) }
+        ensures halfway { IsHalfway rooms.now profile.now.holds job.now self.new second (row * 8 + 8) }
+        ensures later { second < slice_index self.new.leasts.items row }
+        ensures before { (i : ℕ) → i < row * 8
+            → slice_index self.new.untils.items i ≡ slice_index self.old.untils.items i }
+        ensures count { length self.new.leasts.items ≡ length self.old.leasts.items }
+        ensures second { self.new.second ≡ self.old.second }
+    {
+        let _ = job.cpus_per_task.get();
+        let nodes = job.nodes.as_slice();
+        let first = row * ROW;
+        let mut least = u64::MAX;
+        for i in first..nodes.len().min(first + ROW) {
+            if self.untils[i] <= second {
+                let given = given_from(profile, rooms, job, nodes[i], second);
+                self.renew(i, given);
+            }
+            least = least.min(self.untils[i]);
+        }
+        self.leasts[row] = least;
     }
 
     // Goes on to the second, and counts anew for the nodes for which what they give may have changed.
@@ -193,15 +237,12 @@ impl Sweep {
         ensures swept { IsSwept rooms.now profile.now.holds job.now self.new }
         ensures second { self.new.second ≡ second }
     {
-        let _ = job.cpus_per_task.get();
-        let nodes = job.nodes.as_slice();
         let mut least = u64::MAX;
-        for i in 0..nodes.len() {
-            if self.untils[i] <= second {
-                let given = given_from(profile, rooms, job, nodes[i], second);
-                self.renew(i, given);
+        for row in 0..self.leasts.len() {
+            if self.leasts[row] <= second {
+                self.count_row(profile, rooms, job, row, second);
             }
-            least = least.min(self.untils[i]);
+            least = least.min(self.leasts[row]);
         }
         self.least = least;
         self.second = second;

@@ -1,67 +1,75 @@
-use Rattle.std.proofs.Common.{◌≡◌, ◌^◌, ◌<◌, length, get_or, arith, ◌∙◌, inl, inr}
-use Rattle.std.proofs.lemmas.Bool.{cases_eq}
-use Rattle.std.proofs.lemmas.List.{length-set, get_or-set_same}
+use Rattle.std.proofs.Common.{◌≡◌, ◌+◌, ◌*◌, ◌≤◌, ◌<◌, length, get_or, arith, refl, ◌∙◌, inl, inr}
+use Rattle.std.proofs.lemmas.Bool.{cases_lt}
 use Rattle.std.proofs.lemmas.Grind.{get_or_default_zero}
-use Rattle.backfill_planner.proofs.Sweeping.{gives-set, gives-other, gives-later, small-set, least-read, least-set, total-room}
+use Rattle.backfill_planner.proofs.Sweeping.{swept-halfway, halfway-row, halfway-swept}
 use Rattle.backfill_planner.proofs.sweep.Sweep.count_anew.Goals as goal
 use Rattle.backfill_planner.proofs.sweep.Sweep.count_anew.Goals.{then-index-second, else-index-second}
 
-pub renew-requires-clause-bound : goal.renew-requires-clause-bound
-renew-requires-clause-bound c = total-room c.loop-i.self.caps.items c.loop-i.self.total c.args.job.now.cpus_per_task (omega (arith, c.loop-i.invariant.long, c.loop-i.invariant.few)) c.loop-i.invariant.small (omega (arith, c.get.ensures.range.0, c.get.ensures.value)) c.loop-i.invariant.total
+pub loop-row-init : goal.loop-row-init
+loop-row-init c = record {
+  half = swept-halfway c.args.rooms.now c.args.profile.now.holds c.args.job.now c.args.self.now c.args.second c.requires.swept c.requires.order;
+  count = refl;
+  was = refl;
+  later = omega (arith, c.requires.second);
+  least = λ i below inside. absurd (omega (arith, below));
+}
 
-pub loop-i-preserved : goal.loop-i-preserved
-loop-i-preserved c =
+pub count_row-requires-clause-there : goal.count_row-requires-clause-there
+count_row-requires-clause-there c = omega (arith, c.loop-row-test.true, c.loop-row.invariant.count)
+
+pub count_row-requires-clause-few : goal.count_row-requires-clause-few
+count_row-requires-clause-few c = omega (arith, c.loop-row-test.true, c.loop-row.invariant.count, c.loop-row.invariant.half.few_rows)
+
+pub count_row-requires-clause-halfway : goal.count_row-requires-clause-halfway
+count_row-requires-clause-halfway c = c.loop-row.invariant.half
+
+pub loop-row-preserved : goal.loop-row-preserved
+loop-row-preserved c =
     let rooms = c.args.rooms.now in
     let holds = c.args.profile.now.holds in
     let job = c.args.job.now in
-    let i = c.loop-i.i in
-    let old = c.loop-i.self in
-    let kept = c.loop-i.invariant in
-    let inside : i < length c.as_slice-nodes.result.now = c.loop-i-test.true in
-    let caps_in : i < length old.caps.items = omega (arith, inside, kept.long) in
-    let untils_in : i < length old.untils.items = omega (arith, inside, kept.until_long) in
+    let row = c.loop-row.row in
+    let old = c.loop-row.self in
+    let held = c.loop-row.invariant in
+    let there : row < length old.leasts.items = omega (arith, c.loop-row-test.true, held.count) in
+    let next : row * 8 + 8 ≡ (row + 1) * 8 = omega arith in
     elim c.if-index-second.branch [
       | then-index-second w ↦
-          let given = w.given_from-given.result in
-          let until = c.index-in-loop-i.result.now in
-          let until_is : until ≡ given.until = (rw (w.self-is, w.renew.ensures.untils) at c.index-in-loop-i.ensures) ∙ get_or-set_same old.untils.items i given.until until untils_in in
+          let new = w.count_row.new.self in
+          let half = w.count_row.ensures.halfway in
+          let last = c.index-in-loop-row.result.now in
+          let last_is : last ≡ get_or new.leasts.items row 0 = (rw w.self-is at c.index-in-loop-row.ensures) ∙ get_or_default_zero new.leasts.items row last (omega (arith, there, w.count_row.ensures.count)) in
           rw w.self-is (record {
-            long = rw w.renew.ensures.caps (length-set old.caps.items i given.tasks ∙ kept.long);
-            until_long = rw w.renew.ensures.untils (length-set old.untils.items i given.until ∙ kept.until_long);
-            before = w.renew.ensures.second ∙ kept.before;
-            done = λ k low. elim (cases_eq k i) [
-              | inl at ↦
-                  let e : k ≡ i = at in
-                  rw (e, w.renew.ensures.caps, w.renew.ensures.untils) (gives-set rooms holds job c.args.second _ i given.tasks given.until old.caps.items old.untils.items caps_in untils_in w.given_from-given.ensures.gives)
-              | inr apart ↦ rw (w.renew.ensures.caps, w.renew.ensures.untils) (gives-other rooms holds job c.args.second _ i k given.tasks given.until old.caps.items old.untils.items apart (kept.done k (omega arith)))
+            half = rw next at half;
+            count = w.count_row.ensures.count ∙ held.count;
+            was = w.count_row.ensures.second ∙ held.was;
+            later = omega (arith, c.min-least.ensures, last_is, held.later, w.count_row.ensures.later);
+            least = λ i below inside. elim (cases_lt i (row * 8)) [
+              | inl passed ↦ omega (arith, c.min-least.ensures, held.least i passed inside, w.count_row.ensures.before i passed)
+              | inr here ↦ omega (arith, c.min-least.ensures, last_is, half.leasts row i (omega (arith, here)) (omega (arith, below)) (omega (arith, inside, half.until_long)))
             ];
-            rest = λ k high within. rw (w.renew.ensures.caps, w.renew.ensures.untils, w.renew.ensures.second) (gives-other rooms holds job old.second _ i k given.tasks given.until old.caps.items old.untils.items (omega arith) (kept.rest k (omega arith) within));
-            small = rw w.renew.ensures.caps (small-set old.caps.items i given.tasks job.cpus_per_task (2 ^ 32) kept.small w.given_from-given.ensures.small);
-            few = kept.few;
-            total = w.renew.ensures.total;
-            later = omega (arith, c.min-least.ensures, until_is, kept.later, w.given_from-given.ensures.gives.later);
-            least = rw (w.renew.ensures.untils, c.min-least.ensures, until_is) (least-set old.untils.items c.loop-i.least given.until i untils_in kept.least);
           })
       | else-index-second w ↦
-          let read : c.index.result.now ≡ get_or old.untils.items i 0 = c.index.ensures ∙ get_or_default_zero old.untils.items i c.index.result.now untils_in in
-          let until = c.index-in-loop-i.result.now in
-          let until_is : until ≡ get_or old.untils.items i 0 = (rw w.self-is at c.index-in-loop-i.ensures) ∙ get_or_default_zero old.untils.items i until untils_in in
-          let fresh : c.args.second < get_or old.untils.items i 0 = rw read at w.if-index-second.false in
+          let read : c.index.result.now ≡ get_or old.leasts.items row 0 = c.index.ensures ∙ get_or_default_zero old.leasts.items row c.index.result.now there in
+          let fresh : c.args.second < get_or old.leasts.items row 0 = rw read at w.if-index-second.false in
+          let half = halfway-row rooms holds job old c.args.second row held.half fresh in
+          let last = c.index-in-loop-row.result.now in
+          let last_is : last ≡ get_or old.leasts.items row 0 = (rw w.self-is at c.index-in-loop-row.ensures) ∙ get_or_default_zero old.leasts.items row last there in
           rw w.self-is (record {
-            long = kept.long;
-            until_long = kept.until_long;
-            before = kept.before;
-            done = λ k low. elim (cases_eq k i) [
-              | inl at ↦
-                  let e : k ≡ i = at in
-                  rw e (gives-later rooms holds job old.second c.args.second _ _ _ (omega (arith, kept.before, c.requires.order)) fresh (kept.rest i (omega arith) inside))
-              | inr apart ↦ kept.done k (omega arith)
+            half = rw next at half;
+            count = held.count;
+            was = held.was;
+            later = omega (arith, c.min-least.ensures, last_is, held.later, fresh);
+            least = λ i below inside. elim (cases_lt i (row * 8)) [
+              | inl passed ↦ omega (arith, c.min-least.ensures, held.least i passed inside)
+              | inr here ↦ omega (arith, c.min-least.ensures, last_is, half.leasts row i (omega (arith, here)) (omega (arith, below)) (omega (arith, inside, half.until_long)))
             ];
-            rest = λ k high within. kept.rest k (omega arith) within;
-            small = kept.small;
-            few = kept.few;
-            total = kept.total;
-            later = omega (arith, c.min-least.ensures, until_is, kept.later, fresh);
-            least = rw (c.min-least.ensures, until_is) (least-read old.untils.items c.loop-i.least i kept.least);
           })
     ]
+
+pub returns-clause-swept : goal.returns-clause-swept
+returns-clause-swept c =
+    let held = c.loop-row.invariant in
+    let all : length c.args.job.now.nodes ≤ c.loop-row.row * 8 = omega (arith, held.half.rows, held.count, c.loop-row-test.false) in
+    halfway-swept c.args.rooms.now c.args.profile.now.holds c.args.job.now c.loop-row.self c.args.second (c.loop-row.row * 8) c.loop-row.least held.half all held.later
+    (λ i inside. held.least i (omega (arith, inside, all)) inside)
