@@ -18,9 +18,10 @@ ghost use Rattle.job_table.specs.Tallies.{ShowsUnended};
 
 use crate::awaited::Awaited;
 use crate::behind::{one_waits_behind, still_waits_behind, waits_behind};
-use crate::blocks::{BLOCK, Block, count_from, count_left, follow, next_in_holding, next_marked};
+use crate::blocks::{BLOCK, Block, count_from, count_left, follow, next_in_holding};
 use crate::change::{Change, apply};
 use crate::moving::{move_partition, move_parts};
+use crate::on_node::next_on;
 use crate::record::JobRecord;
 use crate::targets::{Places, place_of_task, places_of, rise_from};
 use crate::unended::{Tallies, Unended, pair_of};
@@ -187,13 +188,14 @@ impl Jobs {
     }
 
     /// The first place from one on at which a job may hold something of the node; none before it does. One look for each
-    /// 64 places that are left out.
+    /// 64 places of which no job holds any of it, and else linear in their jobs' parts.
     pub fn next_on(&self, node: u32, from: usize) -> Option<usize>
         ensures there { IfSome result (λ place. (from ≤ place) × (place < length self.now.records)) }
         ensures before { AllWithin (λ job. holds_on node job ≡ false) self.now.records from
             (unwrap_or result (length self.now.records)) }
     {
-        next_marked(self.blocks.as_slice(), self.len(), node, from)
+        let _ = self.len();
+        next_on(self.blocks.as_slice(), self.records(), node, from)
     }
 
     /// The first place from one on at which a job may hold processors; none before it does. One look for each 64 places

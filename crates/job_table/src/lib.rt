@@ -10,6 +10,7 @@ pub mod dependency_laws;
 pub mod jobs;
 pub mod laws;
 mod moving;
+mod on_node;
 pub mod record;
 pub mod standing;
 pub mod targets;

@@ -1,13 +1,10 @@
 use Rattle.std.proofs.Common.{◌≡◌, ap}
 use Rattle.std.specs.Map.{values_of}
 use Rattle.job_table.specs.Table.{JobsView}
-use Rattle.job_table.proofs.Marks.{none-on}
 use Rattle.job_table.proofs.jobs.Jobs.next_on.Goals as goal
 
-pub returns-clause-before : goal.returns-clause-before
-returns-clause-before c =
+pub next_on-requires-clause-marked : goal.next_on-requires-clause-marked
+next_on-requires-clause-marked c =
     let view : values_of c.self.inside.by_id.entries ≡ c.args.self.now.records =
     ap (λ (view : JobsView). view.records) c.self.view_is in
-    none-on c.self.inside.blocks.items c.args.self.now.records c.args.node c.args.from c.next_marked.result
-    (rw view at c.self.invariant.marked) (rw c.len.ensures.value at c.next_marked.ensures.there)
-    (rw (c.as_slice.ensures.value, c.len.ensures.value) at c.next_marked.ensures.before)
+    rw (c.as_slice.ensures.value, c.records.ensures.value, ← view) c.self.invariant.marked
