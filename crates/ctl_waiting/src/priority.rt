@@ -1,6 +1,7 @@
 //! The priority of a job.
 
 ghost use Rattle.std.specs.Prelude.{◌≡◌, ◌≤◌, option_map, slice_get, unwrap_or};
+ghost use Rattle.plain_data.specs.Ratios.{share_of};
 ghost use Rattle.run_limits.specs.declared.record.QosRecord.{QosRecord};
 ghost use Rattle.run_limits.specs.Priority.{value_of};
 ghost use Rattle.ctl_state.specs.State.{state_of};
@@ -16,16 +17,28 @@ use reply_data::priority::PriorityParts;
 use run_limits::record::QosRecord;
 use run_limits::{PriorityInput, Term, priority};
 
+// The term of this weight. One that adds nothing has no denominator, since what it adds then takes no division.
+fn term(weight: u32, num: u64, den: u64) -> Term
+    requires { num ≤ den }
+    ensures { value_of result ≡ share_of weight num den }
+{
+    if weight == 0 || num == 0 {
+        return Term {
+            weight: 0,
+            num: 0,
+            den: 0,
+        };
+    }
+    Term { weight, num, den }
+}
+
 // How long the job has waited at a moment, as far as that counts.
 fn age_term(cluster: &Cluster, moment: u64, job: &JobRecord) -> Term
     ensures { value_of result ≡ spec.age_term (state_of cluster.now) moment job.now }
 {
     let whole = cluster.settings.max_age.get() * 60;
-    Term {
-        weight: cluster.settings.weight_age,
-        num: moment.saturating_sub(job.eligible).min(whole),
-        den: whole,
-    }
+    let waited = moment.saturating_sub(job.eligible).min(whole);
+    term(cluster.settings.weight_age, waited, whole)
 }
 
 // The rank of the user of the association at a place.
@@ -41,11 +54,8 @@ fn fair_share_term(factors: &Factors, cluster: &Cluster, job: &JobRecord) -> Ter
     requires measured { IsMeasured (state_of cluster.now) factors.now }
     ensures { value_of result ≡ spec.fair_share_term (state_of cluster.now) factors.now.moment job.now }
 {
-    Term {
-        weight: cluster.settings.weight_fairshare,
-        num: u64::from(rank_of(factors, cluster, job.assoc)),
-        den: factors.users,
-    }
+    let rank = u64::from(rank_of(factors, cluster, job.assoc));
+    term(cluster.settings.weight_fairshare, rank, factors.users)
 }
 
 // The processors that the job is counted with, as far as there are so many.
@@ -54,11 +64,11 @@ fn job_size_term(factors: &Factors, cluster: &Cluster, job: &JobRecord) -> Term
     ensures { value_of result ≡ spec.job_size_term (state_of cluster.now) job.now }
 {
     let cpus = job.terms().tasks.get() * job.terms().cpus_per_task.get();
-    Term {
-        weight: cluster.settings.weight_job_size,
-        num: cpus.min(factors.cpus),
-        den: factors.cpus,
-    }
+    term(
+        cluster.settings.weight_job_size,
+        cpus.min(factors.cpus),
+        factors.cpus,
+    )
 }
 
 // The factor of the job's partition.
@@ -76,11 +86,11 @@ fn partition_term(factors: &Factors, cluster: &Cluster, job: &JobRecord) -> Term
     requires measured { IsMeasured (state_of cluster.now) factors.now }
     ensures { value_of result ≡ spec.partition_term (state_of cluster.now) job.now }
 {
-    Term {
-        weight: cluster.settings.weight_partition,
-        num: factor_of(cluster, job),
-        den: factors.greatest_factor,
-    }
+    term(
+        cluster.settings.weight_partition,
+        factor_of(cluster, job),
+        factors.greatest_factor,
+    )
 }
 
 // The priority of the quality of service at a place, 0 of none.
@@ -105,11 +115,11 @@ fn qos_term(factors: &Factors, cluster: &Cluster, job: &JobRecord) -> Term
     requires measured { IsMeasured (state_of cluster.now) factors.now }
     ensures { value_of result ≡ spec.qos_term (state_of cluster.now) job.now }
 {
-    Term {
-        weight: cluster.settings.weight_qos,
-        num: u64::from(qos_priority_of(cluster, job)),
-        den: u64::from(factors.greatest_qos),
-    }
+    term(
+        cluster.settings.weight_qos,
+        u64::from(qos_priority_of(cluster, job)),
+        u64::from(factors.greatest_qos),
+    )
 }
 
 /// The job's priority, and what it is made of. In constant time. "Job Priority Factors" of Slurm's multifactor
