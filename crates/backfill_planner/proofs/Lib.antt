@@ -20,6 +20,7 @@ pub mod Lessening
 pub mod Staying
 pub mod NoFreer
 pub mod Settling
+pub mod Quiet
 pub mod NothingHeld
 pub mod Freer
 pub mod Places

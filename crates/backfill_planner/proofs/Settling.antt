@@ -14,11 +14,11 @@ use Rattle.backfill_planner.specs.declared.Placed.{Placed}
 use Rattle.backfill_planner.specs.declared.job.PlanJob.{PlanJob}
 use Rattle.backfill_planner.specs.declared.seen.Seen.{Seen}
 use Rattle.backfill_planner.specs.Bases.{BaseView}
-use Rattle.backfill_planner.specs.Plans.{holds_of, holds_before, placed_of, placement_of, plan_beside, plan_of, plan_holds_beside, plan_holds_of}
+use Rattle.backfill_planner.specs.Plans.{AreCounted, holds_of, holds_before, placed_of, placement_of, plan_beside, plan_of, plan_holds_beside, plan_holds_of}
 use Rattle.backfill_planner.specs.Placements.{IsPlannable, IsOnRooms, AreParts, StartsFit}
 use Rattle.backfill_planner.specs.Lesser.{NoneBefore}
 use Rattle.backfill_planner.specs.Searches.{IsSeen, bound_of}
-use Rattle.backfill_planner.specs.Making.{AreCounted, IsPlanning}
+use Rattle.backfill_planner.specs.Making.{IsPlanning}
 use Rattle.backfill_planner.proofs.Holding.{HoldsFree}
 use Rattle.backfill_planner.proofs.LeastSecond.{placed-is}
 use Rattle.backfill_planner.proofs.Parts.{placed-holds, plan-parts}
@@ -96,6 +96,24 @@ next-planned laws base ranked now done made counts profile searches job placed n
       held = rw (holds-next base ranked now done job below (sym job_is), ← mine) moved;
       seen = seen-held laws base.rooms profile.holds (holds_of job placed) new_profile.holds ranked now new_searches held_is (seen_are (λ d. subst (λ j. NoneBefore base.rooms profile.holds j now (bound_of placed base.horizon)) (job_is ∙ get_or_default ranked done job d below) shown));
     }
+
+-- one search more is kept in mind
+pub searched-seen : LowerLaws → (base : BaseView) (ranked : List PlanJob) (now done : ℕ) (made : List Placed) (counts : List ℕ) (profile : ProfileView) (searches : List Seen) (placed : Option Placed) (new_searches : List Seen)
+    → IsPlanning base ranked now done made counts profile searches → ((d : PlanJob) → placed ≡ placement_of base ranked now done (get_or ranked done d))
+    → (((d : PlanJob) → NoneBefore base.rooms profile.holds (get_or ranked done d) now (bound_of placed base.horizon)) → All (IsSeen base.rooms profile.holds ranked now) new_searches)
+    → IsPlanning base ranked now done made counts profile new_searches
+searched-seen laws base ranked now done made counts profile searches placed new_searches is there seen_are = record {
+  within = is.within;
+  low = is.low;
+  nodes = is.nodes;
+  jobs = is.jobs;
+  few = is.few;
+  placements = is.placements;
+  counted = is.counted;
+  rooms = is.rooms;
+  held = is.held;
+  seen = seen_are (λ d. bound-shown laws base.rooms profile.holds (get_or ranked done d) now base.horizon placed (there d ∙ placed-permuted base.rooms (holds_before base ranked now done) profile.holds (get_or ranked done d) now base.horizon is.held));
+}
 
 -- before the first job
 pub none-planned : (base : BaseView) (ranked : List PlanJob) (now : ℕ) (made : List Placed) (counts : List ℕ) (profile : ProfileView) (searches : List Seen) → AreWithin base.rooms base.holds → base.horizon ≤ LAST_START → All (IsOnRooms base.rooms) ranked → made ≡ [] → counts ≡ 0 ∷ [] → profile.rooms ≡ base.rooms → profile.holds ≡ base.holds → searches ≡ [] → IsPlanning base ranked now 0 made counts profile searches

@@ -1,5 +1,5 @@
 -- How a plan in the making, and a plan, are kept. Of the proof alone: no public call speaks of it.
-use Rattle.std.specs.Prelude.{◌≡◌, ℕ, ◌+◌, ◌≤◌, List, length, take, slice_index_or, All}
+use Rattle.std.specs.Prelude.{◌≡◌, ℕ, ◌≤◌, List, length, take, All}
 use Rattle.std.specs.List.Sorted.{IsPermutation}
 use Rattle.resource_profile.specs.Profiles.{ProfileView, AreWithin}
 use Rattle.backfill_planner.specs.declared.Placed.{Placed}
@@ -7,15 +7,9 @@ use Rattle.backfill_planner.specs.declared.job.PlanJob.{PlanJob}
 use Rattle.backfill_planner.specs.declared.seen.Seen.{Seen}
 use Rattle.backfill_planner.specs.Bases.{BaseView}
 use Rattle.backfill_planner.specs.Placements.{IsOnRooms, IsPlannable}
-use Rattle.backfill_planner.specs.Plans.{holds_before, plan_of}
+use Rattle.backfill_planner.specs.Plans.{AreCounted, holds_before, plan_of}
 use Rattle.backfill_planner.specs.Searches.{IsSeen}
 use Rattle.plain_data.specs.declared.seconds.TheConstants.{LAST_START}
-
--- how many placements the first jobs have, for each number of these from 0 to `done`
-pub record AreCounted (base : BaseView) (ranked : List PlanJob) (now done : ℕ) (counts : List ℕ) : Type 0 where
-  pub long : length counts ≡ done + 1
-  pub each : (first d : ℕ) → first ≤ done
-      → slice_index_or counts first d ≡ length (plan_of base (take first ranked) now)
 
 -- the first jobs are planned, and what they hold is in the profile
 pub record IsPlanning (base : BaseView) (ranked : List PlanJob) (now done : ℕ) (made : List Placed)

@@ -1,5 +1,5 @@
 -- The plan of a ranked list of jobs.
-use Rattle.std.specs.Prelude.{ℕ, ◌+◌, ◌-◌, nat_eq, if◌then◌else◌, List, [], ◌∷◌, ◌++◌, map, find, filter, take, sum_by, slice_index, is_some, Option, Some, None, option_map, option_and_then, option_to_list}
+use Rattle.std.specs.Prelude.{◌≡◌, ℕ, ◌+◌, ◌-◌, ◌≤◌, nat_eq, if◌then◌else◌, List, [], ◌∷◌, ◌++◌, length, map, find, filter, take, sum_by, slice_index, slice_index_or, is_some, Option, Some, None, option_map, option_and_then, option_to_list}
 use Rattle.resource_profile.specs.declared.NodeRoom.{NodeRoom}
 use Rattle.resource_profile.specs.declared.Hold.{Hold}
 use Rattle.resource_profile.specs.Free.{room_at}
@@ -91,6 +91,12 @@ holds_before base ranked now place = base.holds ++ plan_holds_of base (take plac
 abbrev pub placement_of : BaseView → List PlanJob → ℕ → ℕ → PlanJob → Option Placed
 placement_of base ranked now place job =
     placed_of base.rooms (holds_before base ranked now place) job now base.horizon
+
+-- how many placements the first jobs have, for each number of these from 0 to `done`
+pub record AreCounted (base : BaseView) (ranked : List PlanJob) (now done : ℕ) (counts : List ℕ) : Type 0 where
+  pub long : length counts ≡ done + 1
+  pub each : (first d : ℕ) → first ≤ done
+      → slice_index_or counts first d ≡ length (plan_of base (take first ranked) now)
 
 -- the placements that begin at the moment
 abbrev pub starts_at : ℕ → List Placed → List Placed

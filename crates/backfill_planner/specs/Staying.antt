@@ -1,5 +1,5 @@
 -- When nothing has changed on the nodes that a job may have.
-use Rattle.std.specs.Prelude.{◌≡◌, ℕ, ◌≤◌, ◌<◌, List}
+use Rattle.std.specs.Prelude.{◌≡◌, ◌⊎◌, ℕ, ◌≤◌, ◌<◌, List}
 use Rattle.resource_profile.specs.declared.NodeRoom.{NodeRoom}
 use Rattle.resource_profile.specs.declared.Hold.{Hold}
 use Rattle.resource_profile.specs.Free.{room_at, free_cpus, free_mem}
@@ -37,3 +37,7 @@ pub record IsNoFreer (rooms : List NodeRoom) (holds : List Hold) (new_rooms : Li
 -- its windows end there
 abbrev pub EndsInTime : PlanJob → Type 0
 EndsInTime job = (start : ℕ) → start ≤ LAST_START → window_end job start ≤ FOREVER
+
+-- it is none of the seconds after `last` and up to `hi`
+abbrev pub IsOutside : ℕ → ℕ → ℕ → Type 0
+IsOutside last hi second = (second ≤ last) ⊎ (hi < second)

@@ -1,5 +1,5 @@
 // What holds of every plan. Each law is the contract of a function that does nothing.
-ghost use Rattle.std.specs.Prelude.{◌≡◌, ◌≢◌, ℕ, ◌+◌, ◌≤◌, ◌<◌, List, [], ◌++◌, false, true, length, take, map, slice_index_or, is_some, Some, None, All, AllPairs, Contains};
+ghost use Rattle.std.specs.Prelude.{◌≡◌, ◌≢◌, ℕ, ◌+◌, ◌≤◌, ◌<◌, List, [], ◌∷◌, ◌++◌, false, true, length, take, map, slice_index_or, option_to_list, is_some, Some, None, All, AllPairs, Contains};
 ghost use Rattle.resource_profile.specs.declared.NodeRoom.{NodeRoom};
 ghost use Rattle.resource_profile.specs.declared.Hold.{Hold};
 ghost use Rattle.resource_profile.specs.Free.{room_at};
@@ -8,11 +8,12 @@ ghost use Rattle.backfill_planner.specs.declared.Share.{Share};
 ghost use Rattle.backfill_planner.specs.declared.Placed.{Placed};
 ghost use Rattle.backfill_planner.specs.Giving.{window_end, is_barred};
 ghost use Rattle.backfill_planner.specs.Placements.{FitsAt, IsPlacement, IsPlannable, IsOnRooms, AreParts, StartsFit};
+ghost use Rattle.backfill_planner.specs.declared.job.Barred.{Barred};
 ghost use Rattle.backfill_planner.specs.declared.job.PlanJob.{PlanJob};
 ghost use Rattle.backfill_planner.specs.Bases.{BaseView};
-ghost use Rattle.backfill_planner.specs.Plans.{holds_before, holds_of, placed_of, placement_of, plan_of, plan_holds_of};
+ghost use Rattle.backfill_planner.specs.Plans.{AreCounted, holds_before, holds_of, placed_of, placement_of, plan_of, plan_holds_of};
 ghost use Rattle.backfill_planner.specs.Lesser.{NoneBefore};
-ghost use Rattle.backfill_planner.specs.Staying.{EndsInTime, IsNoFreer, StaysBefore, StaysFrom};
+ghost use Rattle.backfill_planner.specs.Staying.{EndsInTime, IsNoFreer, IsOutside, StaysBefore, StaysFrom};
 ghost use Rattle.backfill_planner.specs.LowerLaws.{LowerLaws};
 ghost use Rattle.backfill_planner.specs.OneNode.{AsksSomeMem, HasRoomForAll, MayBeOneNode};
 
@@ -161,12 +162,35 @@ pub fn placements_stay_before()
     lower_laws();
 }
 
+/// Where no set fits at the seconds that were tried, and nothing that is held and no barred time ends at one of the seconds
+/// behind them, the job has no placement up to there either.
+pub fn none_comes_to_fit()
+    ensures { (rooms : List NodeRoom) (holds : List Hold) (job : PlanJob) (now last hi : ℕ)
+        → now ≤ last → hi ≤ LAST_START → last < window_end job last → NoneBefore rooms holds job now (last + 1)
+        → All (λ (hold : Hold). IsOutside last hi hold.until) holds
+        → All (λ (time : Barred). IsOutside last hi time.until) job.barred
+        → placed_of rooms holds job now hi ≡ None }
+{
+    lower_laws();
+}
+
 /// The plan of one job more is the plan of those before it and its own placement, beside what these hold.
 pub fn plans_go_on()
-    ensures { (base : BaseView) (ranked : List PlanJob) (now place : ℕ) (job : PlanJob)
+    ensures holds { (base : BaseView) (ranked : List PlanJob) (now place : ℕ) (job : PlanJob)
         → place < length ranked → slice_index_or ranked place job ≡ job
         → holds_before base ranked now (place + 1)
         ≡ holds_before base ranked now place ++ holds_of job (placement_of base ranked now place job) }
+    ensures plan { (base : BaseView) (ranked : List PlanJob) (now place : ℕ) (job : PlanJob)
+        → place < length ranked → slice_index_or ranked place job ≡ job
+        → plan_of base (take (place + 1) ranked) now
+        ≡ plan_of base (take place ranked) now ++ option_to_list (placement_of base ranked now place job) }
+{}
+
+/// How many placements the jobs have up to each place, with one job more.
+pub fn counts_go_on()
+    ensures { (base : BaseView) (ranked : List PlanJob) (now done : ℕ) (counts : List ℕ) (more : ℕ)
+        → AreCounted base ranked now done counts → more ≡ length (plan_of base (take (done + 1) ranked) now)
+        → AreCounted base ranked now (done + 1) (counts ++ more ∷ []) }
 {}
 
 /// Where nothing is held and nothing is barred, a job begins at once that one node may be enough for, if one of its nodes

@@ -1,11 +1,11 @@
-ghost use Rattle.std.specs.Prelude.{◌≡◌, ℕ, ◌≤◌, ◌<◌, ◌++◌, length, slice_index_or, slice_get, option_copied, IfOk, OnOk, OnErr, All};
+ghost use Rattle.std.specs.Prelude.{◌≡◌, ℕ, ◌≤◌, ◌<◌, ◌+◌, ◌++◌, length, take, slice_index_or, slice_get, option_copied, IfOk, OnOk, OnErr, All};
 ghost use Rattle.resource_profile.specs.Counts.{ticked, IsTickedUpTo};
 ghost use Rattle.resource_profile.specs.Profiles.{AreWithin};
 ghost use Rattle.backfill_planner.specs.declared.Placed.{Placed};
 ghost use Rattle.backfill_planner.specs.declared.job.PlanJob.{PlanJob as AJob};
 ghost use Rattle.backfill_planner.specs.Placements.{IsOnRooms, IsPlannable, AreParts, StartsFit};
 ghost use Rattle.backfill_planner.specs.Making.{IsPlanned};
-ghost use Rattle.backfill_planner.specs.Plans.{placement_of, plan_of, plan_holds_of};
+ghost use Rattle.backfill_planner.specs.Plans.{AreCounted, placement_of, plan_of, plan_holds_of};
 
 use crate::Placed;
 use crate::base::Base;
@@ -132,6 +132,41 @@ impl Planned {
         } else {
             None
         }
+    }
+
+    /// How many placements the jobs have up to that at a place of the list, it among them. Constant time.
+    pub fn count_up_to(&self, place: usize) -> usize
+        requires { place < length self.now.ranked }
+        ensures { result ≡ length (plan_of self.now.base (take (place + 1) self.now.ranked) self.now.moment) }
+    {
+        self.counts[place + 1]
+    }
+
+    /// The plan of other jobs, or at another moment, that has the same placements; `counts` says how many of these the
+    /// first jobs have, for each number of jobs. Linear in the parts of the placements.
+    pub fn copy_for(
+        &self,
+        alloc: Global,
+        base: Base,
+        ranked: Vec<PlanJob>,
+        moment: u64,
+        counts: Vec<usize>,
+    ) -> Result<Planned, Memory>
+        requires nodes { All (IsOnRooms base.rooms) ranked.items }
+        requires placements { plan_of base ranked.items moment
+            ≡ plan_of self.now.base self.now.ranked self.now.moment }
+        requires counts { AreCounted base ranked.items moment (length ranked.items) counts.items }
+        ensures { IfOk result (λ planned. planned
+            ≡ record { base = base; ranked = ranked.items; moment = moment }) }
+    {
+        let placements = copy_placements(alloc, self.placements.as_slice())?;
+        Ok(Planned {
+            base,
+            ranked,
+            moment,
+            placements,
+            counts,
+        })
     }
 
     /// What it began with.

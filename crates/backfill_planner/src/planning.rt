@@ -9,7 +9,9 @@ ghost use Rattle.backfill_planner.specs.declared.job.PlanJob.{PlanJob as AJob};
 ghost use Rattle.backfill_planner.specs.Lesser.{NoneBefore};
 ghost use Rattle.backfill_planner.specs.Placements.{IsPlannable, IsOnRooms, AreParts, StartsFit};
 ghost use Rattle.backfill_planner.specs.Plans.{holds_of, holds_before, placed_of, placement_of, plan_of, plan_holds_of};
+ghost use Rattle.backfill_planner.specs.Searches.{IsSeen};
 ghost use Rattle.backfill_planner.specs.Searches as spec;
+ghost use Rattle.backfill_planner.specs.declared.seen.Seen.{Seen as OneSeen};
 
 use crate::Placed;
 use crate::base::Base;
@@ -105,6 +107,32 @@ fn search_from(profile: &Profile, job: &PlanJob, now: u64, lo: u64, horizon: u64
     next_second(profile, job, lo - 1, horizon + 1)
 }
 
+// The second at which a search may begin where none of the job's sets fits before `from`. Where none comes to fit up to
+// the horizon, the searches before aren't looked at.
+fn shown_from(
+    profile: &Profile,
+    base: &Base,
+    searches: &Searches,
+    ranked: &[PlanJob],
+    job: &PlanJob,
+    now: u64,
+    from: u64,
+) -> u64
+    requires there { All (λ (one : OneSeen). one.place < length ranked.now) searches.now.seen.items }
+    requires alike { All (λ (one : OneSeen). one.alike < length ranked.now) searches.now.seen.items }
+    ensures later { now ≤ result }
+    ensures none { (rooms : List Room) → All (IsSeen rooms profile.now.holds ranked.now now) searches.now.seen.items
+        → NoneBefore rooms profile.now.holds job.now now from
+        → NoneBefore rooms profile.now.holds job.now now result }
+{
+    let horizon = base.horizon;
+    let begin = search_from(profile, job, now, from, horizon).max(now);
+    if horizon < begin {
+        return begin;
+    }
+    searches.bound(ranked, job, now).max(begin)
+}
+
 // The placement of the job, where it is known that none of its sets fits from `now` on and before `lo`.
 fn search<L>(
     alloc: Global,
@@ -197,12 +225,10 @@ impl Planning {
             mut placements,
             mut counts,
             mut profile,
-            mut searches,
+            searches,
         } = self;
         let job = &ranked[done];
         job.tell_plannable();
-        let bound = bound_of(&placed, base.horizon);
-        searches.add(ranked.as_slice(), moment, done, bound)?;
         if let Some(placed) = placed {
             hold(&mut profile, job, &placed)?;
             placements.push(placed)?;
@@ -218,6 +244,39 @@ impl Planning {
             profile,
             searches,
         })
+    }
+
+    /// The same for a placement that a search has found: it is kept in mind for the jobs that ask no less.
+    pub fn settle_searched(self, placed: Option<Placed>) -> Result<Planning, Memory>
+        requires more { self.done < length self.ranked }
+        requires placed { (d : AJob) → placed ≡ placement_of self.base self.ranked self.moment self.done
+            (slice_index_or self.ranked self.done d) }
+        ensures { IfOk result (λ next. next ≡ record self { done = self.done + 1 }) }
+    {
+        lower_laws();
+        let Planning {
+            base,
+            ranked,
+            moment,
+            done,
+            placements,
+            counts,
+            profile,
+            mut searches,
+        } = self;
+        let bound = bound_of(&placed, base.horizon);
+        searches.add(ranked.as_slice(), moment, done, bound)?;
+        let planning = Planning {
+            base,
+            ranked,
+            moment,
+            done,
+            placements,
+            counts,
+            profile,
+            searches,
+        };
+        planning.settle_next(placed)
     }
 
     /// The placement of the next job, by a search. It is known that none of its sets fits before `from`, and the search
@@ -239,16 +298,22 @@ impl Planning {
         ensures steps { steps.new ≡ ticked steps.old 1 }
     {
         let job = &self.ranked[self.done];
-        let shown = self
-            .searches
-            .bound(self.ranked.as_slice(), job, self.moment);
+        let begin = shown_from(
+            &self.profile,
+            &self.base,
+            &self.searches,
+            self.ranked.as_slice(),
+            job,
+            self.moment,
+            from,
+        );
         let placed = search(
             alloc,
             &self.profile,
             &self.base,
             job,
             self.moment,
-            shown.max(from),
+            begin,
             steps,
         )?;
         Ok(placed)
@@ -270,7 +335,7 @@ impl Planning {
         ensures steps { steps.new ≡ ticked steps.old 1 }
     {
         let placed = self.search_next(alloc, from, steps)?;
-        self.settle_next(placed)
+        self.settle_searched(placed)
     }
 
     /// The plan, once all jobs are planned.

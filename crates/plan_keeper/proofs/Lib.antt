@@ -21,3 +21,4 @@ pub mod Passed
 pub mod Leaving
 pub mod Parting
 pub mod Rest
+pub mod Stillness

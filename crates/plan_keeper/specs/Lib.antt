@@ -6,3 +6,4 @@ pub mod Holding
 pub mod Turns
 pub mod Kept
 pub mod Passing
+pub mod Unmoved

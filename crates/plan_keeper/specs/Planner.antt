@@ -1,15 +1,16 @@
 -- What the planner promises, as the proofs here take it. Of the proof alone.
-use Rattle.std.specs.Prelude.{◌≡◌, ℕ, ◌+◌, ◌≤◌, ◌<◌, ◌++◌, List, length, slice_index_or, All, Contains, Some, None}
+use Rattle.std.specs.Prelude.{◌≡◌, ℕ, ◌+◌, ◌≤◌, ◌<◌, ◌++◌, List, [], ◌∷◌, length, take, slice_index_or, option_to_list, All, Contains, Some, None}
 use Rattle.resource_profile.specs.declared.NodeRoom.{NodeRoom}
 use Rattle.resource_profile.specs.declared.Hold.{Hold}
 use Rattle.backfill_planner.specs.declared.Share.{Share}
 use Rattle.backfill_planner.specs.declared.Placed.{Placed}
+use Rattle.backfill_planner.specs.declared.job.Barred.{Barred}
 use Rattle.backfill_planner.specs.declared.job.PlanJob.{PlanJob}
 use Rattle.backfill_planner.specs.Bases.{BaseView}
 use Rattle.backfill_planner.specs.Giving.{window_end}
 use Rattle.backfill_planner.specs.Lesser.{NoneBefore}
-use Rattle.backfill_planner.specs.Plans.{holds_of, holds_before, placed_of, placement_of}
-use Rattle.backfill_planner.specs.Staying.{EndsInTime, IsNoFreer, StaysBefore, StaysFrom}
+use Rattle.backfill_planner.specs.Plans.{AreCounted, holds_of, holds_before, placed_of, placement_of, plan_of}
+use Rattle.backfill_planner.specs.Staying.{EndsInTime, IsNoFreer, IsOutside, StaysBefore, StaysFrom}
 use Rattle.plain_data.specs.declared.seconds.TheConstants.{FOREVER, LAST_START}
 
 pub record PlannerLaws : Type 0 where
@@ -49,3 +50,15 @@ pub record PlannerLaws : Type 0 where
       → place < length ranked → slice_index_or ranked place job ≡ job
       → holds_before base ranked now (place + 1)
       ≡ holds_before base ranked now place ++ holds_of job (placement_of base ranked now place job)
+  pub plan_goes_on : (base : BaseView) (ranked : List PlanJob) (now place : ℕ) (job : PlanJob)
+      → place < length ranked → slice_index_or ranked place job ≡ job
+      → plan_of base (take (place + 1) ranked) now
+      ≡ plan_of base (take place ranked) now ++ option_to_list (placement_of base ranked now place job)
+  pub counts_go_on : (base : BaseView) (ranked : List PlanJob) (now done : ℕ) (counts : List ℕ) (more : ℕ)
+      → AreCounted base ranked now done counts → more ≡ length (plan_of base (take (done + 1) ranked) now)
+      → AreCounted base ranked now (done + 1) (counts ++ more ∷ [])
+  pub none_comes : (rooms : List NodeRoom) (holds : List Hold) (job : PlanJob) (now last hi : ℕ)
+      → now ≤ last → hi ≤ LAST_START → last < window_end job last → NoneBefore rooms holds job now (last + 1)
+      → All (λ (hold : Hold). IsOutside last hi hold.until) holds
+      → All (λ (time : Barred). IsOutside last hi time.until) job.barred
+      → placed_of rooms holds job now hi ≡ None

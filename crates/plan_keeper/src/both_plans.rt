@@ -210,7 +210,7 @@ fn plan_new<L>(
     let found = find_anew(alloc, &planning, now, steps)?;
     level.pass(&planning.ranked()[index]);
     kept.place_new(&found.placed);
-    let planning = planning.settle_next(found.placed)?;
+    let planning = planning.settle_searched(found.placed)?;
     Ok(BothPlans {
         then,
         passed: Passed {

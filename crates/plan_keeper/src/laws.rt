@@ -9,7 +9,8 @@ ghost use Rattle.plan_keeper.specs.Holding.{holds_from};
 ghost use Rattle.plan_keeper.specs.Planner.{PlannerLaws};
 
 use backfill_planner::laws::{
-    parts_are_on_own_nodes, placements_stay, placements_stay_before, plans_go_on,
+    counts_go_on, none_comes_to_fit, parts_are_on_own_nodes, placements_stay,
+    placements_stay_before, plans_go_on,
 };
 
 // What the planner promises.
@@ -20,6 +21,8 @@ pub(crate) fn planner_laws()
     placements_stay();
     placements_stay_before();
     plans_go_on();
+    counts_go_on();
+    none_comes_to_fit();
 }
 
 /// Where the room of a node is the same, and its holds that end later than now are the same list, each taken from the later

@@ -19,5 +19,6 @@ mod same_plan;
 mod same_times;
 mod staying;
 mod unchanged;
+mod unmoved;
 
 pub use replanning::replan;

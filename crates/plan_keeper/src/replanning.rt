@@ -23,8 +23,10 @@ use crate::laws::planner_laws;
 use crate::marks::Marks;
 use crate::old_list::OldList;
 use crate::same_job::tell_ends_in_time;
-use crate::same_plan::{is_made_of, plan_again};
+use crate::same_plan::{is_made_of, plan_again, plan_standing};
+use crate::staying::{There, settle};
 use crate::unchanged::Unchanged;
+use crate::unmoved::counts_where_all_stand;
 use backfill_planner::{Base, PlanJob, Planned, Planning, plan};
 use resource_profile::Steps;
 use small_texts::memory_error::Memory;
@@ -111,7 +113,11 @@ fn turn<L>(
     let found = find(alloc, old, list, marks, &planning, index, now, steps)?;
     let place = behind(found.before, list.first);
     marks.go_on(&planning.ranked()[index], place)?;
-    planning.settle_next(found.placed)
+    let there = There {
+        placed: found.placed,
+        searched: place.is_none(),
+    };
+    settle(planning, there)
 }
 
 // What is marked where the lists part for good.
@@ -249,7 +255,7 @@ fn plan_over<L>(
 /// The plan of the ranked jobs at this moment, exactly as `backfill_planner::plan` makes it from nothing, over an older
 /// plan of whatever moment, nodes and jobs. It counts a step for each job that it searches for, at most one for each of
 /// the new list, and none for a steady one: a job which stands in the old list too, on nodes of which nothing has changed,
-/// below the same jobs that may have them; nor any where the older plan was made of the same. Linear in the nodes and times
+/// below the same jobs that may have them; nor any where the older plan was made of the same, or where each job keeps what it had. Linear in the nodes and times
 /// of all jobs of both lists besides, where times differ in the nodes for each time, and in the holds of both bases; each
 /// job that is in the new list no more costs a look at all nodes.
 pub fn replan<L>(
@@ -278,5 +284,8 @@ pub fn replan<L>(
     if is_made_of(old, &base, ranked.as_slice(), now) {
         return plan_again(alloc, old);
     }
-    plan_over(alloc, old, base, ranked, now, steps)
+    match counts_where_all_stand(alloc, old, &base, ranked.as_slice(), now)? {
+        Some(counts) => plan_standing(alloc, old, base, ranked, now, counts),
+        None => plan_over(alloc, old, base, ranked, now, steps),
+    }
 }

@@ -1,11 +1,13 @@
 //! A plan of what an older one was made of.
 
-ghost use Rattle.std.specs.Prelude.{◌≡◌, ◌≤◌, ◌↔◌, ◌++◌, true, IfOk, OnOk, All};
+ghost use Rattle.std.specs.Prelude.{◌≡◌, ◌≤◌, ◌<◌, ◌↔◌, ◌++◌, length, true, IfOk, OnOk, All};
 ghost use Rattle.plain_data.specs.declared.seconds.TheConstants.{LAST_START};
 ghost use Rattle.resource_profile.specs.Profiles.{AreWithin};
 ghost use Rattle.backfill_planner.specs.declared.Placed.{Placed};
+ghost use Rattle.backfill_planner.specs.declared.job.PlanJob.{PlanJob as AJob};
 ghost use Rattle.backfill_planner.specs.Placements.{IsPlannable, AreParts, StartsFit};
 ghost use Rattle.backfill_planner.specs.Plans.{plan_of, plan_holds_of};
+ghost use Rattle.plan_keeper.specs.Unmoved.{HasSamePlan};
 
 use crate::same_job::is_same_job;
 use backfill_planner::laws::{parts_are_apart, plans_stay_within, starts_fit};
@@ -21,8 +23,8 @@ fn is_same_room(one: &NodeRoom, other: &NodeRoom) -> bool
     one == other
 }
 
-// Whether these are the same rooms, in one order.
-fn are_same_rooms(one: &[NodeRoom], other: &[NodeRoom]) -> bool
+/// Whether these are the same rooms, in one order.
+pub fn are_same_rooms(one: &[NodeRoom], other: &[NodeRoom]) -> bool
     ensures { (result ≡ true) ↔ (one.now ≡ other.now) }
 {
     if one.len() != other.len() {
@@ -43,8 +45,8 @@ fn is_same_hold(one: &Hold, other: &Hold) -> bool
     one == other
 }
 
-// Whether these are the same holds, in one order.
-fn are_same_holds(one: &[Hold], other: &[Hold]) -> bool
+/// Whether these are the same holds, in one order.
+pub fn are_same_holds(one: &[Hold], other: &[Hold]) -> bool
     ensures { (result ≡ true) ↔ (one.now ≡ other.now) }
 {
     if one.len() != other.len() {
@@ -126,4 +128,30 @@ pub fn plan_again(alloc: Global, old: &Planned) -> Result<Planned, Memory>
     tell_base(old.base());
     tell_jobs(old.ranked());
     old.copy(alloc)
+}
+
+/// The plan of other jobs, or at another moment, that has the placements of the old one. Linear in their parts.
+pub fn plan_standing(
+    alloc: Global,
+    old: &Planned,
+    base: Base,
+    ranked: Vec<PlanJob>,
+    now: u64,
+    counts: Vec<usize>,
+) -> Result<Planned, Memory>
+    requires nodes { All (λ (job : AJob). All (λ node. node < length base.rooms) job.nodes) ranked.items }
+    requires same { HasSamePlan old.now base ranked.items now counts.items }
+    ensures parts { IfOk result (λ planned. planned ≡ record { base = base; ranked = ranked.items; moment = now }) }
+    ensures jobs { OnOk result (All IsPlannable ranked.items) }
+    ensures within { OnOk result (AreWithin base.rooms (base.holds ++ plan_holds_of base ranked.items now)) }
+    ensures starts_fit { OnOk result (StartsFit base (plan_of base ranked.items now) now) }
+    ensures apart { OnOk result
+        (All (λ (placed : Placed). AreParts base.rooms placed.parts) (plan_of base ranked.items now)) }
+{
+    parts_are_apart();
+    plans_stay_within();
+    starts_fit();
+    tell_base(&base);
+    tell_jobs(ranked.as_slice());
+    old.copy_for(alloc, base, ranked, now, counts)
 }

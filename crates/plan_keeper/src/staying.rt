@@ -19,8 +19,8 @@ use resource_profile::Steps;
 use small_texts::memory_error::Memory;
 use std::alloc::Global;
 
-// Where the job's window ends that begins at `start`.
-fn window_end(job: &PlanJob, start: u64) -> u64
+/// Where the job's window ends that begins at `start`.
+pub fn window_end(job: &PlanJob, start: u64) -> u64
     requires { start ≤ LAST_START }
     ensures { result ≡ Giving.window_end job.now start }
 {
@@ -98,6 +98,13 @@ fn search_begin(
     }
 }
 
+/// The placement of a job, and whether it was searched for.
+#[derive(Drop)]
+pub struct There {
+    pub placed: Option<Placed>,
+    pub searched: bool,
+}
+
 // The placement of the next job, which is the one at this place of the old list.
 fn find_there<L>(
     alloc: Global,
@@ -108,25 +115,47 @@ fn find_there<L>(
     place: usize,
     now: u64,
     steps: &mut Steps<L>,
-) -> Result<Option<Placed>, Memory>
+) -> Result<There, Memory>
     requires now { now ≡ planning.now.moment }
     requires there { IsThere old.now planning.now place job.now }
     requires kept { AreKeptTo old.now planning.now place kept.now.same.seconds.items kept.now.no_freer.seconds.items }
-    ensures placed { IfOk result (IsNext planning.now) }
+    ensures placed { IfOk result (λ there. IsNext planning.now there.placed) }
     ensures steps { IsStepped old.now planning.now steps.old steps.new }
 {
     planner_laws();
     let horizon = planning.base().horizon;
     let before = old.placement_of(place);
     if let Some(placed) = stay(alloc, before, job, &kept.same, now, horizon)? {
-        return Ok(Some(placed));
+        return Ok(There {
+            placed: Some(placed),
+            searched: false,
+        });
     }
     let begin = search_begin(before, job, &kept.no_freer, now, old.base().horizon);
     if horizon < begin {
-        return Ok(None);
+        return Ok(There {
+            placed: None,
+            searched: false,
+        });
     }
     let placed = planning.search_next(alloc, begin, steps)?;
-    Ok(placed)
+    Ok(There {
+        placed,
+        searched: true,
+    })
+}
+
+/// The next job gets its placement, which is kept in mind where a search has found it.
+pub fn settle(planning: Planning, there: There) -> Result<Planning, Memory>
+    requires more { planning.done < length planning.ranked }
+    requires next { IsNext planning there.placed }
+    ensures { IfOk result (λ next. next ≡ record planning { done = planning.done + 1 }) }
+{
+    if there.searched {
+        planning.settle_searched(there.placed)
+    } else {
+        planning.settle_next(there.placed)
+    }
 }
 
 // It does nothing: its contract tells that a plan's jobs are on its nodes, as its type has it.
@@ -165,7 +194,7 @@ pub fn settle_there<L>(
     let job = &planning.ranked()[index];
     tell_ends_in_time(job);
     tell_windows(job);
-    let placed = find_there(alloc, old, kept, &planning, job, place, now, steps)?;
-    kept.go_on(old.placement_of(place), &placed);
-    planning.settle_next(placed)
+    let there = find_there(alloc, old, kept, &planning, job, place, now, steps)?;
+    kept.go_on(old.placement_of(place), &there.placed);
+    settle(planning, there)
 }

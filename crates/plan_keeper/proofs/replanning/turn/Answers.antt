@@ -31,7 +31,7 @@ returns-clause-marks g c =
     let nodes : All (λ node. node < length planning.base.rooms) job.nodes = rw (is job) at (subst (λ some. All (IsOnRooms planning.base.rooms) some) ranked_is c.ranked.ensures.nodes planning.done job c.requires.more) in
     let next : AreMarks old planning.base planning.ranked planning.moment (planning.done + 1) new_same (met_from first new_met) =
     rest-marks c.planner_laws.ensures old planning first same new_same counts met new_met c.in_ok-found.found.before c.behind-place.result job c.requires.marks c.requires.counts c.requires.more is nodes c.in_ok-found.ensures.before c.behind-place.ensures.some c.behind-place.ensures.none c.in_ok-go_on.ensures.some c.in_ok-go_on.ensures.none in
-    on-ok (AreMarks old planning.base planning.ranked planning.moment (planning.done + 1) new_same (met_from first new_met)) c.settle_next.result next
+    on-ok (AreMarks old planning.base planning.ranked planning.moment (planning.done + 1) new_same (met_from first new_met)) c.settle.result next
 
 pub returns-clause-counts : goal.returns-clause-counts
 returns-clause-counts g c =
@@ -50,4 +50,4 @@ returns-clause-counts g c =
     let long : length new_met ≡ length met = met-long met new_met same new_same job c.behind-place.result c.in_ok-go_on.ensures.some c.in_ok-go_on.ensures.none in
     let next : AreCounts old.ranked planning.ranked first (planning.done + 1) (length planning.base.rooms) new_same c.go_on.new.self.counts.items new_met =
     counts-behind old.ranked planning.ranked first planning.done (length planning.base.rooms) same counts met new_same c.go_on.new.self.counts.items new_met job c.requires.counts c.requires.more is c.in_ok-go_on.ensures.counts long (fewer-marked same new_same met new_met (length planning.base.rooms) job c.behind-place.result c.requires.marks.long c.in_ok-go_on.ensures.some c.in_ok-go_on.ensures.none) in
-    on-ok (AreCounts old.ranked planning.ranked first (planning.done + 1) (length planning.base.rooms) new_same c.go_on.new.self.counts.items new_met) c.settle_next.result next
+    on-ok (AreCounts old.ranked planning.ranked first (planning.done + 1) (length planning.base.rooms) new_same c.go_on.new.self.counts.items new_met) c.settle.result next

@@ -74,7 +74,7 @@ go_on-requires-clause-after g c =
       nodes = rw (is job) at (subst (λ some. All (IsOnRooms planning.base.rooms) some) ranked_is c.ranked.ensures.nodes planning.done job c.requires.more);
       old_nodes = c.tell_nodes.ensures;
     } in
-    rw c.requires.kept.long (parts-now c.planner_laws.ensures old planning place job c.in_ok-placed.placed there c.in_ok-placed.ensures.placed)
+    rw c.requires.kept.long (parts-now c.planner_laws.ensures old planning place job c.in_ok-there.there.placed there c.in_ok-there.ensures.placed)
 
 pub returns-clause-kept : goal.returns-clause-kept
 returns-clause-kept g c =
@@ -101,5 +101,5 @@ returns-clause-kept g c =
     let low : planning.base.horizon ≤ LAST_START = subst (λ (v : PlanningView). v.base.horizon ≤ LAST_START) c.planning.view_is c.planning.invariant.low in
     let was : IsThen old place (option_copied c.placement_of.result) = c.placement_of.ensures in
     let next : AreKept old planning.base planning.ranked planning.moment (place + 1) (planning.done + 1) new_kept.same.seconds.items new_kept.no_freer.seconds.items =
-    kept-more c.planner_laws.ensures old planning place kept.same.seconds.items kept.no_freer.seconds.items new_kept.same.seconds.items new_kept.no_freer.seconds.items job (option_copied c.placement_of.result) c.in_ok-placed.placed c.requires.kept there low was c.in_ok-placed.ensures.placed c.go_on.ensures in
+    kept-more c.planner_laws.ensures old planning place kept.same.seconds.items kept.no_freer.seconds.items new_kept.same.seconds.items new_kept.no_freer.seconds.items job (option_copied c.placement_of.result) c.in_ok-there.there.placed c.requires.kept there low was c.in_ok-there.ensures.placed c.go_on.ensures in
     search (rules, next)

@@ -2,7 +2,6 @@ use Rattle.std.proofs.Common.{rules, ◌≡◌, ◌<◌, ◌++◌, ◌∷◌, []
 use Rattle.std.proofs.lemmas.List.{append-nil}
 use Rattle.std.proofs.lemmas.List.Sorted.{IsPermutation-refl}
 use Rattle.backfill_planner.specs.declared.job.PlanJob.{PlanJob}
-use Rattle.backfill_planner.specs.Bases.{BaseView}
 use Rattle.backfill_planner.specs.Plans.{PlanningView, placement_of}
 use Rattle.backfill_planner.specs.Lesser.{NoneBefore}
 use Rattle.backfill_planner.specs.Searches.{IsSeen, bound_of}
@@ -55,18 +54,15 @@ invariant_of-result c =
     let job_is : job ≡ get_or ranked inside.done job = c.index-job.ensures in
     let own : (d : PlanJob) → c.args.placed ≡ placement_of inside.base ranked inside.moment inside.done (get_or ranked inside.done d) = subst (λ (v : PlanningView). (d : PlanJob) → c.args.placed ≡ placement_of v.base v.ranked v.moment v.done (get_or v.ranked v.done d)) (sym c.self.view_is) c.requires.placed in
     let there : c.args.placed ≡ placement_of inside.base ranked inside.moment inside.done job = rw (← job_is) at (own job) in
-    let counts_are : c.push-2.new.self.items ≡ inside.counts.items ++ length c.match-placed-2.placements.items ∷ [] = search rules in
-    let horizon_is : c.base.inside.horizon ≡ inside.base.horizon = ap (λ (b : BaseView). b.horizon) c.base.view_is in
-    let bound_is : c.bound_of-bound.result ≡ bound_of c.args.placed inside.base.horizon = c.bound_of-bound.ensures ∙ ap (λ horizon. bound_of c.args.placed horizon) horizon_is in
-    let seen : ((d : PlanJob) → NoneBefore inside.base.rooms inside.profile.holds (get_or ranked inside.done d) inside.moment (bound_of c.args.placed inside.base.horizon)) → All (IsSeen inside.base.rooms inside.profile.holds ranked inside.moment) c.add.new.self.seen.items = λ none.
-    rw c.as_slice.ensures.value at (c.add.ensures inside.base.rooms inside.profile.holds (rw c.as_slice.ensures.value c.self.invariant.seen) (rw (c.as_slice.ensures.value, bound_is) none)) in
-    elim c.match-placed-2.branch [
+    let counts_are : c.push-2.new.self.items ≡ inside.counts.items ++ length c.match-placed.placements.items ∷ [] = search rules in
+    let seen : ((d : PlanJob) → NoneBefore inside.base.rooms inside.profile.holds (get_or ranked inside.done d) inside.moment (bound_of c.args.placed inside.base.horizon)) → All (IsSeen inside.base.rooms inside.profile.holds ranked inside.moment) inside.searches.seen.items = λ none. c.self.invariant.seen in
+    elim c.match-placed.branch [
       | in-Some+in_ok-hold+in_ok-push w ↦
           next-planned c.lower_laws.ensures inside.base ranked inside.moment inside.done inside.placements.items inside.counts.items inside.profile inside.searches.seen.items job c.args.placed
-          c.match-placed-2.placements.items c.push-2.new.self.items c.match-placed-2.profile c.add.new.self.seen.items c.self.invariant below job_is c.tell_plannable.ensures there
+          c.match-placed.placements.items c.push-2.new.self.items c.match-placed.profile inside.searches.seen.items c.self.invariant below job_is c.tell_plannable.ensures there
           (rw (w.in-Some.is, w.placements-is) w.in_ok-push.ensures.items) counts_are (rw w.profile-is w.in_ok-hold.ensures.rooms) (rw (w.in-Some.is, w.profile-is) w.in_ok-hold.ensures.holds) seen
       | in_default w ↦
           next-planned c.lower_laws.ensures inside.base ranked inside.moment inside.done inside.placements.items inside.counts.items inside.profile inside.searches.seen.items job c.args.placed
-          c.match-placed-2.placements.items c.push-2.new.self.items c.match-placed-2.profile c.add.new.self.seen.items c.self.invariant below job_is c.tell_plannable.ensures there
+          c.match-placed.placements.items c.push-2.new.self.items c.match-placed.profile inside.searches.seen.items c.self.invariant below job_is c.tell_plannable.ensures there
           (rw (w.in_default.is, w.placements-is) (sym (append-nil inside.placements.items))) counts_are (rw w.profile-is refl) (rw (w.in_default.is, w.profile-is, append-nil) (IsPermutation-refl inside.profile.holds)) seen
     ]
